@@ -1,0 +1,129 @@
+-- What holds of every lawful machine.
+use Rattle.std.specs.Prelude.{◌≡◌, ◌↔◌, Bool, true, List, ◌++◌, map}
+use Rattle.std.specs.List.{flat_map}
+use Rattle.isolation.specs.Machine.{Machine, Tagged}
+use Rattle.isolation.specs.World.{entries_of, only, world_after, world_lines, world_posts, at_session, is_in}
+use Rattle.isolation.specs.Alone.{items, alone_after, alone_lines, alone_posts}
+use Rattle.isolation.specs.Influence.{Influences, influences, KnowsAll, IsClosed, Agree}
+use Rattle.isolation.specs.Slice.{Note, kept, slice, AreNotes, notes_of, back}
+use Rattle.isolation.specs.Pieces.{Piece, commands_of, only_pieces, only_answers, piece_answers, said, told}
+
+module _ {Name State Command Line Post : Type 0} (m : Machine Name State Command Line Post) where
+  -- s is told in a run, posts in it and has after it what it would alone, with its own commands and the posts that reach it
+  pub record IsAlone (s : Name) (world : Name → State) (ts : List (Tagged Name Command)) : Type 0 where
+    pub lines : at_session m s ts (world_lines m world ts) ≡ alone_lines m s (world s) (items m s world ts)
+    pub posts : flat_map (λ posts. posts) (at_session m s ts (world_posts m world ts)) ≡ alone_posts m s (world s) (items m s world ts)
+    pub state : world_after m world ts s ≡ alone_after m s (world s) (items m s world ts)
+
+  -- s is told the same in both runs, and has the same state after both
+  pub record SameFor (s : Name) (world : Name → State) (ts : List (Tagged Name Command)) (other : Name → State) (fewer : List (Tagged Name Command)) : Type 0 where
+    pub lines : at_session m s fewer (world_lines m other fewer) ≡ at_session m s ts (world_lines m world ts)
+    pub state : world_after m other fewer s ≡ world_after m world ts s
+
+  -- all sessions that pass the test are told the same in both runs, in one order, and have the same states after both
+  pub record SameForAll (keep : Name → Bool) (world : Name → State) (ts : List (Tagged Name Command)) (other : Name → State) (fewer : List (Tagged Name Command)) : Type 0 where
+    pub lines : world_lines m other fewer ≡ entries_of keep ts (world_lines m world ts)
+    pub states : Agree keep (world_after m world ts) (world_after m other fewer)
+
+  -- every session is as if alone
+  abbrev pub FirstHalf : Type 0
+  FirstHalf = (s : Name) (world : Name → State) (ts : List (Tagged Name Command)) → IsAlone s world ts
+
+  -- leaving out the commands of sessions that no kept session joins is not seen by a kept session, also from another world that is alike at the kept ones
+  abbrev pub LeavingOut : Type 0
+  LeavingOut =
+      (keep : Name → Bool) (world other : Name → State) (ts : List (Tagged Name Command)) →
+      IsClosed m keep world ts → Agree keep world other →
+      (s : Name) → keep s ≡ true → SameFor s world ts other (only keep ts)
+
+  -- nor by all of them together
+  abbrev pub FinalStates : Type 0
+  FinalStates =
+      (keep : Name → Bool) (world other : Name → State) (ts : List (Tagged Name Command)) →
+      IsClosed m keep world ts → Agree keep world other →
+      SameForAll keep world ts other (only keep ts)
+
+  -- a session does not see the commands of sessions that no chain of joins from it leads to
+  abbrev pub SecondHalf : Type 0
+  SecondHalf =
+      (world : Name → State) (known : List Name) (ts : List (Tagged Name Command)) → KnowsAll m world known →
+      (s : Name) → SameFor s world ts world (only (influences m world known ts s) ts)
+
+  -- nor do the sessions that influence it, also from another world that is alike at them
+  abbrev pub InfluencedStates : Type 0
+  InfluencedStates =
+      (world other : Name → State) (known : List Name) (ts : List (Tagged Name Command)) → KnowsAll m world known →
+      (s : Name) → Agree (influences m world known ts s) world other →
+      SameForAll (influences m world known ts s) world ts other (only (influences m world known ts s) ts)
+
+  -- the test of influence passes exactly what influences s; it is closed under joins, and every closed test that passes s passes all of it
+  pub record IsLeast (world : Name → State) (known : List Name) (ts : List (Tagged Name Command)) (s : Name) : Type 0 where
+    pub exact : (t : Name) → (influences m world known ts s t ≡ true) ↔ Influences m world ts s t
+    pub closed : IsClosed m (influences m world known ts s) world ts
+    pub least : (keep : Name → Bool) → keep s ≡ true → IsClosed m keep world ts → (t : Name) → influences m world known ts s t ≡ true → keep t ≡ true
+
+  abbrev pub InfluenceIsLeast : Type 0
+  InfluenceIsLeast =
+      (world : Name → State) (known : List Name) (ts : List (Tagged Name Command)) → KnowsAll m world known →
+      (s : Name) → IsLeast world known ts s
+
+  -- a session does not see the commands that its slice leaves out
+  abbrev pub SliceLaw : Type 0
+  SliceLaw =
+      (s : Name) (world : Name → State) (ts : List (Tagged Name Command)) →
+      SameFor s world ts world (kept (slice m s world ts).marks ts)
+
+  -- also from another world that is alike at the members of the slice
+  abbrev pub SliceFromMembers : Type 0
+  SliceFromMembers =
+      (s : Name) (world other : Name → State) (ts : List (Tagged Name Command)) →
+      Agree (λ name. is_in m name (slice m s world ts).members) world other →
+      SameFor s world ts other (kept (slice m s world ts).marks ts)
+
+  -- and every member of the slice influences s
+  abbrev pub SliceWithinInfluence : Type 0
+  SliceWithinInfluence =
+      (s : Name) (world : Name → State) (ts : List (Tagged Name Command)) →
+      (name : Name) → is_in m name (slice m s world ts).members ≡ true → Influences m world ts s name
+
+  -- right notes give the slice
+  abbrev pub NotesGiveSlice : Type 0
+  NotesGiveSlice =
+      (s : Name) (world : Name → State) (ts : List (Tagged Name Command)) (notes : List (Note Name)) →
+      AreNotes m world ts notes → back m s notes ≡ slice m s world ts
+
+  -- and the notes over the known names and those of the run are right
+  abbrev pub NotesAreRight : Type 0
+  NotesAreRight =
+      (world : Name → State) (known : List Name) (ts : List (Tagged Name Command)) → KnowsAll m world known →
+      AreNotes m world ts (notes_of m (known ++ map (λ t. t.session) ts) world ts)
+
+module _ {Name State Command Line Post : Type 0} (Fault : Type 0) (m : Machine Name State Command Line Post) where
+  -- leaving out pieces leaves out their answers and changes no other, where the sessions that are kept are closed under joins
+  abbrev pub LeavingOutPieces : Type 0
+  LeavingOutPieces =
+      (keep : Name → Bool) (passes : Fault → Bool) (world other : Name → State) (pieces : List (Piece Name Command Fault)) →
+      IsClosed m keep world (commands_of pieces) → Agree keep world other →
+      piece_answers m other (only_pieces keep passes pieces) ≡ only_answers keep passes (piece_answers m world pieces)
+
+  -- so all that is said to a kept session stays, its own faults among it where they are kept
+  abbrev pub SaidStays : Type 0
+  SaidStays =
+      (keep : Name → Bool) (passes its_own : Fault → Bool) (world other : Name → State) (pieces : List (Piece Name Command Fault)) →
+      IsClosed m keep world (commands_of pieces) → Agree keep world other →
+      (s : Name) → keep s ≡ true → ((fault : Fault) → its_own fault ≡ true → passes fault ≡ true) →
+      said m s its_own (piece_answers m other (only_pieces keep passes pieces)) ≡ said m s its_own (piece_answers m world pieces)
+
+  -- and so where the commands of all sessions are left out that do not influence s
+  abbrev pub SaidByInfluence : Type 0
+  SaidByInfluence =
+      (its_own : Fault → Bool) (world : Name → State) (known : List Name) (pieces : List (Piece Name Command Fault)) →
+      KnowsAll m world known → (s : Name) →
+      let fewer = only_pieces (influences m world known (commands_of pieces) s) (λ fault. true) pieces in
+      said m s its_own (piece_answers m world fewer) ≡ said m s its_own (piece_answers m world pieces)
+
+  -- what the commands of s are told is what it would be told alone
+  abbrev pub ToldAlone : Type 0
+  ToldAlone =
+      (s : Name) (world : Name → State) (pieces : List (Piece Name Command Fault)) →
+      told m s (piece_answers m world pieces) ≡ alone_lines m s (world s) (items m s world (commands_of pieces))

@@ -1,0 +1,53 @@
+//! What holds of the sessions of a server, proved once for every machine.
+//!
+//! A machine says what a session does with a command, what arrives at the others, and whom a join
+//! names. It is lawful where a session passes over the posts of a session that none of its joins
+//! names, and where a join comes only from a command that is accepted as one. The words stand in
+//! `specs`; for a server it is enough to show that its machine is lawful, and that its calls do
+//! what the machine does.
+#![tactic(auto)]
+
+ghost use Rattle.isolation.specs.Machine.{Machine, IsLawful};
+ghost use Rattle.isolation.specs.Laws.{FirstHalf, LeavingOut, FinalStates, SecondHalf, InfluencedStates, InfluenceIsLeast, SliceLaw, SliceFromMembers, SliceWithinInfluence, NotesGiveSlice, NotesAreRight, LeavingOutPieces, SaidStays, SaidByInfluence, ToldAlone};
+
+/// The laws of runs: each session is as if alone, and it does not see the commands of sessions
+/// that no chain of joins from it leads to, nor those that its slice leaves out.
+///
+/// There is nothing to run. The clauses are the theorems, for every lawful machine, every state
+/// at the start and every list of commands.
+pub fn laws<Name, State, Command, Line, Post>()
+    ensures first_half { (m : Machine Name State Command Line Post) → IsLawful m → FirstHalf m }
+    ensures leaving_out { (m : Machine Name State Command Line Post) → IsLawful m → LeavingOut m }
+    ensures final_states { (m : Machine Name State Command Line Post) → IsLawful m → FinalStates m }
+    ensures second_half { (m : Machine Name State Command Line Post) → IsLawful m → SecondHalf m }
+    ensures influenced_states { (m : Machine Name State Command Line Post) → IsLawful m → InfluencedStates m }
+    ensures influence_is_least { (m : Machine Name State Command Line Post) → IsLawful m → InfluenceIsLeast m }
+    ensures slice { (m : Machine Name State Command Line Post) → IsLawful m → SliceLaw m }
+    ensures slice_from_members { (m : Machine Name State Command Line Post) → IsLawful m → SliceFromMembers m }
+    ensures slice_within_influence { (m : Machine Name State Command Line Post) → IsLawful m → SliceWithinInfluence m }
+    ensures notes_give_slice { (m : Machine Name State Command Line Post) → IsLawful m → NotesGiveSlice m }
+    ensures notes_are_right { (m : Machine Name State Command Line Post) → IsLawful m → NotesAreRight m }
+{}
+
+/// The laws of inputs in pieces, where some pieces are faults: what is said to a session is what
+/// its commands are told alone, and stays the same where the commands of sessions are left out
+/// that no chain of joins from it leads to.
+///
+/// There is nothing to run, as in `laws`. A fault is any value, as a code with a session's name.
+pub fn piece_laws<Name, State, Command, Line, Post, Fault>()
+    ensures leaving_out { (m : Machine Name State Command Line Post) → IsLawful m → LeavingOutPieces Fault m }
+    ensures said_stays { (m : Machine Name State Command Line Post) → IsLawful m → SaidStays Fault m }
+    ensures said_by_influence { (m : Machine Name State Command Line Post) → IsLawful m → SaidByInfluence Fault m }
+    ensures told_alone { (m : Machine Name State Command Line Post) → IsLawful m → ToldAlone Fault m }
+{}
+
+#[cfg(test)]
+mod tests {
+    use crate::{laws, piece_laws};
+
+    #[test]
+    fn laws_hold_at_any_types() {
+        laws::<String, u64, bool, char, u8>();
+        piece_laws::<String, u64, bool, char, u8, u16>();
+    }
+}

@@ -1,0 +1,24 @@
+-- What contracts see of a table: the values by place, and how many places can be opened without memory.
+use Rattle.std.specs.Prelude.{ℕ, ◌+◌, ◌-◌, ◌<◌, List, [], ◌∷◌, ◌++◌, length, slice_set, refl}
+use Rattle.std.specs.Coded.{Coded, code_by, coded×, coded_list, coded_ℕ}
+
+pub record Table (T : Type 0) : Type 0 where
+  pub places : List T
+  pub room : ℕ
+
+-- a table is stored as the pair of its fields
+abbrev pub table_code : {T : Type 0} → Coded T → Coded (Table T)
+table_code {T} code =
+    code_by (List T × ℕ) (coded× (coded_list code) coded_ℕ) (λ t. (t.places, t.room)) (λ p. record { places = p.0; room = p.1 }) (λ _. refl)
+
+-- the place has been opened
+abbrev pub IsPlace : {T : Type 0} → Table T → ℕ → Type 0
+IsPlace table place = place < length table.places
+
+-- the table with one more place
+abbrev pub opened : {T : Type 0} → Table T → T → Table T
+opened table value = record { places = table.places ++ value ∷ []; room = table.room - 1 }
+
+-- the table with another value at a place, and all else as before
+abbrev pub with_place : {T : Type 0} → Table T → ℕ → T → Table T
+with_place table place value = record { places = slice_set table.places place value; room = table.room }

@@ -1,0 +1,114 @@
+//! The table.
+ghost use Rattle.std.specs.Prelude.{◌≡◌, ◌≤◌, ◌↔◌, [], IsTrue, OnOk, OnErr, length, slice_index_or};
+ghost use Rattle.std.specs.Borrow.{sem};
+ghost use Rattle.places.specs.Table.{IsPlace, opened};
+
+use std::alloc::{AllocError, Global};
+use std::marker::Model;
+
+/// A value for each place. Places are counted from 0 in the order in which they were opened, and none
+/// is ever closed.
+#[derive(Debug, Drop)]
+pub struct Places<T> {
+    items: Vec<T>,
+}
+
+impl<T> Model for Places<T> {
+    ghost use Rattle.std.specs.Prelude.{◌-◌, vec_len};
+    ghost use Rattle.std.specs.Vec.{vec_capacity};
+    ghost use Rattle.places.specs.Table.{Table, table_code};
+
+    ghost Value = { Table T };
+
+    ghost coded = { table_code T.code };
+
+    ghost view = { λ p. record { places = p.items.items; room = vec_capacity p.items - vec_len p.items } };
+}
+
+impl<T> Places<T> {
+    ghost use Rattle.places.specs.Lending.{LendsPlace};
+
+    /// A table with no place, which takes no memory yet.
+    pub fn new(alloc: Global) -> Places<T>
+        ensures { result.places ≡ [] }
+    {
+        Places {
+            items: Vec::new(alloc),
+        }
+    }
+
+    /// Makes room for one more place at least.
+    pub fn ready(&mut self) -> Result<(), AllocError>
+        ensures places { self.new.places ≡ self.old.places }
+        ensures room { OnOk result (1 ≤ self.new.room) }
+        ensures kept { self.old.room ≤ self.new.room }
+        ensures full { OnErr result (self.old.room ≡ 0) }
+        ensures err { OnErr result (self.new ≡ self.old) }
+    {
+        self.items.reserve(1)
+    }
+
+    /// Opens the next place with this value, and answers its number.
+    pub fn open(&mut self, value: T) -> usize
+        requires { 1 ≤ self.old.room }
+        ensures place { result ≡ length self.old.places }
+        ensures opened { self.new ≡ opened self.old value }
+    {
+        let place = self.items.len();
+        self.items.push_reserved(value);
+        place
+    }
+
+    /// How many places have been opened.
+    pub fn len(&self) -> usize
+        ensures { result ≡ length self.now.places }
+    {
+        self.items.len()
+    }
+
+    pub fn is_empty(&self) -> bool
+        ensures { IsTrue result ↔ (self.now.places ≡ []) }
+    {
+        self.items.is_empty()
+    }
+
+    /// The value at a place.
+    pub fn get(&self, place: usize) -> &T
+        requires { IsPlace self.now place }
+        ensures { (default : T) → result.now ≡ slice_index_or self.now.places place default }
+    {
+        &self.items[place]
+    }
+
+    /// The value at a place, to be changed there; every other place stays as it was.
+    pub fn get_mut(&mut self, place: usize) -> &mut T
+        requires { IsPlace self.old place }
+        ensures* writes_back { sem 𝓛 (LendsPlace T.row self.entry place result) }
+        ensures value { (default : T) → result.now ≡ slice_index_or self.old.places place default }
+    {
+        &mut self.items[place]
+    }
+}
+
+#[cfg(test)]
+mod tests {
+    use super::*;
+    use std::test::Fail;
+
+    #[test]
+    fn keeps_a_value_for_each_place(rt: HostRuntime) -> Result<(), Fail> {
+        let mut places: Places<u32> = Places::new(rt.alloc());
+        assert!(rt; places.is_empty());
+        places.ready()?;
+        let first = places.open(7);
+        assert_eq!(rt; first, 0);
+        places.ready()?;
+        let second = places.open(3);
+        assert_eq!(rt; second, 1);
+        assert_eq!(rt; places.len(), 2);
+        *places.get_mut(0) = 9;
+        assert_eq!(rt; *places.get(0), 9);
+        assert_eq!(rt; *places.get(1), 3);
+        Ok(())
+    }
+}

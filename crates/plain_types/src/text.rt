@@ -1,0 +1,119 @@
+//! Texts.
+ghost use Rattle.std.specs.Prelude.{◌≡◌, ◌↔◌, [], IsTrue, IfOk, length, string_bytes};
+
+use std::alloc::{AllocError, Global};
+use std::hash::{Hash, Hasher};
+use std::marker::Model;
+
+/// A `String` that contracts see as the list of its bytes.
+#[derive(Debug, Drop)]
+pub struct Text {
+    inner: String,
+}
+
+impl Model for Text {
+    ghost use Rattle.std.specs.Prelude.{ℕ, List, string_bytes};
+
+    ghost Value = { List ℕ };
+
+    ghost view = { λ t. string_bytes t.inner };
+}
+
+impl Text {
+    /// The same text in memory of its own.
+    pub fn from_str(alloc: Global, text: &str) -> Result<Text, AllocError>
+        ensures { IfOk result (λ t. t ≡ text.now) }
+    {
+        Ok(Text {
+            inner: String::from_str(alloc, text)?,
+        })
+    }
+
+    /// The text that the string holds; this takes no memory.
+    pub fn from_string(text: String) -> Text
+        ensures { result ≡ string_bytes text }
+    {
+        Text { inner: text }
+    }
+
+    pub fn as_str(&self) -> &str
+        ensures { result.now ≡ self.now }
+    {
+        self.inner.as_str()
+    }
+
+    /// The number of bytes of the text in UTF-8.
+    pub fn len(&self) -> usize
+        ensures { result ≡ length self.now }
+    {
+        self.inner.len()
+    }
+
+    pub fn is_empty(&self) -> bool
+        ensures { IsTrue result ↔ (self.now ≡ []) }
+    {
+        self.inner.is_empty()
+    }
+
+    /// An equal text in memory of its own.
+    pub fn copy(&self, alloc: Global) -> Result<Text, AllocError>
+        ensures { IfOk result (λ t. t ≡ self.now) }
+    {
+        Text::from_str(alloc, self.as_str())
+    }
+}
+
+impl PartialEq for Text {
+    ghost use Rattle.std.specs.Prelude.{bytes_eq};
+    ghost use Rattle.std.specs.Cmp.{partial_equiv_from_equiv};
+    ghost use Rattle.std.specs.Cmp.Lexicographic.{nat_list_eq_equiv};
+
+    ghost eq = { bytes_eq };
+
+    ghost laws = { partial_equiv_from_equiv nat_list_eq_equiv };
+
+    fn eq(&self, other: &Text) -> bool {
+        self.as_str() == other.as_str()
+    }
+}
+
+impl Eq for Text {
+    ghost use Rattle.std.specs.Cmp.Lexicographic.{nat_list_eq_equiv};
+
+    ghost laws = { nat_list_eq_equiv };
+}
+
+impl Hash for Text {
+    ghost use Rattle.std.specs.Hash as fed;
+    ghost use Rattle.std.proofs.Common.{rules};
+    ghost use Rattle.std.specs.Cmp.Rules.{hashing};
+
+    ghost hash_input = { λ t. fed.str t };
+
+    ghost respects_eq = { Prim.search (hashing, rules) };
+
+    fn hash<H: Hasher>(&self, state: &mut H) {
+        self.as_str().hash(state);
+    }
+}
+
+#[cfg(test)]
+mod tests {
+    use super::*;
+    use std::test::Fail;
+
+    #[test]
+    fn copies_are_equal(rt: HostRuntime) -> Result<(), Fail> {
+        let alloc = rt.alloc();
+        let lamp = Text::from_str(alloc, "lämp")?;
+        let copy = lamp.copy(alloc)?;
+        assert!(rt; lamp == copy);
+        assert_eq!(rt; copy.as_str(), "lämp");
+        assert_eq!(rt; copy.len(), 5);
+        assert!(rt; !copy.is_empty());
+        let moved = Text::from_string(String::from_str(alloc, "")?);
+        assert!(rt; moved.is_empty());
+        assert!(rt; lamp != moved);
+        Ok(())
+    }
+}

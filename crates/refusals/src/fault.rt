@@ -1,0 +1,68 @@
+//! The fault of a call.
+use crate::code::Code;
+use std::alloc::{AllocError, AllocFailed};
+use thiserror::Error;
+
+/// What a call answers that did not do what was asked.
+#[derive(Clone, Copy, Debug, Error)]
+pub enum Fault {
+    /// The call was refused, and has changed nothing.
+    #[error("refused: {0}")]
+    Refused(Code),
+    /// Memory was wanted and not found.
+    #[error("out of memory")]
+    Memory,
+}
+
+impl From<AllocError> for Fault {
+    ghost use Rattle.std.specs.Prelude.{◌≡◌};
+    ghost use Rattle.refusals.specs.declared.fault.Fault.TheVariants.{Memory};
+
+    ghost from_gives = { λ _ fault. fault ≡ Memory };
+
+    fn from(_error: AllocError) -> Fault {
+        Fault::Memory
+    }
+}
+
+impl<T: Drop> From<AllocFailed<T>> for Fault {
+    ghost use Rattle.std.specs.Prelude.{◌≡◌};
+    ghost use Rattle.refusals.specs.declared.fault.Fault.TheVariants.{Memory};
+
+    ghost from_gives = { λ _ fault. fault ≡ Memory };
+
+    fn from(_error: AllocFailed<T>) -> Fault {
+        Fault::Memory
+    }
+}
+
+impl From<Code> for Fault {
+    ghost use Rattle.std.specs.Prelude.{◌≡◌};
+    ghost use Rattle.refusals.specs.declared.fault.Fault.TheVariants.{Refused};
+
+    ghost from_gives = { λ code fault. fault ≡ Refused code };
+
+    fn from(code: Code) -> Fault {
+        Fault::Refused(code)
+    }
+}
+
+#[cfg(test)]
+mod tests {
+    use super::*;
+    use std::test::Fail;
+
+    fn limited() -> Result<u32, Fault> {
+        Err(Code::Limit)?
+    }
+
+    #[test]
+    fn prints_faults(rt: HostRuntime) -> Result<(), Fail> {
+        assert!(rt; matches!(limited(), Err(Fault::Refused(Code::Limit))));
+        let fault = Fault::from(Code::Limit);
+        assert_eq!(rt; fault.to_string(rt.alloc())?.as_str(), "refused: E14");
+        let memory = Fault::from(AllocError);
+        assert_eq!(rt; memory.to_string(rt.alloc())?.as_str(), "out of memory");
+        Ok(())
+    }
+}

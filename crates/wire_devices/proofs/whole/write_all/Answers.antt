@@ -1,0 +1,11 @@
+use Rattle.std.proofs.Common.{arith}
+use Rattle.std.proofs.lemmas.Grind.{common_steps}
+use Rattle.wire_devices.proofs.Moved.{Appends-more}
+use Rattle.wire_devices.proofs.whole.write_all.Goals as goal
+
+pub loop-taken-preserved : goal.loop-taken-preserved
+loop-taken-preserved g c = record {
+  in_range = grind (arith, common_steps);
+  bytes = Appends-more _ _ _ _ _ _ c.loop-taken.invariant.bytes c.in_ok-count.ensures.bytes;
+  failures = grind (arith, common_steps);
+}

@@ -1,0 +1,11 @@
+-- What a contract sees of a `Counted`.
+use Rattle.std.specs.Prelude.{ℕ}
+use Rattle.wire_devices.specs.declared.adapter.Counted.{Counted}
+
+-- the device that it reads from or writes to
+abbrev pub counted_device : {D : Type 0} → Counted D → D
+counted_device c = c.device
+
+-- how often the device failed
+abbrev pub counted_failures : {D : Type 0} → Counted D → ℕ
+counted_failures c = c.failures

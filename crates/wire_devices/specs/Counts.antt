@@ -1,0 +1,23 @@
+-- How a device counts its failures.
+use Rattle.std.specs.Prelude.{◌≡◌, ℕ, ◌+◌, ◌-◌, ◌^◌, ◌<◌, ◌≤◌, min, List, length, Result, MatchResult}
+
+-- the greatest count: from there on the count stays where it stands
+abbrev pub most_failures : ℕ
+most_failures = 2 ^ 64 - 1
+
+-- one failure: the count grew by one, or it was the greatest and stays there
+abbrev pub FailsOnce : ℕ → ℕ → Type 0
+FailsOnce old new = (old ≤ most_failures) × (new ≡ min (old + 1) most_failures)
+
+-- an error is one failure, and any other answer is none
+abbrev pub CountsErrors : {T E : Type 0} → ℕ → ℕ → Result T E → Type 0
+CountsErrors old new r = MatchResult r (λ _. new ≡ old) (λ _. FailsOnce old new)
+
+-- a write that took none of some bytes is one failure, and any other is none
+abbrev pub CountsTaken : ℕ → ℕ → ℕ → List ℕ → Type 0
+CountsTaken old new n bytes =
+    (n ≡ 0 → 0 < length bytes → FailsOnce old new) × (0 < n → new ≡ old) × (length bytes ≡ 0 → new ≡ old)
+
+-- `write(bytes)` failed once where it answered an error or took none of some bytes, and else it did not fail
+abbrev pub CountsWrite : {E : Type 0} → ℕ → ℕ → Result ℕ E → List ℕ → Type 0
+CountsWrite old new r bytes = MatchResult r (λ n. CountsTaken old new n bytes) (λ _. FailsOnce old new)
