@@ -82,6 +82,10 @@ impl Code {
 }
 
 impl fmt::Display for Code {
+    ghost use Rattle.std.specs.Prelude.{Some};
+
+    ghost output = { λ code. Some (code_text code) };
+
     fn fmt<W: fmt::Write>(&self, f: &mut fmt::Formatter<W>) -> fmt::Result {
         let text = self.text();
         write!(f, "{text}")

@@ -1,0 +1,7 @@
+use Rattle.isolation.proofs.Reaching as reaching
+use Rattle.thread_model.specs.Machine.{machine}
+use Rattle.thread_model.proofs.Lawful.{lawful}
+use Rattle.server_world.proofs.laws.influence_is_least.Goals as goal
+
+pub returns : goal.returns
+returns c = λ settings. reaching.influence_is_least (machine settings) (lawful settings)

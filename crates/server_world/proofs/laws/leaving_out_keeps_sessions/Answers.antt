@@ -1,0 +1,14 @@
+use Rattle.isolation.proofs.LeftOut.{leaving_out, final_states}
+use Rattle.isolation.proofs.Reaching.{influenced_states}
+use Rattle.thread_model.specs.Machine.{machine}
+use Rattle.thread_model.proofs.Lawful.{lawful}
+use Rattle.server_world.proofs.laws.leaving_out_keeps_sessions.Goals as goal
+
+pub returns-clause-each : goal.returns-clause-each
+returns-clause-each c = λ settings. leaving_out (machine settings) (lawful settings)
+
+pub returns-clause-all : goal.returns-clause-all
+returns-clause-all c = λ settings. final_states (machine settings) (lawful settings)
+
+pub returns-clause-influence : goal.returns-clause-influence
+returns-clause-influence c = λ settings. influenced_states (machine settings) (lawful settings)

@@ -1,0 +1,19 @@
+use Rattle.std.proofs.Common.{◌≡◌, IsTrue, IsFalse, length, map, take, vec_len}
+use Rattle.std.specs.Vec.{vec_capacity}
+use Rattle.isolation.specs.World.{world_after, world_lines}
+use Rattle.thread_model.specs.Machine.{machine}
+use Rattle.server_world.specs.declared.report.Entry.TheVariants.{Lines}
+use Rattle.server_world.specs.Server as server
+use Rattle.server_world.specs.Runs.{IsShort, tags}
+use Rattle.server_world.proofs.server.Server.run.Given as goal
+
+abbrev pub invariant-loop-given : goal.invariant-loop-given
+invariant-loop-given l = record {
+  room : vec_capacity l.entries ≡ length l.list;
+  filled : vec_len l.entries ≡ l.given-index;
+  settings : server.settings l.self ≡ server.settings l.initial.self;
+  kept : IsTrue (server.was_refused l.initial.self) → IsTrue (server.was_refused l.self);
+  states : IsFalse (server.was_refused l.self) → server.states l.self ≡ world_after (machine (server.settings l.initial.self)) (server.states l.initial.self) (tags (take l.given-index l.list));
+  lines : IsFalse (server.was_refused l.self) → l.entries.items ≡ map Lines (world_lines (machine (server.settings l.initial.self)) (server.states l.initial.self) (tags (take l.given-index l.list)));
+  blame : IsFalse (server.was_refused l.initial.self) → IsTrue (server.was_refused l.self) → IsShort l.entries.items;
+}

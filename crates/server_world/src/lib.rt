@@ -1,0 +1,17 @@
+//! Whole runs of a server: commands of many sessions, and what each session is told.
+#![tactic(auto)]
+
+mod engine;
+mod laws;
+mod report;
+mod server;
+mod session;
+mod stepping;
+mod table;
+#[cfg(test)]
+mod tests;
+
+pub use laws::{influence_is_least, leaving_out_keeps_sessions, slicing_keeps_a_session};
+pub use report::{Entry, Report};
+pub use server::Server;
+pub use thread_model::{Answer, Command, Line, Tagged};

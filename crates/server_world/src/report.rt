@@ -1,0 +1,23 @@
+//! What a run answers.
+use plain_types::Items;
+use thread_model::Line;
+
+/// What a run tells of one of its commands.
+#[derive(Debug, Drop)]
+pub enum Entry {
+    /// What its session is told, in order. A refusal is one line.
+    Lines(Items<Line>),
+    /// Memory was wanted for the command and not found. Its session has failed, or could not be
+    /// entered.
+    OutOfMemory,
+}
+
+/// What a run answers.
+#[derive(Debug, Drop)]
+pub struct Report {
+    /// One entry for each command, in their order; or none at all, where the room for the list
+    /// itself was not found and no command was done.
+    pub lines: Items<Entry>,
+    /// Memory was wanted and not found, in this run or before it.
+    pub memory_refused: bool,
+}

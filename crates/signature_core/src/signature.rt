@@ -1,0 +1,155 @@
+//! Signatures: a method's name and the kinds of its parameters.
+ghost use Rattle.std.specs.Prelude.{◌≡◌, ◌↔◌, ◌++◌, List, Some, IsTrue, IfOk, string_bytes};
+ghost use Rattle.signature_core.specs.Kinds.{fits};
+
+use crate::kind::Kind;
+use crate::reading::signature;
+use plain_types::{Items, Text};
+use refusals::{Code, Fault};
+use std::alloc::{AllocError, Global};
+
+/// The most parameters that a signature may have: a limit of our own.
+pub const PARAMS: usize = 10;
+
+/// What tells a method from the others of its class. `normalise` makes one of a text.
+#[derive(Debug, Drop)]
+pub struct Signature {
+    /// The method's name.
+    pub name: Text,
+    /// The kinds of its parameters, first to last.
+    pub kinds: Items<Kind>,
+}
+
+impl Signature {
+    ghost use Rattle.std.specs.Option.{ok_or};
+    ghost use Rattle.refusals.specs.Answers.{Answers};
+    ghost use Rattle.refusals.specs.declared.code.Code.TheVariants.{BadSignature};
+    ghost use Rattle.refusals.specs.declared.fault.Fault.TheVariants.{Refused};
+    ghost use Rattle.signature_core.specs.Grammar.{Spells, normal_text};
+    ghost use Rattle.signature_core.specs.Reading.{signature_of, IsNormal};
+
+    /// The signature that the text spells; a text that spells none is `BadSignature`. As in Qt,
+    /// white space, `const`, a reference to a constant, and `void` in place of no parameters make
+    /// no difference; a reference without `const` is another type, and there is none such.
+    pub fn normalise(alloc: Global, text: &str) -> Result<Signature, Fault>
+        ensures exact { Answers result (ok_or (signature_of text.now) BadSignature) }
+
+        // What is read of the text is what the grammar says of it, in both directions.
+        ensures grammar { (s : _)
+            → (signature_of text.now ≡ Some s) ↔ Spells text.now s.name s.kinds }
+        ensures found { IfOk result (λ s. Spells text.now s.name s.kinds) }
+        ensures refused { result ≡ Err (Refused BadSignature)
+            → (name : _) (kinds : _) → ¬ (Spells text.now name kinds) }
+        ensures normal { IfOk result IsNormal }
+    {
+        match signature(alloc, text.as_bytes())? {
+            Some(signature) => Ok(signature),
+            None => Err(Fault::Refused(Code::BadSignature)),
+        }
+    }
+
+    /// The signature as it is written with nothing that may be left out, such as
+    /// `setText(QString,int)`. Two texts spell one signature where their normal texts are equal.
+    #[tactic(auto, using(crate::proofs::Normal::normal_text_read))]
+    pub fn text(&self, alloc: Global) -> Result<String, AllocError>
+        ensures text { IfOk result (λ text. string_bytes text
+            ≡ normal_text self.now.name self.now.kinds) }
+        ensures read_again { IsNormal self.now
+            → signature_of (normal_text self.now.name self.now.kinds) ≡ Some self.now }
+    {
+        let mut text = String::from_str(alloc, self.name.as_str())?;
+        text.push('(')?;
+        for (index, kind) in self.kinds.as_slice().iter().enumerate() {
+            if index > 0 {
+                text.push(',')?;
+            }
+            text.push_str(kind.name())?;
+        }
+        text.push(')')?;
+        Ok(text)
+    }
+}
+
+/// Whether a slot with these parameters can be connected to a signal with those: the slot's kinds
+/// are the first of the signal's, and it does not get the others.
+pub fn fits(signal: &[Kind], slot: &[Kind]) -> bool
+    ensures value { result ≡ fits signal.now slot.now }
+    ensures completes { IsTrue result ↔ ((rest : List _) × (signal.now ≡ slot.now ++ rest)) }
+{
+    signal.starts_with(slot)
+}
+
+#[cfg(test)]
+mod tests {
+    use super::*;
+    use std::test::Fail;
+
+    fn normal(alloc: Global, text: &str) -> Result<Option<String>, AllocError> {
+        match Signature::normalise(alloc, text) {
+            Ok(signature) => Ok(Some(signature.text(alloc)?)),
+            Err(Fault::Refused(_)) => Ok(None),
+            Err(Fault::Memory) => Err(AllocError),
+        }
+    }
+
+    #[test]
+    fn leaves_out_what_may_be(rt: HostRuntime) -> Result<(), Fail> {
+        let rows = [
+            ("setText ( const QString & , int )", "setText(QString,int)"),
+            ("setText(QString const&,int)", "setText(QString,int)"),
+            ("f(void)", "f()"),
+            ("\t_a1\r\n( ) ", "_a1()"),
+            ("f(const  bool,uint\tconst &)", "f(bool,uint)"),
+            (
+                "g(int,int,int,int,int,int,int,int,qlonglong,qulonglong)",
+                "g(int,int,int,int,int,int,int,int,qlonglong,qulonglong)",
+            ),
+        ];
+        for (text, wanted) in rows {
+            let found = normal(rt.alloc(), text)?;
+            assert_eq!(rt; found.as_ref().map(String::as_str), Some(wanted), "{text}");
+        }
+        Ok(())
+    }
+
+    #[test]
+    fn refuses_what_is_none(rt: HostRuntime) -> Result<(), Fail> {
+        let texts = [
+            "",
+            "f",
+            "f(int",
+            "f(double)",
+            "f(ints)",
+            "f(QString&)",
+            "f(const)",
+            "f(constint)",
+            "f(const int const)",
+            "f(int const const)",
+            "f(const int & &)",
+            "f(void,int)",
+            "f(int,void)",
+            "f(int,)",
+            "f(int int)",
+            "f() const",
+            "1f()",
+            "f g()",
+            "f\u{b}()",
+            "ä()",
+            "g(int,int,int,int,int,int,int,int,int,int,int)",
+        ];
+        for text in texts {
+            assert!(rt; normal(rt.alloc(), text)?.is_none(), "{text}");
+        }
+        Ok(())
+    }
+
+    #[test]
+    fn slots_take_what_signals_send_first(rt: HostRuntime) {
+        let signal = [Kind::Int, Kind::Text];
+        assert!(rt; fits(signal.as_slice(), [].as_slice()));
+        assert!(rt; fits(signal.as_slice(), [Kind::Int].as_slice()));
+        assert!(rt; fits(signal.as_slice(), signal.as_slice()));
+        assert!(rt; !fits(signal.as_slice(), [Kind::Text].as_slice()));
+        assert!(rt; !fits([Kind::Int].as_slice(), signal.as_slice()));
+    }
+}

@@ -1,0 +1,20 @@
+//! What clients are told.
+use refusals::Code;
+use variant_value::Value;
+
+/// What a command replies.
+#[derive(Debug, Drop)]
+pub enum Answer {
+    /// The number of an object.
+    Number(u32),
+    Truth(bool),
+    Value(Value),
+}
+
+/// One line of what a session is told.
+#[derive(Debug, Drop)]
+pub enum Line {
+    Reply(Answer),
+    /// The command was refused.
+    Error(Code),
+}

@@ -1,0 +1,324 @@
+//! A value and its JSON.
+ghost use Rattle.std.specs.Prelude.{◌≡◌, Some, Ok, IfOk};
+ghost use Rattle.std.specs.Option.{ok_or};
+ghost use Rattle.serde_json.specs.View.{view};
+ghost use Rattle.refusals.specs.Answers.{Answers};
+ghost use Rattle.variant_value.specs.Values.{IsOfKind, IsShort, value_of, json_of, kind_of, inferred, converted, number_of, inferred_number, number_in, whole_number, text_of};
+
+use plain_types::Text;
+use refusals::{Code, Fault};
+use serde_json::Number;
+use signature_core::Kind;
+use std::alloc::{AllocError, Global};
+
+/// The most bytes of UTF-8 that a text may have: a limit of our own.
+pub const TEXT_BYTES: usize = 4096;
+
+/// What a property holds, and what a signal carries.
+#[derive(Debug, PartialEq, Drop)]
+pub enum Value {
+    /// No value.
+    Invalid,
+    /// A truth.
+    Bool(bool),
+    /// A whole number of 32 bits with a sign.
+    Int(i32),
+    /// A whole number of 32 bits without a sign.
+    Uint(u32),
+    /// A whole number of 64 bits with a sign.
+    Longlong(i64),
+    /// A whole number of 64 bits without a sign.
+    Ulonglong(u64),
+    /// A text. `from_json` and `infer` give none of more than `TEXT_BYTES`.
+    Text(Text),
+}
+
+impl Value {
+    /// The value of this kind that the JSON is: true or false, a whole number in the kind's range,
+    /// or a text. What is none of these is `BadValue`, and a text of more than `TEXT_BYTES` is
+    /// `Limit`. A number with a fraction or an exponent is no whole number, nor is `-0`.
+    pub fn from_json(alloc: Global, kind: Kind, json: &serde_json::Value) -> Result<Value, Fault>
+        ensures exact { Answers result (value_of kind (view json.now)) }
+        ensures of_kind { IfOk result (IsOfKind kind) }
+    {
+        let value = match kind {
+            Kind::Bool => json.as_bool().map(Value::Bool),
+            Kind::Text => match json.as_str() {
+                Some(text) => Some(text_of(alloc, text)?),
+                None => None,
+            },
+            _ => whole_number(json).and_then(|number| number_of(kind, number)),
+        };
+        value.ok_or(Fault::Refused(Code::BadValue))
+    }
+
+    /// The value in JSON; `Invalid` is null.
+    pub fn to_json(&self, alloc: Global) -> Result<serde_json::Value, AllocError>
+        ensures written { IfOk result (λ json. view json ≡ json_of self.now) }
+
+        // A value of a kind, written so, is read again as that kind.
+        ensures read_again { (kind : _) → IsOfKind kind self.now
+            → value_of kind (json_of self.now) ≡ Ok self.now }
+    {
+        Ok(match self {
+            Value::Invalid => serde_json::Value::Null,
+            Value::Bool(truth) => serde_json::Value::Bool(*truth),
+            Value::Int(number) => serde_json::Value::from(*number),
+            Value::Uint(number) => serde_json::Value::from(*number),
+            Value::Longlong(number) => serde_json::Value::from(*number),
+            Value::Ulonglong(number) => serde_json::Value::from(*number),
+            Value::Text(text) => serde_json::Value::String(String::from_str(alloc, text.as_str())?),
+        })
+    }
+
+    /// The value that the JSON is by itself: true or false, a text, nothing for null, and a whole
+    /// number of the first of the kinds `Int`, `Longlong` and `Ulonglong` that holds it. What is
+    /// none of these is `BadValue`, and a text of more than `TEXT_BYTES` is `Limit`.
+    pub fn infer(alloc: Global, json: &serde_json::Value) -> Result<Value, Fault>
+        ensures exact { Answers result (inferred (view json.now)) }
+        ensures short { IfOk result IsShort }
+    {
+        match json {
+            serde_json::Value::Null => Ok(Value::Invalid),
+            serde_json::Value::Bool(truth) => Ok(Value::Bool(*truth)),
+            serde_json::Value::Number(number) => number
+                .as_i128()
+                .and_then(inferred_number)
+                .ok_or(Fault::Refused(Code::BadValue)),
+            serde_json::Value::String(text) => text_of(alloc, text),
+            serde_json::Value::Array(_) | serde_json::Value::Object(_) => {
+                Err(Fault::Refused(Code::BadValue))
+            }
+        }
+    }
+
+    /// The value as one of this kind: a value of the kind is kept, and a number becomes a number
+    /// of the kind where the kind's range holds it. A value that is refused is handed back.
+    pub fn convert(self, kind: Kind) -> Result<Value, Value>
+        ensures moved { result ≡ ok_or (converted kind self) self }
+        ensures kept { kind_of self ≡ Some kind → result ≡ Ok self }
+        ensures kind { IfOk result (λ value. kind_of value ≡ Some kind) }
+    {
+        if self.kind() == Some(kind) {
+            return Ok(self);
+        }
+        match self.number().and_then(|number| number_of(kind, number)) {
+            Some(value) => Ok(value),
+            None => Err(self),
+        }
+    }
+
+    /// The kind that the value is of; `Invalid` has none.
+    pub fn kind(&self) -> Option<Kind>
+        ensures { result ≡ kind_of self.now }
+    {
+        match self {
+            Value::Invalid => None,
+            Value::Bool(_) => Some(Kind::Bool),
+            Value::Int(_) => Some(Kind::Int),
+            Value::Uint(_) => Some(Kind::Uint),
+            Value::Longlong(_) => Some(Kind::Longlong),
+            Value::Ulonglong(_) => Some(Kind::Ulonglong),
+            Value::Text(_) => Some(Kind::Text),
+        }
+    }
+
+    /// The whole number that the value is, whatever its kind.
+    fn number(&self) -> Option<i128>
+        ensures { result ≡ number_in self.now }
+    {
+        match self {
+            Value::Int(number) => Some(i128::from(*number)),
+            Value::Uint(number) => Some(i128::from(*number)),
+            Value::Longlong(number) => Some(i128::from(*number)),
+            Value::Ulonglong(number) => Some(i128::from(*number)),
+            Value::Invalid | Value::Bool(_) | Value::Text(_) => None,
+        }
+    }
+
+    /// An equal value in memory of its own.
+    pub fn copy(&self, alloc: Global) -> Result<Value, AllocError>
+        ensures { IfOk result (λ value. value ≡ self.now) }
+    {
+        Ok(match self {
+            Value::Invalid => Value::Invalid,
+            Value::Bool(truth) => Value::Bool(*truth),
+            Value::Int(number) => Value::Int(*number),
+            Value::Uint(number) => Value::Uint(*number),
+            Value::Longlong(number) => Value::Longlong(*number),
+            Value::Ulonglong(number) => Value::Ulonglong(*number),
+            Value::Text(text) => Value::Text(text.copy(alloc)?),
+        })
+    }
+}
+
+/// The whole number that the JSON is.
+fn whole_number(json: &serde_json::Value) -> Option<i128>
+    ensures { result ≡ whole_number (view json.now) }
+{
+    json.as_number().and_then(Number::as_i128)
+}
+
+/// The number as a value of a number kind, where the kind's range holds it.
+fn number_of(kind: Kind, number: i128) -> Option<Value>
+    ensures { result ≡ number_of kind number }
+{
+    match kind {
+        Kind::Int => i32::try_from(number).ok().map(Value::Int),
+        Kind::Uint => u32::try_from(number).ok().map(Value::Uint),
+        Kind::Longlong => i64::try_from(number).ok().map(Value::Longlong),
+        Kind::Ulonglong => u64::try_from(number).ok().map(Value::Ulonglong),
+        Kind::Bool | Kind::Text => None,
+    }
+}
+
+/// The number as a value of the first kind that holds it.
+fn inferred_number(number: i128) -> Option<Value>
+    ensures { result ≡ inferred_number number }
+{
+    number_of(Kind::Int, number)
+        .or_else(|| number_of(Kind::Longlong, number))
+        .or_else(|| number_of(Kind::Ulonglong, number))
+}
+
+/// The text as a value.
+fn text_of(alloc: Global, text: &str) -> Result<Value, Fault>
+    ensures { Answers result (text_of text.now) }
+{
+    if text.len() > TEXT_BYTES {
+        return Err(Fault::Refused(Code::Limit));
+    }
+    Ok(Value::Text(Text::from_str(alloc, text)?))
+}
+
+#[cfg(test)]
+mod tests {
+    use super::*;
+    use std::test::Fail;
+
+    fn parsed(alloc: Global, text: &str) -> Result<serde_json::Value, AllocError> {
+        serde_json::Value::from_str(alloc, text).map_err(|_| AllocError)
+    }
+
+    fn outcome(answer: Result<Value, Fault>) -> Result<Result<Value, Code>, AllocError> {
+        match answer {
+            Ok(value) => Ok(Ok(value)),
+            Err(Fault::Refused(code)) => Ok(Err(code)),
+            Err(Fault::Memory) => Err(AllocError),
+        }
+    }
+
+    fn read(alloc: Global, kind: Kind, text: &str) -> Result<Result<Value, Code>, AllocError> {
+        outcome(Value::from_json(alloc, kind, &parsed(alloc, text)?))
+    }
+
+    fn infer(alloc: Global, text: &str) -> Result<Result<Value, Code>, AllocError> {
+        outcome(Value::infer(alloc, &parsed(alloc, text)?))
+    }
+
+    #[test]
+    fn reads_what_a_kind_holds(rt: HostRuntime) -> Result<(), Fail> {
+        let alloc = rt.alloc();
+        let rows = [
+            (Kind::Bool, "true", Value::Bool(true)),
+            (Kind::Int, "2147483647", Value::Int(i32::MAX)),
+            (Kind::Int, "-2147483648", Value::Int(i32::MIN)),
+            (Kind::Uint, "4294967295", Value::Uint(u32::MAX)),
+            (
+                Kind::Longlong,
+                "-9223372036854775808",
+                Value::Longlong(i64::MIN),
+            ),
+            (
+                Kind::Ulonglong,
+                "18446744073709551615",
+                Value::Ulonglong(u64::MAX),
+            ),
+        ];
+        for (kind, text, value) in rows {
+            assert!(rt; value.copy(alloc)? == value, "{text}");
+            assert_eq!(rt; value.to_json(alloc)?.to_string(alloc)?.as_str(), text);
+            assert!(rt; read(alloc, kind, text)? == Ok(value), "{text}");
+        }
+        Ok(())
+    }
+
+    #[test]
+    fn refuses_what_a_kind_does_not_hold(rt: HostRuntime) -> Result<(), Fail> {
+        let rows = [
+            (Kind::Bool, "0"),
+            (Kind::Int, "2147483648"),
+            (Kind::Int, "-2147483649"),
+            (Kind::Int, "1.5"),
+            (Kind::Int, "1.0"),
+            (Kind::Int, "-0"),
+            (Kind::Int, "\"1\""),
+            (Kind::Int, "null"),
+            (Kind::Uint, "-1"),
+            (Kind::Uint, "4294967296"),
+            (Kind::Longlong, "9223372036854775808"),
+            (Kind::Ulonglong, "18446744073709551616"),
+            (Kind::Ulonglong, "-1"),
+            (Kind::Text, "1"),
+            (Kind::Text, "[]"),
+        ];
+        for (kind, text) in rows {
+            assert!(rt;
+                read(rt.alloc(), kind, text)? == Err(Code::BadValue),
+                "{text}"
+            );
+        }
+        Ok(())
+    }
+
+    #[test]
+    fn infers_the_first_kind(rt: HostRuntime) -> Result<(), Fail> {
+        let rows = [
+            ("null", Ok(Value::Invalid)),
+            ("false", Ok(Value::Bool(false))),
+            ("2147483647", Ok(Value::Int(i32::MAX))),
+            ("2147483648", Ok(Value::Longlong(2147483648))),
+            ("9223372036854775808", Ok(Value::Ulonglong(1 << 63))),
+            ("-1", Ok(Value::Int(-1))),
+            ("1e3", Err(Code::BadValue)),
+            ("{}", Err(Code::BadValue)),
+        ];
+        for (text, wanted) in rows {
+            assert!(rt; infer(rt.alloc(), text)? == wanted, "{text}");
+        }
+        Ok(())
+    }
+
+    #[test]
+    fn limits_texts(rt: HostRuntime) -> Result<(), Fail> {
+        let alloc = rt.alloc();
+        let mut text = String::new(alloc);
+        for _ in 0..TEXT_BYTES {
+            text.push('a')?;
+        }
+        let wanted = Value::Text(Text::from_str(alloc, text.as_str())?);
+        let json = wanted.to_json(alloc)?;
+        assert!(rt;
+            outcome(Value::from_json(alloc, Kind::Text, &json))? == Ok(wanted.copy(alloc)?)
+        );
+        assert!(rt; outcome(Value::infer(alloc, &json))? == Ok(wanted));
+        text.push('a')?;
+        let json = serde_json::Value::String(text);
+        let read = outcome(Value::from_json(alloc, Kind::Text, &json))?;
+        assert!(rt; read == Err(Code::Limit));
+        assert!(rt; outcome(Value::infer(alloc, &json))? == Err(Code::Limit));
+        Ok(())
+    }
+
+    #[test]
+    fn converts_numbers_that_fit(rt: HostRuntime) {
+        let moved = Value::Int(7).convert(Kind::Ulonglong);
+        assert!(rt; moved == Ok(Value::Ulonglong(7)));
+        assert!(rt; Value::Bool(true).convert(Kind::Bool) == Ok(Value::Bool(true)));
+        assert!(rt; Value::Int(-1).convert(Kind::Uint) == Err(Value::Int(-1)));
+        let large = Value::Longlong(1 << 32).convert(Kind::Int);
+        assert!(rt; large == Err(Value::Longlong(1 << 32)));
+        assert!(rt; Value::Bool(true).convert(Kind::Int) == Err(Value::Bool(true)));
+        assert!(rt; Value::Invalid.convert(Kind::Text) == Err(Value::Invalid));
+    }
+}

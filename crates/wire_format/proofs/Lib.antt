@@ -1,0 +1,6 @@
+pub mod Keys
+pub mod Plain
+pub mod Cutting
+pub mod Outputs
+pub mod LeftOutLines
+pub mod Sessions

@@ -1,0 +1,4 @@
+pub mod Command
+pub mod Input
+pub mod Text
+pub mod Output

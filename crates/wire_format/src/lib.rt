@@ -1,0 +1,25 @@
+//! The lines of metad's protocol: what command a line is, and what is written for an answer.
+#![tactic(auto)]
+
+ghost use Rattle.wire_format.specs.Output.{LeavingOutLines, LeavingOutStrangers};
+
+mod fault;
+mod line;
+mod reading;
+#[cfg(test)]
+mod tests;
+mod writing;
+
+pub use fault::{LineFault, ReadError};
+pub use line::{LINE_BYTES, is_blank};
+pub use reading::read_line;
+pub use writing::{error_parts, fault_text, line_text, write_line};
+
+/// What holds of inputs and what is written for them: where the lines of sessions are left out that
+/// no kept session joins, each kept session is told the same, byte for byte.
+///
+/// There is nothing to run. The clauses are the laws.
+pub fn sessions_are_isolated()
+    ensures leaving_out { LeavingOutLines }
+    ensures strangers { LeavingOutStrangers }
+{}

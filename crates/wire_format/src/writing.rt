@@ -1,0 +1,153 @@
+//! The text of a line.
+ghost use Rattle.std.specs.Prelude.{◌≡◌, ◌∷◌, ◌++◌, [], IsTrue, IfOk, OnOk, OnErr, codes, string_bytes};
+ghost use Rattle.std.specs.List.{flat_map, list_all};
+ghost use Rattle.serde_json.specs.Data.{string};
+ghost use Rattle.serde_json.specs.Written.{compact_text};
+ghost use Rattle.variant_value.specs.Values.{json_of};
+ghost use Rattle.wire_format.specs.Text.{json_of_answer, told_of, text_of_line, text_of_fault, is_session_text, is_plain_byte};
+
+use crate::fault::LineFault;
+use refusals::Code;
+use std::alloc::{AllocError, Global};
+use thread_model::{Answer, Line};
+use variant_value::Value;
+
+/// The text of a line that a session is told, with its line feed: compact JSON, its keys in byte
+/// order.
+pub fn line_text(alloc: Global, session: &str, line: &Line) -> Result<String, AllocError>
+    ensures { IfOk result (λ text. string_bytes text ≡ text_of_line session.now line.now) }
+{
+    let mut text = String::new(alloc);
+    push_line(alloc, &mut text, session, line)?;
+    Ok(text)
+}
+
+/// The text of the line that says a fault, with its line feed.
+pub fn fault_text(alloc: Global, fault: &LineFault) -> Result<String, AllocError>
+    ensures { IfOk result (λ text. string_bytes text ≡ text_of_fault fault.now) }
+{
+    line_text(alloc, fault.blamed(), &Line::Error(fault.code))
+}
+
+/// Puts the text of a line into a buffer, in place of what it holds, so that one buffer serves for
+/// many lines.
+pub fn write_line(
+    alloc: Global,
+    buffer: &mut String,
+    session: &str,
+    line: &Line,
+) -> Result<(), AllocError>
+    ensures ok { OnOk result (string_bytes buffer.new ≡ text_of_line session.now line.now) }
+    ensures err { OnErr result (string_bytes buffer.new ≡ []) }
+{
+    buffer.clear();
+    match push_line(alloc, buffer, session, line) {
+        Ok(()) => Ok(()),
+        Err(error) => {
+            buffer.clear();
+            Err(error)
+        }
+    }
+}
+
+/// The text of a refusal's line in five parts, one behind the other, for where no memory is to be
+/// had.
+pub fn error_parts<'a>(code: Code, session: &'a str) -> [&'a str; 5]
+    requires { IsTrue (is_session_text session.now) }
+    ensures { flat_map (λ part. part.now) result ≡ text_of_line session.now (Line.Error code) }
+{
+    let opening: &'a str = "{\"error\":\"";
+    let code: &'a str = code.text();
+    let between: &'a str = "\",\"session\":\"";
+    let closing: &'a str = "\"}\n";
+    [opening, code, between, session, closing]
+}
+
+fn push_line(
+    alloc: Global,
+    buffer: &mut String,
+    session: &str,
+    line: &Line,
+) -> Result<(), AllocError>
+    ensures { OnOk result
+        (string_bytes buffer.new ≡ string_bytes buffer.old ++ text_of_line session.now line.now) }
+{
+    buffer.push_str("{")?;
+    push_told(alloc, buffer, line)?;
+    buffer.push_str(",\"session\":")?;
+    push_text(alloc, buffer, session)?;
+    buffer.push_str("}\n")?;
+    Ok(())
+}
+
+/// Appends what the line tells, with its key.
+fn push_told(alloc: Global, buffer: &mut String, line: &Line) -> Result<(), AllocError>
+    ensures { OnOk result (string_bytes buffer.new ≡ string_bytes buffer.old
+        ++ (compact_text (string (told_of line.now).0) ++ 58 ∷ compact_text (told_of line.now).1)) }
+{
+    match line {
+        Line::Reply(answer) => {
+            buffer.push_str("\"reply\":")?;
+            push_answer(alloc, buffer, answer)?;
+        }
+        Line::Error(code) => {
+            buffer.push_str("\"error\":")?;
+            push_text(alloc, buffer, code.text())?;
+        }
+    }
+    Ok(())
+}
+
+fn push_answer(alloc: Global, buffer: &mut String, answer: &Answer) -> Result<(), AllocError>
+    ensures { OnOk result
+        (string_bytes buffer.new ≡ string_bytes buffer.old ++ compact_text (json_of_answer answer.now)) }
+{
+    match answer {
+        Answer::Number(number) => write!(buffer, "{number}"),
+        Answer::Truth(truth) => write!(buffer, "{truth}"),
+        Answer::Value(value) => push_value(alloc, buffer, value),
+    }
+}
+
+fn push_value(alloc: Global, buffer: &mut String, value: &Value) -> Result<(), AllocError>
+    ensures { OnOk result
+        (string_bytes buffer.new ≡ string_bytes buffer.old ++ compact_text (json_of value.now)) }
+{
+    match value {
+        Value::Invalid => buffer.push_str("null"),
+        Value::Bool(truth) => write!(buffer, "{truth}"),
+        Value::Int(number) => write!(buffer, "{number}"),
+        Value::Uint(number) => write!(buffer, "{number}"),
+        Value::Longlong(number) => write!(buffer, "{number}"),
+        Value::Ulonglong(number) => write!(buffer, "{number}"),
+        Value::Text(text) => push_text(alloc, buffer, text.as_str()),
+    }
+}
+
+/// Appends a text between quotes, with what JSON escapes in it.
+fn push_text(alloc: Global, buffer: &mut String, text: &str) -> Result<(), AllocError>
+    ensures { OnOk result
+        (string_bytes buffer.new ≡ string_bytes buffer.old ++ compact_text (string text.now)) }
+{
+    if !is_plain(text) {
+        let json = serde_json::Value::String(String::from_str(alloc, text)?);
+        return buffer.push_str(json.to_string(alloc)?.as_str());
+    }
+    buffer.push_str("\"")?;
+    buffer.push_str(text)?;
+    buffer.push_str("\"")?;
+    Ok(())
+}
+
+/// Whether JSON escapes nothing in the text.
+fn is_plain(text: &str) -> bool
+    ensures { result ≡ list_all is_plain_byte text.now }
+{
+    text.as_bytes().iter().all(|byte| is_plain_byte(*byte))
+}
+
+fn is_plain_byte(byte: u8) -> bool
+    ensures { result ≡ is_plain_byte byte }
+{
+    byte >= b' ' && byte != b'"' && byte != b'\\'
+}
