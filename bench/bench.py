@@ -2,10 +2,11 @@
 """Measures the built program on generated inputs, from file to file.
 
 Usage: bench.py PROGRAM. It prints, for each input, the lines a second (the best of three runs) and the
-peak of resident memory. Inputs are the same in every run.
+peak of resident memory; for the first, a single line, only the peak. Inputs are the same in every run.
 """
 
-import os
+import shutil
+import subprocess
 import sys
 import tempfile
 import time
@@ -13,6 +14,7 @@ from pathlib import Path
 
 RUNS = 3
 LINES = 200_000
+PATIENCE = 1_200
 
 
 def new(session):
@@ -44,43 +46,56 @@ def once_each(sessions):
         yield from (new(name), write(name, "lamp"), read(name))
 
 
-def measured(program, given, wrote):
-    """The seconds and the peak of memory, in KiB, of one run from file to file."""
-    start = time.perf_counter()
-    process = os.posix_spawn(
-        program,
-        [program],
-        os.environ,
-        file_actions=[(os.POSIX_SPAWN_OPEN, 0, given, os.O_RDONLY, 0), (os.POSIX_SPAWN_OPEN, 1, wrote, os.O_WRONLY | os.O_CREAT | os.O_TRUNC, 0o644)],
-    )
-    _, status, used = os.wait4(process, 0)
-    seconds = time.perf_counter() - start
-    if status:
-        sys.exit(f"the program ended with {status}")
-    return seconds, used.ru_maxrss
+def seconds_of(program, given, wrote):
+    """How long one run takes, from file to file."""
+    with open(given, "rb") as source, open(wrote, "wb") as sink:
+        start = time.perf_counter()
+        subprocess.run([program], stdin=source, stdout=sink, check=True)
+        return time.perf_counter() - start
+
+
+def peak_of(program, given, wrote, lines):
+    """The peak of resident memory of one run, in KiB, read when all lines are answered and before the input ends."""
+    with open(given, "rb") as source, open(wrote, "wb") as sink:
+        process = subprocess.Popen([program], stdin=subprocess.PIPE, stdout=sink)
+        shutil.copyfileobj(source, process.stdin)
+        process.stdin.flush()
+        for _ in range(PATIENCE):
+            if count_lines(wrote) == lines:
+                break
+            time.sleep(0.05)
+        status = Path(f"/proc/{process.pid}/status").read_text()
+        process.stdin.close()
+        if process.wait():
+            sys.exit(f"the program ended with {process.returncode}")
+    return int(next(line.split()[1] for line in status.splitlines() if line.startswith("VmHWM")))
+
+
+def count_lines(path):
+    with open(path, "rb") as lines:
+        return sum(1 for _ in lines)
 
 
 def main():
     program = str(Path(sys.argv[1]).resolve())
     inputs = {
+        "1 new in 1 session": in_turn(1, 0),
         f"{LINES} set/get lines in 1 session": in_turn(1, LINES),
         f"{LINES} set/get lines over 100 sessions": in_turn(100, LINES),
         f"{LINES} set/get lines over 10000 sessions": in_turn(10_000, LINES),
         "one new, set and get in each of 100000 sessions": once_each(100_000),
     }
     with tempfile.TemporaryDirectory(prefix="metad-bench-") as room:
+        given, wrote = f"{room}/stdin", f"{room}/stdout"
         for name, lines in inputs.items():
-            given, wrote = f"{room}/stdin", f"{room}/stdout"
-            count = 0
-            with open(given, "w") as out:
-                for count, line in enumerate(lines, 1):
-                    out.write(line)
-            runs = [measured(program, given, wrote) for _ in range(RUNS)]
-            seconds, peak = min(it[0] for it in runs), max(it[1] for it in runs)
-            answered = sum(1 for _ in open(wrote, "rb"))
-            if answered != count:
-                sys.exit(f"{name}: {answered} answers to {count} lines")
-            print(f"{name}: {count / seconds:,.0f} lines a second, peak {peak / 1024:.1f} MiB")
+            Path(given).write_text("".join(lines))
+            count = count_lines(given)
+            seconds = min(seconds_of(program, given, wrote) for _ in range(RUNS))
+            if count_lines(wrote) != count:
+                sys.exit(f"{name}: not one answer a line")
+            peak = peak_of(program, given, wrote, count)
+            speed = f"{count / seconds:,.0f} lines a second, " if count >= LINES else ""
+            print(f"{name}: {speed}peak {peak:,} KiB")
     return 0
 
 

@@ -54,7 +54,8 @@ impl Server {
         ensures states { IsFalse (was_refused self.new)
             → states self.new ≡ after (machine (settings self.old)) (states self.old) (tag given.now) }
         ensures settings { settings self.new ≡ settings self.old }
-        ensures known { (names self.new ≡ names self.old) ⊎ (names self.new ≡ with_name (names self.old) given.now.session) }
+        ensures known { (names self.new ≡ names self.old)
+            ⊎ (names self.new ≡ with_name (names self.old) given.now.session) }
         ensures there { OnOk result (names self.new ≡ with_name (names self.old) given.now.session) }
         ensures refuses { IsTrue (failed self.old given.now.session)
             → IfOk result (λ lines. (lines ≡ Error SessionFailed ∷ []) × (sessions self.new ≡ sessions self.old)) }
@@ -88,20 +89,23 @@ impl Server {
             → result.lines ≡ map Lines (world_lines (machine (settings self.old)) (states self.old) (tags list.now)) }
         ensures states { IsFalse result.memory_refused
             → states self.new ≡ world_after (machine (settings self.old)) (states self.old) (tags list.now) }
-        ensures size { (length result.lines ≡ length list.now) ⊎ ((result.lines ≡ []) × OnlyRefused self.old self.new) }
-        ensures blame { IsNew self.old → (name : List ℕ) → IsOfOne name (tags list.now) → IsTrue result.memory_refused
-            → (length result.lines < length list.now) ⊎ IsShort result.lines }
+        ensures size { (length result.lines ≡ length list.now)
+            ⊎ ((result.lines ≡ []) × OnlyRefused self.old self.new) }
+        ensures blame { IsNew self.old → (name : List ℕ) → IsOfOne name (tags list.now)
+            → IsTrue result.memory_refused → (length result.lines < length list.now) ⊎ IsShort result.lines }
         // So each session is told what it would be told alone,
         ensures first_half { IsFalse result.memory_refused → (s : List ℕ)
             → IsAsAlone (settings self.old) (states self.old) (tags list.now) result.lines (states self.new) s }
-        // and what it would be told without the commands of sessions to which no chain of joins leads from it,
+        // and what it would be told without the commands of sessions from which no chain of joins leads to it,
         ensures second_half { IsFalse result.memory_refused → (s : List ℕ)
             → IsAsWith (settings self.old) (states self.old) (tags list.now) result.lines (states self.new) s
-            (only (influences (machine (settings self.old)) (states self.old) (names self.old) (tags list.now) s) (tags list.now)) }
+            (only (influences (machine (settings self.old)) (states self.old) (names self.old) (tags list.now) s)
+            (tags list.now)) }
         // or with those alone that its slice keeps.
         ensures slice { IsFalse result.memory_refused → (s : List ℕ)
             → IsAsWith (settings self.old) (states self.old) (tags list.now) result.lines (states self.new) s
-            (kept (slice (machine (settings self.old)) s (states self.old) (tags list.now)).marks (tags list.now)) }
+            (kept (slice (machine (settings self.old)) s (states self.old) (tags list.now)).marks
+            (tags list.now)) }
     {
         let Ok(mut entries) = Vec::with_capacity(self.alloc, list.len()) else {
             self.note_memory_refused();
@@ -126,7 +130,8 @@ impl Server {
             → states self.new ≡ after (machine (settings self.old)) (states self.old) (tag given.now) }
         ensures settings { settings self.new ≡ settings self.old }
         ensures kept { IsTrue (was_refused self.old) → IsTrue (was_refused self.new) }
-        ensures blame { IsFalse (was_refused self.old) → IsTrue (was_refused self.new) → IsTrue (is_out_of_memory result) }
+        ensures blame { IsFalse (was_refused self.old) → IsTrue (was_refused self.new)
+            → IsTrue (is_out_of_memory result) }
     {
         match self.step(given) {
             Ok(lines) => Entry::Lines(lines),

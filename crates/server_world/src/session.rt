@@ -49,8 +49,10 @@ impl Session {
 
     /// Does what a command asks. Where memory is wanted and not found, the session has failed.
     pub fn obey(&mut self, alloc: Global, command: &Command) -> Result<Items<Line>, Fault>
-        ensures refuses { IsTrue self.old.failed → (result ≡ Err (Refused SessionFailed)) × (self.new ≡ self.old) }
-        ensures lines { IsFalse self.old.failed → (settings : Settings) (name : List ℕ) → Says result (does settings name self.old.state (asked command.now)).lines }
+        ensures refuses { IsTrue self.old.failed
+            → (result ≡ Err (Refused SessionFailed)) × (self.new ≡ self.old) }
+        ensures lines { IsFalse self.old.failed → (settings : Settings) (name : List ℕ)
+            → Says result (does settings name self.old.state (asked command.now)).lines }
         ensures state { IsFalse self.old.failed → (settings : Settings) (name : List ℕ)
             → OnDone result (self.new ≡ record { state = (does settings name self.old.state (asked command.now)).state; failed = false }) }
         ensures fails { OnMemory result (self.new ≡ gone) }
@@ -86,8 +88,10 @@ fn empty_state(alloc: Global) -> State
 /// between before and after.
 #[tactic(auto, unfolding(thread_model::specs::Thread::does))]
 fn act(alloc: Global, state: &mut State, command: &Command) -> Result<Items<Line>, Fault>
-    ensures lines { (settings : Settings) (name : List ℕ) → Says result (does settings name state.old (asked command.now)).lines }
-    ensures state { (settings : Settings) (name : List ℕ) → OnDone result (state.new ≡ (does settings name state.old (asked command.now)).state) }
+    ensures lines { (settings : Settings) (name : List ℕ)
+        → Says result (does settings name state.old (asked command.now)).lines }
+    ensures state { (settings : Settings) (name : List ℕ)
+        → OnDone result (state.new ≡ (does settings name state.old (asked command.now)).state) }
 {
     let answer = match command {
         Command::New { class } => new_object(alloc, state, class)?,
@@ -162,7 +166,8 @@ fn place_of(objects: &[Object], number: u32) -> Option<usize>
 
 fn rename(alloc: Global, objects: &mut Items<Object>, place: usize, name: Value)
     requires { place < length objects.old }
-    ensures { (default : Object) → objects.new ≡ slice_set objects.old place (record (slice_index_or objects.old place default) { object_name = name }) }
+    ensures { (default : Object)
+        → objects.new ≡ slice_set objects.old place (record (slice_index_or objects.old place default) { object_name = name }) }
 {
     let mut rows = mem::replace(objects, Items::new(alloc)).into_vec();
     rows[place].object_name = name;

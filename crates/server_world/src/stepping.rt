@@ -20,7 +20,8 @@ pub fn step(engine: &mut Engine, given: &Tagged) -> Result<Items<Line>, AllocErr
     ensures states { IsFalse (was_refused engine.new)
         → states engine.new ≡ after (machine (settings engine.old)) (states engine.old) (tag given.now) }
     ensures settings { settings engine.new ≡ settings engine.old }
-    ensures known { (names engine.new ≡ names engine.old) ⊎ (names engine.new ≡ with_name (names engine.old) given.now.session) }
+    ensures known { (names engine.new ≡ names engine.old)
+        ⊎ (names engine.new ≡ with_name (names engine.old) given.now.session) }
     ensures there { OnOk result (names engine.new ≡ with_name (names engine.old) given.now.session) }
     ensures refuses { IsTrue (failed engine.old given.now.session)
         → IfOk result (λ lines. (lines ≡ Error SessionFailed ∷ []) × (sessions engine.new ≡ sessions engine.old)) }

@@ -92,7 +92,8 @@ impl Table {
     ) -> Result<Items<Line>, Fault>
         requires { IsOpen self.old place }
         ensures sound { IsSound self.old }
-        ensures refuses { IsTrue (row self.old place).failed → (result ≡ Err (Refused SessionFailed)) × (self.new ≡ self.old) }
+        ensures refuses { IsTrue (row self.old place).failed
+            → (result ≡ Err (Refused SessionFailed)) × (self.new ≡ self.old) }
         ensures lines { IsFalse (row self.old place).failed → (settings : Settings) (name : List ℕ)
             → Says result (does settings name (row self.old place).state (asked command.now)).lines }
         ensures state { IsFalse (row self.old place).failed → (settings : Settings) (name : List ℕ)

@@ -27,16 +27,16 @@ returns-then-is_null-clause-state c =
 pub returns-in_err-name-clause-reply : goal.returns-in_err-name-clause-reply
 returns-in_err-name-clause-reply c =
     let at : Some c.in-Some.place ≡ position (has_number c.args.object) c.args.state.now.objects = cc in
-    let refused = sets-refused c.args.state.now c.args.object (view c.args.value.now) c.in-Some.place _ at (sym c.if-is_null.ensures) c.in_err-name.ensures in
+    let refused = sets-refused c.args.state.now c.args.object (view c.args.value.now) c.in-Some.place _ at (sym c.if-is_null.ensures) c.in_err-name.ensures.exact in
     search (rules, refused)
 
 pub returns-clause-reply : goal.returns-clause-reply
 returns-clause-reply c =
     let at : Some c.in-Some.place ≡ position (has_number c.args.object) c.args.state.now.objects = cc in
-    ap (λ effect. effect.lines) (sym (sets-name c.args.state.now c.args.object (view c.args.value.now) c.in-Some.place c.in_ok-name.name at (sym c.if-is_null.ensures) c.in_ok-name.ensures))
+    ap (λ effect. effect.lines) (sym (sets-name c.args.state.now c.args.object (view c.args.value.now) c.in-Some.place c.in_ok-name.name at (sym c.if-is_null.ensures) c.in_ok-name.ensures.exact))
 
 pub returns-clause-state : goal.returns-clause-state
 returns-clause-state c =
     let at : Some c.in-Some.place ≡ position (has_number c.args.object) c.args.state.now.objects = cc in
     with_name-at c.args.state.now c.args.object c.in-Some.place c.in_ok-name.name _ at c.rename.ensures
-    ∙ ap (λ effect. effect.state) (sym (sets-name c.args.state.now c.args.object (view c.args.value.now) c.in-Some.place c.in_ok-name.name at (sym c.if-is_null.ensures) c.in_ok-name.ensures))
+    ∙ ap (λ effect. effect.state) (sym (sets-name c.args.state.now c.args.object (view c.args.value.now) c.in-Some.place c.in_ok-name.name at (sym c.if-is_null.ensures) c.in_ok-name.ensures.exact))

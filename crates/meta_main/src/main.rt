@@ -1,0 +1,33 @@
+//! `metad`: a server of live objects in isolated sessions. It reads commands from standard input, one
+//! JSON object a line, and writes what the sessions are told to standard output.
+#![tactic(auto)]
+
+mod status;
+#[cfg(test)]
+mod tests;
+
+use server_world::Server;
+use std::process::ExitCode;
+use wire_lines::{Counted, RunFault, Summary, run};
+
+/// How many turns each command has for the calls that it causes.
+const TURNS: u32 = 10_000;
+
+fn main(rt: HostRuntime) -> ExitCode {
+    let (status, complaint) = status::status_of(&serve(&rt));
+    if let Some(text) = complaint {
+        // There is nobody left to tell where this fails too.
+        let _ = eprintln!(rt; "{text}");
+    }
+    ExitCode::from(status)
+}
+
+/// Answers standard input on standard output, to its end.
+fn serve(rt: &HostRuntime) -> Result<Summary, RunFault> {
+    let Ok(mut server) = Server::new(rt.alloc(), TURNS) else {
+        return Err(RunFault::Memory);
+    };
+    let mut reader = Counted::new(rt.stdin());
+    let mut writer = Counted::new(rt.stdout());
+    run(rt.alloc(), &mut reader, &mut writer, &mut server)
+}

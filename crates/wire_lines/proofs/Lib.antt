@@ -1,0 +1,10 @@
+pub mod Sent
+pub mod Begun
+pub mod Long
+pub mod Feeding
+pub mod Served
+pub mod Answered
+pub mod Kept
+pub mod Reading
+pub mod Whole
+pub mod Isolated

@@ -1,0 +1,92 @@
+-- Steps of a run that write what is gathered and read more, over an input that is known.
+use Rattle.std.proofs.Common.{◌≡◌, ◌⊎◌, ◌≤◌, ℕ, ◌+◌, ◌<◌, List, [], ◌∷◌, ◌++◌, length, take, Option, Some, None, Result, Ok, Err, inl, inr, refl, sym, ap, ◌∙◌, subst, arith, append-nil, append_assoc, length-append}
+use Rattle.std.specs.Io.KnownBytes.{Appends, Consumes, IsAtEnd}
+use Rattle.server_world.specs.declared.server.Server.{Server}
+use Rattle.server_world.specs.Server.{states, was_refused, settings}
+use Rattle.wire_devices.specs.Bytes.{AppendsFront}
+use Rattle.wire_format.specs.Input.{lines_of}
+use Rattle.wire_format.specs.Output.{output, world_of}
+use Rattle.wire_lines.specs.declared.fault.RunFault.{RunFault}
+use Rattle.wire_lines.specs.declared.fault.RunFault.TheVariants.{Read, Write, Endless, Memory}
+use Rattle.wire_lines.specs.Sending.{Out, out, Sent, SentFront}
+use Rattle.wire_lines.specs.Stream.{Later, Point, Fed, Done, Cut, IsOver, Stops, Feeds, Finishes}
+use Rattle.wire_lines.specs.Run.{Ends}
+use Rattle.wire_lines.proofs.Sent.{Sent-flushed, SentFront-emptied, Sent-nothing, SentFront-more, SentFront-whole}
+use Rattle.wire_lines.proofs.Feeding.{and_then, Later-refl, Fed-trans, Fed-more, Cut-after, Cut-more, Done-after, IsOver-after, Stops-after, Stops-along}
+use Rattle.wire_lines.proofs.Kept.{point}
+
+-- what is left of a known input
+pub known_rest : (a b : Option (List ℕ)) (bytes input : List ℕ) → Consumes a b bytes → a ≡ Some input → (rest : List ℕ) × (b ≡ Some rest) × (input ≡ bytes ++ rest)
+known_rest None b bytes input consumed is = absurd (cc is)
+known_rest (Some all) None bytes input consumed is = absurd consumed
+known_rest (Some all) (Some rest) bytes input consumed is = (rest, refl, (let same : all ≡ input = cc in sym same ∙ consumed))
+
+pub known_end : (a : Option (List ℕ)) (rest : List ℕ) → IsAtEnd a → a ≡ Some rest → rest ≡ []
+known_end None rest end is = absurd (cc is)
+known_end (Some all) rest end is = let same : all ≡ rest = cc in sym same ∙ end
+
+-- what is gathered is written
+pub Fed-flushed : (server : Server) (old new : Option (List ℕ)) (gathered left begun : List ℕ) (lines count : ℕ) → left ≡ [] → Appends old new gathered → count ≡ lines →
+    Fed (point server (out old gathered) lines begun) (point server (out new left) count begun)
+Fed-flushed server old new gathered left begun lines count none bytes same = record {
+  later = Later-refl server;
+  said = λ clean. ([], subst (λ l. Sent (out old gathered) (out new l) []) (sym none) (Sent-flushed old new gathered [] bytes), λ rest. refl, λ rest. refl);
+  counted = λ rest. ap (λ n. n + length (lines_of (begun ++ rest))) (sym same);
+}
+
+-- or a front of it
+pub Cut-flushed : (server : Server) (old new : Option (List ℕ)) (gathered left begun later_begun rest : List ℕ) (lines count : ℕ) → left ≡ [] → AppendsFront old new gathered →
+    Cut (point server (out old gathered) lines begun) (point server (out new left) count later_begun) rest
+Cut-flushed server old new gathered left begun later_begun rest lines count none bytes = record {
+  later = Later-refl server;
+  said = λ clean. SentFront-emptied old new gathered left _ none bytes;
+}
+
+-- nothing more is said
+pub Cut-here : (a : Point) (begun rest : List ℕ) → Cut a (point a.server a.out a.lines begun) rest
+Cut-here a begun rest = record {
+  later = Later-refl a.server;
+  said = λ clean. SentFront-more a.out a.out [] _ (SentFront-whole a.out a.out [] (Sent-nothing a.out));
+}
+
+-- with the bytes that are left, all of the input is behind the point
+module _ (start end : Point) (bytes rest input : List ℕ) (is : input ≡ bytes ++ rest) where
+  all_bytes : (start.begun ++ bytes) ++ rest ≡ (start.begun ++ input) ++ []
+  all_bytes = append_assoc start.begun bytes rest ∙ ap (λ l. start.begun ++ l) (sym is) ∙ sym (append-nil (start.begun ++ input))
+
+  pub Cut-known : Cut (and_then start bytes) end rest → Cut (and_then start input) end []
+  Cut-known cut = record {
+    later = cut.later;
+    said = λ clean. subst (λ l. SentFront start.out end.out (output (settings start.server) (states start.server) l)) all_bytes (cut.said clean);
+  }
+
+  pub Stops-known : (most : ℕ) (fault : RunFault) → Stops most fault (and_then start bytes) end rest → Stops most fault (and_then start input) end []
+  Stops-known most fault stops =
+      Stops-along most fault (and_then start bytes) end (and_then start input) end rest [] Cut-known
+      (λ over. subst (λ l. most < start.lines + length (lines_of l)) all_bytes over) stops
+
+-- more bytes behind those of a start
+pub Fed-read : (start a b c : Point) (bytes more : List ℕ) → Fed (and_then start bytes) a → Fed a b → Fed (and_then b more) c → Fed (and_then start (bytes ++ more)) c
+Fed-read start a b c bytes more so_far flushed fed =
+    subst (λ l. Fed (record { server = start.server; out = start.out; lines = start.lines; begun = l }) c) (append_assoc start.begun bytes more)
+    (Fed-trans (and_then (and_then start bytes) more) (and_then b more) c (Fed-more (and_then start bytes) b more (Fed-trans (and_then start bytes) a b so_far flushed)) fed)
+
+pub Stops-read : (most : ℕ) (fault : RunFault) (start a b c : Point) (bytes more rest : List ℕ) → Fed (and_then start bytes) a → Fed a b → Stops most fault (and_then b more) c rest → Stops most fault (and_then start (bytes ++ more)) c rest
+Stops-read most fault start a b c bytes more rest so_far flushed stops =
+    subst (λ l. Stops most fault (record { server = start.server; out = start.out; lines = start.lines; begun = l }) c rest) (append_assoc start.begun bytes more)
+    (Stops-after most fault (and_then (and_then start bytes) more) (and_then b more) c rest (Fed-more (and_then start bytes) b more (Fed-trans (and_then start bytes) a b so_far flushed)) stops)
+
+-- how a run ends by a fault
+pub Ends-fault : (T : Type 0) (most reads : ℕ) (fault : RunFault) (a b : Point) → Stops most fault a b [] → Ends {T = T} most reads a b (Err fault)
+Ends-fault T most reads Read a b stops = stops
+Ends-fault T most reads Write a b stops = stops
+Ends-fault T most reads Memory a b stops = stops
+Ends-fault T most reads Endless a b stops = (stops.0, inl stops.1)
+
+pub Ends-stopped : {T : Type 0} (most reads : ℕ) (fault : RunFault) (a b : Point) (r : Result T RunFault) → Stops most fault a b [] → r ≡ Err fault → Ends most reads a b r
+Ends-stopped {T = T} most reads fault a b r stops is = subst (Ends most reads a b) (sym is) (Ends-fault T most reads fault a b stops)
+
+-- and how by its last line
+pub Ends-finished : {T : Type 0} (most reads : ℕ) (a b c : Point) (r : Result T RunFault) → Fed a b → Finishes most b c r → Ends most reads a c r
+Ends-finished {T = T} most reads a b c (Ok done) fed finishes = Done-after a b c fed finishes
+Ends-finished {T = T} most reads a b c (Err fault) fed finishes = Ends-fault T most reads fault a c (Stops-after most fault a b c [] fed finishes)

@@ -1,0 +1,33 @@
+use Rattle.std.proofs.Common.{[], ◌++◌, Ok, Err, sym, subst}
+use Rattle.wire_lines.specs.Feeding.{at}
+use Rattle.wire_lines.specs.Run.{Runs}
+use Rattle.wire_lines.proofs.Kept.{err_is}
+use Rattle.wire_lines.proofs.Whole.{Ends-beginning, Runs-stopped, Runs-done, ReadFails-fault, WriteFails-fault}
+use Rattle.wire_lines.proofs.stream.run_bounded.Goals as goal
+
+pub returns-in_err-serve_to_end-clause-runs : goal.returns-in_err-serve_to_end-clause-runs
+returns-in_err-serve_to_end-clause-runs g c = λ input known.
+    let made = c.in_ok-stream.ensures in
+    let served = c.serve_to_end in
+    let end = at (g.W.Sink.held served.new.writer) served.new.self.lines served.new.server [] in
+    let fault = c.in_err-serve_to_end.field-0.0 in
+    let ends = Ends-beginning {T = Unit {0}} c.args.max_lines c.args.max_reads _ _ _ _ input (g.W.Sink.held c.args.writer.now) c.args.server.now end (Err fault) made.most made.output made.count made.begun
+    (c.in_err-serve_to_end.ensures.ends input known) in
+    let runs = Runs-stopped c.args.max_lines c.args.max_reads input (g.W.Sink.held c.args.writer.now) (g.W.Sink.held served.new.writer) c.args.server.now served.new.server served.new.self.lines.output.gathered served.new.self.lines.count (Unit {0}) fault ends in
+    subst (Runs c.args.max_lines c.args.max_reads input (g.W.Sink.held c.args.writer.now) c.args.server.now (g.W.Sink.held served.new.writer) served.new.server) (sym (err_is _ _ c.from_residual-in_err-serve_to_end.ensures.1)) runs
+
+pub returns-in_err-serve_to_end-clause-read_fails : goal.returns-in_err-serve_to_end-clause-read_fails
+returns-in_err-serve_to_end-clause-read_fails g c = ReadFails-fault (Unit {0}) _ _ c.in_err-serve_to_end.field-0.0 _ c.in_err-serve_to_end.ensures.read_fails (err_is _ _ c.from_residual-in_err-serve_to_end.ensures.1)
+
+pub returns-in_err-serve_to_end-clause-write_fails : goal.returns-in_err-serve_to_end-clause-write_fails
+returns-in_err-serve_to_end-clause-write_fails g c = WriteFails-fault (Unit {0}) _ _ c.in_err-serve_to_end.field-0.0 _ c.in_err-serve_to_end.ensures.write_fails (err_is _ _ c.from_residual-in_err-serve_to_end.ensures.1)
+
+pub returns-clause-runs : goal.returns-clause-runs
+returns-clause-runs g c = λ input known.
+    let made = c.in_ok-stream.ensures in
+    let served = c.serve_to_end in
+    let end = at (g.W.Sink.held served.new.writer) served.new.self.lines served.new.server [] in
+    let done = Ends-beginning c.args.max_lines c.args.max_reads _ _ _ _ input (g.W.Sink.held c.args.writer.now) c.args.server.now end (Ok c.in_ok-serve_to_end.field-0) made.most made.output made.count made.begun
+    (c.in_ok-serve_to_end.ensures.ends input known) in
+    Runs-done c.args.max_lines c.args.max_reads input (g.W.Sink.held c.args.writer.now) (g.W.Sink.held served.new.writer) c.args.server.now served.new.server served.new.self.lines.output.gathered
+    (record { lines = served.new.self.lines.count; memory_refused = c.memory_refused.result }) c.in_ok-serve_to_end.ensures.emptied done

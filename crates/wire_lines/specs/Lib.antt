@@ -1,0 +1,4 @@
+pub mod Sending
+pub mod Stream
+pub mod Feeding
+pub mod Run

@@ -1,0 +1,142 @@
+//! What is said, on its way to a sink.
+ghost use Rattle.std.specs.Prelude.{◌≡◌, [], IsTrue, IsFalse, IfOk, List, Some};
+ghost use Rattle.std.specs.List.{flat_map};
+ghost use Rattle.isolation.specs.World.{effect, after};
+ghost use Rattle.server_world.specs.Server.{states, was_refused, settings};
+ghost use Rattle.thread_model.specs.Asked.{tag};
+ghost use Rattle.thread_model.specs.declared.line.Line.{Line};
+ghost use Rattle.thread_model.specs.declared.line.Line.TheVariants.{Error};
+ghost use Rattle.thread_model.specs.Machine.{machine};
+ghost use Rattle.wire_devices.specs.Bytes.{AppendsAll};
+ghost use Rattle.wire_devices.specs.Counts.{CountsErrors};
+ghost use Rattle.wire_format.specs.Command.{command_of};
+ghost use Rattle.wire_format.specs.Input.{piece_from};
+ghost use Rattle.wire_format.specs.Output.{text_of_piece, world_after_piece};
+ghost use Rattle.wire_format.specs.Text.{text_of_line, is_session_text};
+ghost use Rattle.wire_lines.specs.Sending.{SentAll, out};
+ghost use Rattle.wire_lines.specs.Stream.{Later, SendFails};
+
+use crate::buffer::Buffer;
+use crate::fault::RunFault;
+use refusals::Code;
+use server_world::Server;
+use std::alloc::{AllocError, Global};
+use thread_model::{Line, Tagged};
+use wire_devices::{Failed, Sink};
+use wire_format::{ReadError, error_parts, read_line, write_line};
+
+/// The text that is gathered for a sink.
+#[derive(Drop)]
+pub struct Output {
+    alloc: Global,
+    gathered: Buffer,
+    /// The text of one line, in memory that serves for all of them.
+    text: String,
+}
+
+impl Output {
+    pub fn new(alloc: Global) -> Result<Output, AllocError>
+        ensures { IfOk result (λ output. output.gathered ≡ []) }
+    {
+        Ok(Output {
+            alloc,
+            gathered: Buffer::new(alloc)?,
+            text: String::new(alloc),
+        })
+    }
+
+    /// Writes what is gathered. Afterwards nothing is: where the sink fails, what it did not take is
+    /// lost.
+    pub fn flush<W: Sink>(&mut self, writer: &mut W) -> Result<(), Failed>
+        ensures emptied { self.new.gathered ≡ [] }
+        ensures bytes { AppendsAll (W.held writer.old) (W.held writer.new) result self.old.gathered }
+        ensures counted { CountsErrors (W.failures writer.old) (W.failures writer.new) result }
+    {
+        self.gathered.flush(writer)
+    }
+
+    /// Says what is answered to a line that is not blank.
+    pub fn serve<W: Sink>(
+        &mut self,
+        line: &[u8],
+        server: &mut Server,
+        writer: &mut W,
+    ) -> Result<(), RunFault>
+        ensures later { Later server.old server.new }
+        ensures said { IsFalse (was_refused server.new) → SentAll (out (W.held writer.old) self.old.gathered) (out (W.held writer.new) self.new.gathered) result
+            (text_of_piece (settings server.old) (states server.old) (Some (piece_from (command_of line.now)))) }
+        ensures states { IsFalse (was_refused server.new)
+            → states server.new ≡ world_after_piece (settings server.old) (states server.old) (Some (piece_from (command_of line.now))) }
+        ensures failed { SendFails (W.failures writer.old) (W.failures writer.new) result }
+    {
+        match read_line(self.alloc, line) {
+            Ok(given) => self.obey(&given, server, writer),
+            Err(ReadError::Fault(fault)) => self.say_error(fault.code, fault.blamed(), writer),
+            Err(ReadError::Memory) => {
+                server.note_memory_refused();
+                self.say_error(Code::OutOfMemory, "-", writer)
+            }
+        }
+    }
+
+    /// Lets the server do what a command asks, and says its lines, or that there was no memory.
+    fn obey<W: Sink>(
+        &mut self,
+        given: &Tagged,
+        server: &mut Server,
+        writer: &mut W,
+    ) -> Result<(), RunFault>
+        requires { IsTrue (is_session_text given.now.session) }
+        ensures later { Later server.old server.new }
+        ensures said { IsFalse (was_refused server.new) → SentAll (out (W.held writer.old) self.old.gathered) (out (W.held writer.new) self.new.gathered) result
+            (flat_map (text_of_line given.now.session) (effect (machine (settings server.old)) (states server.old) (tag given.now)).lines) }
+        ensures states { IsFalse (was_refused server.new)
+            → states server.new ≡ after (machine (settings server.old)) (states server.old) (tag given.now) }
+        // Also where memory was refused, all that is said names the session.
+        ensures named { (lines : List Line) × SentAll (out (W.held writer.old) self.old.gathered) (out (W.held writer.new) self.new.gathered) result
+            (flat_map (text_of_line given.now.session) lines) }
+        ensures failed { SendFails (W.failures writer.old) (W.failures writer.new) result }
+    {
+        let session = given.session.as_str();
+        match server.step(given) {
+            Ok(lines) => self.say_lines(session, lines.as_slice(), writer),
+            Err(AllocError) => self.say_error(Code::OutOfMemory, session, writer),
+        }
+    }
+
+    fn say_lines<W: Sink>(
+        &mut self,
+        session: &str,
+        lines: &[Line],
+        writer: &mut W,
+    ) -> Result<(), RunFault>
+        ensures said { SentAll (out (W.held writer.old) self.old.gathered) (out (W.held writer.new) self.new.gathered) result
+            (flat_map (text_of_line session.now) lines.now) }
+        ensures failed { SendFails (W.failures writer.old) (W.failures writer.new) result }
+    {
+        for line in lines {
+            write_line(self.alloc, &mut self.text, session, line)?;
+            self.gathered.send(writer, self.text.as_bytes())?;
+        }
+        Ok(())
+    }
+
+    /// Says that something was refused. This takes no memory.
+    fn say_error<W: Sink>(
+        &mut self,
+        code: Code,
+        session: &str,
+        writer: &mut W,
+    ) -> Result<(), RunFault>
+        requires { IsTrue (is_session_text session.now) }
+        ensures said { SentAll (out (W.held writer.old) self.old.gathered) (out (W.held writer.new) self.new.gathered) result
+            (text_of_line session.now (Error code)) }
+        ensures failed { SendFails (W.failures writer.old) (W.failures writer.new) result }
+    {
+        let parts = error_parts(code, session);
+        for part in &parts {
+            self.gathered.send(writer, part.as_bytes())?;
+        }
+        Ok(())
+    }
+}

@@ -1,0 +1,264 @@
+//! Runs over whole inputs.
+ghost use Rattle.std.specs.Io.KnownBytes.{Appends};
+ghost use Rattle.std.specs.Prelude.{◌^◌, IsErr, IsFalse, ◌≡◌, ◌∷◌, ◌++◌, ◌<◌, ◌⊎◌, ◌≤◌, ℕ, [], length, List, Some, None, IfSome, IfOk, IsOk, OnOk, OnErr, IsTrue, Err};
+ghost use Rattle.server_world.specs.Server.{states, names, was_refused, settings};
+ghost use Rattle.wire_format.specs.Input.{NoEnd, lines_of};
+ghost use Rattle.wire_format.specs.Output.{output, world_of};
+ghost use Rattle.wire_lines.specs.declared.fault.RunFault.TheVariants.{Endless};
+ghost use Rattle.wire_lines.specs.Run.{WentWell, AppendsSome, ReadFails, WriteFails, WritesAlone, WritesAsWithout, Ends, Runs, device_failed};
+ghost use Rattle.wire_lines.specs.Stream.{Later, SinkFails, Feeds, Finishes};
+ghost use Rattle.wire_lines.specs.Feeding.{at};
+
+use crate::buffer::Buffer;
+use crate::fault::RunFault;
+use crate::lines::Lines;
+use server_world::Server;
+use std::alloc::{AllocError, Global};
+use wire_devices::{Failed, Sink, Source};
+
+/// The most lines that a run reads.
+const MOST_LINES: u64 = 1 << 32;
+
+/// The most calls of `read` that a run makes.
+const MOST_READS: u64 = 1 << 40;
+
+/// How many bytes a run asks its source for at once.
+const CHUNK_BYTES: usize = 65_536;
+
+/// What a run did.
+#[derive(Clone, Copy, Debug, PartialEq, Eq)]
+pub struct Summary {
+    /// How many lines were read, those that were skipped among them.
+    pub lines: u64,
+    /// Whether memory was ever wanted on this server and not found, in this run or before.
+    pub memory_refused: bool,
+}
+
+/// An input that comes in chunks.
+#[derive(Drop)]
+struct Stream {
+    /// The line that has begun, as far as it is needed.
+    begun: Buffer,
+    lines: Lines,
+    ghost no_end: { NoEnd begun },
+}
+
+impl Stream {
+    fn new(alloc: Global, most_lines: u64) -> Result<Stream, AllocError>
+        ensures begun { IfOk result (λ stream. stream.begun ≡ []) }
+        ensures output { IfOk result (λ stream. stream.lines.output.gathered ≡ []) }
+        ensures count { IfOk result (λ stream. stream.lines.count ≡ 0) }
+        ensures most { IfOk result (λ stream. stream.lines.most ≡ most_lines) }
+    {
+        Ok(Stream {
+            begun: Buffer::new(alloc)?,
+            lines: Lines::new(alloc, most_lines)?,
+        })
+    }
+
+    /// Answers the lines that end in this chunk, and keeps what has begun.
+    fn feed<W: Sink>(
+        &mut self,
+        chunk: &[u8],
+        server: &mut Server,
+        writer: &mut W,
+    ) -> Result<(), RunFault>
+        ensures fed { Feeds self.old.lines.most (at (W.held writer.old) self.old.lines server.old (self.old.begun ++ chunk.now))
+            (at (W.held writer.new) self.new.lines server.new self.new.begun) result }
+        ensures failed { SinkFails (W.failures writer.old) (W.failures writer.new) result }
+        ensures most { self.new.lines.most ≡ self.old.lines.most }
+    {
+        let mut rest = chunk;
+        'lines: while let Some((line, behind)) = split_line(rest) {
+            self.end_line(line, server, writer)?;
+            rest = behind;
+        }
+        self.begun.keep(rest);
+        Ok(())
+    }
+
+    /// Answers the line that ends with these bytes.
+    fn end_line<W: Sink>(
+        &mut self,
+        line: &[u8],
+        server: &mut Server,
+        writer: &mut W,
+    ) -> Result<(), RunFault>
+        requires { NoEnd line.now }
+        ensures fed { Feeds self.old.lines.most (at (W.held writer.old) self.old.lines server.old (self.old.begun ++ line.now ++ 10 ∷ []))
+            (at (W.held writer.new) self.new.lines server.new []) result }
+        ensures begun { self.new.begun ≡ [] }
+        ensures failed { SinkFails (W.failures writer.old) (W.failures writer.new) result }
+        ensures most { self.new.lines.most ≡ self.old.lines.most }
+    {
+        if self.begun.is_empty() {
+            return self.lines.answer(line, server, writer);
+        }
+        self.begun.keep(line);
+        let answered = self.lines.answer(self.begun.as_slice(), server, writer);
+        self.begun.clear();
+        answered
+    }
+
+    /// Answers the last line, where it lacks its end.
+    fn finish<W: Sink>(&mut self, server: &mut Server, writer: &mut W) -> Result<(), RunFault>
+        ensures done { Finishes self.old.lines.most (at (W.held writer.old) self.old.lines server.old self.old.begun)
+            (at (W.held writer.new) self.new.lines server.new []) result }
+        ensures failed { SinkFails (W.failures writer.old) (W.failures writer.new) result }
+    {
+        if self.begun.is_empty() {
+            return Ok(());
+        }
+        self.lines.answer(self.begun.as_slice(), server, writer)
+    }
+
+    /// Answers each line of the input, up to its end or to the first fault.
+    fn serve_all<R: Source, W: Sink>(
+        &mut self,
+        chunk: &mut [u8],
+        reader: &mut R,
+        writer: &mut W,
+        server: &mut Server,
+        max_reads: u64,
+    ) -> Result<(), RunFault>
+        requires { 0 < length chunk.old }
+        ensures later { Later server.old server.new }
+        ensures ends { (input : List ℕ) → R.left reader.old ≡ Some input
+            → Ends self.old.lines.most max_reads (at (W.held writer.old) self.old.lines server.old (self.old.begun ++ input))
+            (at (W.held writer.new) self.new.lines server.new []) result }
+        ensures all_read { (input : List ℕ) → R.left reader.old ≡ Some input → IsOk result → R.left reader.new ≡ Some [] }
+        ensures read_fails { ReadFails (R.failures reader.old) (R.failures reader.new) result }
+        ensures write_fails { WriteFails (W.failures writer.old) (W.failures writer.new) result }
+    {
+        'reads: for _reads in 0..max_reads {
+            self.lines.flush(writer)?;
+            let Ok(count) = reader.read(chunk) else {
+                return Err(RunFault::Read);
+            };
+            if count == 0 {
+                return self.finish(server, writer);
+            }
+            self.feed(&chunk[..count], server, writer)?;
+        }
+        Err(RunFault::Endless)
+    }
+
+    /// The same, and then writes what is said so far, where no device has failed.
+    fn serve_to_end<R: Source, W: Sink>(
+        &mut self,
+        chunk: &mut [u8],
+        reader: &mut R,
+        writer: &mut W,
+        server: &mut Server,
+        max_reads: u64,
+    ) -> Result<(), RunFault>
+        requires { 0 < length chunk.old }
+        ensures later { Later server.old server.new }
+        ensures ends { (input : List ℕ) → R.left reader.old ≡ Some input
+            → Ends self.old.lines.most max_reads (at (W.held writer.old) self.old.lines server.old (self.old.begun ++ input))
+            (at (W.held writer.new) self.new.lines server.new []) result }
+        ensures emptied { OnOk result (self.new.lines.output.gathered ≡ []) }
+        ensures all_read { (input : List ℕ) → R.left reader.old ≡ Some input → IsOk result → R.left reader.new ≡ Some [] }
+        ensures read_fails { ReadFails (R.failures reader.old) (R.failures reader.new) result }
+        ensures write_fails { WriteFails (W.failures writer.old) (W.failures writer.new) result }
+    {
+        let ended = self.serve_all(chunk, reader, writer, server, max_reads);
+        if device_failed(&ended) {
+            return ended;
+        }
+        self.lines.flush(writer)?;
+        ended
+    }
+}
+
+/// The first line, without its end, and what is behind it, where a line ends.
+fn split_line(bytes: &[u8]) -> Option<(&[u8], &[u8])>
+    ensures none { result ≡ None → NoEnd bytes.now }
+    ensures whole { IfSome result (λ parts. bytes.now ≡ parts.0.now ++ 10 ∷ parts.1.now) }
+    ensures line { IfSome result (λ parts. NoEnd parts.0.now) }
+{
+    let end = bytes.iter().position(|byte| *byte == b'\n')?;
+    let (line, ended) = bytes.split_at(end);
+    Some((line, &ended[1..]))
+}
+
+/// Reads lines to the end of the input, lets the server do each command, and writes what is told.
+///
+/// Lines end with a line feed, which the last may lack. A line of only spaces, tabs and carriage
+/// returns is skipped. A line of more than [`LINE_BYTES`](wire_format::LINE_BYTES) bytes, blank or
+/// not, is told as unreadable. What is said is gathered, and all of it is written before each read:
+/// whoever waits for an answer gets it before the run waits for more input.
+///
+/// Where memory is wanted for a command and not found, its line is `E21`, which takes no memory.
+///
+/// # Errors
+///
+/// `Read` or `Write` where a device failed. `Endless` where the input goes on after 2^32 lines, or
+/// after 2^40 calls of `read`. `Memory` where there was none for the buffers of the run, or for the
+/// text of a line. What was said before is written, but for `Write`.
+pub fn run<R: Source, W: Sink>(
+    alloc: Global,
+    reader: &mut R,
+    writer: &mut W,
+    server: &mut Server,
+) -> Result<Summary, RunFault>
+    // Where it goes well, it writes the output of the whole input,
+    ensures output { (input : List ℕ) → R.left reader.old ≡ Some input → WentWell result server.new
+        → Appends (W.held writer.old) (W.held writer.new) (output (settings server.old) (states server.old) input) }
+    ensures all_read { (input : List ℕ) → R.left reader.old ≡ Some input → IsOk result → R.left reader.new ≡ Some [] }
+    ensures states { (input : List ℕ) → R.left reader.old ≡ Some input → WentWell result server.new
+        → states server.new ≡ world_of (settings server.old) (states server.old) input }
+    // in which each session is told what it would be told alone,
+    ensures alone { (input s : List ℕ) → R.left reader.old ≡ Some input → WentWell result server.new
+        → WritesAlone (settings server.old) (states server.old) input (W.held writer.old) (W.held writer.new) s }
+    // and what it would be told without the commands of sessions to which no chain of joins leads from it.
+    ensures left_out { (input s : List ℕ) → R.left reader.old ≡ Some input → WentWell result server.new
+        → WritesAsWithout (settings server.old) (states server.old) (names server.old) input (W.held writer.old) (W.held writer.new) s }
+    // Where it stops, it has written a front of that output.
+    ensures prefix { (input : List ℕ) → R.left reader.old ≡ Some input → IsErr result → IsFalse (was_refused server.new)
+        → AppendsSome (W.held writer.old) (W.held writer.new) (output (settings server.old) (states server.old) input) }
+    ensures read_fails { ReadFails (R.failures reader.old) (R.failures reader.new) result }
+    ensures write_fails { WriteFails (W.failures writer.old) (W.failures writer.new) result }
+    ensures endless { (input : List ℕ) → R.left reader.old ≡ Some input → result ≡ Err Endless
+        → (2 ^ 32 < length (lines_of input)) ⊎ (2 ^ 40 ≤ length input) }
+    // Also where memory was refused.
+    ensures lines { (input : List ℕ) → R.left reader.old ≡ Some input → IfOk result (λ summary. summary.lines ≡ length (lines_of input)) }
+    ensures memory { IfOk result (λ summary. summary.memory_refused ≡ was_refused server.new) }
+    ensures kept { IsTrue (was_refused server.old) → IsTrue (was_refused server.new) }
+    ensures settings { settings server.new ≡ settings server.old }
+{
+    run_bounded(alloc, reader, writer, server, MOST_LINES, MOST_READS)
+}
+
+/// The same with other bounds.
+pub(crate) fn run_bounded<R: Source, W: Sink>(
+    alloc: Global,
+    reader: &mut R,
+    writer: &mut W,
+    server: &mut Server,
+    max_lines: u64,
+    max_reads: u64,
+) -> Result<Summary, RunFault>
+    ensures runs { (input : List ℕ) → R.left reader.old ≡ Some input
+        → Runs max_lines max_reads input (W.held writer.old) server.old (W.held writer.new) server.new result }
+    ensures all_read { (input : List ℕ) → R.left reader.old ≡ Some input → IsOk result → R.left reader.new ≡ Some [] }
+    ensures memory { IfOk result (λ summary. summary.memory_refused ≡ was_refused server.new) }
+    ensures later { Later server.old server.new }
+    ensures read_fails { ReadFails (R.failures reader.old) (R.failures reader.new) result }
+    ensures write_fails { WriteFails (W.failures writer.old) (W.failures writer.new) result }
+{
+    let mut stream = Stream::new(alloc, max_lines)?;
+    let mut chunk = vec![in alloc; 0; CHUNK_BYTES]?;
+    stream.serve_to_end(&mut chunk, reader, writer, server, max_reads)?;
+    Ok(Summary {
+        lines: stream.lines.count,
+        memory_refused: server.memory_refused(),
+    })
+}
+
+/// Whether a source or a sink has failed, so that it is left alone.
+fn device_failed(ended: &Result<(), RunFault>) -> bool
+    ensures { result ≡ device_failed ended.now }
+{
+    matches!(ended, Err(RunFault::Read | RunFault::Write))
+}
