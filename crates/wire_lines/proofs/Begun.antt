@@ -1,7 +1,7 @@
 -- How the lines of an input follow from its front.
-use Rattle.std.proofs.Common.{◌≡◌, ℕ, ◌+◌, ◌<◌, ◌≤◌, cond, true, false, not, List, [], ◌∷◌, ◌++◌, length, map, take, get_or, suc, zero, refl, sym, ap, ◌∙◌, arith, append-nil}
-use Rattle.std.specs.Prelude.{◌==◌, ◌≢◌}
-use Rattle.std.proofs.lemmas.Bool.{ne_eqb, cond-false}
+use Rattle.std.proofs.Common.{◌≡◌, ℕ, ◌<◌, cond, not, List, [], ◌∷◌, ◌++◌, length, map, suc, refl, ap, ◌∙◌, arith}
+use Rattle.std.specs.Prelude.{◌≢◌}
+use Rattle.std.proofs.lemmas.Bool.{ne_eqb}
 use Rattle.wire_format.specs.Input.{in_front, whole_lines, bare, lines_of, NoEnd}
 
 -- bytes without a line feed in front of the lines that follow

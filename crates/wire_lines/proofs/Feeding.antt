@@ -1,16 +1,15 @@
 -- Steps of a run, one after another.
-use Rattle.std.proofs.Common.{◌≡◌, ℕ, ◌+◌, ◌<◌, Bool, true, false, List, [], ◌∷◌, ◌++◌, length, take, Option, Result, Ok, Err, IsTrue, IsFalse, refl, sym, ap, ◌∙◌, subst, arith, append-nil, append_assoc}
+use Rattle.std.proofs.Common.{◌≡◌, ℕ, ◌+◌, ◌<◌, List, [], ◌++◌, length, Result, Ok, Err, IsFalse, refl, sym, ap, ◌∙◌, subst, arith, append-nil, append_assoc}
 use Rattle.std.proofs.lemmas.Bool.{both_ways, false_from_ne_true}
 use Rattle.server_world.specs.declared.server.Server.{Server}
 use Rattle.server_world.specs.Server.{states, was_refused, settings}
-use Rattle.thread_model.specs.Thread.{Settings}
 use Rattle.wire_format.specs.Input.{lines_of}
 use Rattle.wire_format.specs.Output.{output, world_of}
 use Rattle.wire_lines.specs.declared.fault.RunFault.{RunFault}
 use Rattle.wire_lines.specs.declared.fault.RunFault.TheVariants.{Read, Write, Endless, Memory}
-use Rattle.wire_lines.specs.Sending.{Out, IsFront, Sent, SentFront, SentAll}
-use Rattle.wire_lines.specs.Stream.{Later, Point, Says, Fed, SaysAll, Done, Cut, IsOver, Stops, Feeds, Finishes}
-use Rattle.wire_lines.proofs.Sent.{Sent-nothing, Sent-trans, SentFront-after, SentFront-more}
+use Rattle.wire_lines.specs.Sending.{Sent, SentFront}
+use Rattle.wire_lines.specs.Stream.{Later, Point, Says, Fed, SaysAll, Done, Cut, IsOver, Stops, Feeds}
+use Rattle.wire_lines.proofs.Sent.{Sent-nothing, Sent-trans, SentFront-after}
 
 pub Later-refl : (server : Server) → Later server server
 Later-refl server = record { settings = refl; refused = λ refused. refused }

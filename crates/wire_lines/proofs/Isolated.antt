@@ -1,7 +1,6 @@
 -- What a run writes keeps sessions apart.
-use Rattle.std.proofs.Common.{◌≡◌, ℕ, List, Option, sym}
+use Rattle.std.proofs.Common.{ℕ, List, Option, sym}
 use Rattle.std.specs.Io.KnownBytes.{Appends}
-use Rattle.isolation.specs.Influence.{KnowsAll}
 use Rattle.isolation.specs.Pieces.{piece_answers}
 use Rattle.isolation.proofs.Piecewise.{told_alone}
 use Rattle.server_world.specs.declared.server.Server.{Server}

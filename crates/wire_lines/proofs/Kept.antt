@@ -1,7 +1,7 @@
 -- Steps of a run that keep the front of a line, and that come to the end of the input.
 use Rattle.std.proofs.Common.{◌≡◌, ℕ, ◌+◌, ◌<◌, List, [], ◌∷◌, ◌++◌, length, take, Result, Ok, Err, refl, sym, ap, ◌∙◌, subst, arith, append-nil, append_assoc, IsErrAnd}
 use Rattle.server_world.specs.declared.server.Server.{Server}
-use Rattle.server_world.specs.Server.{states, was_refused, settings}
+use Rattle.server_world.specs.Server.{states, settings}
 use Rattle.wire_format.specs.declared.line.TheConstants.{LINE_BYTES}
 use Rattle.std.specs.List.{filter_map, flat_map}
 use Rattle.isolation.specs.Pieces.{commands_of, piece_answers}
@@ -14,10 +14,10 @@ use Rattle.wire_format.proofs.Cutting.{lines_of-empty, lines_of-line, lines_of-l
 use Rattle.wire_format.proofs.Outputs.{output-empty, world_of-empty}
 use Rattle.wire_lines.specs.declared.fault.RunFault.{RunFault}
 use Rattle.wire_lines.specs.Sending.{Out, Sent, SentFront}
-use Rattle.wire_lines.specs.Stream.{Later, Point, Fed, Done, Cut, IsOver, Stops, Feeds, Finishes}
+use Rattle.wire_lines.specs.Stream.{Point, Fed, Done, Stops, Feeds, Finishes}
 use Rattle.wire_lines.proofs.Sent.{Sent-nothing}
 use Rattle.wire_lines.proofs.Long.{length-kept, output-kept, world_of-kept}
-use Rattle.wire_lines.proofs.Feeding.{Later-refl, Fed-trans, Done-after, Stops-along}
+use Rattle.wire_lines.proofs.Feeding.{Later-refl, Done-after, Stops-along}
 
 abbrev pub point : Server → Out → ℕ → List ℕ → Point
 point server out lines begun = record { server = server; out = out; lines = lines; begun = begun }

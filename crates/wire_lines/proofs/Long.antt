@@ -1,13 +1,13 @@
 -- Lines that are too long are answered alike, whatever they hold, so that most of their bytes may be passed over.
-use Rattle.std.proofs.Common.{◌≡◌, ℕ, ◌-◌, ◌<◌, ◌≤◌, false, cond, List, [], ◌∷◌, ◌++◌, length, take, get_or, refl, sym, ap, ◌∙◌, subst, arith, ⊎_elim, length-append, ◌⊎◌}
+use Rattle.std.proofs.Common.{◌≡◌, ℕ, ◌-◌, ◌<◌, ◌≤◌, List, [], ◌∷◌, ◌++◌, length, take, refl, sym, ap, ◌∙◌, arith, ⊎_elim, length-append}
 use Rattle.std.proofs.Math.ListN.{get_or-append}
 use Rattle.std.proofs.lemmas.List.{take_all, length-take, length-take-le, get_or-take, get_or-append_right}
-use Rattle.std.proofs.lemmas.Bool.{lt-leb, cases_lt}
+use Rattle.std.proofs.lemmas.Bool.{cases_lt}
 use Rattle.std.specs.List.{cons_option, filter_map, flat_map}
 use Rattle.isolation.specs.Pieces.{commands_of, piece_answers}
 use Rattle.thread_model.specs.Thread.{Settings}
 use Rattle.wire_format.specs.declared.line.TheConstants.{LINE_BYTES}
-use Rattle.wire_format.specs.Input.{Piece, lines_of, piece_of, pieces_of, NoEnd}
+use Rattle.wire_format.specs.Input.{lines_of, piece_of, pieces_of, NoEnd}
 use Rattle.wire_format.specs.Output.{World, said_in, text_of_said, said_all, output, world_of}
 use Rattle.isolation.specs.World.{world_after}
 use Rattle.thread_model.specs.Machine.{machine}

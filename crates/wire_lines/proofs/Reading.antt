@@ -1,18 +1,18 @@
 -- Steps of a run that write what is gathered and read more, over an input that is known.
-use Rattle.std.proofs.Common.{◌≡◌, ◌⊎◌, ◌≤◌, ℕ, ◌+◌, ◌<◌, List, [], ◌∷◌, ◌++◌, length, take, Option, Some, None, Result, Ok, Err, inl, inr, refl, sym, ap, ◌∙◌, subst, arith, append-nil, append_assoc, length-append}
+use Rattle.std.proofs.Common.{◌≡◌, ℕ, ◌+◌, ◌<◌, List, [], ◌++◌, length, Option, Some, None, Result, Ok, Err, inl, refl, sym, ap, ◌∙◌, subst, append-nil, append_assoc}
 use Rattle.std.specs.Io.KnownBytes.{Appends, Consumes, IsAtEnd}
 use Rattle.server_world.specs.declared.server.Server.{Server}
-use Rattle.server_world.specs.Server.{states, was_refused, settings}
+use Rattle.server_world.specs.Server.{states, settings}
 use Rattle.wire_devices.specs.Bytes.{AppendsFront}
 use Rattle.wire_format.specs.Input.{lines_of}
-use Rattle.wire_format.specs.Output.{output, world_of}
+use Rattle.wire_format.specs.Output.{output}
 use Rattle.wire_lines.specs.declared.fault.RunFault.{RunFault}
 use Rattle.wire_lines.specs.declared.fault.RunFault.TheVariants.{Read, Write, Endless, Memory}
-use Rattle.wire_lines.specs.Sending.{Out, out, Sent, SentFront}
-use Rattle.wire_lines.specs.Stream.{Later, Point, Fed, Done, Cut, IsOver, Stops, Feeds, Finishes}
+use Rattle.wire_lines.specs.Sending.{out, Sent, SentFront}
+use Rattle.wire_lines.specs.Stream.{Point, Fed, Cut, Stops, Finishes}
 use Rattle.wire_lines.specs.Run.{Ends}
 use Rattle.wire_lines.proofs.Sent.{Sent-flushed, SentFront-emptied, Sent-nothing, SentFront-more, SentFront-whole}
-use Rattle.wire_lines.proofs.Feeding.{and_then, Later-refl, Fed-trans, Fed-more, Cut-after, Cut-more, Done-after, IsOver-after, Stops-after, Stops-along}
+use Rattle.wire_lines.proofs.Feeding.{and_then, Later-refl, Fed-trans, Fed-more, Done-after, Stops-after, Stops-along}
 use Rattle.wire_lines.proofs.Kept.{point}
 
 -- what is left of a known input

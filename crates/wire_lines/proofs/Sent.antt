@@ -1,5 +1,5 @@
 -- Texts that are sent one after another.
-use Rattle.std.proofs.Common.{◌≡◌, ℕ, ◌<◌, ◌≤◌, List, [], ◌++◌, length, take, drop, Option, Result, Ok, Err, refl, sym, ap, ◌∙◌, subst, arith, append-nil, append_assoc, take-append-drop, ◌+◌, ◌∷◌, get_or, min, IsErr}
+use Rattle.std.proofs.Common.{◌≡◌, ℕ, ◌<◌, List, [], ◌++◌, length, take, drop, Option, Result, Ok, Err, refl, sym, ap, ◌∙◌, subst, arith, append-nil, append_assoc, take-append-drop, ◌+◌, ◌∷◌, get_or, min, IsErr}
 use Rattle.std.proofs.Math.Seq.{take-append-add}
 use Rattle.std.specs.List.{flat_map}
 use Rattle.std.proofs.lemmas.Grind.{flat_map-append}
@@ -7,7 +7,7 @@ use Rattle.std.proofs.lemmas.List.{take_min, take_more}
 use Rattle.std.specs.Io.KnownBytes.{Appends}
 use Rattle.std.proofs.KnownBytes.{Appends-nil, Appends-trans}
 use Rattle.wire_devices.specs.Bytes.{AppendsFront, AppendsAll}
-use Rattle.wire_lines.specs.Sending.{IsFront, Out, out, Sent, SentFront, SentAll}
+use Rattle.wire_lines.specs.Sending.{Out, out, Sent, SentFront, SentAll}
 
 -- what is gathered is written, and then the text is gathered
 pub Sent-flushed : (old new : Option (List ℕ)) (gathered text : List ℕ) → Appends old new gathered → Sent (record { held = old; gathered = gathered }) (record { held = new; gathered = text }) text

@@ -1,5 +1,5 @@
 -- How a whole run ends, and what it has written.
-use Rattle.std.proofs.Common.{IfOk, ⊎_elim, ◌≡◌, ◌⊎◌, ◌≤◌, ℕ, ◌+◌, ◌<◌, Bool, true, false, List, [], ◌∷◌, ◌++◌, length, take, Option, Some, None, Result, Ok, Err, IsOk, IsErr, IsTrue, IsFalse, inl, inr, refl, sym, ap, ◌∙◌, subst, arith, append-nil, append_assoc}
+use Rattle.std.proofs.Common.{IfOk, ⊎_elim, ◌≡◌, ◌⊎◌, ◌≤◌, ℕ, ◌+◌, ◌<◌, List, [], ◌++◌, length, Option, Result, Ok, Err, IsOk, IsErr, IsFalse, inl, inr, sym, ap, ◌∙◌, subst, arith, append-nil, append_assoc}
 use Rattle.std.specs.Io.KnownBytes.{Appends}
 use Rattle.server_world.specs.declared.server.Server.{Server}
 use Rattle.server_world.specs.Server.{states, was_refused, settings}
@@ -9,8 +9,8 @@ use Rattle.wire_format.specs.Output.{output, world_of}
 use Rattle.wire_lines.specs.declared.fault.RunFault.{RunFault}
 use Rattle.wire_lines.specs.declared.fault.RunFault.TheVariants.{Read, Write, Endless, Memory}
 use Rattle.wire_lines.specs.declared.stream.Summary.{Summary}
-use Rattle.wire_lines.specs.Sending.{Out, out, IsFront, Sent, SentFront}
-use Rattle.wire_lines.specs.Stream.{Later, Point, Done, Cut, IsOver}
+use Rattle.wire_lines.specs.Sending.{out, Sent, SentFront}
+use Rattle.wire_lines.specs.Stream.{Point, Done, Cut}
 use Rattle.wire_lines.specs.Run.{AppendsSome, WritesFront, ReadFails, WriteFails, Ends, Runs}
 use Rattle.wire_lines.proofs.Sent.{Sent-then, SentFront-then, SentFront-then_front, SentFront-whole}
 use Rattle.wire_lines.proofs.Kept.{point}

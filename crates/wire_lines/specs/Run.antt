@@ -1,5 +1,5 @@
 -- What a run over a whole input promises.
-use Rattle.std.specs.Prelude.{◌≡◌, ◌⊎◌, ◌<◌, ◌≤◌, ◌++◌, ℕ, Bool, true, false, List, [], length, Option, Result, Ok, Err, IsOk, IsFalse}
+use Rattle.std.specs.Prelude.{◌≡◌, ◌⊎◌, ◌<◌, ◌≤◌, ℕ, Bool, true, false, List, [], length, Option, Result, Ok, Err, IsOk, IsFalse}
 use Rattle.std.specs.List.{flat_map}
 use Rattle.std.specs.Io.KnownBytes.{Appends}
 use Rattle.isolation.specs.Alone.{items, alone_lines}
@@ -13,7 +13,7 @@ use Rattle.wire_devices.specs.Counts.{FailsOnce}
 use Rattle.wire_format.specs.Input.{lines_of, pieces_of, without}
 use Rattle.wire_format.specs.Output.{World, Answer, Said, said_in, text_of_said, said_all, lines_said_to, output, world_of}
 use Rattle.wire_lines.specs.declared.fault.RunFault.{RunFault}
-use Rattle.wire_lines.specs.declared.fault.RunFault.TheVariants.{Read, Write, Endless, Memory}
+use Rattle.wire_lines.specs.declared.fault.RunFault.TheVariants.{Read, Write, Endless}
 use Rattle.wire_lines.specs.declared.stream.Summary.{Summary}
 use Rattle.wire_lines.specs.Sending.{IsFront}
 use Rattle.wire_lines.specs.Stream.{Point, Done, Cut, IsOver}

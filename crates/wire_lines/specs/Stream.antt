@@ -1,5 +1,5 @@
 -- A run under way: what a server does with the lines of an input that comes in pieces.
-use Rattle.std.specs.Prelude.{◌≡◌, ℕ, ◌+◌, ◌<◌, List, [], ◌∷◌, ◌++◌, length, Option, Result, MatchResult, IsTrue, IsFalse, Ok, Err}
+use Rattle.std.specs.Prelude.{◌≡◌, ℕ, ◌+◌, ◌<◌, List, [], ◌++◌, length, Result, IsTrue, IsFalse, Ok, Err}
 use Rattle.thread_model.specs.Thread.{Settings}
 use Rattle.server_world.specs.declared.server.Server.{Server}
 use Rattle.server_world.specs.Server.{states, was_refused, settings}
@@ -7,8 +7,8 @@ use Rattle.wire_format.specs.Input.{lines_of}
 use Rattle.wire_format.specs.Output.{output, world_of}
 use Rattle.wire_devices.specs.Counts.{FailsOnce}
 use Rattle.wire_lines.specs.declared.fault.RunFault.{RunFault}
-use Rattle.wire_lines.specs.declared.fault.RunFault.TheVariants.{Read, Write, Endless, Memory}
-use Rattle.wire_lines.specs.Sending.{Out, IsFront, Sent, SentFront}
+use Rattle.wire_lines.specs.declared.fault.RunFault.TheVariants.{Read, Write, Endless}
+use Rattle.wire_lines.specs.Sending.{Out, Sent, SentFront}
 
 -- the settings of a server stay, and so does that it once found no memory
 pub record Later (old new : Server) : Type 0 where

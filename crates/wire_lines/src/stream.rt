@@ -1,6 +1,6 @@
 //! Runs over whole inputs.
 ghost use Rattle.std.specs.Io.KnownBytes.{Appends};
-ghost use Rattle.std.specs.Prelude.{◌^◌, IsErr, IsFalse, ◌≡◌, ◌∷◌, ◌++◌, ◌<◌, ◌⊎◌, ◌≤◌, ℕ, [], length, List, Some, None, IfSome, IfOk, IsOk, OnOk, OnErr, IsTrue, Err};
+ghost use Rattle.std.specs.Prelude.{◌≡◌, ◌<◌, ◌≤◌, ◌⊎◌, ◌^◌, ◌++◌, ◌∷◌, ℕ, List, [], length, Some, None, IfSome, Err, IsOk, IsErr, IfOk, OnOk, IsTrue, IsFalse};
 ghost use Rattle.server_world.specs.Server.{states, names, was_refused, settings};
 ghost use Rattle.wire_format.specs.Input.{NoEnd, lines_of};
 ghost use Rattle.wire_format.specs.Output.{output, world_of};

@@ -1,4 +1,4 @@
-use Rattle.std.proofs.Common.{[], ◌++◌, Ok, Err, sym, subst}
+use Rattle.std.proofs.Common.{[], Ok, Err, sym, subst}
 use Rattle.wire_lines.specs.Feeding.{at}
 use Rattle.wire_lines.specs.Run.{Runs}
 use Rattle.wire_lines.proofs.Kept.{err_is}

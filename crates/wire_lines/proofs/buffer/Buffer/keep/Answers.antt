@@ -1,4 +1,4 @@
-use Rattle.std.proofs.Common.{◌∙◌, ap}
+use Rattle.std.proofs.Common.{◌∙◌}
 use Rattle.wire_lines.proofs.Sent.{take-append-room}
 use Rattle.wire_lines.proofs.buffer.Buffer.keep.Goals as goal
 

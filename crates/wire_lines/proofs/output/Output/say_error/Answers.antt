@@ -1,4 +1,4 @@
-use Rattle.std.proofs.Common.{◌≡◌, ◌∙◌, [], subst, arith}
+use Rattle.std.proofs.Common.{◌∙◌, [], subst, arith}
 use denote.Ref.{Bor}
 use Rattle.std.specs.Prelude.{List, ℕ}
 use Rattle.wire_lines.specs.Sending.{out, SentFront}

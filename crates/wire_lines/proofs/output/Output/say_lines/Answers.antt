@@ -1,4 +1,4 @@
-use Rattle.std.proofs.Common.{◌≡◌, ◌∙◌, ap, arith}
+use Rattle.std.proofs.Common.{◌∙◌, ap, arith}
 use Rattle.wire_format.specs.Text.{text_of_line}
 use Rattle.wire_lines.specs.Sending.{out}
 use Rattle.wire_lines.proofs.Sent.{SentAll-failed, Sent-next, SentFront-next, SentFront-stopped}

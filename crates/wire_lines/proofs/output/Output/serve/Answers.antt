@@ -1,11 +1,10 @@
-use Rattle.std.proofs.Common.{◌≡◌, ◌∙◌, ℕ, List, IsTrue, sym, subst}
+use Rattle.std.proofs.Common.{◌∙◌, ℕ, List, IsTrue, sym, subst}
 use Rattle.std.proofs.lemmas.Bool.{or_left}
 use Rattle.server_world.specs.Server.{states, settings}
 use Rattle.thread_model.specs.Asked.{tag}
 use Rattle.wire_format.specs.Command.{command_of}
 use Rattle.wire_format.specs.Text.{is_session_text}
 use Rattle.wire_format.proofs.Sessions.{session_is_name, blamed_is_session_text}
-use Rattle.wire_lines.specs.Sending.{SentAll, out}
 use Rattle.wire_lines.proofs.Served.{text-given, world-given, text-faulty, world-faulty}
 use Rattle.wire_lines.proofs.output.Output.serve.Goals as goal
 

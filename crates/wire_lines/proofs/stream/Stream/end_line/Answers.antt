@@ -1,4 +1,4 @@
-use Rattle.std.proofs.Common.{◌≡◌, ◌<◌, ◌∙◌, ℕ, List, [], ◌∷◌, ◌++◌, take, sym, subst, lit<}
+use Rattle.std.proofs.Common.{◌∙◌, ℕ, List, [], ◌∷◌, ◌++◌, take, sym, subst, lit<}
 use Rattle.wire_format.specs.Input.{NoEnd}
 use Rattle.wire_lines.specs.declared.buffer.TheConstants.{BUFFER_BYTES}
 use Rattle.wire_lines.specs.Sending.{out}

@@ -1,4 +1,4 @@
-use Rattle.std.proofs.Common.{◌≡◌, ◌∙◌, ℕ, List, [], ◌∷◌, ◌++◌, take, refl, sym, subst, lit<}
+use Rattle.std.proofs.Common.{◌∙◌, ℕ, List, [], ◌∷◌, ◌++◌, take, refl, sym, subst, lit<}
 use Rattle.wire_format.specs.Input.{NoEnd}
 use Rattle.wire_lines.specs.declared.buffer.TheConstants.{BUFFER_BYTES}
 use Rattle.wire_lines.specs.Sending.{out}
@@ -6,7 +6,7 @@ use Rattle.wire_lines.specs.Stream.{Fed, Feeds}
 use Rattle.wire_lines.specs.Feeding.{at}
 use Rattle.wire_lines.proofs.Feeding.{Fed-more, Fed-trans, Feeds-stopped}
 use Rattle.wire_lines.proofs.Long.{NoEnd-take, NoEnd-append}
-use Rattle.wire_lines.proofs.Kept.{point, Fed-kept, err_is, line_in_front}
+use Rattle.wire_lines.proofs.Kept.{Fed-kept, err_is, line_in_front}
 use Rattle.wire_lines.proofs.stream.Stream.feed.Goals as goal
 
 pub returns-in_err-end_line-clause-fed : goal.returns-in_err-end_line-clause-fed

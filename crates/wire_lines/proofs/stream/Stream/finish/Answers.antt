@@ -1,4 +1,4 @@
-use Rattle.std.proofs.Common.{◌≡◌, List, ℕ, [], ◌∷◌, ◌++◌, sym, subst, refl}
+use Rattle.std.proofs.Common.{List, ℕ, [], ◌∷◌, ◌++◌, sym, subst, refl}
 use Rattle.wire_lines.specs.Sending.{out}
 use Rattle.wire_lines.specs.Stream.{Done, Feeds}
 use Rattle.wire_lines.specs.Feeding.{at}

@@ -1,8 +1,8 @@
-use Rattle.std.proofs.Common.{◌≡◌, ◌<◌, ◌≤◌, ◌∙◌, ℕ, List, [], ◌++◌, length, take, inr, refl, arith, append-nil, length-append, sym, ap, subst}
+use Rattle.std.proofs.Common.{◌≡◌, ◌<◌, ◌∙◌, ℕ, List, [], ◌++◌, length, take, inr, arith, append-nil, length-append, sym, ap, subst}
 use Rattle.std.specs.Io.KnownBytes.{Consumes}
-use Rattle.std.proofs.KnownBytes.{Consumes-trans, Consumes-kept}
+use Rattle.std.proofs.KnownBytes.{Consumes-trans}
 use Rattle.wire_lines.specs.declared.fault.RunFault.TheVariants.{Write}
-use Rattle.wire_lines.specs.Stream.{Point, Fed}
+use Rattle.wire_lines.specs.Stream.{Fed}
 use Rattle.wire_lines.specs.Feeding.{at}
 use Rattle.wire_lines.specs.Run.{Ends}
 use Rattle.wire_lines.proofs.Feeding.{and_then, Fed-trans, Cut-after, Later-trans, Stops-cut, Stops-anywhere}

@@ -1,0 +1,10 @@
+//! What the words of metad's command line mean.
+#![tactic(auto)]
+
+mod options;
+mod refusal;
+#[cfg(test)]
+mod tests;
+
+pub use options::{Options, options_of};
+pub use refusal::{goes_to_standard_output, status_of_refusal, text_of_refusal};

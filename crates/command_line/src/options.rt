@@ -1,0 +1,58 @@
+//! The options that a command line gives.
+ghost use Rattle.std.specs.Prelude.{◌≡◌, IfOk, map, codes};
+ghost use Rattle.clap.specs.Words.{FailsBy, app_of, fault_of, first_of, matches_of};
+ghost use Rattle.command_line.specs.Program.{metad};
+ghost use Rattle.command_line.specs.Asked.{Reads, asked};
+
+use clap::{Arg, Command, Error};
+use plain_types::Text;
+use std::alloc::{AllocError, Global};
+use std::convert::AsStr;
+
+/// What the program is told to do.
+#[derive(Debug, Drop)]
+pub struct Options {
+    /// The path of the class file, as it was written; none stands for the demonstration classes.
+    pub classes: Option<Text>,
+}
+
+/// The options that the words of a command line give. The program's name is not among the words; in
+/// all that an error says it is `metad`. Behind `--` there are no options, so that a path may begin
+/// with `-`. An empty word is a path too. The error holds the help, where a word asks for it before
+/// any mistake, or else the first mistake, or says that memory was wanted.
+pub fn options_of<S: AsStr>(alloc: Global, words: &[S]) -> Result<Options, Error>
+    ensures asked { Reads (asked (map S.text words.now)) result }
+    ensures classes { IfOk result (λ options.
+        options.classes ≡ first_of (codes "classes") (matches_of metad (map S.text words.now))) }
+    ensures kinds { FailsBy (fault_of metad (map S.text words.now)) result }
+{
+    let command = metad_command(alloc)?;
+    let matches = command.try_get_matches_from(words)?;
+    let classes = match matches.get_str("classes") {
+        Some(path) => Some(Text::from_str(alloc, path)?),
+        None => None,
+    };
+    Ok(Options { classes })
+}
+
+/// The command line of `metad`, with the texts of its help.
+fn metad_command<'a>(alloc: Global) -> Result<Command<'a>, AllocError>
+    ensures { IfOk result (λ command. app_of command ≡ metad) }
+{
+    let classes = Arg::new(alloc, "classes").value_name("CLASSES").help(
+        "A JSON class file; without it the demonstration classes are used",
+    );
+    Command::new(alloc, "metad")
+        .no_binary_name(true)
+        .about(ABOUT)
+        .after_help(EXAMPLE)
+        .arg(classes)
+}
+
+const ABOUT: &str = "A server of live objects in isolated sessions.
+
+Reads commands from standard input, one JSON object a line, and writes what the
+sessions are told to standard output, one JSON object a line.";
+
+const EXAMPLE: &str = r#"Example:
+  printf '%s\n' '{"class":"QObject","do":"new","session":"a"}' | metad"#;

@@ -1,0 +1,4 @@
+pub mod Keys
+pub mod Joined
+pub mod Branches
+pub mod Counts

@@ -1,0 +1,46 @@
+-- Actions, and how many they are.
+use Rattle.std.specs.Prelude.{ℕ, ◌+◌, ◌&&◌, Bool, true, List, [], ◌∷◌}
+use Rattle.std.specs.List.{list_all}
+use Rattle.term_core.specs.Term.{Term}
+use Rattle.term_core.specs.Forms.{is_within_limits}
+use Rattle.term_core.specs.declared.action.Effect.{Effect}
+use Rattle.term_core.specs.declared.action.Effect.TheVariants as e
+
+mutual
+  pub data Act : Type 0 where
+    effect : Effect → Act
+    when : Term → Acts → Acts → Act
+
+  pub data Acts : Type 0 where
+    nothing : Acts
+    more : Act → Acts → Acts
+
+abbrev pub acts_of : List Act → Acts
+acts_of [] = nothing
+acts_of (action ∷ rest) = more action (acts_of rest)
+
+-- how many actions there are, those in branches among them
+abbrev mutual
+  pub count : Act → ℕ
+  count (effect e) = 1
+  count (when test a b) = counts a + counts b + 1
+
+  pub counts : Acts → ℕ
+  counts nothing = 0
+  counts (more action rest) = count action + counts rest
+
+-- the expressions of an effect keep to their limits
+abbrev pub is_effect_limited : Effect → Bool
+is_effect_limited (e.Set of property value) = is_within_limits value
+is_effect_limited (e.Emit of signal args) = list_all is_within_limits args
+is_effect_limited _ = true
+
+-- all expressions keep to their limits
+abbrev mutual
+  pub is_limited : Act → Bool
+  is_limited (effect e) = is_effect_limited e
+  is_limited (when test a b) = is_within_limits test && (are_limited a && are_limited b)
+
+  pub are_limited : Acts → Bool
+  are_limited nothing = true
+  are_limited (more action rest) = is_limited action && are_limited rest

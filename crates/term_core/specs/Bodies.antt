@@ -1,0 +1,61 @@
+-- The bodies of slots in JSON.
+use Rattle.std.specs.Prelude.{◌&&◌, ℕ, Bool, List, [], ◌∷◌, Option, Some, None, Ok, Err, codes, bytes_eq, if◌then◌else◌, is_some, nat_le, option_map, unwrap_or}
+use Rattle.serde_json.specs.Data.{Data, array, object, Items, no_items, item, Members, no_members, member}
+use Rattle.serde_json.specs.Find.{get}
+use Rattle.refusals.specs.declared.code.Code.TheVariants.{BadValue, Limit}
+use Rattle.term_core.specs.declared.body.Body.{Body}
+use Rattle.term_core.specs.declared.limits.TheConstants.{ACTIONS}
+use Rattle.term_core.specs.declared.scope.Scope.{Scope}
+use Rattle.term_core.specs.declared.scope.Scope.TheVariants.{Slot}
+use Rattle.term_core.specs.Act.{Act, effect, when, acts_of, counts, are_limited}
+use Rattle.term_core.specs.Effects.{effect_in}
+use Rattle.term_core.specs.Forms.{term_in}
+use Rattle.term_core.specs.Json.{Read, ◌>>=◌, has_only, at_key, provided}
+
+-- a choice between two lists of actions, by what stands behind `then` and `else`
+abbrev pub choice_in : Scope → Data → Option (Read (List Act)) → Option (Read (List Act)) → Read Act
+choice_in scope json held failed = do
+  condition ← at_key (codes "when") json
+  test ← term_in scope condition
+  a ← unwrap_or held (Err BadValue)
+  b ← unwrap_or failed (Ok [])
+  provided (has_only (codes "when" ∷ codes "then" ∷ codes "else" ∷ []) json) (when test (acts_of a) (acts_of b))
+
+-- an action, by the same
+abbrev pub made : Scope → Data → Option (Read (List Act)) → Option (Read (List Act)) → Read Act
+made scope json held failed = if is_some (get (codes "when") json) then choice_in scope json held failed else (effect_in scope json >>= λ plain. Ok (effect plain))
+
+abbrev mutual
+  -- the action that a piece of JSON is, however large
+  pub act_in : Scope → Data → Read Act
+  act_in scope (object inside) = made scope (object inside) (branch_in scope (codes "then") inside) (branch_in scope (codes "else") inside)
+  act_in scope _ = Err BadValue
+
+  -- the actions behind a key, where it is there
+  pub branch_in : Scope → List ℕ → Members → Option (Read (List Act))
+  branch_in scope key no_members = None
+  branch_in scope key (member other json rest) = if bytes_eq key other then Some (actions_in scope json) else branch_in scope key rest
+
+  -- the actions of an array
+  pub actions_in : Scope → Data → Read (List Act)
+  actions_in scope (array items) = acts_in scope items
+  actions_in scope _ = Err BadValue
+
+  pub acts_in : Scope → Items → Read (List Act)
+  acts_in scope no_items = Ok []
+  acts_in scope (item json rest) = act_in scope json >>= λ action. acts_in scope rest >>= λ actions. Ok (action ∷ actions)
+
+-- an action, by what its keys lead to
+abbrev pub action_in : Scope → Data → Read Act
+action_in scope json = made scope json (option_map (actions_in scope) (get (codes "then") json)) (option_map (actions_in scope) (get (codes "else") json))
+
+-- actions keep to the limits
+abbrev pub is_body_limited : List Act → Bool
+is_body_limited actions = nat_le (counts (acts_of actions)) ACTIONS && are_limited (acts_of actions)
+
+abbrev pub limited_body : List Act → Read Body
+limited_body actions = if is_body_limited actions then Ok (record { actions = actions }) else Err Limit
+
+-- the body of a slot with so many parameters
+abbrev pub body_of : ℕ → Data → Read Body
+body_of params json = actions_in (Slot params) json >>= limited_body

@@ -1,0 +1,122 @@
+-- The forms of actions in JSON that do one thing.
+use Rattle.std.specs.Prelude.{◌&&◌, ◌||◌, ℕ, Bool, false, List, [], ◌∷◌, Option, Some, None, Ok, Err, codes, bytes_eq, if◌then◌else◌, is_none, is_some, option_and_then}
+use Rattle.std.specs.Option.{option_map_or}
+use Rattle.serde_json.specs.Data.{Data, null, Items, no_items, item}
+use Rattle.serde_json.specs.Find.{get, as_array, as_bool, as_str}
+use Rattle.refusals.specs.declared.code.Code.TheVariants.{BadValue}
+use Rattle.signature_core.specs.declared.signature.Signature.{Signature}
+use Rattle.signature_core.specs.Reading.{signature_of}
+use Rattle.term_core.specs.declared.action.Effect.{Effect}
+use Rattle.term_core.specs.declared.action.Effect.TheVariants as e
+use Rattle.term_core.specs.declared.action.Mode.{Mode}
+use Rattle.term_core.specs.declared.action.Mode.TheVariants as mode
+use Rattle.term_core.specs.declared.scope.Scope.{Scope}
+use Rattle.term_core.specs.Term.{Term}
+use Rattle.term_core.specs.Json.{Read, ◌>>=◌, formed, provided, has_only, at_key, name_in, target_in}
+use Rattle.term_core.specs.Forms.{subject_in, term_in}
+
+-- the signature that a text spells
+abbrev pub signature_in : Data → Read Signature
+signature_in json = formed (option_and_then signature_of (as_str json))
+
+-- what null stands for, or what is there
+abbrev pub unless_null : {A : Type 0} → (Data → Read A) → Data → Read (Option A)
+unless_null read null = Ok None
+unless_null read json = read json >>= λ value. Ok (Some value)
+
+-- what stands behind a key that may be absent
+abbrev pub optional : {A : Type 0} → (Data → Read A) → List ℕ → Data → Read (Option A)
+optional read key json = option_map_or (λ there. read there >>= λ value. Ok (Some value)) (get key json) (Ok None)
+
+-- a truth behind a key, false where the key is absent
+abbrev pub flag_in : List ℕ → Data → Read Bool
+flag_in key json = option_map_or (λ there. formed (as_bool there)) (get key json) (Ok false)
+
+-- how calls are made
+abbrev pub mode_named : List ℕ → Option Mode
+mode_named word =
+    if bytes_eq word (codes "auto") then Some mode.Auto else (
+    if bytes_eq word (codes "direct") then Some mode.Direct else (
+    if bytes_eq word (codes "queued") then Some mode.Queued else None))
+
+abbrev pub mode_in : Data → Read Mode
+mode_in json = option_map_or (λ there. formed (option_and_then mode_named (as_str there))) (get (codes "type") json) (Ok mode.Auto)
+
+-- the expressions of a list
+abbrev pub terms_in : Scope → Items → Read (List Term)
+terms_in scope no_items = Ok []
+terms_in scope (item json rest) = term_in scope json >>= λ term. terms_in scope rest >>= λ terms. Ok (term ∷ terms)
+
+-- each action by what stands behind the key that names it, and by the whole object
+
+abbrev pub set_in : Scope → Data → Data → Read Effect
+set_in scope json named = do
+  property ← name_in named
+  of ← subject_in json
+  to ← at_key (codes "to") json
+  value ← term_in scope to
+  provided (has_only (codes "set" ∷ codes "to" ∷ codes "of" ∷ []) json) (e.Set of property value)
+
+abbrev pub emit_in : Scope → Data → Data → Read Effect
+emit_in scope json named = do
+  signal ← signature_in named
+  of ← subject_in json
+  there ← at_key (codes "args") json
+  items ← formed (as_array there)
+  args ← terms_in scope items
+  provided (has_only (codes "emit" ∷ codes "args" ∷ codes "of" ∷ []) json) (e.Emit of signal args)
+
+abbrev pub connect_in : Data → Data → Read Effect
+connect_in json named = do
+  signal ← signature_in named
+  of ← subject_in json
+  receiver ← at_key (codes "to") json
+  to ← target_in receiver
+  member ← at_key (codes "method") json
+  method ← signature_in member
+  mode ← mode_in json
+  unique ← flag_in (codes "unique") json
+  single ← flag_in (codes "single") json
+  provided (has_only (codes "connect" ∷ codes "of" ∷ codes "to" ∷ codes "method" ∷ codes "type" ∷ codes "unique" ∷ codes "single" ∷ []) json) (e.Connect of signal to method mode unique single)
+
+abbrev pub disconnect_in : Data → Data → Read Effect
+disconnect_in json named = do
+  signal ← unless_null signature_in named
+  of ← subject_in json
+  to ← optional target_in (codes "to") json
+  method ← optional signature_in (codes "method") json
+  provided ((is_none method || is_some to) && has_only (codes "disconnect" ∷ codes "of" ∷ codes "to" ∷ codes "method" ∷ []) json) (e.Disconnect of signal to method)
+
+abbrev pub delete_in : Data → Data → Read Effect
+delete_in json named = do
+  target ← target_in named
+  provided (has_only (codes "delete" ∷ []) json) (e.Delete target)
+
+abbrev pub delete_later_in : Data → Data → Read Effect
+delete_later_in json named = do
+  target ← target_in named
+  provided (has_only (codes "deleteLater" ∷ []) json) (e.DeleteLater target)
+
+abbrev pub block_in : Data → Data → Read Effect
+block_in json named = do
+  on ← formed (as_bool named)
+  of ← subject_in json
+  provided (has_only (codes "block" ∷ codes "of" ∷ []) json) (e.Block of on)
+
+abbrev pub set_parent_in : Data → Data → Read Effect
+set_parent_in json named = do
+  parent ← unless_null target_in named
+  of ← subject_in json
+  provided (has_only (codes "setParent" ∷ codes "of" ∷ []) json) (e.SetParent of parent)
+
+-- the action whose key the object has
+abbrev pub effect_in : Scope → Data → Read Effect
+effect_in scope json =
+    option_map_or (set_in scope json) (get (codes "set") json) (
+    option_map_or (emit_in scope json) (get (codes "emit") json) (
+    option_map_or (connect_in json) (get (codes "connect") json) (
+    option_map_or (disconnect_in json) (get (codes "disconnect") json) (
+    option_map_or (delete_in json) (get (codes "delete") json) (
+    option_map_or (delete_later_in json) (get (codes "deleteLater") json) (
+    option_map_or (block_in json) (get (codes "block") json) (
+    option_map_or (set_parent_in json) (get (codes "setParent") json) (Err BadValue))))))))

@@ -1,0 +1,102 @@
+-- The forms of expressions in JSON.
+use Rattle.std.specs.Prelude.{◌&&◌, ℕ, Bool, true, false, List, [], ◌∷◌, Option, Some, None, Ok, Err, codes, bytes_eq, if◌then◌else◌, nat_le, nat_lt, is_some}
+use Rattle.std.specs.Option.{option_map_or}
+use Rattle.serde_json.specs.Data.{Data, array, object, no_items, item, Members, no_members, member}
+use Rattle.serde_json.specs.Find.{get}
+use Rattle.refusals.specs.declared.code.Code.TheVariants.{BadValue, Limit}
+use Rattle.term_core.specs.declared.limits.TheConstants.{NODES}
+use Rattle.term_core.specs.declared.target.Target.{Target}
+use Rattle.term_core.specs.declared.target.Target.TheVariants.{Itself, Sender, Child, Object}
+use Rattle.term_core.specs.declared.operator.Operator.{Operator}
+use Rattle.term_core.specs.declared.operator.Operator.TheVariants.{Sum, Difference, Less, Equal, Joined}
+use Rattle.term_core.specs.declared.operator.Form.{Form}
+use Rattle.term_core.specs.declared.operator.Form.TheVariants as form
+use Rattle.term_core.specs.declared.scope.Scope.{Scope}
+use Rattle.term_core.specs.declared.scope.Scope.TheVariants.{Binding, Slot}
+use Rattle.term_core.specs.Term.{Term, const, arg, prop, binary, choice, nodes, has_short_texts}
+use Rattle.term_core.specs.Json.{Read, ◌>>=◌, provided, has_only, at_key, name_in, natural_in, constant_in, target_in}
+
+-- how many parameters there are where the expression stands
+abbrev pub params : Scope → ℕ
+params Binding = 0
+params (Slot count) = count
+
+-- only the body of a slot has a sender, and looks for children
+abbrev pub has_target : Scope → Target → Bool
+has_target Binding Itself = true
+has_target Binding Sender = false
+has_target Binding (Child name) = false
+has_target Binding (Object n) = true
+has_target (Slot count) target = true
+
+-- the form that a key stands for; `prop` is not among them, since it may have a second key
+abbrev pub form_named : List ℕ → Option Form
+form_named key =
+    if bytes_eq key (codes "const") then Some form.Const else (
+    if bytes_eq key (codes "arg") then Some form.Arg else (
+    if bytes_eq key (codes "+") then Some (form.Binary Sum) else (
+    if bytes_eq key (codes "-") then Some (form.Binary Difference) else (
+    if bytes_eq key (codes "<") then Some (form.Binary Less) else (
+    if bytes_eq key (codes "=") then Some (form.Binary Equal) else (
+    if bytes_eq key (codes "cat") then Some (form.Binary Joined) else (
+    if bytes_eq key (codes "if") then Some form.Choice else None)))))))
+
+-- an argument of the slot
+abbrev pub argument_in : Scope → Data → Read Term
+argument_in scope json = do
+  place ← natural_in json
+  provided (nat_lt place (params scope)) (arg place)
+
+-- the object that a form is about: this object itself, unless the key `of` says another
+abbrev pub subject_in : Data → Read Target
+subject_in json = option_map_or target_in (get (codes "of") json) (Ok Itself)
+
+-- a property of an object
+abbrev pub property_in : Scope → Data → Read Term
+property_in scope json = do
+  property ← at_key (codes "prop") json
+  name ← name_in property
+  target ← subject_in json
+  provided (has_target scope target && has_only (codes "prop" ∷ codes "of" ∷ []) json) (prop target name)
+
+-- an expression by the key of its form and by what stands behind it: as a constant or an argument, as
+-- two operands, as three
+abbrev pub made : Scope → Form → Data → (Operator → Read Term) → Read Term → Read Term
+made scope form.Const json two three = do
+  value ← constant_in json
+  Ok (const value)
+made scope form.Arg json two three = argument_in scope json
+made scope (form.Binary operator) json two three = two operator
+made scope form.Choice json two three = three
+
+abbrev mutual
+  -- the expression that a piece of JSON is, however large
+  pub term_in : Scope → Data → Read Term
+  term_in scope (object inside) = if is_some (get (codes "prop") (object inside)) then property_in scope (object inside) else only_member scope inside
+  term_in scope _ = Err BadValue
+
+  -- an expression with one member, whose key is its form
+  pub only_member : Scope → Members → Read Term
+  only_member scope (member key json no_members) = option_map_or (λ form. made scope form json (λ operator. binary_in scope operator json) (choice_in scope json)) (form_named key) (Err BadValue)
+  only_member scope _ = Err BadValue
+
+  -- two operands
+  pub binary_in : Scope → Operator → Data → Read Term
+  binary_in scope operator (array (item a (item b no_items))) = term_in scope a >>= λ x. term_in scope b >>= λ y. Ok (binary operator x y)
+  binary_in scope operator _ = Err BadValue
+
+  -- three operands, the first of them a test
+  pub choice_in : Scope → Data → Read Term
+  choice_in scope (array (item test (item a (item b no_items)))) = term_in scope test >>= λ t. term_in scope a >>= λ x. term_in scope b >>= λ y. Ok (choice t x y)
+  choice_in scope _ = Err BadValue
+
+-- an expression keeps to the limits
+abbrev pub is_within_limits : Term → Bool
+is_within_limits term = nat_le (nodes term) NODES && has_short_texts term
+
+abbrev pub within_limits : Term → Read Term
+within_limits term = if is_within_limits term then Ok term else Err Limit
+
+-- the expression of a binding
+abbrev pub binding_term_of : Data → Read Term
+binding_term_of json = term_in Binding json >>= within_limits

@@ -1,0 +1,11 @@
+pub mod Term
+pub mod Coded
+pub mod Nodes
+pub mod Json
+pub mod Forms
+pub mod Act
+pub mod CodedAct
+pub mod Steps
+pub mod StepFalls
+pub mod Effects
+pub mod Bodies

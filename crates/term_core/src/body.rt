@@ -1,0 +1,85 @@
+//! Bodies of slots.
+ghost use Rattle.std.specs.Prelude.{◌≡◌, IfOk, IsTrue};
+ghost use Rattle.serde_json.specs.View.{view, items_view};
+ghost use Rattle.refusals.specs.Answers.{Answers};
+ghost use Rattle.term_core.specs.Bodies.{body_of, is_body_limited, action_in, actions_in, acts_in};
+
+use crate::action::{Action, are_limited, count_all};
+use crate::effects::effect;
+use crate::forms::expression;
+use crate::json::{BAD, has_only};
+use crate::limits::ACTIONS;
+use crate::scope::Scope;
+use plain_types::Items;
+use refusals::{Code, Fault};
+use serde_json::Value as Json;
+use std::alloc::Global;
+
+/// What a slot does when it is run: its actions, one after another.
+#[derive(Drop)]
+pub struct Body {
+    pub actions: Items<Action>,
+}
+
+impl Body {
+    /// The body of a slot with `params` parameters. JSON that is none is `BadValue`; so is an argument
+    /// beyond the parameters, and a text that is no signature where one is asked. More than
+    /// [`ACTIONS`] actions, or an expression of more than [`NODES`](crate::NODES) forms or with a
+    /// text of more than `TEXT_BYTES`, is `Limit`, but only where nothing is `BadValue`.
+    pub fn from_json(alloc: Global, json: &Json, params: usize) -> Result<Body, Fault>
+        ensures answers { Answers result (body_of params (view json.now)) }
+        ensures limited { IfOk result (λ body. IsTrue (is_body_limited body.actions)) }
+    {
+        let actions = actions(alloc, Scope::Slot(params), json)?;
+        let list = actions.as_slice();
+        if count_all(list) > ACTIONS || !are_limited(list) {
+            return Err(Fault::Refused(Code::Limit));
+        }
+        Ok(Body { actions })
+    }
+}
+
+/// The action that the JSON is, however large. What is none is `BadValue`.
+#[cycle(bodies)]
+fn action(alloc: Global, scope: Scope, json: &Json) -> Result<Action, Fault>
+    ensures { Answers result (action_in scope (view json.now)) }
+{
+    let Some(condition) = json.get("when") else {
+        return Ok(Action::effect(effect(alloc, scope, json)?));
+    };
+    let test = expression(alloc, scope, condition)?;
+    let Some(held) = json.get("then") else {
+        return Err(BAD);
+    };
+    let held = actions(alloc, scope, held)?;
+    let failed = match json.get("else") {
+        Some(failed) => actions(alloc, scope, failed)?,
+        None => Items::new(alloc),
+    };
+    if !has_only(json, &["when", "then", "else"]) {
+        return Err(BAD);
+    }
+    Ok(Action::when(test, held, failed))
+}
+
+/// The actions of an array.
+#[cycle(bodies)]
+fn actions(alloc: Global, scope: Scope, json: &Json) -> Result<Items<Action>, Fault>
+    ensures { Answers result (actions_in scope (view json.now)) }
+{
+    match json {
+        Json::Array(list) => actions_of(alloc, scope, list),
+        _ => Err(BAD),
+    }
+}
+
+#[cycle(bodies)]
+fn actions_of(alloc: Global, scope: Scope, list: &[Json]) -> Result<Items<Action>, Fault>
+    ensures { Answers result (acts_in scope (items_view list.now)) }
+{
+    let mut found = Vec::new(alloc);
+    for json in list {
+        found.push(action(alloc, scope, json)?)?;
+    }
+    Ok(Items::from_vec(found))
+}

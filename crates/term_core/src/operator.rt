@@ -1,0 +1,46 @@
+//! Operators, and the keys of forms.
+ghost use Rattle.std.specs.Prelude.{◌≡◌};
+ghost use Rattle.term_core.specs.Forms.{form_named};
+
+/// What is made of two operands.
+#[derive(Clone, Copy, Debug, PartialEq, Eq)]
+pub enum Operator {
+    /// The sum of two numbers.
+    Sum,
+    /// The difference of two numbers.
+    Difference,
+    /// Whether the first of two numbers is below the second.
+    Less,
+    /// Whether two numbers, two truths or two texts are equal.
+    Equal,
+    /// Two texts, one behind the other.
+    Joined,
+}
+
+/// A form of expression that has one key.
+#[derive(Clone, Copy, Debug)]
+pub(crate) enum Form {
+    Const,
+    Arg,
+    Binary(Operator),
+    Choice,
+}
+
+impl Form {
+    /// The form that the key stands for.
+    pub(crate) fn from_key(key: &str) -> Option<Form>
+        ensures { result ≡ form_named key.now }
+    {
+        Some(match key {
+            "const" => Form::Const,
+            "arg" => Form::Arg,
+            "+" => Form::Binary(Operator::Sum),
+            "-" => Form::Binary(Operator::Difference),
+            "<" => Form::Binary(Operator::Less),
+            "=" => Form::Binary(Operator::Equal),
+            "cat" => Form::Binary(Operator::Joined),
+            "if" => Form::Choice,
+            _ => return None,
+        })
+    }
+}
