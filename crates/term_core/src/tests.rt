@@ -170,7 +170,7 @@ fn refuses_what_is_no_expression(rt: HostRuntime) -> Result<(), Fail> {
 }
 
 #[test]
-fn counts_forms_and_bytes(rt: HostRuntime) -> Result<(), Fail> {
+fn counts_forms(rt: HostRuntime) -> Result<(), Fail> {
     let alloc = rt.alloc();
     let choice = r#"{"if":[{"const":true},{"const":1},{"const":2}]}"#;
     let sum = r#"{"+":[{"const":1},{"const":2}]}"#;
@@ -185,13 +185,27 @@ fn counts_forms_and_bytes(rt: HostRuntime) -> Result<(), Fail> {
     let deepest = nested(alloc, 63, before, r#"{"const":1}"#, after)?;
     assert_eq!(rt; code(binding(alloc, &deepest))?, Some(Code::Limit));
 
-    let letters = nested(alloc, 2048, "a", "", "b")?;
-    let short = format!(in alloc; "{{\"const\":\"{letters}\"}}")?;
-    assert_eq!(rt; code(binding(alloc, &short))?, None);
-    let long = format!(in alloc; "{{\"const\":\"{letters}c\"}}")?;
-    assert_eq!(rt; code(binding(alloc, &long))?, Some(Code::Limit));
-    let long_and_bad = format!(in alloc; "{{\"cat\":[{{\"const\":\"{letters}c\"}},1]}}")?;
-    assert_eq!(rt; code(binding(alloc, &long_and_bad))?, Some(Code::BadValue));
+    Ok(())
+}
+
+#[test]
+fn counts_the_bytes_of_texts(rt: HostRuntime) -> Result<(), Fail> {
+    let alloc = rt.alloc();
+    let short = nested(alloc, 2048, "a", "", "b")?;
+    let long = nested(alloc, 2048, "a", "c", "b")?;
+    let (before, after) = (r#"{"const":""#, r#""}"#);
+    let most = nested(alloc, 1, before, &short, after)?;
+    assert_eq!(rt; code(binding(alloc, &most))?, None);
+    let too_long = nested(alloc, 1, before, &long, after)?;
+    assert_eq!(rt; code(binding(alloc, &too_long))?, Some(Code::Limit));
+    let bad_too = nested(alloc, 1, r#"{"cat":["#, &too_long, ",1]}")?;
+    assert_eq!(rt; code(binding(alloc, &bad_too))?, Some(Code::BadValue));
+    let set = nested(alloc, 1, r#"[{"set":"x","to":"#, &too_long, "}]")?;
+    assert_eq!(rt; code(body(alloc, &set, 0))?, Some(Code::Limit));
+    let emit = nested(alloc, 1, r#"[{"emit":"f()","args":["#, &too_long, "]}]")?;
+    assert_eq!(rt; code(body(alloc, &emit, 0))?, Some(Code::Limit));
+    let when = nested(alloc, 1, r#"[{"when":"#, &too_long, r#","then":[]}]"#)?;
+    assert_eq!(rt; code(body(alloc, &when, 0))?, Some(Code::Limit));
     Ok(())
 }
 
@@ -422,43 +436,40 @@ fn refuses_what_is_no_body(rt: HostRuntime) -> Result<(), Fail> {
     Ok(())
 }
 
+/// A body of so many actions, and one more that is given.
+fn deletions(alloc: Global, count: usize, last: &str) -> Result<String, AllocError> {
+    let actions = nested(alloc, count, r#"{"delete":"self"},"#, last, "")?;
+    nested(alloc, 1, "[", &actions, "]")
+}
+
 #[test]
 fn counts_actions(rt: HostRuntime) -> Result<(), Fail> {
     let alloc = rt.alloc();
-    let (delete, last) = (r#"{"delete":"self"},"#, r#"{"delete":"self"}"#);
-    let plain = nested(alloc, 30, delete, last, "")?;
-    assert_eq!(rt;
-        code(body(alloc, &format!(in alloc; "[{last},{plain}]")?, 0))?,
-        None
-    );
-    assert_eq!(rt;
-        code(body(alloc, &format!(in alloc; "[{last},{last},{plain}]")?, 0))?,
-        Some(Code::Limit)
-    );
-    assert_eq!(rt;
-        code(body(alloc, &format!(in alloc; "[1,{last},{plain}]")?, 0))?,
-        Some(Code::BadValue)
-    );
+    let last = r#"{"block":true}"#;
+    let most = deletions(alloc, 31, last)?;
+    assert_eq!(rt; code(body(alloc, &most, 0))?, None);
+    let too_many = deletions(alloc, 32, last)?;
+    assert_eq!(rt; code(body(alloc, &too_many, 0))?, Some(Code::Limit));
+    let bad_too = deletions(alloc, 32, "1")?;
+    assert_eq!(rt; code(body(alloc, &bad_too, 0))?, Some(Code::BadValue));
+    Ok(())
+}
 
-    let (then, branch) = (r#"[{"when":{"const":true},"then":"#, r#","else":["#);
-    let most = nested(alloc, 29, delete, last, "")?;
-    let whole = format!(in alloc; "{then}[{most}]{branch}{last}]}}]")?;
-    assert_eq!(rt; code(body(alloc, &whole, 0))?, None);
-    let too_many = format!(in alloc; "{then}[{most}]{branch}{last},{last}]}}]")?;
+#[test]
+fn counts_actions_of_branches(rt: HostRuntime) -> Result<(), Fail> {
+    let alloc = rt.alloc();
+    let last = r#"{"block":true}"#;
+    let (before, after) = (
+        r#"[{"when":{"const":true},"then":"#,
+        r#","else":[{"delete":"self"}]}]"#,
+    );
+    let most = nested(alloc, 1, before, &deletions(alloc, 29, last)?, after)?;
+    assert_eq!(rt; code(body(alloc, &most, 0))?, None);
+    let too_many = nested(alloc, 1, before, &deletions(alloc, 30, last)?, after)?;
     assert_eq!(rt; code(body(alloc, &too_many, 0))?, Some(Code::Limit));
     // As deep as the reader of JSON goes.
-    let deepest = nested(alloc, 63, then, "[]", "}]")?;
+    let deepest = nested(alloc, 63, before, "[]", "}]")?;
     assert_eq!(rt; code(body(alloc, &deepest, 0))?, Some(Code::Limit));
-
-    let letters = nested(alloc, 2048, "a", "", "b")?;
-    let short = format!(in alloc; r#"[{{"set":"x","to":{{"const":"{letters}"}}}}]"#)?;
-    assert_eq!(rt; code(body(alloc, &short, 0))?, None);
-    let long = format!(in alloc; r#"[{{"emit":"f()","args":[{{"const":"{letters}c"}}]}}]"#)?;
-    assert_eq!(rt; code(body(alloc, &long, 0))?, Some(Code::Limit));
-    let test = format!(in alloc; r#"[{{"when":{{"const":"{letters}c"}},"then":[]}}]"#)?;
-    assert_eq!(rt; code(body(alloc, &test, 0))?, Some(Code::Limit));
-    let in_branch = nested(alloc, 1, then, &long, "}]")?;
-    assert_eq!(rt; code(body(alloc, &in_branch, 0))?, Some(Code::Limit));
     Ok(())
 }
 
