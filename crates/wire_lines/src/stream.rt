@@ -169,6 +169,15 @@ impl Stream {
         self.lines.flush(writer)?;
         ended
     }
+
+    fn summary(&self, server: &Server) -> Summary
+        ensures { result ≡ record { lines = self.now.lines.count; memory_refused = was_refused server.now } }
+    {
+        Summary {
+            lines: self.lines.count,
+            memory_refused: server.memory_refused(),
+        }
+    }
 }
 
 /// The first line, without its end, and what is behind it, where a line ends.
@@ -250,10 +259,7 @@ pub(crate) fn run_bounded<R: Source, W: Sink>(
     let mut stream = Stream::new(alloc, max_lines)?;
     let mut chunk = vec![in alloc; 0; CHUNK_BYTES]?;
     stream.serve_to_end(&mut chunk, reader, writer, server, max_reads)?;
-    Ok(Summary {
-        lines: stream.lines.count,
-        memory_refused: server.memory_refused(),
-    })
+    Ok(stream.summary(server))
 }
 
 /// Whether a source or a sink has failed, so that it is left alone.

@@ -1,4 +1,6 @@
 use Rattle.std.proofs.Common.{[], Ok, Err, sym, subst}
+use Rattle.server_world.specs.Server.{was_refused}
+use Rattle.wire_lines.specs.declared.stream.Summary.{Summary}
 use Rattle.wire_lines.specs.Feeding.{at}
 use Rattle.wire_lines.specs.Run.{Runs}
 use Rattle.wire_lines.proofs.Kept.{err_is}
@@ -29,5 +31,7 @@ returns-clause-runs g c = λ input known.
     let end = at (g.W.Sink.held served.new.writer) served.new.self.lines served.new.server [] in
     let done = Ends-beginning c.args.max_lines c.args.max_reads _ _ _ _ input (g.W.Sink.held c.args.writer.now) c.args.server.now end (Ok c.in_ok-serve_to_end.field-0) made.most made.output made.count made.begun
     (c.in_ok-serve_to_end.ensures.ends input known) in
-    Runs-done c.args.max_lines c.args.max_reads input (g.W.Sink.held c.args.writer.now) (g.W.Sink.held served.new.writer) c.args.server.now served.new.server served.new.self.lines.output.gathered
-    (record { lines = served.new.self.lines.count; memory_refused = c.memory_refused.result }) c.in_ok-serve_to_end.ensures.emptied done
+    let count = served.new.self.lines.count in
+    let runs = Runs-done c.args.max_lines c.args.max_reads input (g.W.Sink.held c.args.writer.now) (g.W.Sink.held served.new.writer) c.args.server.now served.new.server served.new.self.lines.output.gathered
+    (record { lines = count; memory_refused = was_refused served.new.server }) c.in_ok-serve_to_end.ensures.emptied done in
+    subst (λ (summary : Summary). Runs c.args.max_lines c.args.max_reads input (g.W.Sink.held c.args.writer.now) c.args.server.now (g.W.Sink.held served.new.writer) served.new.server (Ok summary)) (sym c.summary.ensures) runs

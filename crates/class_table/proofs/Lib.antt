@@ -1,0 +1,7 @@
+pub mod ListLemmas
+pub mod TableLemmas
+pub mod EntryLemmas
+pub mod FormLemmas
+pub mod OnceLemmas
+pub mod SignalLemmas
+pub mod DeclaringLemmas

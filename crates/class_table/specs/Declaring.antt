@@ -1,0 +1,138 @@
+-- What a written class declares, behind the classes that are there.
+use Rattle.std.specs.Prelude.{◌&&◌, ◌+◌, ℕ, Bool, true, false, List, [], ◌∷◌, ◌++◌, Option, Some, None, Result, Ok, Err, codes, length, map, position, slice_get, nat_le, is_none}
+use Rattle.std.specs.Option.{ok_or, option_map_or}
+use Rattle.serde_json.specs.Data.{Data}
+use Rattle.refusals.specs.declared.code.Code.{Code}
+use Rattle.refusals.specs.declared.code.Code.TheVariants as code
+use Rattle.signature_core.specs.declared.kind.Kind.{Kind}
+use Rattle.signature_core.specs.declared.kind.Kind.TheVariants as kind
+use Rattle.signature_core.specs.declared.signature.Signature.{Signature}
+use Rattle.signature_core.specs.Kinds.{is_same_kind}
+use Rattle.signature_core.specs.Reading.{signature_of}
+use Rattle.term_core.specs.declared.body.Body.{Body}
+use Rattle.term_core.specs.declared.action.Effect.TheVariants.{DeleteLater}
+use Rattle.term_core.specs.declared.target.Target.TheVariants.{Itself}
+use Rattle.term_core.specs.Act.{effect}
+use Rattle.term_core.specs.Bodies.{body_of}
+use Rattle.class_table.specs.declared.class.TheConstants.{METHODS, PROPERTIES}
+use Rattle.class_table.specs.declared.class.Class.{Class}
+use Rattle.class_table.specs.declared.class.Method.{Method}
+use Rattle.class_table.specs.declared.class.Property.{Property}
+use Rattle.class_table.specs.declared.fault.ClassFaultKind.{ClassFaultKind}
+use Rattle.class_table.specs.declared.fault.ClassFaultKind.TheVariants.{NameTaken, NoSuperclass, BadSignature, DeclaredTwice, BadNotify, BadBody, Limit}
+use Rattle.class_table.specs.Lookup.{is_same, methods, properties, place_of, signatures, names, are_distinct_methods, are_distinct_properties}
+use Rattle.class_table.specs.Steps.{Read, ◌>>=◌, provided, each}
+use Rattle.class_table.specs.Written.{WrittenMethod, WrittenProperty, WrittenClass, class_in}
+
+-- a method with its signature, and with its body as it is written; a signal has none
+pub record SignedMethod : Type 0 where
+  pub signature : Signature
+  pub body : Option Data
+
+abbrev pub signed_of : WrittenMethod → Read SignedMethod
+signed_of written = do
+  signature ← ok_or (signature_of written.signature) BadSignature
+  Ok (record { signature = signature; body = written.body })
+
+abbrev pub new_signatures : List SignedMethod → List Signature
+new_signatures = map (λ method. method.signature)
+
+abbrev pub new_names : List WrittenProperty → List (List ℕ)
+new_names = map (λ property. property.name)
+
+-- the number that a signature has, where the new methods stand behind those of the superclass
+abbrev pub number_of : List Method → List SignedMethod → Signature → Option ℕ
+number_of base new wanted = position (λ there. is_same there wanted) (signatures base ++ new_signatures new)
+
+-- is the method of this number a signal
+abbrev pub are_signals : List Method → List SignedMethod → List Bool
+are_signals base new = map (λ method. method.is_signal) base ++ map (λ method. is_none method.body) new
+
+abbrev pub is_signal_at : List Method → List SignedMethod → ℕ → Bool
+is_signal_at base new number = option_map_or (λ signal. signal) (slice_get (are_signals base new) number) false
+
+-- a signal may tell a value of this kind, or nothing
+abbrev pub tells : Kind → List Kind → Bool
+tells kind [] = true
+tells kind (first ∷ []) = is_same_kind first kind
+tells kind (first ∷ second ∷ rest) = false
+
+-- the number of the signal that a property is to send
+unfoldable pub signal_named : List Method → List SignedMethod → Kind → List ℕ → Read ℕ
+signal_named base new kind text = do
+  wanted ← ok_or (signature_of text) BadNotify
+  number ← ok_or (number_of base new wanted) BadNotify
+  provided (is_signal_at base new number && tells kind wanted.kinds) BadNotify (Ok number)
+
+abbrev pub notify_of : List Method → List SignedMethod → WrittenProperty → Read (Option ℕ)
+notify_of base new written = option_map_or (λ text. signal_named base new written.kind text >>= λ number. Ok (Some number)) written.notify (Ok None)
+
+abbrev pub property_of : List Method → List SignedMethod → WrittenProperty → Read Property
+property_of base new written = do
+  notify ← notify_of base new written
+  Ok (record { name = written.name; kind = written.kind; notify = notify; bindable = written.bindable })
+
+-- a signal does nothing of itself
+abbrev pub empty_body : Body
+empty_body = record { actions = [] }
+
+-- the body `[{"deleteLater":"self"}]`
+abbrev pub delete_later_body : Body
+delete_later_body = record { actions = effect (DeleteLater Itself) ∷ [] }
+
+-- the fault of a class whose slot has a body with this fault
+abbrev pub body_fault : Code → ClassFaultKind
+body_fault code.Limit = Limit
+body_fault _ = BadBody
+
+abbrev pub body_in : Result Body Code → Read Body
+body_in (Ok body) = Ok body
+body_in (Err fault) = Err (body_fault fault)
+
+abbrev pub method_of : SignedMethod → Read Method
+method_of new = option_map_or
+    (λ json. body_in (body_of (length new.signature.kinds) json) >>= λ body. Ok (record { signature = new.signature; is_signal = false; body = body }))
+    new.body
+    (Ok (record { signature = new.signature; is_signal = true; body = empty_body }))
+
+-- is nothing declared twice, superclasses included
+unfoldable pub is_declared_once : List Method → List SignedMethod → List Property → List WrittenProperty → Bool
+is_declared_once base new held written =
+    are_distinct_methods (signatures base ++ new_signatures new) && are_distinct_properties (names held ++ new_names written)
+
+-- are there no more methods and properties than a class may have
+abbrev pub is_within_limits : List Method → List SignedMethod → List Property → List WrittenProperty → Bool
+is_within_limits base new held written =
+    nat_le (length base + length new) METHODS && nat_le (length held + length written) PROPERTIES
+
+-- the class that is declared below a superclass
+unfoldable pub class_below : List Class → ℕ → WrittenClass → Read Class
+class_below classes base written =
+    each signed_of written.methods >>= λ new.
+    provided (is_declared_once (methods classes base) new (properties classes base) written.properties) DeclaredTwice (
+    provided (is_within_limits (methods classes base) new (properties classes base) written.properties) Limit (
+    each (property_of (methods classes base) new) written.properties >>= λ own_properties.
+    each method_of new >>= λ own_methods.
+    Ok (record { name = written.name; superclass = Some base; method_offset = length (methods classes base); property_offset = length (properties classes base); methods = own_methods; properties = own_properties })))
+
+-- the class that is written
+unfoldable pub class_of : List Class → Data → Read Class
+class_of classes json =
+    class_in json >>= λ written.
+    provided (is_none (place_of written.name classes)) NameTaken (
+    ok_or (place_of written.base classes) NoSuperclass >>= λ base.
+    class_below classes base written)
+
+-- the class that all others are below
+abbrev pub q_object : Class
+q_object = record {
+  name = codes "QObject";
+  superclass = None;
+  method_offset = 0;
+  property_offset = 0;
+  methods =
+      record { signature = record { name = codes "destroyed"; kinds = [] }; is_signal = true; body = empty_body } ∷
+      record { signature = record { name = codes "objectNameChanged"; kinds = kind.Text ∷ [] }; is_signal = true; body = empty_body } ∷
+      record { signature = record { name = codes "deleteLater"; kinds = [] }; is_signal = false; body = delete_later_body } ∷ [];
+  properties = record { name = codes "objectName"; kind = kind.Text; notify = Some 1; bindable = true } ∷ [];
+}

@@ -1,0 +1,9 @@
+pub mod Faults
+pub mod Lookup
+pub mod Steps
+pub mod Written
+pub mod Forms
+pub mod Declaring
+pub mod Signed
+pub mod ClassFile
+pub mod Table

@@ -1,0 +1,8 @@
+-- What the code keeps of a method that it has the signature of.
+use Rattle.std.specs.Prelude.{option_map}
+use Rattle.serde_json.specs.View.{view}
+use Rattle.class_table.specs.declared.declare.Signed.{Signed}
+use Rattle.class_table.specs.Declaring.{SignedMethod}
+
+abbrev pub signed_seen : Signed → SignedMethod
+signed_seen new = record { signature = new.signature; body = option_map (λ json. view json.now) new.body }

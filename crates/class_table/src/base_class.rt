@@ -1,0 +1,83 @@
+//! The class that all others are below.
+ghost use Rattle.std.specs.Prelude.{◌≡◌, ◌∷◌, [], true, false, codes, IfOk};
+ghost use Rattle.signature_core.specs.declared.kind.Kind.TheVariants as kind;
+ghost use Rattle.class_table.specs.Declaring.{delete_later_body, empty_body, q_object};
+
+use crate::class::{Class, Method, Property};
+use crate::declare::empty_body;
+use plain_types::{Items, Text};
+use signature_core::{Kind, Signature};
+use std::alloc::{AllocError, Global};
+use term_core::{Action, Body, Effect, Step, Target};
+
+/// `QObject`, with the methods and the property of Qt's class of that name that there are here.
+pub(crate) fn q_object(alloc: Global) -> Result<Class, AllocError>
+    ensures { IfOk result (λ class. class ≡ q_object) }
+{
+    let mut methods = Items::new(alloc);
+    methods.push(signal(alloc, "destroyed", Items::new(alloc))?)?;
+    methods.push(signal(alloc, "objectNameChanged", text_parameter(alloc)?)?)?;
+    methods.push(delete_later(alloc)?)?;
+    let mut properties = Items::new(alloc);
+    properties.push(Property {
+        name: Text::from_str(alloc, "objectName")?,
+        kind: Kind::Text,
+        notify: Some(1),
+        bindable: true,
+    })?;
+    Ok(Class {
+        name: Text::from_str(alloc, "QObject")?,
+        superclass: None,
+        method_offset: 0,
+        property_offset: 0,
+        methods,
+        properties,
+    })
+}
+
+fn signal(alloc: Global, name: &str, kinds: Items<Kind>) -> Result<Method, AllocError>
+    ensures { IfOk result (λ method. method ≡ record {
+      signature = record { name = name.now; kinds = kinds };
+      is_signal = true;
+      body = empty_body;
+    }) }
+{
+    Ok(Method {
+        signature: Signature {
+            name: Text::from_str(alloc, name)?,
+            kinds,
+        },
+        is_signal: true,
+        body: empty_body(alloc),
+    })
+}
+
+fn text_parameter(alloc: Global) -> Result<Items<Kind>, AllocError>
+    ensures { IfOk result (λ kinds. kinds ≡ kind.Text ∷ []) }
+{
+    let mut kinds = Items::new(alloc);
+    kinds.push(Kind::Text)?;
+    Ok(kinds)
+}
+
+/// The slot that posts the deletion of its own object.
+fn delete_later(alloc: Global) -> Result<Method, AllocError>
+    ensures { IfOk result (λ method. method ≡ record {
+      signature = record { name = codes "deleteLater"; kinds = [] };
+      is_signal = false;
+      body = delete_later_body;
+    }) }
+{
+    let mut actions = Items::new(alloc);
+    actions.push(Action {
+        step: Step::Effect(Effect::DeleteLater(Target::Itself)),
+    })?;
+    Ok(Method {
+        signature: Signature {
+            name: Text::from_str(alloc, "deleteLater")?,
+            kinds: Items::new(alloc),
+        },
+        is_signal: false,
+        body: Body { actions },
+    })
+}

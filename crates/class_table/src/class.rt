@@ -1,0 +1,100 @@
+//! Classes, their methods and their properties.
+ghost use Rattle.std.specs.Prelude.{◌≡◌, ◌+◌, ◌≤◌, ◌<◌, IfSome, length};
+ghost use Rattle.std.specs.Option.{option_map};
+ghost use Rattle.class_table.specs.Lookup.{is_same, method_number, property_number};
+
+use plain_types::{Items, Text};
+use signature_core::{Kind, Signature};
+use term_core::Body;
+
+/// The most classes that a class file may declare.
+pub const CLASSES: usize = 1024;
+
+/// The most methods that a class may have, those of its superclasses among them.
+pub const METHODS: usize = 256;
+
+/// The most properties that a class may have, those of its superclasses among them.
+pub const PROPERTIES: usize = 64;
+
+/// A signal or a slot.
+#[derive(Drop)]
+pub struct Method {
+    pub signature: Signature,
+    pub is_signal: bool,
+    /// What a slot does; that of a signal is empty.
+    pub body: Body,
+}
+
+/// A declared property.
+#[derive(Debug, Drop)]
+pub struct Property {
+    pub name: Text,
+    pub kind: Kind,
+    /// The number of the signal that tells of a change, among the class's methods.
+    pub notify: Option<u32>,
+    pub bindable: bool,
+}
+
+/// A class with what it declares itself. What its superclasses declare comes first in number.
+#[derive(Drop)]
+pub struct Class {
+    pub name: Text,
+    /// The superclass by its place in the table; only `QObject` has none.
+    pub superclass: Option<u32>,
+    /// How many methods the superclasses have.
+    pub method_offset: u32,
+    /// How many properties the superclasses have.
+    pub property_offset: u32,
+    /// The signals, and then the slots, each in the order of the file.
+    pub methods: Items<Method>,
+    pub properties: Items<Property>,
+}
+
+impl Class {
+    /// The number of the method with this signature among those that the class declares itself.
+    pub(crate) fn own_method(&self, signature: &Signature) -> Option<u32>
+        requires { self.now.method_offset + length self.now.methods ≤ METHODS }
+        ensures { result ≡ option_map (λ place. self.now.method_offset + place)
+            (method_number signature.now self.now.methods) }
+    {
+        let place = method_place(self.methods.as_slice(), signature)?;
+        Some(self.method_offset + place as u32)
+    }
+
+    /// The number of the property of this name among those that the class declares itself.
+    pub(crate) fn own_property(&self, name: &str) -> Option<u32>
+        requires { self.now.property_offset + length self.now.properties ≤ PROPERTIES }
+        ensures { result ≡ option_map (λ place. self.now.property_offset + place)
+            (property_number name.now self.now.properties) }
+    {
+        let place = property_place(self.properties.as_slice(), name)?;
+        Some(self.property_offset + place as u32)
+    }
+}
+
+/// Where the method with this signature stands.
+fn method_place(methods: &[Method], signature: &Signature) -> Option<usize>
+    ensures value { result ≡ method_number signature.now methods.now }
+    ensures within { IfSome result (λ place. place < length methods.now) }
+{
+    methods
+        .iter()
+        .position(|method| is_same(&method.signature, signature))
+}
+
+/// Where the property of this name stands.
+fn property_place(properties: &[Property], name: &str) -> Option<usize>
+    ensures value { result ≡ property_number name.now properties.now }
+    ensures within { IfSome result (λ place. place < length properties.now) }
+{
+    properties
+        .iter()
+        .position(|property| property.name.as_str() == name)
+}
+
+/// Whether two signatures have the same name and the same kinds.
+pub(crate) fn is_same(a: &Signature, b: &Signature) -> bool
+    ensures { result ≡ is_same a.now b.now }
+{
+    a.name == b.name && a.kinds.as_slice() == b.kinds.as_slice()
+}

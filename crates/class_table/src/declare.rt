@@ -1,0 +1,374 @@
+//! What a written class declares, and the first fault in it.
+ghost use Rattle.std.specs.Prelude.{◌≡◌, None, ◌++◌, ◌+◌, ◌<◌, ◌≤◌, IfOk, IfSome, IsTrue, length, map, position, bytes_eq, is_none};
+ghost use Rattle.std.specs.Option.{ok_or};
+ghost use Rattle.std.specs.List.{list_all, list_any};
+ghost use Rattle.serde_json.specs.View.{view};
+ghost use Rattle.signature_core.specs.Reading.{signature_of};
+ghost use Rattle.term_core.specs.Bodies.{body_of};
+ghost use Rattle.class_table.specs.Declaring.{body_in, class_below, class_of, empty_body, is_declared_once, is_signal_at, method_of, new_names, new_signatures, notify_of, number_of, property_of, signal_named, signed_of, tells};
+ghost use Rattle.class_table.specs.Faults.{Gives};
+ghost use Rattle.class_table.specs.Forms.{class_seen, method_seen, property_seen};
+ghost use Rattle.class_table.specs.Lookup.{FitsBehind, is_same, are_distinct_methods, are_distinct_properties, method_number, methods, names, place_of, properties, property_number, signatures};
+ghost use Rattle.class_table.specs.Signed.{signed_seen};
+ghost use Rattle.class_table.specs.Steps.{each};
+
+use crate::class::{Class, METHODS, Method, PROPERTIES, Property, is_same};
+use crate::fault::{ClassFaultKind, Stop};
+use crate::form::{ClassForm, MethodForm, PropertyForm};
+use crate::table::ClassTable;
+use plain_types::{Items, Text};
+use refusals::{Code, Fault};
+use serde_json::Value;
+use signature_core::{Kind, Signature};
+use std::alloc::Global;
+use term_core::Body;
+
+/// A method with its signature, and with its body as it is written.
+#[derive(Drop)]
+pub(crate) struct Signed<'j> {
+    pub(crate) signature: Signature,
+    /// What a slot does; a signal has none.
+    pub(crate) body: Option<&'j Value>,
+}
+
+/// The methods with their signatures.
+fn signed_methods<'j>(alloc: Global, forms: &[MethodForm<'j>]) -> Result<Vec<Signed<'j>>, Stop>
+    ensures { Gives (λ v. map signed_seen v.items) result (each signed_of (map method_seen forms.now)) }
+{
+    let mut signed = Vec::new(alloc);
+    for form in forms {
+        let signature = signature(alloc, form.signature, ClassFaultKind::BadSignature)?;
+        signed.push(Signed {
+            signature,
+            body: form.body,
+        })?;
+    }
+    Ok(signed)
+}
+
+/// The signature that a text spells; a text that spells none is a fault of this kind.
+fn signature(alloc: Global, text: &str, kind: ClassFaultKind) -> Result<Signature, Stop>
+    ensures { Gives (λ s. s) result (ok_or (signature_of text.now) kind) }
+{
+    match Signature::normalise(alloc, text) {
+        Ok(signature) => Ok(signature),
+        Err(Fault::Refused(_)) => Err(Stop::Fault(kind)),
+        Err(Fault::Memory) => Err(Stop::Memory),
+    }
+}
+
+/// Whether no method is declared twice.
+#[tactic(auto, using(crate::proofs::OnceLemmas::new_methods_once))]
+fn are_new_methods(table: &ClassTable, base: u32, signed: &[Signed]) -> bool
+    requires { IsTrue (are_distinct_methods (signatures (methods table.now base))) }
+    ensures { result ≡ are_distinct_methods
+        (signatures (methods table.now base) ++ new_signatures (map signed_seen signed.now)) }
+{
+    are_not_inherited(table, base, signed) && are_distinct(signed)
+}
+
+fn are_not_inherited(table: &ClassTable, base: u32, signed: &[Signed]) -> bool
+    ensures { result ≡ list_all
+        (λ new. is_none (method_number new.signature (methods table.now base))) signed.now }
+{
+    signed
+        .iter()
+        .all(|new| table.method(base, &new.signature).is_none())
+}
+
+#[tactic(auto, using(crate::proofs::OnceLemmas::any_signature))]
+fn are_distinct(signed: &[Signed]) -> bool
+    ensures { result ≡ are_distinct_methods (new_signatures (map signed_seen signed.now)) }
+{
+    for (place, new) in signed.iter().enumerate() {
+        if is_among(&new.signature, &signed[place + 1..]) {
+            return false;
+        }
+    }
+    true
+}
+
+fn is_among(signature: &Signature, signed: &[Signed]) -> bool
+    ensures { result ≡ list_any (λ new. is_same signature.now new.signature) signed.now }
+{
+    signed.iter().any(|new| is_same(signature, &new.signature))
+}
+
+/// Whether no property is declared twice.
+#[tactic(auto, using(crate::proofs::OnceLemmas::new_properties_once))]
+fn are_new_properties(table: &ClassTable, base: u32, forms: &[PropertyForm]) -> bool
+    requires { IsTrue (are_distinct_properties (names (properties table.now base))) }
+    ensures { result ≡ are_distinct_properties
+        (names (properties table.now base) ++ new_names (map property_seen forms.now)) }
+{
+    names_are_not_inherited(table, base, forms) && names_are_distinct(forms)
+}
+
+fn names_are_not_inherited(table: &ClassTable, base: u32, forms: &[PropertyForm]) -> bool
+    ensures { result ≡ list_all
+        (λ new. is_none (property_number new.name.now (properties table.now base))) forms.now }
+{
+    forms
+        .iter()
+        .all(|new| table.property(base, new.name).is_none())
+}
+
+#[tactic(auto, using(crate::proofs::OnceLemmas::any_name))]
+fn names_are_distinct(forms: &[PropertyForm]) -> bool
+    ensures { result ≡ are_distinct_properties (new_names (map property_seen forms.now)) }
+{
+    for (place, new) in forms.iter().enumerate() {
+        if name_is_among(new.name, &forms[place + 1..]) {
+            return false;
+        }
+    }
+    true
+}
+
+fn name_is_among(name: &str, forms: &[PropertyForm]) -> bool
+    ensures { result ≡ list_any (λ new. bytes_eq name.now new.name.now) forms.now }
+{
+    forms.iter().any(|new| name == new.name)
+}
+
+/// The number that a signature has, where the new methods stand behind those of the superclass.
+#[tactic(auto, using(crate::proofs::SignalLemmas::number_behind))]
+fn number_of(table: &ClassTable, base: u32, signed: &[Signed], wanted: &Signature) -> Option<u32>
+    requires { length (methods table.now base) + length signed.now ≤ METHODS }
+    ensures { result ≡ number_of (methods table.now base) (map signed_seen signed.now) wanted.now }
+{
+    match table.method(base, wanted) {
+        Some(number) => Some(number),
+        None => match place_of(signed, wanted) {
+            Some(place) => Some(table.method_count(base) + place as u32),
+            None => None,
+        },
+    }
+}
+
+fn place_of(signed: &[Signed], wanted: &Signature) -> Option<usize>
+    ensures value { result ≡ position (λ new. is_same new.signature wanted.now) signed.now }
+    ensures within { IfSome result (λ place. place < length signed.now) }
+{
+    signed
+        .iter()
+        .position(|new| is_same(&new.signature, wanted))
+}
+
+/// Whether the method of this number is a signal.
+#[tactic(auto, using(crate::proofs::SignalLemmas::signal_before, crate::proofs::SignalLemmas::signal_behind))]
+fn is_signal_at(table: &ClassTable, base: u32, signed: &[Signed], number: u32) -> bool
+    ensures { result ≡ is_signal_at (methods table.now base) (map signed_seen signed.now) number }
+{
+    let count = table.method_count(base);
+    if number < count {
+        return match table.method_row(base, number) {
+            Some(method) => method.is_signal,
+            None => false,
+        };
+    }
+    match signed.get((number - count) as usize) {
+        Some(new) => new.body.is_none(),
+        None => false,
+    }
+}
+
+/// Whether a signal with these parameters may tell a value of this kind.
+fn tells(kind: Kind, params: &[Kind]) -> bool
+    ensures { result ≡ tells kind params.now }
+{
+    match params {
+        [] => true,
+        [first] => *first == kind,
+        _ => false,
+    }
+}
+
+/// The number of the signal that a property is to send, where it is to send one.
+fn notify(
+    alloc: Global,
+    table: &ClassTable,
+    base: u32,
+    signed: &[Signed],
+    form: &PropertyForm,
+) -> Result<Option<u32>, Stop>
+    requires { length (methods table.now base) + length signed.now ≤ METHODS }
+    ensures { Gives (λ n. n) result
+        (notify_of (methods table.now base) (map signed_seen signed.now) (property_seen form.now)) }
+{
+    match form.notify {
+        Some(text) => Ok(Some(signal_named(alloc, table, base, signed, form.kind, text)?)),
+        None => Ok(None),
+    }
+}
+
+/// The number of the signal with this signature, which may tell a value of this kind.
+#[tactic(auto, unfolding(crate::specs::Declaring::signal_named))]
+fn signal_named(
+    alloc: Global,
+    table: &ClassTable,
+    base: u32,
+    signed: &[Signed],
+    kind: Kind,
+    text: &str,
+) -> Result<u32, Stop>
+    requires { length (methods table.now base) + length signed.now ≤ METHODS }
+    ensures { Gives (λ n. n) result
+        (signal_named (methods table.now base) (map signed_seen signed.now) kind text.now) }
+{
+    let wanted = signature(alloc, text, ClassFaultKind::BadNotify)?;
+    let Some(number) = number_of(table, base, signed, &wanted) else {
+        return Err(Stop::Fault(ClassFaultKind::BadNotify));
+    };
+    if !is_signal_at(table, base, signed, number) || !tells(kind, wanted.kinds.as_slice()) {
+        return Err(Stop::Fault(ClassFaultKind::BadNotify));
+    }
+    Ok(number)
+}
+
+/// The properties that are declared.
+fn declared_properties(
+    alloc: Global,
+    table: &ClassTable,
+    base: u32,
+    signed: &[Signed],
+    forms: &[PropertyForm],
+) -> Result<Vec<Property>, Stop>
+    requires { length (methods table.now base) + length signed.now ≤ METHODS }
+    ensures { Gives (λ v. v.items) result
+        (each (property_of (methods table.now base) (map signed_seen signed.now))
+        (map property_seen forms.now)) }
+{
+    let mut properties = Vec::new(alloc);
+    for form in forms {
+        let notify = notify(alloc, table, base, signed, form)?;
+        properties.push(Property {
+            name: Text::from_str(alloc, form.name)?,
+            kind: form.kind,
+            notify,
+            bindable: form.bindable,
+        })?;
+    }
+    Ok(properties)
+}
+
+/// The methods with their bodies.
+fn declared_methods(alloc: Global, signed: Vec<Signed>) -> Result<Vec<Method>, Stop>
+    ensures { Gives (λ v. v.items) result (each method_of (map signed_seen signed.entry.items)) }
+{
+    let mut methods = Vec::new(alloc);
+    for new in signed {
+        methods.push(declared_method(alloc, new)?)?;
+    }
+    Ok(methods)
+}
+
+fn declared_method(alloc: Global, new: Signed) -> Result<Method, Stop>
+    ensures { Gives (λ m. m) result (method_of (signed_seen new.entry)) }
+{
+    let Signed { signature, body } = new;
+    match body {
+        Some(json) => {
+            let body = slot_body(alloc, json, signature.kinds.len())?;
+            Ok(Method {
+                signature,
+                is_signal: false,
+                body,
+            })
+        }
+        None => Ok(Method {
+            signature,
+            is_signal: true,
+            body: empty_body(alloc),
+        }),
+    }
+}
+
+fn slot_body(alloc: Global, json: &Value, params: usize) -> Result<Body, Stop>
+    ensures { Gives (λ b. b) result (body_in (body_of params (view json.now))) }
+{
+    match Body::from_json(alloc, json, params) {
+        Ok(body) => Ok(body),
+        Err(Fault::Refused(Code::Limit)) => Err(Stop::Fault(ClassFaultKind::Limit)),
+        Err(Fault::Refused(_)) => Err(Stop::Fault(ClassFaultKind::BadBody)),
+        Err(Fault::Memory) => Err(Stop::Memory),
+    }
+}
+
+/// The body of a signal.
+pub(crate) fn empty_body(alloc: Global) -> Body
+    ensures { result ≡ empty_body }
+{
+    Body {
+        actions: Items::new(alloc),
+    }
+}
+
+/// The class that is written, behind the classes of the table.
+#[tactic(auto, unfolding(crate::specs::Declaring::class_of))]
+pub(crate) fn declared_class(alloc: Global, table: &ClassTable, json: &Value) -> Result<Class, Stop>
+    ensures exact { Gives (λ class. class) result (class_of table.now (view json.now)) }
+    ensures fits { IfOk result (λ class. FitsBehind table.now class) }
+{
+    let form = ClassForm::read(alloc, json)?;
+    if table.find(form.name).is_some() {
+        return Err(Stop::Fault(ClassFaultKind::NameTaken));
+    }
+    let Some(base) = table.find(form.base) else {
+        return Err(Stop::Fault(ClassFaultKind::NoSuperclass));
+    };
+    class_below(alloc, table, base, &form)
+}
+
+/// The class that is declared below a superclass.
+#[tactic(auto, unfolding(crate::specs::Declaring::class_below))]
+fn class_below(
+    alloc: Global,
+    table: &ClassTable,
+    base: u32,
+    form: &ClassForm,
+) -> Result<Class, Stop>
+    requires base_is_there { base < length table.now }
+    ensures exact { Gives (λ class. class) result (class_below table.now base (class_seen form.now)) }
+    ensures fits { place_of form.now.name.now table.now ≡ None
+        → IfOk result (λ class. FitsBehind table.now class) }
+{
+    let method_offset = table.method_count(base);
+    let property_offset = table.property_count(base);
+    let signed = signed_methods(alloc, form.methods.as_slice())?;
+    let forms = form.properties.as_slice();
+    if !is_declared_once(table, base, signed.as_slice(), forms) {
+        return Err(Stop::Fault(ClassFaultKind::DeclaredTwice));
+    }
+    if method_offset as usize + signed.len() > METHODS
+        || property_offset as usize + forms.len() > PROPERTIES
+    {
+        return Err(Stop::Fault(ClassFaultKind::Limit));
+    }
+    let properties = declared_properties(alloc, table, base, signed.as_slice(), forms)?;
+    let methods = declared_methods(alloc, signed)?;
+    Ok(Class {
+        name: Text::from_str(alloc, form.name)?,
+        superclass: Some(base),
+        method_offset,
+        property_offset,
+        methods: Items::from_vec(methods),
+        properties: Items::from_vec(properties),
+    })
+}
+
+#[tactic(auto, unfolding(crate::specs::Declaring::is_declared_once))]
+fn is_declared_once(
+    table: &ClassTable,
+    base: u32,
+    signed: &[Signed],
+    forms: &[PropertyForm],
+) -> bool
+    requires methods_once { IsTrue (are_distinct_methods (signatures (methods table.now base))) }
+    requires properties_once { IsTrue (are_distinct_properties (names (properties table.now base))) }
+    ensures { result ≡ is_declared_once
+        (methods table.now base) (map signed_seen signed.now)
+        (properties table.now base) (map property_seen forms.now) }
+{
+    are_new_methods(table, base, signed) && are_new_properties(table, base, forms)
+}
