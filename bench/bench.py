@@ -2,9 +2,13 @@
 """Measures the built program on generated inputs, from file to file.
 
 Usage: bench.py PROGRAM. It prints, for each input, the lines a second (the best of three runs) and the
-peak of resident memory; for the first, a single line, only the peak. Inputs are the same in every run.
+peak of resident memory; for the first, a single line, only the peak. Then it prints how much longer
+the program takes to start with a class file as large as one may be than with a tiny one (each the best
+of ten runs). Inputs and class files are the same in every run. It ends with 1 where a mark is missed.
 """
 
+import json
+import os
 import shutil
 import subprocess
 import sys
@@ -13,8 +17,55 @@ import time
 from pathlib import Path
 
 RUNS = 3
+STARTS = 10
 LINES = 200_000
+METAS = 20_000
 PATIENCE = 1_200
+
+# The marks, in lines a second and in milliseconds.
+LEAST_WRITES = 500_000
+LEAST_METAS = 20_000
+MOST_READING = 100
+
+CLASSES = 1_024
+DEPTH = 8
+METHODS = 256
+METHODS_OF_QOBJECT = 3
+
+# One of many classes, of about 1,020 bytes.
+LAMP = """
+{"name":"Lamp#","super":"SUPER","signals":["level#Changed( int )","label#Changed(const QString &)","lit#Changed()"],
+"slots":[{"sig":"setLevel#(const int &)","body":[{"when":{"<":[{"arg":0},{"const":0}]},
+"then":[{"set":"level#","to":{"const":0}}],"else":[{"set":"level#","to":{"arg":0}}]}]},
+{"sig":"setLabel#(QString const&)","body":[{"set":"label#","to":{"cat":[{"const":"lamp "},{"arg":0}]}},
+{"emit":"label#Changed(QString)","args":[{"prop":"label#"}]}]},
+{"sig":"follow#(void)","body":[{"connect":"level#Changed(int)","of":"sender","to":"self","method":"setLevel#(int)"}]},
+{"sig":"fall#()","body":[{"disconnect":null,"to":{"child":"the cable"}},{"block":true},{"deleteLater":"self"}]}],
+"properties":[{"name":"level#","type":"int","notify":"level#Changed(int)","bindable":true},
+{"name":"label#","type":"QString","notify":"label#Changed(QString)"},{"name":"hours#","type":"qulonglong"},
+{"name":"lit#","type":"bool","notify":"lit#Changed()"}]}
+""".strip()
+
+
+def class_file(path, classes):
+    """Writes a class file, and answers its path."""
+    Path(path).write_text('{"classes":[' + ",".join(classes) + "]}")
+    return path
+
+
+def lamps():
+    """Classes in chains, each the superclass of the next in its chain."""
+    for number in range(CLASSES):
+        above = f"Lamp{number - 1:04}" if number % DEPTH else "QObject"
+        yield LAMP.replace("SUPER", above).replace("#", f"{number:04}")
+
+
+def panel():
+    """A class with as many methods as there may be."""
+    own = METHODS - METHODS_OF_QOBJECT
+    signals = [f"signal{number}(int)" for number in range(own // 2)]
+    slots = [{"sig": f"slot{number}(int)", "body": []} for number in range(own // 2, own)]
+    return json.dumps({"name": "Panel", "super": "QObject", "signals": signals, "slots": slots})
 
 
 def new(session):
@@ -27,6 +78,10 @@ def write(session, value):
 
 def read(session):
     return f'{{"do":"get","object":1,"property":"objectName","session":"{session}"}}\n'
+
+
+def meta(session, name):
+    return f'{{"class":"{name}","do":"meta","session":"{session}"}}\n'
 
 
 def in_turn(sessions, lines):
@@ -46,22 +101,22 @@ def once_each(sessions):
         yield from (new(name), write(name, "lamp"), read(name))
 
 
-def seconds_of(program, given, wrote):
+def seconds_of(command, given, wrote):
     """How long one run takes, from file to file."""
     with open(given, "rb") as source, open(wrote, "wb") as sink:
         start = time.perf_counter()
-        subprocess.run([program], stdin=source, stdout=sink, check=True)
+        subprocess.run(command, stdin=source, stdout=sink, check=True)
         return time.perf_counter() - start
 
 
-def peak_of(program, given, wrote, lines):
+def peak_of(command, given, wrote, lines):
     """The peak of resident memory of one run, in KiB, read when all lines are answered and before the input ends."""
     with open(given, "rb") as source, open(wrote, "wb") as sink:
-        process = subprocess.Popen([program], stdin=subprocess.PIPE, stdout=sink)
+        process = subprocess.Popen(command, stdin=subprocess.PIPE, stdout=sink)
         shutil.copyfileobj(source, process.stdin)
         process.stdin.flush()
         for _ in range(PATIENCE):
-            if count_lines(wrote) == lines:
+            if replies_in(wrote) == lines:
                 break
             time.sleep(0.05)
         status = Path(f"/proc/{process.pid}/status").read_text()
@@ -71,32 +126,55 @@ def peak_of(program, given, wrote, lines):
     return int(next(line.split()[1] for line in status.splitlines() if line.startswith("VmHWM")))
 
 
-def count_lines(path):
+def replies_in(path):
     with open(path, "rb") as lines:
-        return sum(1 for _ in lines)
+        return sum(line.startswith(b'{"reply":') for line in lines)
+
+
+def measure(name, lines, command, room, least=0):
+    """Prints the measures of an input; answers whether they reach the mark."""
+    given, wrote, lines = f"{room}/stdin", f"{room}/stdout", list(lines)
+    Path(given).write_text("".join(lines))
+    seconds = min(seconds_of(command, given, wrote) for _ in range(RUNS))
+    if replies_in(wrote) != len(lines):
+        sys.exit(f"{name}: not one reply a line")
+    peak = peak_of(command, given, wrote, len(lines))
+    speed = len(lines) / seconds
+    shown = f"{speed:,.0f} lines a second, " if len(lines) > 1 else ""
+    missed = f"; under its mark of {least:,} lines a second" if speed < least else ""
+    print(f"{name}: {shown}peak {peak:,} KiB{missed}")
+    return not missed
+
+
+def seconds_of_start(program, classes):
+    """How long a run with a class file and an empty input takes."""
+    return min(seconds_of([program, classes], os.devnull, os.devnull) for _ in range(STARTS))
+
+
+def measure_reading(program, room):
+    """Prints how long a large class file takes over a tiny one; answers whether that is within the mark."""
+    tiny = class_file(f"{room}/tiny.json", [])
+    large = class_file(f"{room}/large.json", lamps())
+    milliseconds = 1_000 * (seconds_of_start(program, large) - seconds_of_start(program, tiny))
+    missed = f"; over its mark of {MOST_READING} ms" if milliseconds >= MOST_READING else ""
+    print(f"a class file of {CLASSES} classes and {os.path.getsize(large):,} bytes: {milliseconds:.1f} ms{missed}")
+    return not missed
 
 
 def main():
     program = str(Path(sys.argv[1]).resolve())
-    inputs = {
-        "1 new in 1 session": in_turn(1, 0),
-        f"{LINES} set/get lines in 1 session": in_turn(1, LINES),
-        f"{LINES} set/get lines over 100 sessions": in_turn(100, LINES),
-        f"{LINES} set/get lines over 10000 sessions": in_turn(10_000, LINES),
-        "one new, set and get in each of 100000 sessions": once_each(100_000),
-    }
     with tempfile.TemporaryDirectory(prefix="metad-bench-") as room:
-        given, wrote = f"{room}/stdin", f"{room}/stdout"
-        for name, lines in inputs.items():
-            Path(given).write_text("".join(lines))
-            count = count_lines(given)
-            seconds = min(seconds_of(program, given, wrote) for _ in range(RUNS))
-            if count_lines(wrote) != count:
-                sys.exit(f"{name}: not one answer a line")
-            peak = peak_of(program, given, wrote, count)
-            speed = f"{count / seconds:,.0f} lines a second, " if count >= LINES else ""
-            print(f"{name}: {speed}peak {peak:,} KiB")
-    return 0
+        with_panel = [program, class_file(f"{room}/panel.json", [panel()])]
+        reached = [
+            measure("1 new in 1 session", in_turn(1, 0), [program], room),
+            measure(f"{LINES} set/get lines in 1 session", in_turn(1, LINES), [program], room, LEAST_WRITES),
+            measure(f"{LINES} set/get lines over 100 sessions", in_turn(100, LINES), [program], room),
+            measure(f"{LINES} set/get lines over 10000 sessions", in_turn(10_000, LINES), [program], room),
+            measure("one new, set and get in each of 100000 sessions", once_each(100_000), [program], room),
+            measure(f"{METAS} meta lines of {METHODS} methods", [meta("a", "Panel")] * METAS, with_panel, room, LEAST_METAS),
+            measure_reading(program, room),
+        ]
+    return 0 if all(reached) else 1
 
 
 if __name__ == "__main__":

@@ -1,44 +1,39 @@
 #!/usr/bin/env python3
 """Refuses each growth of the built program in turn, and checks what it then answers.
 
-For each row of tests/rows the program is run with its Nth request for memory refused, for N = 1, 2,
-.. until a run makes no Nth request. A refused growth may
+For each row the program is run with its Nth request for memory refused, for N = 1, 2, .. until a run
+makes no Nth request. Rows that start alike, by the same words and class files, differ only behind their
+start, so all but the first of them begin there. Where the class file has more than 4 KiB, N grows by a
+fiftieth at each step. A refused growth may
 
-- not show: the answer is the row's;
+- not show: the run is the row's;
 - fail a session: one command is answered by E21, every later one of its session by E20, and all
   others as in the row;
 - lose a line that was being read: it is answered by E21 for the session `-`, and all others as if it
   had not been there;
 - keep a session from being entered: the command is answered by E21 for its session, and all others as
   if it had not been there;
-- end the program with status 5 and a prefix of the row's answer.
+- end the program with status 5 and a prefix of the row's answer, which is none while it starts.
 
 Anything else fails. Usage: refusals.py PROGRAM SHIM ROWS
 """
 
 import json
 import os
-import subprocess
 import sys
 from collections import Counter
+from concurrent.futures import ThreadPoolExecutor
+from dataclasses import dataclass, field, replace
 from pathlib import Path
 
-SECONDS = 60
+from row import rows_in
+
+AT_ONCE = 4
 MOST = 100_000
+LARGE = 4 * 1024
+PART = 50
 OUT_OF_MEMORY = 5
-
-
-def run(program, given, words=(), refuse_at=0, shim=None):
-    """Runs the program, and tells its status, its output and whether a growth was refused."""
-    reader, writer = os.pipe()
-    added = {"LD_PRELOAD": shim, "REFUSE_AT": str(refuse_at), "REFUSE_NOTE": str(writer)} if shim else {}
-    try:
-        ran = subprocess.run([program, *words], input=given, capture_output=True, timeout=SECONDS, env={**os.environ, **added}, pass_fds=[writer])
-    finally:
-        os.close(writer)
-    with os.fdopen(reader, "rb") as note:
-        was_refused = note.read() != b""
-    return ran.returncode, ran.stdout, was_refused
+COMPLAINT = b"metad: out of memory\n"
 
 
 def line(code, session):
@@ -56,36 +51,61 @@ def with_failed_session(answers, at):
     return answers[:at] + [line("E21", session)] + later
 
 
-class Row:
-    """A row with one answer for each line of its input."""
+@dataclass
+class Tried:
+    """What came of refusing one growth after another, the last that was refused, and what is wrong."""
 
-    def __init__(self, program, folder):
-        self.name, self.program = folder.name, program
-        self.words = (folder / "args").read_text().splitlines() if (folder / "args").exists() else []
-        self.lines = (folder / "stdin").read_bytes().splitlines(keepends=True)
-        self.answers = (folder / "stdout").read_bytes().splitlines(keepends=True)
+    outcomes: Counter = field(default_factory=Counter)
+    last: int = 0
+    is_sparse: bool = False
+    fault: str | None = None
+
+    def __str__(self):
+        distances = f" up to number {self.last} at growing distances" if self.is_sparse else ""
+        return f"{self.outcomes.total()} growths{distances}"
+
+
+class Trial:
+    """A row whose growths are refused."""
+
+    def __init__(self, program, shim, row):
+        self.program, self.shim, self.row = program, shim, row
+        self.lines = row.given.splitlines(keepends=True)
+        self.answers = row.stdout.splitlines(keepends=True)
         self.without = {}
 
     def is_plain(self):
-        return len(self.lines) == len(self.answers)
+        """Whether each line has one answer, or none is read."""
+        return self.row.status != 0 or len(self.lines) == len(self.answers)
+
+    def run(self, number):
+        """Runs the row with this growth refused, and tells whether the run came to it."""
+        reader, writer = os.pipe()
+        added = {"LD_PRELOAD": self.shim, "REFUSE_AT": str(number), "REFUSE_NOTE": str(writer)}
+        try:
+            ran = self.row.run(self.program, env={**os.environ, **added}, pass_fds=[writer])
+        finally:
+            os.close(writer)
+        with os.fdopen(reader, "rb") as note:
+            return ran, note.read() != b""
 
     def answers_without(self, at):
         """The answers to the input without one of its lines."""
         if at not in self.without:
-            _, wrote, _ = run(self.program, b"".join(self.lines[:at] + self.lines[at + 1 :]), self.words)
-            self.without[at] = wrote.splitlines(keepends=True)
+            given = b"".join(self.lines[:at] + self.lines[at + 1 :])
+            self.without[at] = replace(self.row, given=given).run(self.program).stdout.splitlines(keepends=True)
         return self.without[at]
 
-    def outcome(self, status, wrote):
+    def outcome(self, ran):
         """What a refused growth led to, or None where it is none of the allowed."""
-        answers = wrote.splitlines(keepends=True)
-        whole = b"".join(self.answers)
-        if status == OUT_OF_MEMORY:
-            return "program ended" if whole.startswith(wrote) else None
-        if status != 0 or len(answers) != len(self.answers):
-            return None
-        if wrote == whole:
+        if ran.returncode == OUT_OF_MEMORY:
+            is_front = self.row.stdout.startswith(ran.stdout)
+            return "program ended" if is_front and ran.stderr == COMPLAINT else None
+        if self.row.fault(ran) is None:
             return "not seen"
+        answers = ran.stdout.splitlines(keepends=True)
+        if self.row.status or ran.returncode or ran.stderr or len(answers) != len(self.answers):
+            return None
         at = next(at for at, (got, want) in enumerate(zip(answers, self.answers)) if got != want)
         others = answers[:at] + answers[at + 1 :]
         if answers[at] == line("E21", "-"):
@@ -96,31 +116,79 @@ class Row:
             return "session not entered"
         return None
 
-    def refuse_each(self, shim, counts):
-        """Refuses each growth in turn; answers how many were refused, and what is wrong."""
-        given = b"".join(self.lines)
-        for number in range(1, MOST):
-            status, wrote, was_refused = run(self.program, given, self.words, number, shim)
+    def count(self):
+        """How many growths a run makes."""
+        made, most = 0, 1
+        while self.run(most)[1]:
+            made, most = most, 2 * most
+        while most - made > 1:
+            middle = (made + most) // 2
+            made, most = (middle, most) if self.run(middle)[1] else (made, middle)
+        return made
+
+    def refuse_each(self, first=1, is_sparse=False):
+        """Refuses one growth after another, from the first one on."""
+        tried = Tried(last=first - 1, is_sparse=is_sparse)
+        number = first
+        for _ in range(MOST):
+            ran, was_refused = self.run(number)
             if not was_refused:
-                is_row = status == 0 and wrote == b"".join(self.answers)
-                return number - 1, None if is_row else "without a refusal it does not give its row"
-            outcome = self.outcome(status, wrote)
+                fault = self.row.fault(ran)
+                tried.fault = fault and f"without a refusal {fault}"
+                return tried
+            outcome = self.outcome(ran)
             if outcome is None:
-                return number, f"growth {number} refused: status {status}, wrote {wrote[-400:]!r}"
-            counts[outcome] += 1
-        return MOST, "no end of growths"
+                wrote = f"{ran.stdout[-400:]!r} and {ran.stderr[-400:]!r}"
+                tried.fault = f"growth {number} refused: status {ran.returncode}, wrote {wrote}"
+                return tried
+            tried.outcomes[outcome] += 1
+            tried.last = number
+            number += 1 + (number // PART if is_sparse else 0)
+        tried.fault = "no end of growths"
+        return tried
+
+
+def classes_of(row):
+    """The class files among a row's words."""
+    paths = [row.folder / word for word in row.words]
+    return tuple(path.read_bytes() for path in paths if path.is_file())
+
+
+def start_of(row):
+    """What the program's start depends on: rows that agree in it start alike."""
+    return row.words, classes_of(row)
+
+
+def count_start(program, shim, row):
+    """How many growths a row's start makes."""
+    return Trial(program, shim, replace(row, given=b"", stdout=b"")).count()
+
+
+def try_row(program, shim, row, first):
+    """Refuses the growths of a row, from this one on."""
+    trial = Trial(program, shim, row)
+    if not trial.is_plain():
+        return Tried(fault="it has not one answer a line")
+    return trial.refuse_each(first, is_sparse=sum(map(len, classes_of(row))) > LARGE)
 
 
 def main():
     program, shim = (str(Path(it).resolve()) for it in sys.argv[1:3])
-    rows = [Row(program, folder.resolve()) for folder in sorted(Path(sys.argv[3]).iterdir())]
-    failed, counts = 0, Counter()
+    rows = rows_in(sys.argv[3])
+    first_rows = {}
     for row in rows:
-        growths, fault = row.refuse_each(shim, counts) if row.is_plain() else (0, "it has not one answer a line")
-        failed += fault is not None
-        print(f"refusals in {row.name}: {growths} growths" + (f"; {fault}" if fault else ""))
-    print("refused growths: " + ", ".join(f"{name} {count}" for name, count in sorted(counts.items())))
-    if not counts:
+        first_rows.setdefault(start_of(row), row)
+    failed, outcomes = 0, Counter()
+    with ThreadPoolExecutor(AT_ONCE) as pool:
+        counted = pool.map(lambda row: count_start(program, shim, row), first_rows.values())
+        starts = dict(zip(first_rows, counted))
+        firsts = [1 if first_rows[start_of(row)] is row else starts[start_of(row)] + 1 for row in rows]
+        for row, tried in zip(rows, pool.map(lambda row, first: try_row(program, shim, row, first), rows, firsts)):
+            print(f"refusals in {row.name}: {tried}" + (f"; {tried.fault}" if tried.fault else ""))
+            failed += tried.fault is not None
+            outcomes += tried.outcomes
+    print("refused growths: " + ", ".join(f"{name} {count}" for name, count in sorted(outcomes.items())))
+    if not failed and not outcomes:
         print("no growth was ever refused, so nothing was shown")
         failed += 1
     print(f"refusals: {len(rows) - failed} passed, {failed} failed")

@@ -6,6 +6,8 @@ mod status;
 #[cfg(test)]
 mod tests;
 
+use class_table::ClassTable;
+use program_start::start;
 use server_world::Server;
 use std::process::ExitCode;
 use wire_lines::{Counted, RunFault, Summary, run};
@@ -14,20 +16,32 @@ use wire_lines::{Counted, RunFault, Summary, run};
 const TURNS: u32 = 10_000;
 
 fn main(rt: HostRuntime) -> ExitCode {
-    let (status, complaint) = status::status_of(&serve(&rt));
-    if let Some(text) = complaint {
-        // There is nobody left to tell where this fails too.
-        let _ = eprintln!(rt; "{text}");
+    match start(&rt) {
+        Ok(classes) => end_of_run(&rt, &serve(&rt, classes)),
+        Err(ending) => {
+            let mut output = Counted::new(rt.stdout());
+            let mut error = Counted::new(rt.stderr());
+            ExitCode::from(ending.say(&mut output, &mut error))
+        }
     }
-    ExitCode::from(status)
 }
 
-/// Answers standard input on standard output, to its end.
-fn serve(rt: &HostRuntime) -> Result<Summary, RunFault> {
-    let Ok(mut server) = Server::new(rt.alloc(), TURNS) else {
+/// Answers standard input on standard output, to its end, with objects of these classes.
+fn serve(rt: &HostRuntime, classes: ClassTable) -> Result<Summary, RunFault> {
+    let Ok(mut server) = Server::new(rt.alloc(), classes, TURNS) else {
         return Err(RunFault::Memory);
     };
     let mut reader = Counted::new(rt.stdin());
     let mut writer = Counted::new(rt.stdout());
     run(rt.alloc(), &mut reader, &mut writer, &mut server)
+}
+
+/// Tells what a run came to, and gives the exit status.
+fn end_of_run(rt: &HostRuntime, run: &Result<Summary, RunFault>) -> ExitCode {
+    let (status, complaint) = status::status_of(run);
+    if let Some(text) = complaint {
+        // There is nobody left to tell where this fails too.
+        let _ = eprintln!(rt; "{text}");
+    }
+    ExitCode::from(status)
 }

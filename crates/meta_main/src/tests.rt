@@ -1,8 +1,17 @@
 //! Worked sessions, from bytes to bytes on a fresh server with ample memory.
 use super::*;
+use program_start::DEMONSTRATION;
 use std::alloc::{AllocError, Global};
 use std::process::Abort;
 use std::test::Fail;
+
+/// A server with the demonstration classes.
+fn fresh(alloc: Global) -> Result<Server, AllocError> {
+    match ClassTable::from_text(alloc, DEMONSTRATION.as_bytes()) {
+        Ok(classes) => Server::new(alloc, classes, TURNS),
+        Err(_) => Err(AllocError),
+    }
+}
 
 /// The bytes of lines, each ended by `end`.
 fn ended(alloc: Global, lines: &[&str], end: &str) -> Result<Vec<u8>, AllocError> {
@@ -21,7 +30,7 @@ fn assert_answers(
     input: &[u8],
     wanted: &[&str],
 ) -> Result<(), Fail> {
-    let mut server = Server::new(alloc, TURNS)?;
+    let mut server = fresh(alloc)?;
     let mut reader = Counted::new(input);
     let mut writer = Counted::new(Vec::new(alloc));
     let summary = run(alloc, &mut reader, &mut writer, &mut server)?;
@@ -164,6 +173,40 @@ fn a_name_has_at_most_4096_bytes(rt: HostRuntime) -> Result<(), Fail> {
 }
 
 #[test]
+fn classes_are_described(rt: HostRuntime) -> Result<(), Fail> {
+    let given = [
+        r#"{"class":"Probe","do":"meta","session":"a"}"#,
+        r#"{"class":"QObject","do":"meta","session":"a"}"#,
+        r#"{"class":"Cell","do":"meta","session":"a"}"#,
+        r#"{"class":"Nope","do":"meta","session":"a"}"#,
+    ];
+    let wanted = [
+        r#"{"reply":{"class":"Probe","methodOffset":3,"methods":["destroyed()","objectNameChanged(QString)","deleteLater()","ping()","note()","late()","swap()","again()","kill()","rescue()","drop()"],"properties":["objectName"],"propertyOffset":1,"super":"QObject"},"session":"a"}"#,
+        r#"{"reply":{"class":"QObject","methodOffset":0,"methods":["destroyed()","objectNameChanged(QString)","deleteLater()"],"properties":["objectName"],"propertyOffset":0,"super":null},"session":"a"}"#,
+        r#"{"reply":{"class":"Cell","methodOffset":3,"methods":["destroyed()","objectNameChanged(QString)","deleteLater()","xChanged(int)","seen(int)","setX(int)"],"properties":["objectName","x","y","z","flag","big"],"propertyOffset":1,"super":"QObject"},"session":"a"}"#,
+        r#"{"error":"E03","session":"a"}"#,
+    ];
+    assert_lines(&rt, rt.alloc(), &given, &wanted)
+}
+
+#[test]
+fn objects_are_of_any_class(rt: HostRuntime) -> Result<(), Fail> {
+    let given = [
+        r#"{"class":"Probe","do":"new","session":"a"}"#,
+        r#"{"class":"Cell","do":"new","session":"a"}"#,
+        r#"{"class":"probe","do":"new","session":"a"}"#,
+        r#"{"do":"get","object":2,"property":"objectName","session":"a"}"#,
+    ];
+    let wanted = [
+        r#"{"reply":1,"session":"a"}"#,
+        r#"{"reply":2,"session":"a"}"#,
+        r#"{"error":"E03","session":"a"}"#,
+        r#"{"reply":"","session":"a"}"#,
+    ];
+    assert_lines(&rt, rt.alloc(), &given, &wanted)
+}
+
+#[test]
 fn a_session_has_at_most_4096_objects(rt: HostRuntime) -> Result<(), Fail> {
     let alloc = rt.alloc();
     let (mut input, mut wanted) = (Vec::new(alloc), Vec::new(alloc));
@@ -175,7 +218,7 @@ fn a_session_has_at_most_4096_objects(rt: HostRuntime) -> Result<(), Fail> {
     }
     input.extend_from_slice(LAMP[0].as_bytes())?;
     wanted.extend_from_slice(b"{\"error\":\"E14\",\"session\":\"a\"}\n")?;
-    let mut server = Server::new(alloc, TURNS)?;
+    let mut server = fresh(alloc)?;
     let mut reader = Counted::new(input.as_slice());
     let mut writer = Counted::new(Vec::new(alloc));
     let summary = run(alloc, &mut reader, &mut writer, &mut server)?;

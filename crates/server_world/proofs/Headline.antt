@@ -19,10 +19,10 @@ use Rattle.thread_model.specs.Machine.{machine}
 use Rattle.thread_model.proofs.Lawful.{lawful}
 use Rattle.server_world.specs.declared.report.Entry.{Entry}
 use Rattle.server_world.specs.declared.report.Entry.TheVariants.{Lines}
-use Rattle.server_world.specs.Session.{fresh}
-use Rattle.server_world.specs.Table.{Sessions, row, place_of, session_of}
+use Rattle.session_engine.specs.Session.{fresh}
+use Rattle.session_engine.specs.Table.{Sessions, row, place_of, session_of}
 use Rattle.server_world.specs.Runs.{IsAsAlone, IsAsWith}
-use Rattle.server_world.proofs.ByName.{position-any}
+use Rattle.session_engine.proofs.ByName.{position-any}
 
 -- the entries of a session, each made of one
 entries_of-map : {Name Command A B : Type 0} (f : A → B) (keep : Name → Bool) (ts : List (Tagged Name Command)) (xs : List A) → entries_of keep ts (map f xs) ≡ map f (entries_of keep ts xs)

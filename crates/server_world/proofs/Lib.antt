@@ -1,7 +1,4 @@
-pub mod Naming
-pub mod ByName
-pub mod Faults
-pub mod Obeying
+pub mod Known
 pub mod Refusing
-pub mod Headline
 pub mod Running
+pub mod Headline

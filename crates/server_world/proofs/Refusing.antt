@@ -2,7 +2,7 @@
 use Rattle.std.proofs.Common.{◌≡◌, IsTrue, IsFalse, sym, ◌∙◌, ⊎_elim}
 use Rattle.std.proofs.lemmas.Bool.{both_ways, or_left, or_right, or_cases, or_parts}
 use Rattle.server_world.specs.declared.server.Server.{Server}
-use Rattle.server_world.specs.Engine as engine
+use Rattle.session_engine.specs.Engine as engine
 use Rattle.server_world.specs.Server.{was_refused}
 
 pub refused_in_engine : (server : Server) → IsTrue (engine.was_refused server.engine) → IsTrue (was_refused server)

@@ -2,9 +2,9 @@
 use Rattle.std.specs.Prelude.{◌≡◌, ◌||◌, ℕ, Bool, List, [], IsTrue, IsFalse}
 use Rattle.thread_model.specs.declared.state.State.{State}
 use Rattle.thread_model.specs.Thread.{Settings}
-use Rattle.server_world.specs.declared.session.Session.{Session}
+use Rattle.session_engine.specs.declared.session.Session.{Session}
 use Rattle.server_world.specs.declared.server.Server.{Server}
-use Rattle.server_world.specs.Engine as engine
+use Rattle.session_engine.specs.Engine as engine
 use Rattle.server_world.specs.Stepping as stepping
 
 -- what is fixed for the whole life of the server

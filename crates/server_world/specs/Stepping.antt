@@ -1,9 +1,9 @@
 -- What becomes of the names and of a session at a command that is the first of its name, or a later one.
 use Rattle.std.specs.Prelude.{◌≡◌, ◌⊎◌, List, ℕ, [], ◌∷◌, ◌++◌, None, if◌then◌else◌, bytes_eq}
 use Rattle.std.specs.List.{list_any}
-use Rattle.server_world.specs.declared.engine.Engine.{Engine}
-use Rattle.server_world.specs.Session.{gone}
-use Rattle.server_world.specs.Engine.{names, place, sessions}
+use Rattle.session_engine.specs.declared.engine.Engine.{Engine}
+use Rattle.session_engine.specs.Session.{gone}
+use Rattle.session_engine.specs.Engine.{names, place, sessions}
 
 -- the names with this one, which goes last where it is new
 abbrev pub with_name : List (List ℕ) → List ℕ → List (List ℕ)

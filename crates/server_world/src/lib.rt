@@ -1,13 +1,10 @@
 //! Whole runs of a server: commands of many sessions, and what each session is told.
 #![tactic(auto)]
 
-mod engine;
 mod laws;
 mod report;
 mod server;
-mod session;
 mod stepping;
-mod table;
 #[cfg(test)]
 mod tests;
 

@@ -13,10 +13,11 @@ ghost use Rattle.server_world.specs.Stepping.{with_name};
 ghost use Rattle.server_world.specs.Server.{IsNew, OnlyRefused, OthersStay, AnotherFails, IsLost, settings, was_refused, names, sessions, states, failed};
 ghost use Rattle.server_world.specs.Runs.{IsOfOne, IsShort, IsAsAlone, IsAsWith, is_out_of_memory, tags};
 
-use crate::engine::Engine;
 use crate::report::{Entry, Report};
 use crate::stepping;
+use class_table::ClassTable;
 use plain_types::Items;
+use session_engine::Engine;
 use std::alloc::{AllocError, Global};
 use thread_model::{Line, Tagged};
 
@@ -30,18 +31,18 @@ pub struct Server {
 }
 
 impl Server {
-    /// A server with no session. `turns` is how many turns each command has for the calls that it
-    /// causes.
+    /// A server with no session. Its objects may have the classes of the table, and each command has
+    /// so many turns for the calls that it causes.
     #[tactic(auto, unfolding(crate::specs::Server::was_refused))]
-    pub fn new(alloc: Global, turns: u32) -> Result<Server, AllocError>
+    pub fn new(alloc: Global, classes: ClassTable, turns: u32) -> Result<Server, AllocError>
         ensures states { IfOk result (λ server. (name : List ℕ) → states server name ≡ empty) }
         ensures failed { IfOk result (λ server. (name : List ℕ) → IsFalse (failed server name)) }
-        ensures settings { IfOk result (λ server. settings server ≡ record { turns = turns }) }
+        ensures settings { IfOk result (λ server. settings server ≡ record { turns = turns; classes = classes }) }
         ensures new { IfOk result IsNew }
     {
         Ok(Server {
             alloc,
-            engine: Engine::new(alloc, turns)?,
+            engine: Engine::new(alloc, classes, turns)?,
             memory_refused: false,
         })
     }

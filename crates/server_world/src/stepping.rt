@@ -5,11 +5,11 @@ ghost use Rattle.refusals.specs.declared.code.Code.TheVariants.{SessionFailed};
 ghost use Rattle.thread_model.specs.declared.line.Line.TheVariants.{Error};
 ghost use Rattle.thread_model.specs.Asked.{tag};
 ghost use Rattle.thread_model.specs.Machine.{machine};
-ghost use Rattle.server_world.specs.Engine.{OthersStay, AnotherFails, settings, was_refused, names, place, sessions, states, failed};
+ghost use Rattle.session_engine.specs.Engine.{OthersStay, AnotherFails, settings, was_refused, names, place, sessions, states, failed};
 ghost use Rattle.server_world.specs.Stepping.{IsLost, with_name};
 
-use crate::engine::Engine;
 use plain_types::{Items, Text};
+use session_engine::Engine;
 use std::alloc::AllocError;
 use thread_model::{Line, Tagged};
 

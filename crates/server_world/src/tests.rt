@@ -3,11 +3,21 @@ use crate::{
     Answer, Command, Entry, Line, Report, Server, Tagged, influence_is_least,
     leaving_out_keeps_sessions, slicing_keeps_a_session,
 };
+use class_table::ClassTable;
 use plain_types::{Items, Text};
 use refusals::Code;
 use std::alloc::{AllocError, Global};
 use std::test::Fail;
 use variant_value::Value;
+
+/// A server with a class of its own below `QObject`.
+fn fresh(alloc: Global) -> Result<Server, AllocError> {
+    let file = "{\"classes\":[{\"name\":\"Lamp\",\"super\":\"QObject\"}]}";
+    match ClassTable::from_text(alloc, file.as_bytes()) {
+        Ok(classes) => Server::new(alloc, classes, 1000),
+        Err(_) => Err(AllocError),
+    }
+}
 
 fn given(alloc: Global, session: &str, command: Command) -> Result<Tagged, AllocError> {
     Ok(Tagged {
@@ -78,7 +88,7 @@ fn is_error(line: Option<&Line>, code: Code) -> bool {
 /// What a fresh server answers. No clause says here what that is, so that the tests look only at
 /// the answer.
 fn answers(alloc: Global, list: &[Tagged]) -> Result<Report, AllocError> {
-    let mut server = Server::new(alloc, 1000)?;
+    let mut server = fresh(alloc)?;
     Ok(server.run(list))
 }
 
@@ -91,8 +101,8 @@ fn numbers_objects_for_each_session(rt: HostRuntime) -> Result<(), Fail> {
     let alloc = rt.alloc();
     let both = [
         make(alloc, "a", "QObject")?,
-        make(alloc, "b", "QObject")?,
-        make(alloc, "a", "QObject")?,
+        make(alloc, "b", "Lamp")?,
+        make(alloc, "a", "Lamp")?,
     ];
     let report = answers(alloc, both.as_slice())?;
     assert!(rt; !report.memory_refused);
@@ -155,7 +165,7 @@ fn refuses_by_codes(rt: HostRuntime) -> Result<(), Fail> {
 #[test]
 fn makes_as_many_objects_as_the_limit(rt: HostRuntime) -> Result<(), Fail> {
     let alloc = rt.alloc();
-    let mut server = Server::new(alloc, 1000)?;
+    let mut server = fresh(alloc)?;
     let given = make(alloc, "a", "QObject")?;
     for number in 1..=4096u32 {
         let lines = tells(&mut server, &given)?;

@@ -15,12 +15,15 @@ pub data Asked : Type 0 where
   Set : (target : ℕ) (value : Data) → Asked
   -- read `objectName` of this object
   Get : (target : ℕ) → Asked
+  -- describe this class
+  Meta : (class : List ℕ) → Asked
 
 -- what a command asks
 abbrev pub asked : Command → Asked
 asked (c.New class) = New class
 asked (c.Set target value) = Set target (view value)
 asked (c.Get target) = Get target
+asked (c.Meta class) = Meta class
 
 -- a command and the session that gives it
 abbrev pub tagged : List ℕ → Command → theory.Tagged (List ℕ) Asked

@@ -17,6 +17,10 @@ pub enum Command {
     Get {
         object: u32,
     },
+    /// Describes a class.
+    Meta {
+        class: Text,
+    },
 }
 
 /// A command with the name of the session that gives it.

@@ -7,11 +7,13 @@ ghost use Rattle.thread_model.specs.Machine.{IsMetadLawful};
 
 mod command;
 mod line;
+mod meta;
 mod post;
 mod state;
 
 pub use command::{Command, Tagged};
 pub use line::{Answer, Line};
+pub use meta::MetaObject;
 pub use post::Post;
 pub use state::{OBJECTS, Object, State};
 

@@ -1,4 +1,5 @@
 //! What clients are told.
+use crate::meta::MetaObject;
 use refusals::Code;
 use variant_value::Value;
 
@@ -9,6 +10,8 @@ pub enum Answer {
     Number(u32),
     Truth(bool),
     Value(Value),
+    /// What there is in a class.
+    Meta(MetaObject),
 }
 
 /// One line of what a session is told.

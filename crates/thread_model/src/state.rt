@@ -10,6 +10,8 @@ pub const OBJECTS: usize = 4096;
 pub struct Object {
     /// Counted from 1 in its session, and never used again there.
     pub number: u32,
+    /// The place of its class in the class table.
+    pub class: u32,
     /// The property `objectName`, a `QString` that is empty at first.
     pub object_name: Value,
 }

@@ -9,7 +9,7 @@ use Rattle.serde_json.specs.Find.{get, as_object, as_str, as_number, as_u64}
 use Rattle.isolation.specs.Machine.{Tagged}
 use Rattle.plain_types.specs.Names.{is_name}
 use Rattle.refusals.specs.declared.code.Code.TheVariants.{UnreadableLine, NotACommand}
-use Rattle.thread_model.specs.Asked.{Asked, New, Set, Get}
+use Rattle.thread_model.specs.Asked.{Asked, New, Set, Get, Meta}
 use Rattle.wire_format.specs.declared.fault.LineFault.{LineFault}
 use Rattle.wire_format.specs.declared.fault.ReadError.{ReadError}
 use Rattle.wire_format.specs.declared.fault.ReadError.TheVariants.{Fault, Memory}
@@ -82,12 +82,19 @@ get_of json = do
   target ← target_of (codes "object" ∷ codes "property" ∷ []) json
   Some (Get target)
 
+-- `meta` describes a class
+unfoldable pub meta_of : Data → Option Asked
+meta_of json = do
+  class ← name_at (codes "class") json
+  when (has_only (codes "class" ∷ []) json) (Meta class)
+
 -- what is asked by this word
 unfoldable pub asked_as : List ℕ → Data → Option Asked
 asked_as word json =
     if bytes_eq word (codes "new") then new_of json else (
     if bytes_eq word (codes "set") then set_of json else (
-    if bytes_eq word (codes "get") then get_of json else None))
+    if bytes_eq word (codes "get") then get_of json else (
+    if bytes_eq word (codes "meta") then meta_of json else None)))
 
 -- what a command in JSON asks, beside the session that gives it
 unfoldable pub asked_of : Data → Option Asked

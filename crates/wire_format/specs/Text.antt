@@ -1,21 +1,43 @@
 -- What is written for a line that a session is told.
-use Rattle.std.specs.Prelude.{◌==◌, ◌&&◌, ◌||◌, ℕ, Bool, not, List, [], ◌∷◌, ◌++◌, bytes_eq, codes, nat_le, unwrap_or}
-use Rattle.serde_json.specs.Data.{Data, boolean, number, string, object, unsigned, no_members, member}
+use Rattle.std.specs.Prelude.{◌==◌, ◌&&◌, ◌||◌, ℕ, Bool, not, List, [], ◌∷◌, ◌++◌, bytes_eq, codes, nat_le, unwrap_or, Option, Some, None}
+use Rattle.serde_json.specs.Data.{Data, Items, null, boolean, number, string, array, object, unsigned, no_items, item, no_members, member}
 use Rattle.serde_json.specs.Written.{compact_text}
 use Rattle.plain_types.specs.Names.{is_name}
 use Rattle.refusals.specs.Codes.{code_text}
 use Rattle.thread_model.specs.declared.line.Answer.{Answer}
-use Rattle.thread_model.specs.declared.line.Answer.TheVariants.{Number, Truth, Value}
+use Rattle.thread_model.specs.declared.line.Answer.TheVariants.{Number, Truth, Value, Meta}
 use Rattle.thread_model.specs.declared.line.Line.{Line}
 use Rattle.thread_model.specs.declared.line.Line.TheVariants.{Reply, Error}
+use Rattle.thread_model.specs.declared.meta.MetaObject.{MetaObject}
 use Rattle.variant_value.specs.Values.{json_of}
 use Rattle.wire_format.specs.declared.fault.LineFault.{LineFault}
+
+-- texts as the elements of an array
+abbrev pub elements : List (List ℕ) → Items
+elements [] = no_items
+elements (text ∷ texts) = item (string text) (elements texts)
+
+-- a name, or null where there is none
+abbrev pub json_of_name : Option (List ℕ) → Data
+json_of_name None = null
+json_of_name (Some name) = string name
+
+-- what there is in a class, in JSON, its keys in byte order
+abbrev pub json_of_meta : MetaObject → Data
+json_of_meta meta =
+    object (member (codes "class") (string meta.class) (
+    member (codes "methodOffset") (number (unsigned meta.method_offset)) (
+    member (codes "methods") (array (elements meta.methods)) (
+    member (codes "properties") (array (elements meta.properties)) (
+    member (codes "propertyOffset") (number (unsigned meta.property_offset)) (
+    member (codes "super") (json_of_name meta.superclass) no_members))))))
 
 -- an answer in JSON
 abbrev pub json_of_answer : Answer → Data
 json_of_answer (Number n) = number (unsigned n)
 json_of_answer (Truth truth) = boolean truth
 json_of_answer (Value value) = json_of value
+json_of_answer (Meta meta) = json_of_meta meta
 
 -- what a line tells, by its key
 abbrev pub told_of : Line → List ℕ × Data

@@ -4,7 +4,7 @@ ghost use Rattle.std.specs.List.{list_all, list_any};
 ghost use Rattle.std.specs.BTreeMap.{keys};
 ghost use Rattle.serde_json.specs.View.{view};
 ghost use Rattle.thread_model.specs.Asked.{asked, tag};
-ghost use Rattle.wire_format.specs.Command.{Gives, name_at, text_at, number_at, has_only, json_in, is_object_name, is_known, target_of, new_of, set_of, get_of, asked_of, unreadable, not_a_command, command_of};
+ghost use Rattle.wire_format.specs.Command.{Gives, name_at, text_at, number_at, has_only, json_in, is_object_name, is_known, target_of, new_of, set_of, get_of, meta_of, asked_of, unreadable, not_a_command, command_of};
 
 use crate::fault::{LineFault, ReadError};
 use crate::line::LINE_BYTES;
@@ -86,6 +86,7 @@ fn command_in(alloc: Global, json: &mut Value) -> Result<Option<Command>, AllocE
         Some("new") => new_of(alloc, json),
         Some("set") => Ok(set_of(json)),
         Some("get") => Ok(get_of(json)),
+        Some("meta") => meta_of(alloc, json),
         _ => Ok(None),
     }
 }
@@ -117,6 +118,20 @@ fn get_of(json: &Value) -> Option<Command>
 {
     let object = target_of(json, &["object", "property"])?;
     Some(Command::Get { object })
+}
+
+#[tactic(auto, unfolding(crate::specs::Command::meta_of))]
+fn meta_of(alloc: Global, json: &Value) -> Result<Option<Command>, AllocError>
+    ensures { IfOk result (λ command. option_map asked command ≡ meta_of (view json.now)) }
+{
+    let Some(class) = name_at(json, "class") else {
+        return Ok(None);
+    };
+    if !has_only(json, &["class"]) {
+        return Ok(None);
+    }
+    let class = Text::from_str(alloc, class)?;
+    Ok(Some(Command::Meta { class }))
 }
 
 /// The number of an object, where the JSON names its only property and has no keys but these and

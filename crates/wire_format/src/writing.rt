@@ -1,15 +1,16 @@
 //! The text of a line.
 ghost use Rattle.std.specs.Prelude.{◌≡◌, ◌∷◌, ◌++◌, [], IsTrue, IfOk, OnOk, OnErr, codes, string_bytes};
 ghost use Rattle.std.specs.List.{flat_map, list_all};
-ghost use Rattle.serde_json.specs.Data.{string};
+ghost use Rattle.serde_json.specs.Data.{array, number, string, unsigned};
 ghost use Rattle.serde_json.specs.Written.{compact_text};
 ghost use Rattle.variant_value.specs.Values.{json_of};
-ghost use Rattle.wire_format.specs.Text.{json_of_answer, told_of, text_of_line, text_of_fault, is_session_text, is_plain_byte};
+ghost use Rattle.wire_format.specs.Text.{elements, json_of_answer, json_of_meta, json_of_name, told_of, text_of_line, text_of_fault, is_session_text, is_plain_byte};
 
 use crate::fault::LineFault;
+use plain_types::Text;
 use refusals::Code;
 use std::alloc::{AllocError, Global};
-use thread_model::{Answer, Line};
+use thread_model::{Answer, Line, MetaObject};
 use variant_value::Value;
 
 /// The text of a line that a session is told, with its line feed: compact JSON, its keys in byte
@@ -106,7 +107,62 @@ fn push_answer(alloc: Global, buffer: &mut String, answer: &Answer) -> Result<()
         Answer::Number(number) => write!(buffer, "{number}"),
         Answer::Truth(truth) => write!(buffer, "{truth}"),
         Answer::Value(value) => push_value(alloc, buffer, value),
+        Answer::Meta(meta) => push_meta(alloc, buffer, meta),
     }
+}
+
+/// Appends what there is in a class.
+fn push_meta(alloc: Global, buffer: &mut String, meta: &MetaObject) -> Result<(), AllocError>
+    ensures { OnOk result
+        (string_bytes buffer.new ≡ string_bytes buffer.old ++ compact_text (json_of_meta meta.now)) }
+{
+    buffer.push_str("{\"class\":")?;
+    push_text(alloc, buffer, meta.class.as_str())?;
+    buffer.push_str(",\"methodOffset\":")?;
+    push_count(buffer, meta.method_offset)?;
+    buffer.push_str(",\"methods\":")?;
+    push_texts(alloc, buffer, meta.methods.as_slice())?;
+    buffer.push_str(",\"properties\":")?;
+    push_texts(alloc, buffer, meta.properties.as_slice())?;
+    buffer.push_str(",\"propertyOffset\":")?;
+    push_count(buffer, meta.property_offset)?;
+    buffer.push_str(",\"super\":")?;
+    push_name(alloc, buffer, &meta.superclass)?;
+    buffer.push_str("}")?;
+    Ok(())
+}
+
+fn push_count(buffer: &mut String, count: u32) -> Result<(), AllocError>
+    ensures { OnOk result
+        (string_bytes buffer.new ≡ string_bytes buffer.old ++ compact_text (number (unsigned count))) }
+{
+    write!(buffer, "{count}")
+}
+
+/// Appends a name, or `null` where there is none.
+fn push_name(alloc: Global, buffer: &mut String, name: &Option<Text>) -> Result<(), AllocError>
+    ensures { OnOk result
+        (string_bytes buffer.new ≡ string_bytes buffer.old ++ compact_text (json_of_name name.now)) }
+{
+    match name {
+        Some(name) => push_text(alloc, buffer, name.as_str()),
+        None => buffer.push_str("null"),
+    }
+}
+
+/// Appends texts as an array.
+fn push_texts(alloc: Global, buffer: &mut String, texts: &[Text]) -> Result<(), AllocError>
+    ensures { OnOk result
+        (string_bytes buffer.new ≡ string_bytes buffer.old ++ compact_text (array (elements texts.now))) }
+{
+    buffer.push_str("[")?;
+    for (place, text) in texts.iter().enumerate() {
+        if place > 0 {
+            buffer.push_str(",")?;
+        }
+        push_text(alloc, buffer, text.as_str())?;
+    }
+    buffer.push_str("]")
 }
 
 fn push_value(alloc: Global, buffer: &mut String, value: &Value) -> Result<(), AllocError>

@@ -3,6 +3,7 @@ ghost use Rattle.std.specs.Prelude.{Some};
 
 use crate::stream::run_bounded;
 use crate::{Counted, Failed, RunFault, Sink, Source, Summary, run};
+use class_table::ClassTable;
 use server_world::Server;
 use std::alloc::{AllocError, Global};
 use std::io::Read;
@@ -17,6 +18,14 @@ const LAMP_TOLD: &str = "{\"reply\":1,\"session\":\"a\"}\n\
     {\"reply\":\"lamp\",\"session\":\"a\"}\n";
 
 const UNREADABLE: &str = "{\"error\":\"E01\",\"session\":\"-\"}\n";
+
+/// A server with no class but `QObject`.
+fn fresh(alloc: Global) -> Result<Server, AllocError> {
+    match ClassTable::from_text(alloc, b"{\"classes\":[]}") {
+        Ok(classes) => Server::new(alloc, classes, 10),
+        Err(_) => Err(AllocError),
+    }
+}
 
 /// Gives the bytes of a slice, a few a call, and fails at one of its calls.
 #[derive(Drop)]
@@ -105,7 +114,7 @@ fn told(
     input: &[u8],
     step: usize,
 ) -> Result<(Vec<u8>, Result<Summary, RunFault>), AllocError> {
-    let mut server = Server::new(alloc, 10)?;
+    let mut server = fresh(alloc)?;
     let mut writer = Counted::new(Vec::new(alloc));
     let ended = run(alloc, &mut source(input, step, 0), &mut writer, &mut server);
     Ok((writer.into_inner(), ended))
@@ -197,7 +206,7 @@ fn a_source_may_fail_at_any_call(rt: HostRuntime) -> Result<(), Fail> {
         } else {
             counted(3)
         };
-        let mut server = Server::new(alloc, 10)?;
+        let mut server = fresh(alloc)?;
         let mut reader = source(LAMP.as_bytes(), 30, failing);
         let mut writer = sink(alloc, 0, 0);
         let ended = run(alloc, &mut reader, &mut writer, &mut server);
@@ -222,7 +231,7 @@ fn a_sink_may_fail_at_any_call(rt: HostRuntime) -> Result<(), Fail> {
             counted(3)
         };
         for (failing, idle) in [(call, 0), (0, call)] {
-            let mut server = Server::new(alloc, 10)?;
+            let mut server = fresh(alloc)?;
             let mut writer = sink(alloc, failing, idle);
             let mut reader = source(LAMP.as_bytes(), 65_536, 0);
             let ended = run(alloc, &mut reader, &mut writer, &mut server);
@@ -247,7 +256,7 @@ fn ends_at_its_bounds(rt: HostRuntime) -> Result<(), Fail> {
     let alloc = rt.alloc();
     let bounds: [(u64, u64, usize); 4] = [(2, 9, 2), (3, 2, 3), (3, 1, 3), (3, 0, 0)];
     for (max_lines, max_reads, told) in bounds {
-        let mut server = Server::new(alloc, 10)?;
+        let mut server = fresh(alloc)?;
         let mut reader = Counted::new(LAMP.as_bytes());
         let mut writer = sink(alloc, 0, 0);
         let ended = run_bounded(

@@ -1,6 +1,6 @@
 use Rattle.std.proofs.Common.{sym, ◌∙◌}
 use Rattle.std.proofs.lemmas.Result.{on_ok_weaker}
-use Rattle.server_world.proofs.ByName.{with_name-there, with_name-new}
+use Rattle.server_world.proofs.Known.{with_name-there, with_name-new}
 use Rattle.server_world.proofs.stepping.enter.Goals as goal
 
 pub returns-in-Some-clause-there : goal.returns-in-Some-clause-there

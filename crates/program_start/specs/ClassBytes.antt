@@ -1,0 +1,51 @@
+-- What the bytes of a class file give, and what is read of them.
+use Rattle.std.specs.Prelude.{◌≡◌, ◌≤◌, ℕ, List, Option, Some, None, Result, Ok, Err, IfSome, length}
+use Rattle.std.specs.Io.KnownBytes.{Consumes}
+use Rattle.class_table.specs.declared.class.Class.{Class}
+use Rattle.class_table.specs.declared.fault.ClassError.{ClassError}
+use Rattle.class_table.specs.declared.fault.ClassError.TheVariants as table
+use Rattle.class_table.specs.declared.fault.ClassFault.{ClassFault}
+use Rattle.class_table.specs.ClassFile.{table_of}
+use Rattle.wire_devices.specs.Counts.{FailsOnce}
+use Rattle.program_start.specs.declared.class_file.ClassFileError.{ClassFileError}
+use Rattle.program_start.specs.declared.class_file.ClassFileError.TheVariants.{Refused, Unreadable, Memory}
+use Rattle.program_start.specs.declared.demonstration.TheConstants.{DEMONSTRATION}
+
+-- a fault of the table, told of its file
+abbrev pub file_error : ClassError → ClassFileError
+file_error (table.Fault fault) = Refused fault
+file_error table.Memory = Memory
+
+-- the call answers exactly these classes or this fault, unless memory was wanted
+abbrev pub Answers : {T : Type 0} → Result T ClassFileError → Result T ClassFault → Type 0
+Answers (Ok classes) wanted = wanted ≡ Ok classes
+Answers (Err (Refused fault)) wanted = wanted ≡ Err fault
+Answers (Err Unreadable) wanted = ⊥
+Answers (Err Memory) wanted = Unit {0}
+
+-- the same of a file, which may also be told to be unreadable
+abbrev pub AnswersOfFile : {T : Type 0} → Result T ClassFileError → Result T ClassFault → Type 0
+AnswersOfFile (Ok classes) wanted = wanted ≡ Ok classes
+AnswersOfFile (Err (Refused fault)) wanted = wanted ≡ Err fault
+AnswersOfFile (Err Unreadable) wanted = Unit {0}
+AnswersOfFile (Err Memory) wanted = Unit {0}
+
+-- the call answers by the demonstration classes
+abbrev pub AnswersOfDemonstration : Result (List Class) ClassFileError → Type 0
+AnswersOfDemonstration result = Answers result (table_of DEMONSTRATION.now)
+
+-- a file answers by all bytes that it has, where they are known; where there is none, the demonstration classes do
+abbrev pub AnswersFor : {S : Type 0} → (S → Option (List ℕ)) → Option S → Result (List Class) ClassFileError → Type 0
+AnswersFor left None result = AnswersOfDemonstration result
+AnswersFor left (Some file) result = IfSome (left file) (λ bytes. AnswersOfFile result (table_of bytes))
+
+-- known bytes lose some from their front, at most so many
+abbrev pub TakesAtMost : ℕ → Option (List ℕ) → Option (List ℕ) → Type 0
+TakesAtMost most old new = (taken : List ℕ) × (length taken ≤ most) × Consumes old new taken
+
+-- the source failed once where the file is told to be unreadable, and else not
+abbrev pub CountsUnreadable : {T : Type 0} → ℕ → ℕ → Result T ClassFileError → Type 0
+CountsUnreadable old new (Ok value) = new ≡ old
+CountsUnreadable old new (Err (Refused fault)) = new ≡ old
+CountsUnreadable old new (Err Unreadable) = FailsOnce old new
+CountsUnreadable old new (Err Memory) = new ≡ old

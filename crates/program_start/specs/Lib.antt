@@ -1,0 +1,3 @@
+pub mod ClassBytes
+pub mod Ending
+pub mod Start

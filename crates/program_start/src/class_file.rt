@@ -1,0 +1,170 @@
+//! Where the classes come from: a class file, or the demonstration classes.
+ghost use Rattle.std.specs.Prelude.{◌≡◌, ◌≢◌, ◌+◌, ◌-◌, ◌<◌, ◌≤◌, ◌++◌, ℕ, List, Err, IfOk, IfSome, IsNone, OnOk, take, vec_len};
+ghost use Rattle.std.specs.Io.KnownBytes.{Consumes, IsAtEnd};
+ghost use Rattle.class_table.specs.declared.fault.ClassFault.{ClassFault};
+ghost use Rattle.class_table.specs.ClassFile.{table_of};
+ghost use Rattle.program_start.specs.declared.class_file.ClassFileError.TheVariants.{Refused};
+ghost use Rattle.program_start.specs.ClassBytes.{Answers, AnswersFor, AnswersOfDemonstration, AnswersOfFile, CountsUnreadable, TakesAtMost};
+
+use crate::demonstration::DEMONSTRATION;
+use class_table::{ClassError, ClassFault, ClassTable, FILE_BYTES};
+use std::alloc::{AllocError, Global};
+use std::fs;
+use std::io::ErrorKind;
+use std::rt::Files;
+use wire_devices::{Counted, Failed, Source};
+
+/// The most bytes that are read of a class file: one more than it may have, so that a longer one is
+/// known to be too long.
+pub const MOST_BYTES: usize = FILE_BYTES + 1;
+
+/// How many bytes a source is asked for at once.
+const CHUNK_BYTES: usize = 4096;
+
+/// Why there are no classes to run with.
+#[derive(Clone, Copy, Debug, PartialEq, Eq)]
+pub enum ClassFileError {
+    /// The class file has this fault.
+    Refused(ClassFault),
+    /// The class file could not be opened or read.
+    Unreadable,
+    /// Memory was wanted and not found.
+    Memory,
+}
+
+impl From<AllocError> for ClassFileError {
+    ghost use Rattle.program_start.specs.declared.class_file.ClassFileError.TheVariants.{Memory};
+
+    ghost from_gives = { λ _ error. error ≡ Memory };
+
+    fn from(_error: AllocError) -> ClassFileError {
+        ClassFileError::Memory
+    }
+}
+
+impl From<Failed> for ClassFileError {
+    ghost use Rattle.program_start.specs.declared.class_file.ClassFileError.TheVariants.{Unreadable};
+
+    ghost from_gives = { λ _ error. error ≡ Unreadable };
+
+    fn from(_failed: Failed) -> ClassFileError {
+        ClassFileError::Unreadable
+    }
+}
+
+impl From<ClassError> for ClassFileError {
+    ghost use Rattle.program_start.specs.ClassBytes.{file_error};
+
+    ghost from_gives = { λ error given. given ≡ file_error error };
+
+    fn from(error: ClassError) -> ClassFileError {
+        match error {
+            ClassError::Fault(fault) => ClassFileError::Refused(fault),
+            ClassError::Memory => ClassFileError::Memory,
+        }
+    }
+}
+
+/// The classes of the file at this path, or the demonstration classes where there is no path. An
+/// empty path is that of no file. A read that is interrupted is made again, at most 1,000 times in
+/// a row.
+pub fn classes_at<R: Files + AllocGlobal>(
+    rt: &R,
+    path: Option<&str>,
+) -> Result<ClassTable, ClassFileError>
+    ensures { IsNone path.entry → AnswersOfDemonstration result }
+{
+    let file = match path {
+        Some(path) => Some(opened(rt, path)?),
+        None => None,
+    };
+    classes_of(rt.alloc(), file)
+}
+
+/// The file at this path.
+fn opened<R: Files>(rt: &R, path: &str) -> Result<Counted<R::File>, ClassFileError> {
+    match fs::open(rt, path) {
+        Ok(file) => Ok(Counted::new(file)),
+        Err(error) if error.kind() == ErrorKind::OutOfMemory => Err(ClassFileError::Memory),
+        Err(_) => Err(ClassFileError::Unreadable),
+    }
+}
+
+/// The classes of a class file, or the demonstration classes where there is none.
+pub fn classes_of<S: Source + Drop>(
+    alloc: Global,
+    file: Option<S>,
+) -> Result<ClassTable, ClassFileError>
+    ensures { AnswersFor S.left file result }
+{
+    match file {
+        Some(mut file) => classes_in(alloc, &mut file),
+        None => table_from(alloc, DEMONSTRATION.as_bytes()),
+    }
+}
+
+/// The classes of a class file: those that all of its bytes give, though no more of them are read
+/// than it takes to know that there are too many.
+pub fn classes_in<S: Source>(alloc: Global, file: &mut S) -> Result<ClassTable, ClassFileError>
+    ensures classes { IfSome (S.left file.old) (λ bytes. AnswersOfFile result (table_of bytes)) }
+    ensures taken { TakesAtMost MOST_BYTES (S.left file.old) (S.left file.new) }
+    ensures failed { CountsUnreadable (S.failures file.old) (S.failures file.new) result }
+{
+    let bytes = read_at_most(alloc, file, MOST_BYTES)?;
+    table_from(alloc, bytes.as_slice())
+}
+
+/// The classes of a class file of these bytes.
+fn table_from(alloc: Global, bytes: &[u8]) -> Result<ClassTable, ClassFileError>
+    ensures { Answers result (table_of bytes.now) }
+{
+    match ClassTable::from_text(alloc, bytes) {
+        Ok(classes) => Ok(classes),
+        Err(error) => Err(ClassFileError::from(error)),
+    }
+}
+
+/// The bytes of a source up to its end, or the first `most` of them where it has more.
+pub fn read_at_most<S: Source>(
+    alloc: Global,
+    source: &mut S,
+    most: usize,
+) -> Result<Vec<u8>, ClassFileError>
+    ensures bytes { IfOk result (λ bytes. IfSome (S.left source.old) (λ left. bytes.items ≡ take most left)) }
+    ensures few { IfOk result (λ bytes. vec_len bytes ≤ most) }
+    ensures taken { TakesAtMost most (S.left source.old) (S.left source.new) }
+    ensures failed { CountsUnreadable (S.failures source.old) (S.failures source.new) result }
+    ensures kinds { (fault : ClassFault) → result ≢ Err (Refused fault) }
+{
+    let mut bytes = Vec::new(alloc);
+    'chunks: while bytes.len() < most {
+        match read_more(source, &mut bytes, most) {
+            Ok(0) => return Ok(bytes),
+            Ok(_) => {}
+            Err(error) => return Err(error),
+        }
+    }
+    Ok(bytes)
+}
+
+/// Reads once, into the room that is left, and answers how many bytes came: none at the end.
+fn read_more<S: Source>(
+    source: &mut S,
+    bytes: &mut Vec<u8>,
+    most: usize,
+) -> Result<usize, ClassFileError>
+    requires { vec_len bytes.old < most }
+    ensures more { IfOk result (λ count. vec_len bytes.new ≡ vec_len bytes.old + count) }
+    ensures few { vec_len bytes.new ≤ most }
+    ensures came { OnOk result ((came : List ℕ) × (bytes.new.items ≡ bytes.old.items ++ came) × Consumes (S.left source.old) (S.left source.new) came) }
+    ensures end { IfOk result (λ count. count ≡ 0 → IsAtEnd (S.left source.new)) }
+    ensures taken { TakesAtMost (most - vec_len bytes.old) (S.left source.old) (S.left source.new) }
+    ensures failed { CountsUnreadable (S.failures source.old) (S.failures source.new) result }
+    ensures kinds { (fault : ClassFault) → result ≢ Err (Refused fault) }
+{
+    let mut chunk = [0; CHUNK_BYTES];
+    let wanted = CHUNK_BYTES.min(most - bytes.len());
+    let count = source.read(&mut chunk[..wanted])?;
+    bytes.extend_from_slice(&chunk[..count])?;
+    Ok(count)
+}

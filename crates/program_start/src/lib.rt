@@ -1,0 +1,14 @@
+//! The start of `metad`: what its command line asks for, and the classes that it runs with.
+#![tactic(auto)]
+
+mod class_file;
+mod demonstration;
+mod ending;
+mod starting;
+#[cfg(test)]
+mod tests;
+
+pub use class_file::{ClassFileError, MOST_BYTES, classes_at, classes_in, classes_of, read_at_most};
+pub use demonstration::DEMONSTRATION;
+pub use ending::{Ending, Stream, class_text};
+pub use starting::{start, start_with, words_of};

@@ -1,0 +1,60 @@
+//! The start of the program: the command line, and then the classes.
+ghost use Rattle.std.specs.Prelude.{IfErr, map};
+ghost use Rattle.command_line.specs.Asked.{asked};
+ghost use Rattle.program_start.specs.Start.{Starts, StartsByProcess, SaysNoWords};
+
+use crate::class_file::classes_at;
+use crate::ending::Ending;
+use class_table::ClassTable;
+use command_line::options_of;
+use std::alloc::AllocError;
+use std::convert::AsStr;
+use std::env;
+use std::env::Env;
+use std::io::ErrorKind;
+use std::rt::Files;
+
+/// The classes that the program is to run with, or how it ends where there is no run: by the command
+/// line of the process, and then by the class file that it names.
+pub fn start<R: Files + Env + AllocGlobal>(rt: &R) -> Result<ClassTable, Ending>
+    ensures { StartsByProcess result }
+{
+    let words = words_of(rt)?;
+    start_with(rt, words.as_slice())
+}
+
+/// The words of the command line of the process, without the program's name.
+pub fn words_of<R: Env + AllocGlobal>(rt: &R) -> Result<Vec<String>, Ending>
+    ensures { IfErr result (λ ending. SaysNoWords ending) }
+{
+    let words = match env::args(rt) {
+        Ok(words) => words,
+        Err(error) if error.kind() == ErrorKind::OutOfMemory => {
+            return Err(Ending::out_of_memory());
+        }
+        Err(_) => return Err(Ending::no_utf_8()),
+    };
+    match words.skip(1).collect(rt.alloc()) {
+        Ok(words) => Ok(words),
+        Err(AllocError) => Err(Ending::out_of_memory()),
+    }
+}
+
+/// The classes that the program is to run with, or how it ends, by these words of a command line.
+pub fn start_with<R: Files + AllocGlobal, S: AsStr>(
+    rt: &R,
+    words: &[S],
+) -> Result<ClassTable, Ending>
+    ensures { Starts (asked (map S.text words.now)) result }
+{
+    let alloc = rt.alloc();
+    let options = match options_of(alloc, words) {
+        Ok(options) => options,
+        Err(refusal) => return Err(Ending::of_words(alloc, &refusal)),
+    };
+    let path = options.classes.as_ref().map(|path| path.as_str());
+    match classes_at(rt, path) {
+        Ok(classes) => Ok(classes),
+        Err(error) => Err(Ending::of_class_file(alloc, &error)),
+    }
+}

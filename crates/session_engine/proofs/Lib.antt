@@ -1,0 +1,4 @@
+pub mod ByName
+pub mod Faults
+pub mod Naming
+pub mod Obeying

@@ -1,0 +1,4 @@
+pub mod Setup
+pub mod Session
+pub mod Table
+pub mod Engine

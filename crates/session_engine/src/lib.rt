@@ -1,0 +1,11 @@
+//! The engine: the sessions of a server, and what a command of one of them does to all.
+#![tactic(auto)]
+
+mod engine;
+mod session;
+mod setup;
+mod table;
+#[cfg(test)]
+mod tests;
+
+pub use engine::Engine;

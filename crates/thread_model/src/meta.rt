@@ -1,0 +1,19 @@
+//! What clients are told of a class.
+use plain_types::{Items, Text};
+
+/// What there is in a class, as Qt's `QMetaObject` tells it.
+#[derive(Debug, Drop)]
+pub struct MetaObject {
+    /// The name of the class.
+    pub class: Text,
+    /// How many methods the superclasses have.
+    pub method_offset: u32,
+    /// The normal texts of the signatures of all methods, by number.
+    pub methods: Items<Text>,
+    /// The names of all properties, by number.
+    pub properties: Items<Text>,
+    /// How many properties the superclasses have.
+    pub property_offset: u32,
+    /// The name of the superclass; only `QObject` has none.
+    pub superclass: Option<Text>,
+}
