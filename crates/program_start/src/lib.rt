@@ -8,7 +8,9 @@ mod starting;
 #[cfg(test)]
 mod tests;
 
-pub use class_file::{ClassFileError, MOST_BYTES, classes_at, classes_in, classes_of, read_at_most};
+pub use class_file::{
+    ClassFileError, MOST_BYTES, classes_at, classes_in, classes_of, read_at_most,
+};
 pub use demonstration::DEMONSTRATION;
 pub use ending::{Ending, Stream, class_text};
 pub use starting::{start, start_with, words_of};

@@ -43,7 +43,12 @@ fn told(
 }
 
 /// Whether a session that is there refuses a command since it has failed.
-fn refuses(engine: &mut Engine, alloc: Global, name: &str, command: &Command) -> Result<bool, AllocError> {
+fn refuses(
+    engine: &mut Engine,
+    alloc: Global,
+    name: &str,
+    command: &Command,
+) -> Result<bool, AllocError> {
     let name = Text::from_str(alloc, name)?;
     let Some(ses) = engine.find(&name) else {
         return Ok(false);
@@ -125,7 +130,10 @@ fn describes_a_class(rt: HostRuntime) -> Result<(), Fail> {
     let lamp = described(alloc, "Lamp")?.ok_or("a class")?;
     let methods = "destroyed() objectNameChanged(QString) deleteLater() on() dim(int) ";
     assert_eq!(rt; listed(alloc, &lamp.methods)?.as_str(), methods);
-    assert_eq!(rt; listed(alloc, &lamp.properties)?.as_str(), "objectName level ");
+    assert_eq!(rt;
+        listed(alloc, &lamp.properties)?.as_str(),
+        "objectName level "
+    );
     assert_eq!(rt; lamp.method_offset, 3);
     assert_eq!(rt; lamp.property_offset, 1);
     Ok(())

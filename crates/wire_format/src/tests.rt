@@ -2,11 +2,11 @@ use crate::{
     LINE_BYTES, ReadError, error_parts, fault_text, is_blank, line_text, read_line,
     sessions_are_isolated, write_line,
 };
-use plain_types::Text;
+use plain_types::{Items, Text};
 use refusals::Code;
 use std::alloc::{AllocError, Global};
 use std::test::Fail;
-use thread_model::{Answer, Command, Line, Tagged};
+use thread_model::{Answer, Command, Line, MetaObject, Tagged};
 use variant_value::Value;
 
 /// The command that a line is, or the text of its fault.
@@ -27,6 +27,10 @@ fn told(alloc: Global, line: &[u8]) -> Result<String, AllocError> {
             format!(in alloc; "{session}: set {object} {value}")
         }
         Command::Get { object } => format!(in alloc; "{session}: get {object}"),
+        Command::Meta { class } => {
+            let class = class.as_str();
+            format!(in alloc; "{session}: meta {class}")
+        }
     }
 }
 
@@ -52,6 +56,10 @@ fn reads_commands(rt: HostRuntime) -> Result<(), Fail> {
         (
             "{\"do\":\"set\",\"object\":1,\"property\":\"objectName\",\"session\":\"a\",\"value\":1,\"value\":null}",
             "a: set 1 null",
+        ),
+        (
+            "{\"class\":\"Cell\",\"do\":\"meta\",\"session\":\"a\"}",
+            "a: meta Cell",
         ),
     ];
     for (line, command) in rows {
@@ -99,6 +107,14 @@ fn refuses_other_lines(rt: HostRuntime) -> Result<(), Fail> {
         ),
         (
             "{\"do\":\"set\",\"object\":1,\"property\":\"objectName\",\"session\":\"a\"}",
+            of_a,
+        ),
+        (
+            "{\"class\":\"A\",\"do\":\"meta\",\"session\":\"a\",\"x\":1}",
+            of_a,
+        ),
+        (
+            "{\"class\":\"a b\",\"do\":\"meta\",\"session\":\"a\"}",
             of_a,
         ),
     ];
@@ -172,5 +188,38 @@ fn writes_lines(rt: HostRuntime) -> Result<(), Fail> {
         "{\"error\":\"E21\",\"session\":\"a\"}\n"
     );
     sessions_are_isolated();
+    Ok(())
+}
+
+/// What there is in a class with so many methods of its own.
+fn lamp(alloc: Global, superclass: Option<Text>, methods: u32) -> Result<MetaObject, AllocError> {
+    let mut names = Items::new(alloc);
+    for _ in 0..methods {
+        names.push(Text::from_str(alloc, "on()")?)?;
+    }
+    Ok(MetaObject {
+        class: Text::from_str(alloc, "Lamp")?,
+        method_offset: 3,
+        methods: names,
+        properties: Items::new(alloc),
+        property_offset: 1,
+        superclass,
+    })
+}
+
+#[test]
+fn writes_what_there_is_in_a_class(rt: HostRuntime) -> Result<(), Fail> {
+    let alloc = rt.alloc();
+    let base = Line::Reply(Answer::Meta(lamp(alloc, None, 0)?));
+    assert_eq!(rt;
+        line_text(alloc, "a", &base)?.as_str(),
+        "{\"reply\":{\"class\":\"Lamp\",\"methodOffset\":3,\"methods\":[],\"properties\":[],\"propertyOffset\":1,\"super\":null},\"session\":\"a\"}\n"
+    );
+    let above = Some(Text::from_str(alloc, "QObject")?);
+    let below = Line::Reply(Answer::Meta(lamp(alloc, above, 2)?));
+    assert_eq!(rt;
+        line_text(alloc, "a", &below)?.as_str(),
+        "{\"reply\":{\"class\":\"Lamp\",\"methodOffset\":3,\"methods\":[\"on()\",\"on()\"],\"properties\":[],\"propertyOffset\":1,\"super\":\"QObject\"},\"session\":\"a\"}\n"
+    );
     Ok(())
 }

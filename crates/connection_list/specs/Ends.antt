@@ -1,0 +1,32 @@
+-- What is asked of a connection's two ends.
+use Rattle.std.specs.Prelude.{ℕ, Bool, true, ◌==◌, ◌&&◌, ◌||◌, Option, Some, None}
+use Rattle.connection_list.specs.declared.connection.Connection.{Connection}
+use Rattle.connection_list.specs.declared.connection.NewConnection.{NewConnection}
+use Rattle.connection_list.specs.declared.pattern.Pattern.{Pattern}
+use Rattle.connection_list.specs.declared.pattern.Receiver.{Receiver}
+
+-- does the new connection join what the other joins, whatever the types of both
+abbrev pub same_ends : NewConnection → Connection → Bool
+same_ends new row = new.sender == row.sender && new.signal == row.signal && new.receiver == row.receiver && new.method == row.method
+
+-- is it the wanted number, or is none wanted
+abbrev pub allows : Option ℕ → ℕ → Bool
+allows None number = true
+allows (Some wanted) number = wanted == number
+
+-- is it a wanted receiver and method, or is none wanted
+abbrev pub allows_receiver : Option Receiver → Connection → Bool
+allows_receiver None row = true
+allows_receiver (Some wanted) row = wanted.object == row.receiver && allows wanted.method row.method
+
+-- does the connection match the pattern
+abbrev pub matches : Pattern → Connection → Bool
+matches pattern row = pattern.sender == row.sender && allows pattern.signal row.signal && allows_receiver pattern.receiver row
+
+-- is the object at either end
+abbrev pub touches : ℕ → Connection → Bool
+touches object row = row.sender == object || row.receiver == object
+
+-- does this signal of this object call the connection's method
+abbrev pub calls : ℕ → ℕ → Connection → Bool
+calls sender signal row = row.sender == sender && row.signal == signal

@@ -1,0 +1,68 @@
+-- What contracts see of the connections of a place.
+use Rattle.std.specs.Prelude.{◌≡◌, ℕ, ◌+◌, ◌-◌, ◌^◌, ◌<◌, ◌≤◌, Bool, not, nat_lt, nat_le, ◌==◌, ◌&&◌, if◌then◌else◌, List, [], ◌∷◌, ◌++◌, length, filter, All, AllPairs, slice_index_or, Option, Some, None}
+use Rattle.std.specs.List.{list_any}
+use Rattle.refusals.specs.declared.code.Code.{Code}
+use Rattle.refusals.specs.declared.code.Code.TheVariants.{ConnectedAlready, Limit, NumbersUsedUp}
+use Rattle.connection_list.specs.declared.connection.Connection.{Connection}
+use Rattle.connection_list.specs.declared.connection.NewConnection.{NewConnection}
+use Rattle.connection_list.specs.declared.list.TheConstants.{CONNECTIONS}
+use Rattle.connection_list.specs.Ends.{same_ends, calls}
+
+pub record Rows : Type 0 where
+  -- the connections that stand, by rising number
+  pub rows : List Connection
+  -- the number that was given last, or 0
+  pub last_number : ℕ
+
+-- no connection was ever made
+abbrev pub no_rows : Rows
+no_rows = record { rows = []; last_number = 0 }
+
+-- each number is below those that stand later
+abbrev pub IsRising : List Connection → Type 0
+IsRising rows = AllPairs (λ earlier later. earlier.number < later.number) rows
+
+-- what is true of the connections of every place
+pub record IsSound (place : Rows) : Type 0 where
+  pub rising : IsRising place.rows
+  pub from_one : All (λ row. 1 ≤ row.number) place.rows
+  pub given : All (λ row. row.number ≤ place.last_number) place.rows
+  pub fits : place.last_number < 2 ^ 32
+  pub few : length place.rows ≤ CONNECTIONS
+
+-- why a new connection is refused, in the order in which refusals are looked for
+abbrev pub connect_refusal : Rows → NewConnection → Bool → Option Code
+connect_refusal place new unique =
+    if unique && list_any (same_ends new) place.rows then Some ConnectedAlready
+    else (if nat_le CONNECTIONS (length place.rows) then Some Limit
+    else (if nat_le (2 ^ 32 - 1) place.last_number then Some NumbersUsedUp
+    else None))
+
+-- the new connection under its number
+abbrev pub numbered : ℕ → NewConnection → Connection
+numbered number new = record { number = number; sender = new.sender; signal = new.signal; receiver = new.receiver; method = new.method; mode = new.mode; single = new.single }
+
+-- the place with one more connection, which has the next number
+abbrev pub connected : Rows → NewConnection → Rows
+connected place new = record { rows = place.rows ++ numbered (place.last_number + 1) new ∷ []; last_number = place.last_number + 1 }
+
+-- the place without the connections that pass a test; no number is given again
+abbrev pub without : (Connection → Bool) → Rows → Rows
+without test place = record { rows = filter (λ row. not (test row)) place.rows; last_number = place.last_number }
+
+-- is this its number
+abbrev pub has_number : ℕ → Connection → Bool
+has_number number row = row.number == number
+
+-- the row at this index has the number
+pub record IsAt (rows : List Connection) (number at : ℕ) : Type 0 where
+  pub in_range : at < length rows
+  pub is : (default : Connection) → (slice_index_or rows at default).number ≡ number
+
+-- does this signal of this object call the connection's method, and is its number at most `up_to`
+abbrev pub is_sent : ℕ → ℕ → ℕ → Connection → Bool
+is_sent sender signal up_to row = nat_le row.number up_to && calls sender signal row
+
+-- the same, where the number is also above `after`
+abbrev pub is_next : ℕ → ℕ → ℕ → ℕ → Connection → Bool
+is_next sender signal after up_to row = nat_lt after row.number && is_sent sender signal up_to row

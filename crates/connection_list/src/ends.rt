@@ -1,0 +1,57 @@
+//! What is asked of a connection's two ends.
+ghost use Rattle.std.specs.Prelude.{◌≡◌};
+ghost use Rattle.connection_list.specs.Ends.{allows, allows_receiver, same_ends, matches, touches, calls};
+
+use crate::connection::{Connection, NewConnection};
+use crate::pattern::{Pattern, Receiver};
+
+/// Whether a new connection would join what another joins already.
+pub fn same_ends(new: &NewConnection, row: &Connection) -> bool
+    ensures { result ≡ same_ends new.now row.now }
+{
+    new.sender == row.sender
+        && new.signal == row.signal
+        && new.receiver == row.receiver
+        && new.method == row.method
+}
+
+/// Whether a connection matches a pattern.
+pub fn matches(pattern: &Pattern, row: &Connection) -> bool
+    ensures { result ≡ matches pattern.now row.now }
+{
+    pattern.sender == row.sender
+        && allows(pattern.signal, row.signal)
+        && allows_receiver(pattern.receiver, row)
+}
+
+fn allows(wanted: Option<u32>, number: u32) -> bool
+    ensures { result ≡ allows wanted number }
+{
+    match wanted {
+        Some(wanted) => wanted == number,
+        None => true,
+    }
+}
+
+fn allows_receiver(wanted: Option<Receiver>, row: &Connection) -> bool
+    ensures { result ≡ allows_receiver wanted row.now }
+{
+    match wanted {
+        Some(wanted) => wanted.object == row.receiver && allows(wanted.method, row.method),
+        None => true,
+    }
+}
+
+/// Whether an object is at either end of a connection.
+pub fn touches(object: u32, row: &Connection) -> bool
+    ensures { result ≡ touches object row.now }
+{
+    row.sender == object || row.receiver == object
+}
+
+/// Whether a signal of an object calls a connection's method.
+pub fn calls(sender: u32, signal: u32, row: &Connection) -> bool
+    ensures { result ≡ calls sender signal row.now }
+{
+    row.sender == sender && row.signal == signal
+}

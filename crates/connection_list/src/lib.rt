@@ -1,0 +1,16 @@
+//! Connections of signals to methods: for each place a list by rising number. Objects, signals and
+//! methods are numbers here; what they are is not known.
+#![tactic(auto)]
+
+mod connection;
+mod ends;
+mod list;
+mod pattern;
+mod table;
+#[cfg(test)]
+mod tests;
+
+pub use connection::{Connection, ConnectionType, NewConnection};
+pub use list::CONNECTIONS;
+pub use pattern::{Pattern, Receiver};
+pub use table::Connections;

@@ -1,0 +1,18 @@
+//! Which connections are to be broken.
+
+/// The receiving end of a pattern.
+#[derive(Clone, Copy, Debug, PartialEq, Eq)]
+pub struct Receiver {
+    pub object: u32,
+    /// Absent, every method of the object is meant.
+    pub method: Option<u32>,
+}
+
+/// Which connections `disconnect_matching` breaks, as the arguments of `QObject::disconnect` say it:
+/// what is absent matches everything.
+#[derive(Clone, Copy, Debug, PartialEq, Eq)]
+pub struct Pattern {
+    pub sender: u32,
+    pub signal: Option<u32>,
+    pub receiver: Option<Receiver>,
+}
