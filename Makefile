@@ -6,7 +6,7 @@
 PROGRAM = crates/meta_main
 CC ?= cc
 
-.PHONY: all run test rows examples refusals bench clean
+.PHONY: all run test rows examples trees refusals bench clean
 
 all: bin/metad
 
@@ -24,14 +24,17 @@ test:
 	rt ci
 	mkdir -p bin
 	cp $(PROGRAM)/out/meta_main bin/metad
-	$(MAKE) --no-print-directory rows examples refusals
+	$(MAKE) --no-print-directory rows examples trees refusals
 
-# these three take bin/metad as it is
+# these four take bin/metad as it is
 rows:
 	python3 tools/rows.py bin/metad tests/rows
 
 examples:
 	python3 tools/examples.py bin/metad README.md docs/PROTOCOL.md
+
+trees:
+	python3 tools/trees.py bin/metad
 
 refusals: bin/refuse_growth.so
 	python3 tools/refusals.py bin/metad bin/refuse_growth.so tests/rows

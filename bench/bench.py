@@ -2,9 +2,10 @@
 """Measures the built program on generated inputs, from file to file.
 
 Usage: bench.py PROGRAM. It prints, for each input, the lines a second (the best of three runs) and the
-peak of resident memory; for the first, a single line, only the peak. Then it prints how much longer
-the program takes to start with a class file as large as one may be than with a tiny one (each the best
-of ten runs). Inputs and class files are the same in every run. It ends with 1 where a mark is missed.
+peak of resident memory; for the first, a single line, only the peak. Then it prints how long `children`
+and `find` take for each object that they visit, among few and among many, and how much longer the
+program takes to start with a class file as large as one may be than with a tiny one (each the best of
+ten runs). Inputs and class files are the same in every run. It ends with 1 where a mark is missed.
 """
 
 import json
@@ -20,12 +21,21 @@ RUNS = 3
 STARTS = 10
 LINES = 200_000
 METAS = 20_000
+ROUNDS = 100
+OBJECTS = 4_000
+CHILDREN_OF_EACH = 4
+VISITS = 8_000_000
+FAMILIES = (1_000, 4_000)
 PATIENCE = 1_200
 
 # The marks, in lines a second and in milliseconds.
 LEAST_WRITES = 500_000
 LEAST_METAS = 20_000
+LEAST_ROUNDS = 300_000
 MOST_READING = 100
+
+# A visit among many may take so many times as long as one among few.
+MOST_GROWTH = 2
 
 CLASSES = 1_024
 DEPTH = 8
@@ -72,6 +82,14 @@ def new(session):
     return f'{{"class":"QObject","do":"new","session":"{session}"}}\n'
 
 
+def child(session, parent):
+    return f'{{"class":"QObject","do":"new","parent":{parent},"session":"{session}"}}\n'
+
+
+def delete(session, number):
+    return f'{{"do":"delete","object":{number},"session":"{session}"}}\n'
+
+
 def write(session, value):
     return f'{{"do":"set","object":1,"property":"objectName","session":"{session}","value":"{value}"}}\n'
 
@@ -99,6 +117,27 @@ def once_each(sessions):
     for number in range(sessions):
         name = f"s{number}"
         yield from (new(name), write(name, "lamp"), read(name))
+
+
+def in_trees(rounds, objects):
+    """In each round a tree of objects, made from its root down and deleted at once."""
+    for root in range(1, rounds * objects + 1, objects):
+        yield new("a")
+        yield from (child("a", root + place // CHILDREN_OF_EACH) for place in range(objects - 1))
+        yield delete("a", root)
+
+
+def family(children):
+    """An object with so many children."""
+    return [new("a"), *[child("a", 1)] * children]
+
+
+def come_and_go(standing, lines):
+    """Objects that are made and deleted one by one beside others."""
+    yield from family(standing)
+    for number in range(standing + 2, standing + 2 + lines // 2):
+        yield child("a", 1)
+        yield delete("a", number)
 
 
 def seconds_of(command, given, wrote):
@@ -131,11 +170,32 @@ def replies_in(path):
         return sum(line.startswith(b'{"reply":') for line in lines)
 
 
+def seconds_of_lines(command, lines, room):
+    """How long the best of some runs with these lines takes."""
+    given, wrote = f"{room}/stdin", f"{room}/stdout"
+    Path(given).write_text("".join(lines))
+    return min(seconds_of(command, given, wrote) for _ in range(RUNS))
+
+
+def nanoseconds_of_visit(line, children, command, room):
+    """How long a line that visits all children of an object takes for each of them."""
+    alone, visits = family(children), [line] * (VISITS // children)
+    seconds = seconds_of_lines(command, alone + visits, room) - seconds_of_lines(command, alone, room)
+    return 1e9 * seconds / VISITS
+
+
+def measure_visits(name, line, command, room):
+    """Prints the time of a visit; answers whether it is the same among few and among many."""
+    few, many = (nanoseconds_of_visit(line, children, command, room) for children in FAMILIES)
+    missed = f"; more than {MOST_GROWTH} times as long" if many > MOST_GROWTH * few else ""
+    print(f"{name}: {few:.0f} ns for each of {FAMILIES[0]:,} objects, {many:.0f} for each of {FAMILIES[1]:,}{missed}")
+    return not missed
+
+
 def measure(name, lines, command, room, least=0):
     """Prints the measures of an input; answers whether they reach the mark."""
     given, wrote, lines = f"{room}/stdin", f"{room}/stdout", list(lines)
-    Path(given).write_text("".join(lines))
-    seconds = min(seconds_of(command, given, wrote) for _ in range(RUNS))
+    seconds = seconds_of_lines(command, lines, room)
     if replies_in(wrote) != len(lines):
         sys.exit(f"{name}: not one reply a line")
     peak = peak_of(command, given, wrote, len(lines))
@@ -171,6 +231,11 @@ def main():
             measure(f"{LINES} set/get lines over 100 sessions", in_turn(100, LINES), [program], room),
             measure(f"{LINES} set/get lines over 10000 sessions", in_turn(10_000, LINES), [program], room),
             measure("one new, set and get in each of 100000 sessions", once_each(100_000), [program], room),
+            measure(f"{ROUNDS} rounds of {OBJECTS} objects in a tree", in_trees(ROUNDS, OBJECTS), [program], room, LEAST_ROUNDS),
+            measure(f"{LINES} lines that make and delete an object beside 1", come_and_go(0, LINES), [program], room, LEAST_ROUNDS),
+            measure(f"the same beside {OBJECTS}", come_and_go(OBJECTS, LINES), [program], room, LEAST_ROUNDS),
+            measure_visits("children", '{"do":"children","object":1,"session":"a"}\n', [program], room),
+            measure_visits("find", '{"do":"find","name":"none","object":1,"session":"a"}\n', [program], room),
             measure(f"{METAS} meta lines of {METHODS} methods", [meta("a", "Panel")] * METAS, with_panel, room, LEAST_METAS),
             measure_reading(program, room),
         ]

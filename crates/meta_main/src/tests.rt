@@ -207,6 +207,62 @@ fn objects_are_of_any_class(rt: HostRuntime) -> Result<(), Fail> {
 }
 
 #[test]
+fn objects_stand_in_trees(rt: HostRuntime) -> Result<(), Fail> {
+    let given = [
+        r#"{"class":"Probe","do":"new","session":"a"}"#,
+        r#"{"class":"Probe","do":"new","parent":1,"session":"a"}"#,
+        r#"{"class":"Probe","do":"new","parent":2,"session":"a"}"#,
+        r#"{"class":"Probe","do":"new","parent":1,"session":"a"}"#,
+        r#"{"do":"set","object":3,"property":"objectName","session":"a","value":"k"}"#,
+        r#"{"do":"set","object":4,"property":"objectName","session":"a","value":"k"}"#,
+        r#"{"do":"find","name":"k","object":1,"session":"a"}"#,
+        r#"{"do":"children","object":1,"session":"a"}"#,
+        r#"{"do":"setParent","object":2,"parent":null,"session":"a"}"#,
+        r#"{"do":"setParent","object":2,"parent":1,"session":"a"}"#,
+        r#"{"do":"children","object":1,"session":"a"}"#,
+    ];
+    let wanted = [
+        r#"{"reply":1,"session":"a"}"#,
+        r#"{"reply":2,"session":"a"}"#,
+        r#"{"reply":3,"session":"a"}"#,
+        r#"{"reply":4,"session":"a"}"#,
+        r#"{"reply":true,"session":"a"}"#,
+        r#"{"reply":true,"session":"a"}"#,
+        r#"{"reply":4,"session":"a"}"#,
+        r#"{"reply":[2,4],"session":"a"}"#,
+        r#"{"reply":true,"session":"a"}"#,
+        r#"{"reply":true,"session":"a"}"#,
+        r#"{"reply":[4,2],"session":"a"}"#,
+    ];
+    assert_lines(&rt, rt.alloc(), &given, &wanted)
+}
+
+#[test]
+fn objects_are_deleted_with_all_below_them(rt: HostRuntime) -> Result<(), Fail> {
+    let given = [
+        r#"{"class":"QObject","do":"new","session":"a"}"#,
+        r#"{"class":"QObject","do":"new","parent":1,"session":"a"}"#,
+        r#"{"class":"QObject","do":"new","parent":2,"session":"a"}"#,
+        r#"{"do":"setParent","object":1,"parent":3,"session":"a"}"#,
+        r#"{"do":"delete","object":1,"session":"a"}"#,
+        r#"{"do":"children","session":"a"}"#,
+        r#"{"do":"get","object":3,"property":"objectName","session":"a"}"#,
+        r#"{"class":"QObject","do":"new","session":"a"}"#,
+    ];
+    let wanted = [
+        r#"{"reply":1,"session":"a"}"#,
+        r#"{"reply":2,"session":"a"}"#,
+        r#"{"reply":3,"session":"a"}"#,
+        r#"{"error":"E12","session":"a"}"#,
+        r#"{"reply":true,"session":"a"}"#,
+        r#"{"reply":[],"session":"a"}"#,
+        r#"{"error":"E04","session":"a"}"#,
+        r#"{"reply":4,"session":"a"}"#,
+    ];
+    assert_lines(&rt, rt.alloc(), &given, &wanted)
+}
+
+#[test]
 fn a_session_has_at_most_4096_objects(rt: HostRuntime) -> Result<(), Fail> {
     let alloc = rt.alloc();
     let (mut input, mut wanted) = (Vec::new(alloc), Vec::new(alloc));

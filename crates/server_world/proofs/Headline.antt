@@ -12,9 +12,9 @@ use Rattle.isolation.specs.Laws.{SameFor}
 use Rattle.isolation.proofs.Isolated.{first_half}
 use Rattle.isolation.proofs.Reaching.{second_half}
 use Rattle.isolation.proofs.Sliced.{slice_law}
-use Rattle.thread_model.specs.declared.state.State.{State}
+use Rattle.thread_model.specs.State.{State, empty}
 use Rattle.thread_model.specs.Asked.{Asked}
-use Rattle.thread_model.specs.Thread.{Settings, empty, joins_name}
+use Rattle.thread_model.specs.Thread.{Settings, joins_name}
 use Rattle.thread_model.specs.Machine.{machine}
 use Rattle.thread_model.proofs.Lawful.{lawful}
 use Rattle.server_world.specs.declared.report.Entry.{Entry}

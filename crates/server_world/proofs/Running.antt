@@ -8,7 +8,7 @@ use Rattle.isolation.specs.Machine.{Tagged}
 use Rattle.isolation.specs.World.{effect, after, world_after, world_lines}
 use Rattle.isolation.proofs.Worlds.{world_after-more, world_lines-more}
 use Rattle.thread_model.specs.declared.command.Tagged.{Tagged as Given}
-use Rattle.thread_model.specs.declared.state.State.{State}
+use Rattle.thread_model.specs.State.{State}
 use Rattle.thread_model.specs.Asked.{Asked, tag}
 use Rattle.thread_model.specs.Thread.{Settings}
 use Rattle.thread_model.specs.Machine.{machine}

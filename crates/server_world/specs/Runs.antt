@@ -5,7 +5,7 @@ use Rattle.isolation.specs.Machine.{Tagged}
 use Rattle.isolation.specs.World.{world_after, world_lines, at_session}
 use Rattle.isolation.specs.Alone.{items, alone_after, alone_lines}
 use Rattle.thread_model.specs.declared.command.Tagged.{Tagged as Given}
-use Rattle.thread_model.specs.declared.state.State.{State}
+use Rattle.thread_model.specs.State.{State}
 use Rattle.thread_model.specs.Asked.{Asked, tag}
 use Rattle.thread_model.specs.Thread.{Settings}
 use Rattle.thread_model.specs.Machine.{machine}

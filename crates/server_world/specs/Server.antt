@@ -1,8 +1,8 @@
 -- What contracts see of a server: a state for each name, and whether memory was refused.
 use Rattle.std.specs.Prelude.{◌≡◌, ◌||◌, ℕ, Bool, List, [], IsTrue, IsFalse}
-use Rattle.thread_model.specs.declared.state.State.{State}
+use Rattle.thread_model.specs.State.{State}
 use Rattle.thread_model.specs.Thread.{Settings}
-use Rattle.session_engine.specs.declared.session.Session.{Session}
+use Rattle.session_engine.specs.Session.{Session}
 use Rattle.server_world.specs.declared.server.Server.{Server}
 use Rattle.session_engine.specs.Engine as engine
 use Rattle.server_world.specs.Stepping as stepping

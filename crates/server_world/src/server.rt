@@ -6,7 +6,7 @@ ghost use Rattle.isolation.specs.Slice.{slice, kept};
 ghost use Rattle.refusals.specs.declared.code.Code.TheVariants.{SessionFailed};
 ghost use Rattle.thread_model.specs.declared.line.Line.TheVariants.{Error};
 ghost use Rattle.thread_model.specs.Asked.{tag};
-ghost use Rattle.thread_model.specs.Thread.{empty};
+ghost use Rattle.thread_model.specs.State.{empty};
 ghost use Rattle.thread_model.specs.Machine.{machine};
 ghost use Rattle.server_world.specs.declared.report.Entry.TheVariants.{Lines, OutOfMemory};
 ghost use Rattle.server_world.specs.Stepping.{with_name};

@@ -11,8 +11,7 @@ use Rattle.std.proofs.lemmas.List.Sums.{prefix_len-le-length}
 use Rattle.std.proofs.lemmas.List.Quantifiers.{position-Some}
 use Rattle.std.proofs.lemmas.Slice.Eq.{bytes_eq-Decides}
 use Rattle.indexmap.specs.IndexSet.{insert_key}
-use Rattle.session_engine.specs.declared.session.Session.{Session}
-use Rattle.session_engine.specs.Session.{fresh}
+use Rattle.session_engine.specs.Session.{Session, fresh}
 use Rattle.session_engine.specs.Table.{Sessions, IsOpen, IsSound, row, place_of, session_of, opened, with_row}
 
 -- where nothing has a place, nothing passes

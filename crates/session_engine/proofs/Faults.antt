@@ -3,7 +3,7 @@ use Rattle.std.proofs.Common.{◌≡◌, true, false, true≢false, Result, Ok, 
 use Rattle.refusals.specs.declared.fault.Fault.{Fault}
 use Rattle.refusals.specs.declared.fault.Fault.TheVariants.{Refused, Memory}
 use Rattle.refusals.specs.Answers.{OnDone, OnMemory}
-use Rattle.session_engine.specs.Session.{wants_memory}
+use Rattle.session_engine.specs.Answering.{wants_memory}
 
 pub done_if : {T : Type 0} (answer : Result T Fault) (P : Type 0) → wants_memory answer ≡ false → OnDone answer P → P
 done_if (Ok value) P found h = h
@@ -24,3 +24,13 @@ pub OnMemory-from : {T : Type 0} (answer : Result T Fault) (P : Type 0) → (wan
 OnMemory-from (Ok value) P h = tt
 OnMemory-from (Err (Refused code)) P h = tt
 OnMemory-from (Err Memory) P h = h refl
+
+pub OnDone-map : {T P Q : Type 0} (answer : Result T Fault) → (P → Q) → OnDone answer P → OnDone answer Q
+OnDone-map (Ok value) f h = f h
+OnDone-map (Err (Refused code)) f h = f h
+OnDone-map (Err Memory) f h = tt
+
+pub OnMemory-map : {T P Q : Type 0} (answer : Result T Fault) → (P → Q) → OnMemory answer P → OnMemory answer Q
+OnMemory-map (Ok value) f h = tt
+OnMemory-map (Err (Refused code)) f h = tt
+OnMemory-map (Err Memory) f h = f h

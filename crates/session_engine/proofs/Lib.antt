@@ -1,4 +1,9 @@
 pub mod ByName
+pub mod Deletion
+pub mod Doing
 pub mod Faults
-pub mod Naming
+pub mod Joining
 pub mod Obeying
+pub mod Placing
+pub mod Seating
+pub mod Tabling

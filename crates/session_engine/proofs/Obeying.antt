@@ -12,13 +12,13 @@ use Rattle.refusals.specs.declared.fault.Fault.TheVariants.{Refused}
 use Rattle.refusals.specs.Answers.{OnDone, OnMemory}
 use Rattle.thread_model.specs.declared.command.Command.{Command}
 use Rattle.thread_model.specs.declared.line.Line.{Line}
-use Rattle.thread_model.specs.declared.state.State.{State}
+use Rattle.thread_model.specs.State.{State}
 use Rattle.thread_model.specs.Asked.{asked, tagged}
 use Rattle.thread_model.specs.Thread.{Settings, does, joins_name}
 use Rattle.thread_model.specs.Machine.{machine}
 use Rattle.thread_model.proofs.Lawful.{lawful}
-use Rattle.session_engine.specs.declared.session.Session.{Session}
-use Rattle.session_engine.specs.Session.{Says, gone, wants_memory}
+use Rattle.session_engine.specs.Answering.{Says, wants_memory}
+use Rattle.session_engine.specs.Session.{Session, gone}
 use Rattle.session_engine.specs.Table.{Sessions, IsSound, row, place_of, session_of, with_row, given_up}
 use Rattle.session_engine.proofs.ByName.{session_of-place, session_of-with_row, session_of-others, well_by_name}
 use Rattle.session_engine.proofs.Faults.{done_if, memory_if, OnDone-from, OnMemory-from}

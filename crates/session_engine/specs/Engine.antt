@@ -1,8 +1,8 @@
 -- What contracts see of an engine: a session for each name.
 use Rattle.std.specs.Prelude.{◌≡◌, ℕ, Bool, List, Option, Some, IsTrue, IsFalse, bytes_eq}
-use Rattle.thread_model.specs.declared.state.State.{State}
+use Rattle.thread_model.specs.State.{State}
 use Rattle.thread_model.specs.Thread.{Settings}
-use Rattle.session_engine.specs.declared.session.Session.{Session}
+use Rattle.session_engine.specs.Session.{Session}
 use Rattle.session_engine.specs.declared.engine.Engine.{Engine}
 use Rattle.session_engine.specs.Setup.{settings_of}
 use Rattle.session_engine.specs.Table.{place_of, session_of}

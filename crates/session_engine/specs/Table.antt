@@ -1,8 +1,9 @@
 -- What an engine's table holds: the sessions by place, and their names.
 use Rattle.std.specs.Prelude.{◌≡◌, ◌<◌, ℕ, Bool, true, List, [], ◌∷◌, ◌++◌, Option, IsFalse, bytes_eq, length, position, slice_set, slice_index_or}
 use Rattle.std.specs.Option.{option_map_or}
-use Rattle.session_engine.specs.declared.session.Session.{Session}
-use Rattle.session_engine.specs.Session.{fresh, gone}
+use Rattle.session_engine.specs.declared.seats.Seats.{Seats}
+use Rattle.session_engine.specs.Seats.{AreEven, sessions_of}
+use Rattle.session_engine.specs.Session.{Session, fresh, gone}
 
 pub record Sessions : Type 0 where
   -- the name of each place, and the session there
@@ -47,3 +48,11 @@ given_up table place = refused_growth (with_row table place gone)
 pub record IsSound (table : Sessions) : Type 0 where
   pub paired : length table.names ≡ length table.rows
   pub well : IsFalse table.memory_refused → (place : ℕ) → IsFalse (row table place).failed
+
+-- the table that these make
+abbrev pub table_of : List (List ℕ) → Seats → Bool → Sessions
+table_of names seats memory_refused = record { names = names; rows = sessions_of seats; memory_refused = memory_refused }
+
+pub record IsWhole (names : List (List ℕ)) (seats : Seats) (memory_refused : Bool) : Type 0 where
+  pub even : AreEven seats
+  pub sound : IsSound (table_of names seats memory_refused)

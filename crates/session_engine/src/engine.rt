@@ -7,10 +7,11 @@ ghost use Rattle.refusals.specs.declared.fault.Fault.TheVariants.{Refused};
 ghost use Rattle.thread_model.specs.Asked.{tagged};
 ghost use Rattle.thread_model.specs.declared.line.Line.TheVariants.{Error};
 ghost use Rattle.thread_model.specs.Machine.{machine};
-ghost use Rattle.session_engine.specs.Session.{Says, fresh, gone, wants_memory};
+ghost use Rattle.session_engine.specs.Answering.{Says, wants_memory};
+ghost use Rattle.session_engine.specs.Session.{fresh, gone};
 ghost use Rattle.session_engine.specs.Engine.{IsPlace, OfSession, OthersStay, AnotherFails, IsWell, settings, was_refused, names, place, sessions, states, failed};
 
-use crate::session::one_line;
+use crate::commands::one_line;
 use crate::setup::Setup;
 use crate::table::Table;
 use class_table::ClassTable;
@@ -160,7 +161,7 @@ impl Engine {
         ensures there { IsPlace self.new ses }
         ensures memory { IsTrue (was_refused self.new) }
     {
-        self.table.give_up(self.setup.alloc, ses);
+        self.table.give_up(ses);
     }
 
     /// Whether a session has failed for want of memory.
@@ -168,7 +169,7 @@ impl Engine {
         requires { IsPlace self.now ses }
         ensures { OfSession self.now ses (λ name. result ≡ failed self.now name) }
     {
-        self.table.session(ses).failed
+        self.table.failed(ses)
     }
 
     /// Whether memory was wanted and not found in any call of the engine so far.

@@ -1,8 +1,13 @@
 //! The engine: the sessions of a server, and what a command of one of them does to all.
 #![tactic(auto)]
 
+mod commands;
+mod deleting;
+mod describing;
 mod engine;
-mod session;
+mod names;
+mod rows;
+mod seats;
 mod setup;
 mod table;
 #[cfg(test)]

@@ -5,14 +5,13 @@ ghost use Rattle.refusals.specs.declared.code.Code.TheVariants.{SessionFailed};
 ghost use Rattle.refusals.specs.declared.fault.Fault.TheVariants.{Refused};
 ghost use Rattle.thread_model.specs.Asked.{asked};
 ghost use Rattle.thread_model.specs.Thread.{does};
-ghost use Rattle.session_engine.specs.Session.{Says};
+ghost use Rattle.session_engine.specs.Answering.{Says};
 ghost use Rattle.session_engine.specs.Setup.{settings_of};
 ghost use Rattle.session_engine.specs.Table.{IsOpen, IsSound, place_of, row, opened, with_row, refused_growth, given_up};
 
-use crate::session::{Session, wants_memory};
+use crate::seats::{Seats, wants_memory};
 use crate::setup::Setup;
 use indexmap::IndexSet;
-use places::Places;
 use plain_types::{Items, Text};
 use refusals::Fault;
 use std::alloc::{AllocError, Global};
@@ -23,18 +22,18 @@ use thread_model::{Command, Line};
 #[derive(Drop)]
 pub struct Table {
     names: IndexSet<Text>,
-    sessions: Places<Session>,
+    seats: Seats,
     memory_refused: bool,
 }
 
 impl Model for Table {
-    ghost use Rattle.session_engine.specs.Table.{Sessions, IsSound};
+    ghost use Rattle.session_engine.specs.Table.{Sessions, IsWhole, table_of};
 
     ghost Value = { Sessions };
 
-    ghost view = { λ t. record { names = t.names.keys; rows = t.sessions.places; memory_refused = t.memory_refused } };
+    ghost view = { λ t. table_of t.names.keys t.seats t.memory_refused };
 
-    ghost invariant = { λ t. IsSound (record { names = t.names.keys; rows = t.sessions.places; memory_refused = t.memory_refused }) };
+    ghost invariant = { λ t. IsWhole t.names.keys t.seats t.memory_refused };
 }
 
 impl Table {
@@ -44,7 +43,7 @@ impl Table {
     {
         Table {
             names: IndexSet::new(alloc),
-            sessions: Places::new(alloc),
+            seats: Seats::new(alloc),
             memory_refused: false,
         }
     }
@@ -79,10 +78,10 @@ impl Table {
         ensures ok { OnOk result (self.new ≡ opened self.old name.now) }
         ensures err { OnErr result (self.new ≡ self.old) }
     {
-        self.sessions.ready()?;
+        self.seats.ready()?;
         let name = name.copy(alloc)?;
         self.names.insert(name)?;
-        Ok(self.sessions.open(Session::new(alloc)))
+        Ok(self.seats.open(alloc))
     }
 
     /// Lets the session at a place do what a command asks.
@@ -102,7 +101,7 @@ impl Table {
             → OnDone result (self.new ≡ with_row self.old place (record { state = (does (settings_of setup.now) name (row self.old place).state (asked command.now)).state; failed = false })) }
         ensures fails { OnMemory result (self.new ≡ given_up self.old place) }
     {
-        let done = self.sessions.get_mut(place).obey(setup, command);
+        let done = self.seats.obey(setup, place, command);
         if wants_memory(&done) {
             self.memory_refused = true;
         }
@@ -110,21 +109,21 @@ impl Table {
     }
 
     /// Lets the session at a place fail.
-    pub fn give_up(&mut self, alloc: Global, place: usize)
+    pub fn give_up(&mut self, place: usize)
         requires { IsOpen self.old place }
         ensures sound { IsSound self.old }
         ensures given_up { self.new ≡ given_up self.old place }
     {
-        self.sessions.get_mut(place).give_up(alloc);
+        self.seats.give_up(place);
         self.memory_refused = true;
     }
 
-    /// The session at a place.
-    pub fn session(&self, place: usize) -> &Session
+    /// Whether the session at a place has failed.
+    pub fn failed(&self, place: usize) -> bool
         requires { IsOpen self.now place }
-        ensures { result.now ≡ row self.now place }
+        ensures { result ≡ (row self.now place).failed }
     {
-        self.sessions.get(place)
+        self.seats.failed(place)
     }
 
     /// Whether memory was ever wanted here and not found.

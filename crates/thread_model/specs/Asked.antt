@@ -1,5 +1,5 @@
 -- A command as definitions see it: texts as lists of bytes, and JSON as what it says.
-use Rattle.std.specs.Prelude.{ℕ, List}
+use Rattle.std.specs.Prelude.{ℕ, List, Option}
 use Rattle.serde_json.specs.Data.{Data}
 use Rattle.serde_json.specs.View.{view}
 use Rattle.isolation.specs.Machine as theory
@@ -9,8 +9,16 @@ use Rattle.thread_model.specs.declared.command.Tagged.{Tagged}
 
 -- what is asked of a session
 pub data Asked : Type 0 where
-  -- make an object of this class
-  New : (class : List ℕ) → Asked
+  -- make an object of this class below a parent, or as a root
+  New : (class : List ℕ) (parent : Option ℕ) → Asked
+  -- delete an object and all below it
+  Delete : (target : ℕ) → Asked
+  -- give an object another parent, or make it a root
+  SetParent : (target : ℕ) (parent : Option ℕ) → Asked
+  -- the children of an object, or the roots
+  Children : (target : Option ℕ) → Asked
+  -- the nearest object below another one, of this name and class where they are given
+  Find : (target : ℕ) (name class : Option (List ℕ)) → Asked
   -- write `objectName` of this object
   Set : (target : ℕ) (value : Data) → Asked
   -- read `objectName` of this object
@@ -20,7 +28,11 @@ pub data Asked : Type 0 where
 
 -- what a command asks
 abbrev pub asked : Command → Asked
-asked (c.New class) = New class
+asked (c.New class parent) = New class parent
+asked (c.Delete target) = Delete target
+asked (c.SetParent target parent) = SetParent target parent
+asked (c.Children target) = Children target
+asked (c.Find target name class) = Find target name class
 asked (c.Set target value) = Set target (view value)
 asked (c.Get target) = Get target
 asked (c.Meta class) = Meta class

@@ -1,7 +1,7 @@
 -- The machine of the sessions, for the theory of isolated sessions.
 use Rattle.std.specs.Prelude.{ℕ, List, bytes_eq}
 use Rattle.isolation.specs.Machine.{Machine, IsLawful}
-use Rattle.thread_model.specs.declared.state.State.{State}
+use Rattle.thread_model.specs.State.{State}
 use Rattle.thread_model.specs.declared.line.Line.{Line}
 use Rattle.thread_model.specs.declared.post.Post.{Post}
 use Rattle.thread_model.specs.Asked.{Asked}

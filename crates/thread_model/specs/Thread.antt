@@ -1,26 +1,32 @@
 -- What a session is, and what a command does to it. The rules are those of Qt's object model in this
 -- server's profile; codes and limits are its own.
-use Rattle.std.specs.Prelude.{◌+◌, ◌-◌, ◌^◌, ◌==◌, ℕ, Bool, true, false, List, [], ◌∷◌, ◌++◌, length, map, find, slice_get, is_some, nat_le, if◌then◌else◌, option_map, option_and_then, Option, Some, None, Result, Ok, Err}
+use Rattle.std.specs.Prelude.{◌+◌, ◌&&◌, ℕ, Bool, true, false, List, [], ◌∷◌, length, map, slice_get, is_some, bytes_eq, if◌then◌else◌, option_map, option_and_then, Option, Some, None, Result, Ok, Err}
+use Rattle.std.specs.Option.{option_map_or, option_or}
 use Rattle.serde_json.specs.Data.{Data, null}
 use Rattle.isolation.specs.Machine.{Effect}
 use Rattle.refusals.specs.declared.code.Code.{Code}
-use Rattle.refusals.specs.declared.code.Code.TheVariants.{NoSuchClass, NoSuchObject, Limit, NumbersUsedUp}
+use Rattle.refusals.specs.declared.code.Code.TheVariants.{NoSuchClass, NoSuchObject}
 use Rattle.signature_core.specs.declared.kind.Kind.TheVariants as k
 use Rattle.variant_value.specs.declared.value.Value.{Value}
 use Rattle.variant_value.specs.declared.value.Value.TheVariants as v
 use Rattle.variant_value.specs.Values.{value_of}
 use Rattle.class_table.specs.declared.class.Class.{Class}
-use Rattle.class_table.specs.Lookup.{inherited, method_text, methods, names, place_of, properties}
-use Rattle.thread_model.specs.declared.state.TheConstants.{OBJECTS}
-use Rattle.thread_model.specs.declared.state.Object.{Object}
-use Rattle.thread_model.specs.declared.state.State.{State}
+use Rattle.class_table.specs.Lookup.{inherited, inherits, method_text, methods, names, place_of, properties}
+use Rattle.object_tree.specs.declared.row.Row.{Row}
+use Rattle.object_tree.specs.Rows.{children, is_there, row_of}
+use Rattle.object_tree.specs.Refusing.{add_refusal, set_parent_refusal, parent_refusal}
+use Rattle.object_tree.specs.Changes.{reparented}
+use Rattle.object_tree.specs.Finding.{found_below}
 use Rattle.thread_model.specs.declared.line.Answer.{Answer}
 use Rattle.thread_model.specs.declared.line.Answer.TheVariants as a
 use Rattle.thread_model.specs.declared.line.Line.{Line}
 use Rattle.thread_model.specs.declared.line.Line.TheVariants.{Reply, Error}
 use Rattle.thread_model.specs.declared.meta.MetaObject.{MetaObject}
 use Rattle.thread_model.specs.declared.post.Post.{Post}
-use Rattle.thread_model.specs.Asked.{Asked, New, Set, Get, Meta}
+use Rattle.thread_model.specs.Asked.{Asked, New, Delete, SetParent, Children, Find, Set, Get, Meta}
+use Rattle.thread_model.specs.Agenda as agenda
+use Rattle.thread_model.specs.Agenda.{Item, Doing, run}
+use Rattle.thread_model.specs.State.{State, name_of, with_object, with_name}
 
 -- what is fixed for the whole life of a server
 pub record Settings : Type 0 where
@@ -28,39 +34,6 @@ pub record Settings : Type 0 where
   pub turns : ℕ
   -- the classes that objects may have, by place
   pub classes : List Class
-
--- the state of a session that has had no command
-abbrev pub empty : State
-empty = record { objects = []; last_object = 0 }
-
-abbrev pub has_number : ℕ → Object → Bool
-has_number number item = item.number == number
-
--- the object with this number
-abbrev pub object_at : List Object → ℕ → Option Object
-object_at objects number = find (has_number number) objects
-
--- an object as it is made: its name is the empty text
-abbrev pub new_object : ℕ → ℕ → Object
-new_object number class = record { number = number; class = class; object_name = v.Text [] }
-
--- the objects, with another name for the one with this number
-abbrev pub renamed : ℕ → Value → List Object → List Object
-renamed number name [] = []
-renamed number name (item ∷ items) = if has_number number item then record item { object_name = name } ∷ items else item ∷ renamed number name items
-
--- why there is no room for a further object
-abbrev pub new_refusal : State → Option Code
-new_refusal state =
-    if nat_le OBJECTS (length state.objects) then Some Limit else (if nat_le (2 ^ 32 - 1) state.last_object then Some NumbersUsedUp else None)
-
--- the state with one more object of this class, which has the next number
-abbrev pub with_object : State → ℕ → State
-with_object state class = record { objects = state.objects ++ new_object (state.last_object + 1) class ∷ []; last_object = state.last_object + 1 }
-
--- the state with another name for an object
-abbrev pub with_name : State → ℕ → Value → State
-with_name state number name = record state { objects = renamed number name state.objects }
 
 -- a command that prints one line, and posts nothing
 abbrev pub replies : State → Answer → Effect State Line Post
@@ -75,10 +48,54 @@ abbrev pub unless : Option Code → State → Effect State Line Post → Effect 
 unless (Some code) state effect = refuses state code
 unless None state effect = effect
 
+-- a command that does these items, and what they come to
+abbrev pub does_items : State → List Item → Effect State Line Post
+does_items state items =
+    let done = run items (record { state = state; lines = [] }) in
+    record { state = done.state; lines = done.lines; posts = [] }
+
+-- the refusal of an object that is not there
+abbrev pub object_refusal : State → ℕ → Option Code
+object_refusal state target = if is_there state.forest.rows target then None else Some NoSuchObject
+
+-- the same of an object that need not be named
+abbrev pub named_refusal : State → Option ℕ → Option Code
+named_refusal state target = option_map_or (object_refusal state) target None
+
 -- making an object of the class that was found replies its number
-abbrev pub makes : State → Option ℕ → Effect State Line Post
-makes state None = refuses state NoSuchClass
-makes state (Some class) = unless (new_refusal state) state (replies (with_object state class) (a.Number (state.last_object + 1)))
+abbrev pub makes : State → Option ℕ → Option ℕ → Effect State Line Post
+makes state None parent = refuses state NoSuchClass
+makes state (Some class) parent = unless (add_refusal state.forest parent) state (replies (with_object state parent class) (a.Number (state.forest.last_number + 1)))
+
+-- giving an object another parent, which may be none
+abbrev pub reparents : State → ℕ → Option ℕ → Effect State Line Post
+reparents state target parent =
+    unless (set_parent_refusal state.forest target parent) state (replies (record state { forest = reparented state.forest target parent }) (a.Truth true))
+
+-- is a value this text
+abbrev pub is_text : List ℕ → Value → Bool
+is_text wanted (v.Text text) = bytes_eq text wanted
+is_text wanted _ = false
+
+-- is an object of this name, where one is wanted
+abbrev pub has_name : State → Option (List ℕ) → ℕ → Bool
+has_name state None number = true
+has_name state (Some wanted) number = is_text wanted (name_of state.names number)
+
+-- is an object of this class or one below it, where one is wanted
+abbrev pub is_of_class : List Class → State → Option ℕ → ℕ → Bool
+is_of_class classes state None number = true
+is_of_class classes state (Some base) number = option_map_or (λ row. inherits classes row.class base) (row_of state.forest.rows number) false
+
+-- looking for the nearest object below another one, of this name and of the class at this place
+abbrev pub finds : List Class → State → ℕ → Option (List ℕ) → Option ℕ → Effect State Line Post
+finds classes state target name base =
+    replies state (a.Found (found_below state.forest.rows target (λ number. has_name state name number && is_of_class classes state base number)))
+
+-- the same, by the name of the class, which has to be there where it is given
+abbrev pub finds_named : List Class → State → ℕ → Option (List ℕ) → Option (List ℕ) → Effect State Line Post
+finds_named classes state target name None = finds classes state target name None
+finds_named classes state target name (Some class) = option_map_or (λ base. finds classes state target name (Some base)) (place_of class classes) (refuses state NoSuchClass)
 
 -- storing what was read as a name, where it could be read
 abbrev pub stores : State → ℕ → Result Value Code → Effect State Line Post
@@ -89,14 +106,6 @@ stores state target (Err code) = refuses state code
 abbrev pub writes : State → ℕ → Data → Effect State Line Post
 writes state target null = replies state (a.Truth false)
 writes state target value = stores state target (value_of k.Text value)
-
-abbrev pub sets : State → ℕ → Data → Effect State Line Post
-sets state target value = if is_some (object_at state.objects target) then writes state target value else refuses state NoSuchObject
-
--- reading replies the name of the object that was found
-abbrev pub reads : State → Option Object → Effect State Line Post
-reads state None = refuses state NoSuchObject
-reads state (Some item) = replies state (a.Value item.object_name)
 
 -- the name of the class at a place
 abbrev pub class_name : List Class → ℕ → Option (List ℕ)
@@ -124,9 +133,13 @@ describes state (Some meta) = replies state (a.Meta meta)
 
 -- what a command does in a session of this name and state
 unfoldable pub does : Settings → List ℕ → State → Asked → Effect State Line Post
-does settings self state (New class) = makes state (place_of class settings.classes)
-does settings self state (Set target value) = sets state target value
-does settings self state (Get target) = reads state (object_at state.objects target)
+does settings self state (New class parent) = unless (parent_refusal state.forest.rows parent) state (makes state (place_of class settings.classes) parent)
+does settings self state (Delete target) = unless (object_refusal state target) state (does_items state (agenda.Delete target 0 ∷ agenda.Reply (a.Truth true) ∷ []))
+does settings self state (SetParent target parent) = reparents state target parent
+does settings self state (Children target) = unless (named_refusal state target) state (replies state (a.Numbers (children state.forest.rows target)))
+does settings self state (Find target name class) = unless (object_refusal state target) state (finds_named settings.classes state target name class)
+does settings self state (Set target value) = unless (object_refusal state target) state (writes state target value)
+does settings self state (Get target) = unless (object_refusal state target) state (replies state (a.Value (name_of state.names target)))
 does settings self state (Meta class) = describes state (meta_object settings.classes class)
 
 -- the state after a post of the named session; no session has joins yet, so a post changes nothing

@@ -4,22 +4,26 @@
 #![tactic(auto)]
 
 ghost use Rattle.thread_model.specs.Machine.{IsMetadLawful};
+ghost use Rattle.thread_model.specs.Agenda.{RunsToItsEnd};
 
 mod command;
 mod line;
 mod meta;
 mod post;
-mod state;
 
 pub use command::{Command, Tagged};
 pub use line::{Answer, Line};
 pub use meta::MetaObject;
 pub use post::Post;
-pub use state::{OBJECTS, Object, State};
 
 /// The machine of metad's sessions keeps the laws under which the theory of isolated sessions holds:
 /// names are told apart, a post that no join names is passed over, and only an accepted join adds a
 /// name to those that a session listens to.
 pub fn machine_is_lawful()
     ensures { IsMetadLawful }
+{}
+
+/// The run of an agenda does its items one after another, up to the last.
+pub fn agenda_runs_to_its_end()
+    ensures { RunsToItsEnd }
 {}

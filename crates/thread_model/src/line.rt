@@ -1,5 +1,6 @@
 //! What clients are told.
 use crate::meta::MetaObject;
+use plain_types::Items;
 use refusals::Code;
 use variant_value::Value;
 
@@ -8,6 +9,10 @@ use variant_value::Value;
 pub enum Answer {
     /// The number of an object.
     Number(u32),
+    /// The number of an object, where one was found.
+    Found(Option<u32>),
+    /// The numbers of objects, in order.
+    Numbers(Items<u32>),
     Truth(bool),
     Value(Value),
     /// What there is in a class.

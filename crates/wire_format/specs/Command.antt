@@ -1,15 +1,15 @@
 -- What a line is: a command of a session, or a fault.
-use Rattle.std.specs.Prelude.{◌≡◌, ◌-◌, ◌^◌, ◌==◌, ◌&&◌, ◌||◌, ℕ, Bool, true, false, List, [], ◌∷◌, length, codes, bytes_eq, nat_le, if◌then◌else◌, Option, Some, None, option_and_then, Result, Ok, Err}
+use Rattle.std.specs.Prelude.{◌≡◌, ◌-◌, ◌^◌, ◌==◌, ◌&&◌, ◌||◌, ℕ, Bool, true, false, List, [], ◌∷◌, length, codes, bytes_eq, nat_le, if◌then◌else◌, Option, Some, None, option_and_then, option_map, is_some, Result, Ok, Err}
 use Rattle.std.specs.List.{list_all, list_any}
 use Rattle.std.specs.Option.{option_map_or, ok_or}
 use Rattle.std.specs.Str.{is_utf8}
 use Rattle.serde_json.specs.Data.{Data, Members, no_members, member}
 use Rattle.serde_json.specs.Read.{read}
-use Rattle.serde_json.specs.Find.{get, as_object, as_str, as_number, as_u64}
+use Rattle.serde_json.specs.Find.{get, as_null, as_object, as_str, as_number, as_u64}
 use Rattle.isolation.specs.Machine.{Tagged}
 use Rattle.plain_types.specs.Names.{is_name}
 use Rattle.refusals.specs.declared.code.Code.TheVariants.{UnreadableLine, NotACommand}
-use Rattle.thread_model.specs.Asked.{Asked, New, Set, Get, Meta}
+use Rattle.thread_model.specs.Asked.{Asked, New, Delete, SetParent, Children, Find, Set, Get, Meta}
 use Rattle.wire_format.specs.declared.fault.LineFault.{LineFault}
 use Rattle.wire_format.specs.declared.fault.ReadError.{ReadError}
 use Rattle.wire_format.specs.declared.fault.ReadError.TheVariants.{Fault, Memory}
@@ -41,6 +41,26 @@ number_at key json = do
   n ← as_u64 figure
   when (nat_le 1 n && nat_le n (2 ^ 32 - 1)) n
 
+-- what is read at a key that may be absent
+abbrev pub unless_absent : {A : Type 0} → (List ℕ → Data → Option A) → List ℕ → Data → Option (Option A)
+unless_absent read key json = if is_some (get key json) then option_map Some (read key json) else Some None
+
+-- the number of an object that may be absent, and the same of texts and names
+unfoldable pub some_number_at : List ℕ → Data → Option (Option ℕ)
+some_number_at key json = unless_absent number_at key json
+
+unfoldable pub some_text_at : List ℕ → Data → Option (Option (List ℕ))
+some_text_at key json = unless_absent text_at key json
+
+unfoldable pub some_name_at : List ℕ → Data → Option (Option (List ℕ))
+some_name_at key json = unless_absent name_at key json
+
+-- the number of an object, or null for none
+unfoldable pub number_or_null_at : List ℕ → Data → Option (Option ℕ)
+number_or_null_at key json = do
+  found ← get key json
+  if is_some (as_null found) then Some None else option_map Some (number_at key json)
+
 -- is the member at this key the name of the only property that there is
 unfoldable pub is_object_name : List ℕ → Data → Bool
 is_object_name key json = option_map_or (λ text. bytes_eq text (codes "objectName")) (text_at key json) false
@@ -63,11 +83,39 @@ target_of keys json = do
   target ← number_at (codes "object") json
   when (is_object_name (codes "property") json && has_only keys json) target
 
--- `new` makes an object of a class
+-- `new` makes an object of a class, below a parent where one is named
 unfoldable pub new_of : Data → Option Asked
 new_of json = do
   class ← name_at (codes "class") json
-  when (has_only (codes "class" ∷ []) json) (New class)
+  parent ← some_number_at (codes "parent") json
+  when (has_only (codes "class" ∷ codes "parent" ∷ []) json) (New class parent)
+
+-- `delete` deletes an object
+unfoldable pub delete_of : Data → Option Asked
+delete_of json = do
+  target ← number_at (codes "object") json
+  when (has_only (codes "object" ∷ []) json) (Delete target)
+
+-- `setParent` gives an object another parent; null makes it a root
+unfoldable pub set_parent_of : Data → Option Asked
+set_parent_of json = do
+  target ← number_at (codes "object") json
+  parent ← number_or_null_at (codes "parent") json
+  when (has_only (codes "object" ∷ codes "parent" ∷ []) json) (SetParent target parent)
+
+-- `children` tells the children of an object, or the roots
+unfoldable pub children_of : Data → Option Asked
+children_of json = do
+  target ← some_number_at (codes "object") json
+  when (has_only (codes "object" ∷ []) json) (Children target)
+
+-- `find` looks for an object below another one
+unfoldable pub find_of : Data → Option Asked
+find_of json = do
+  target ← number_at (codes "object") json
+  name ← some_text_at (codes "name") json
+  class ← some_name_at (codes "class") json
+  when (has_only (codes "object" ∷ codes "name" ∷ codes "class" ∷ []) json) (Find target name class)
 
 -- `set` writes a property; the value may be any JSON
 unfoldable pub set_of : Data → Option Asked
@@ -92,9 +140,13 @@ meta_of json = do
 unfoldable pub asked_as : List ℕ → Data → Option Asked
 asked_as word json =
     if bytes_eq word (codes "new") then new_of json else (
+    if bytes_eq word (codes "delete") then delete_of json else (
+    if bytes_eq word (codes "setParent") then set_parent_of json else (
+    if bytes_eq word (codes "children") then children_of json else (
+    if bytes_eq word (codes "find") then find_of json else (
     if bytes_eq word (codes "set") then set_of json else (
     if bytes_eq word (codes "get") then get_of json else (
-    if bytes_eq word (codes "meta") then meta_of json else None)))
+    if bytes_eq word (codes "meta") then meta_of json else None)))))))
 
 -- what a command in JSON asks, beside the session that gives it
 unfoldable pub asked_of : Data → Option Asked

@@ -7,7 +7,7 @@ use Rattle.isolation.specs.Pieces.{Given, Faulty, Told, Blamed, commands_of, pie
 use Rattle.isolation.specs.World.{effect, after, world_after}
 use Rattle.thread_model.specs.declared.line.Line.{Line}
 use Rattle.thread_model.specs.declared.line.Line.TheVariants.{Error}
-use Rattle.thread_model.specs.declared.state.State.{State}
+use Rattle.thread_model.specs.State.{State}
 use Rattle.thread_model.specs.Machine.{machine}
 use Rattle.thread_model.specs.Thread.{Settings}
 use Rattle.wire_format.specs.declared.fault.LineFault.{LineFault}

@@ -5,7 +5,7 @@ use Rattle.serde_json.specs.Written.{compact_text}
 use Rattle.plain_types.specs.Names.{is_name}
 use Rattle.refusals.specs.Codes.{code_text}
 use Rattle.thread_model.specs.declared.line.Answer.{Answer}
-use Rattle.thread_model.specs.declared.line.Answer.TheVariants.{Number, Truth, Value, Meta}
+use Rattle.thread_model.specs.declared.line.Answer.TheVariants.{Number, Found, Numbers, Truth, Value, Meta}
 use Rattle.thread_model.specs.declared.line.Line.{Line}
 use Rattle.thread_model.specs.declared.line.Line.TheVariants.{Reply, Error}
 use Rattle.thread_model.specs.declared.meta.MetaObject.{MetaObject}
@@ -22,6 +22,16 @@ abbrev pub json_of_name : Option (List ℕ) → Data
 json_of_name None = null
 json_of_name (Some name) = string name
 
+-- numbers as the elements of an array
+abbrev pub number_elements : List ℕ → Items
+number_elements [] = no_items
+number_elements (n ∷ ns) = item (number (unsigned n)) (number_elements ns)
+
+-- a number, or null where there is none
+abbrev pub json_of_found : Option ℕ → Data
+json_of_found None = null
+json_of_found (Some n) = number (unsigned n)
+
 -- what there is in a class, in JSON, its keys in byte order
 abbrev pub json_of_meta : MetaObject → Data
 json_of_meta meta =
@@ -35,6 +45,8 @@ json_of_meta meta =
 -- an answer in JSON
 abbrev pub json_of_answer : Answer → Data
 json_of_answer (Number n) = number (unsigned n)
+json_of_answer (Found found) = json_of_found found
+json_of_answer (Numbers ns) = array (number_elements ns)
 json_of_answer (Truth truth) = boolean truth
 json_of_answer (Value value) = json_of value
 json_of_answer (Meta meta) = json_of_meta meta

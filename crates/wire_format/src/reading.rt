@@ -4,7 +4,7 @@ ghost use Rattle.std.specs.List.{list_all, list_any};
 ghost use Rattle.std.specs.BTreeMap.{keys};
 ghost use Rattle.serde_json.specs.View.{view};
 ghost use Rattle.thread_model.specs.Asked.{asked, tag};
-ghost use Rattle.wire_format.specs.Command.{Gives, name_at, text_at, number_at, has_only, json_in, is_object_name, is_known, target_of, new_of, set_of, get_of, meta_of, asked_of, unreadable, not_a_command, command_of};
+ghost use Rattle.wire_format.specs.Command.{Gives, name_at, text_at, number_at, has_only, json_in, is_object_name, is_known, some_number_at, some_text_at, some_name_at, number_or_null_at, target_of, new_of, delete_of, set_parent_of, children_of, find_of, set_of, get_of, meta_of, asked_of, unreadable, not_a_command, command_of};
 
 use crate::fault::{LineFault, ReadError};
 use crate::line::LINE_BYTES;
@@ -84,6 +84,10 @@ fn command_in(alloc: Global, json: &mut Value) -> Result<Option<Command>, AllocE
 {
     match text_at(json, "do") {
         Some("new") => new_of(alloc, json),
+        Some("delete") => Ok(delete_of(json)),
+        Some("setParent") => Ok(set_parent_of(json)),
+        Some("children") => Ok(children_of(json)),
+        Some("find") => find_of(alloc, json),
         Some("set") => Ok(set_of(json)),
         Some("get") => Ok(get_of(json)),
         Some("meta") => meta_of(alloc, json),
@@ -95,11 +99,76 @@ fn command_in(alloc: Global, json: &mut Value) -> Result<Option<Command>, AllocE
 fn new_of(alloc: Global, json: &Value) -> Result<Option<Command>, AllocError>
     ensures { IfOk result (λ command. option_map asked command ≡ new_of (view json.now)) }
 {
-    match name_at(json, "class") {
-        Some(class) if has_only(json, &["class"]) => Ok(Some(Command::New {
-            class: Text::from_str(alloc, class)?,
-        })),
-        _ => Ok(None),
+    let Some(class) = name_at(json, "class") else {
+        return Ok(None);
+    };
+    let Some(parent) = some_number_at(json, "parent") else {
+        return Ok(None);
+    };
+    if !has_only(json, &["class", "parent"]) {
+        return Ok(None);
+    }
+    let class = Text::from_str(alloc, class)?;
+    Ok(Some(Command::New { class, parent }))
+}
+
+#[tactic(auto, unfolding(crate::specs::Command::delete_of))]
+fn delete_of(json: &Value) -> Option<Command>
+    ensures { option_map asked result ≡ delete_of (view json.now) }
+{
+    let object = number_at(json, "object")?;
+    has_only(json, &["object"]).then_some(Command::Delete { object })
+}
+
+#[tactic(auto, unfolding(crate::specs::Command::set_parent_of))]
+fn set_parent_of(json: &Value) -> Option<Command>
+    ensures { option_map asked result ≡ set_parent_of (view json.now) }
+{
+    let object = number_at(json, "object")?;
+    let parent = number_or_null_at(json, "parent")?;
+    has_only(json, &["object", "parent"]).then_some(Command::SetParent { object, parent })
+}
+
+#[tactic(auto, unfolding(crate::specs::Command::children_of))]
+fn children_of(json: &Value) -> Option<Command>
+    ensures { option_map asked result ≡ children_of (view json.now) }
+{
+    let object = some_number_at(json, "object")?;
+    has_only(json, &["object"]).then_some(Command::Children { object })
+}
+
+#[tactic(auto, unfolding(crate::specs::Command::find_of))]
+fn find_of(alloc: Global, json: &Value) -> Result<Option<Command>, AllocError>
+    ensures { IfOk result (λ command. option_map asked command ≡ find_of (view json.now)) }
+{
+    let Some(object) = number_at(json, "object") else {
+        return Ok(None);
+    };
+    let Some(name) = some_text_at(json, "name") else {
+        return Ok(None);
+    };
+    let Some(class) = some_name_at(json, "class") else {
+        return Ok(None);
+    };
+    if !has_only(json, &["object", "name", "class"]) {
+        return Ok(None);
+    }
+    let name = text_of(alloc, name)?;
+    let class = text_of(alloc, class)?;
+    Ok(Some(Command::Find {
+        object,
+        name,
+        class,
+    }))
+}
+
+/// The text, where there is one.
+fn text_of(alloc: Global, text: Option<&str>) -> Result<Option<Text>, AllocError>
+    ensures { IfOk result (λ copy. copy ≡ option_map (λ text. text.now) text.entry) }
+{
+    match text {
+        Some(text) => Ok(Some(Text::from_str(alloc, text)?)),
+        None => Ok(None),
     }
 }
 
@@ -124,14 +193,12 @@ fn get_of(json: &Value) -> Option<Command>
 fn meta_of(alloc: Global, json: &Value) -> Result<Option<Command>, AllocError>
     ensures { IfOk result (λ command. option_map asked command ≡ meta_of (view json.now)) }
 {
-    let Some(class) = name_at(json, "class") else {
-        return Ok(None);
-    };
-    if !has_only(json, &["class"]) {
-        return Ok(None);
+    match name_at(json, "class") {
+        Some(class) if has_only(json, &["class"]) => Ok(Some(Command::Meta {
+            class: Text::from_str(alloc, class)?,
+        })),
+        _ => Ok(None),
     }
-    let class = Text::from_str(alloc, class)?;
-    Ok(Some(Command::Meta { class }))
 }
 
 /// The number of an object, where the JSON names its only property and has no keys but these and
@@ -144,11 +211,7 @@ fn target_of(json: &Value, keys: &[&str]) -> Option<u32>
     if !is_object_name(json, "property") {
         return None;
     }
-    if has_only(json, keys) {
-        Some(object)
-    } else {
-        None
-    }
+    has_only(json, keys).then_some(object)
 }
 
 /// The member at this key, where it is a text.
@@ -178,6 +241,50 @@ fn number_at(json: &Value, key: &str) -> Option<u32>
         return None;
     }
     u32::try_from(number).ok()
+}
+
+/// The number of an object at this key, which may be absent.
+#[tactic(auto, unfolding(crate::specs::Command::some_number_at))]
+fn some_number_at(json: &Value, key: &str) -> Option<Option<u32>>
+    ensures { result ≡ some_number_at key.now (view json.now) }
+{
+    match json.get(key) {
+        Some(_) => Some(Some(number_at(json, key)?)),
+        None => Some(None),
+    }
+}
+
+/// The text at this key, which may be absent.
+#[tactic(auto, unfolding(crate::specs::Command::some_text_at))]
+fn some_text_at<'v>(json: &'v Value, key: &str) -> Option<Option<&'v str>>
+    ensures { option_map (λ found. option_map (λ text. text.now) found) result ≡ some_text_at key.now (view json.now) }
+{
+    match json.get(key) {
+        Some(_) => Some(Some(text_at(json, key)?)),
+        None => Some(None),
+    }
+}
+
+/// The name at this key, which may be absent.
+#[tactic(auto, unfolding(crate::specs::Command::some_name_at))]
+fn some_name_at<'v>(json: &'v Value, key: &str) -> Option<Option<&'v str>>
+    ensures { option_map (λ found. option_map (λ name. name.now) found) result ≡ some_name_at key.now (view json.now) }
+{
+    match json.get(key) {
+        Some(_) => Some(Some(name_at(json, key)?)),
+        None => Some(None),
+    }
+}
+
+/// The number of an object at this key, or none where it is null.
+#[tactic(auto, unfolding(crate::specs::Command::number_or_null_at))]
+fn number_or_null_at(json: &Value, key: &str) -> Option<Option<u32>>
+    ensures { result ≡ number_or_null_at key.now (view json.now) }
+{
+    if json.get(key)?.is_null() {
+        return Some(None);
+    }
+    Some(Some(number_at(json, key)?))
 }
 
 /// Whether the member at this key is the name of the only property.

@@ -18,9 +18,9 @@ fn told(alloc: Global, line: &[u8]) -> Result<String, AllocError> {
     };
     let session = session.as_str();
     match command {
-        Command::New { class } => {
+        Command::New { class, parent } => {
             let class = class.as_str();
-            format!(in alloc; "{session}: new {class}")
+            format!(in alloc; "{session}: new {class} {parent:?}")
         }
         Command::Set { object, value } => {
             let value = value.to_string(alloc)?;
@@ -31,7 +31,41 @@ fn told(alloc: Global, line: &[u8]) -> Result<String, AllocError> {
             let class = class.as_str();
             format!(in alloc; "{session}: meta {class}")
         }
+        of_the_tree => told_of_the_tree(alloc, session, &of_the_tree),
     }
+}
+
+fn told_of_the_tree(alloc: Global, session: &str, command: &Command) -> Result<String, AllocError> {
+    match command {
+        Command::Delete { object } => format!(in alloc; "{session}: delete {object}"),
+        Command::SetParent { object, parent } => {
+            format!(in alloc; "{session}: setParent {object} {parent:?}")
+        }
+        Command::Children { object } => format!(in alloc; "{session}: children {object:?}"),
+        Command::Find {
+            object,
+            name,
+            class,
+        } => {
+            let name = text_in(name);
+            let class = text_in(class);
+            format!(in alloc; "{session}: find {object} {name:?} {class:?}")
+        }
+        _ => format!(in alloc; "{session}: another command"),
+    }
+}
+
+fn text_in(text: &Option<Text>) -> Option<&str> {
+    match text {
+        Some(text) => Some(text.as_str()),
+        None => None,
+    }
+}
+
+/// What is told of the line that the session `a` writes with these members.
+fn told_to_a(alloc: Global, members: &str) -> Result<String, AllocError> {
+    let line = format!(in alloc; "{{\"session\":\"a\",{members}}}")?;
+    told(alloc, line.as_bytes())
 }
 
 #[test]
@@ -39,7 +73,7 @@ fn reads_commands(rt: HostRuntime) -> Result<(), Fail> {
     let rows = [
         (
             "{\"class\":\"QObject\",\"do\":\"new\",\"session\":\"a\"}",
-            "a: new QObject",
+            "a: new QObject None",
         ),
         (
             " {\"session\": \"b_2\", \"do\": \"get\", \"object\": 4294967295, \"property\": \"objectName\"}\r",
@@ -64,6 +98,78 @@ fn reads_commands(rt: HostRuntime) -> Result<(), Fail> {
     ];
     for (line, command) in rows {
         assert_eq!(rt; told(rt.alloc(), line.as_bytes())?.as_str(), command);
+    }
+    Ok(())
+}
+
+#[test]
+fn reads_commands_of_the_tree(rt: HostRuntime) -> Result<(), Fail> {
+    let rows = [
+        (
+            "\"do\":\"new\",\"class\":\"Cell\",\"parent\":4294967295",
+            "a: new Cell Some(4294967295)",
+        ),
+        ("\"do\":\"delete\",\"object\":1", "a: delete 1"),
+        (
+            "\"do\":\"setParent\",\"object\":2,\"parent\":1",
+            "a: setParent 2 Some(1)",
+        ),
+        (
+            "\"do\":\"setParent\",\"object\":2,\"parent\":null",
+            "a: setParent 2 None",
+        ),
+        ("\"do\":\"children\"", "a: children None"),
+        ("\"do\":\"children\",\"object\":1", "a: children Some(1)"),
+        ("\"do\":\"find\",\"object\":1", "a: find 1 None None"),
+        (
+            "\"do\":\"find\",\"object\":1,\"name\":\"\"",
+            "a: find 1 Some(\"\") None",
+        ),
+        (
+            "\"do\":\"find\",\"object\":1,\"class\":\"Cell\"",
+            "a: find 1 None Some(\"Cell\")",
+        ),
+        (
+            "\"do\":\"find\",\"object\":1,\"class\":\"Cell\",\"name\":\"a lamp\"",
+            "a: find 1 Some(\"a lamp\") Some(\"Cell\")",
+        ),
+    ];
+    for (members, command) in rows {
+        assert_eq!(rt; told_to_a(rt.alloc(), members)?.as_str(), command);
+    }
+    Ok(())
+}
+
+#[test]
+fn refuses_other_commands_of_the_tree(rt: HostRuntime) -> Result<(), Fail> {
+    let rows = [
+        "\"do\":\"new\",\"class\":\"Cell\",\"parent\":null",
+        "\"do\":\"new\",\"class\":\"Cell\",\"parent\":0",
+        "\"do\":\"new\",\"class\":\"Cell\",\"object\":1",
+        "\"do\":\"delete\"",
+        "\"do\":\"delete\",\"object\":0",
+        "\"do\":\"delete\",\"object\":\"1\"",
+        "\"do\":\"delete\",\"object\":1,\"parent\":2",
+        "\"do\":\"setParent\",\"object\":2",
+        "\"do\":\"setParent\",\"parent\":1",
+        "\"do\":\"setParent\",\"object\":2,\"parent\":0",
+        "\"do\":\"setParent\",\"object\":2,\"parent\":false",
+        "\"do\":\"setParent\",\"object\":2,\"parent\":1,\"class\":\"Cell\"",
+        "\"do\":\"children\",\"object\":null",
+        "\"do\":\"children\",\"object\":-1",
+        "\"do\":\"children\",\"parent\":1",
+        "\"do\":\"find\",\"name\":\"lamp\"",
+        "\"do\":\"find\",\"object\":1,\"name\":null",
+        "\"do\":\"find\",\"object\":1,\"class\":null",
+        "\"do\":\"find\",\"object\":1,\"class\":\"a lamp\"",
+        "\"do\":\"find\",\"object\":1,\"parent\":2",
+    ];
+    for members in rows {
+        assert_eq!(rt;
+            told_to_a(rt.alloc(), members)?.as_str(),
+            "{\"error\":\"E02\",\"session\":\"a\"}\n",
+            "of {members}"
+        );
     }
     Ok(())
 }
@@ -221,5 +327,49 @@ fn writes_what_there_is_in_a_class(rt: HostRuntime) -> Result<(), Fail> {
         line_text(alloc, "a", &below)?.as_str(),
         "{\"reply\":{\"class\":\"Lamp\",\"methodOffset\":3,\"methods\":[\"on()\",\"on()\"],\"properties\":[],\"propertyOffset\":1,\"super\":\"QObject\"},\"session\":\"a\"}\n"
     );
+    Ok(())
+}
+
+/// The text of the line that replies these numbers.
+fn numbers_text(alloc: Global, numbers: &[u32]) -> Result<String, AllocError> {
+    let mut items = Items::new(alloc);
+    for number in numbers {
+        items.push(*number)?;
+    }
+    line_text(alloc, "a", &Line::Reply(Answer::Numbers(items)))
+}
+
+fn found_text(alloc: Global, found: Option<u32>) -> Result<String, AllocError> {
+    line_text(alloc, "a", &Line::Reply(Answer::Found(found)))
+}
+
+#[test]
+fn writes_numbers(rt: HostRuntime) -> Result<(), Fail> {
+    let alloc = rt.alloc();
+    let rows = [
+        (
+            found_text(alloc, None)?,
+            "{\"reply\":null,\"session\":\"a\"}\n",
+        ),
+        (
+            found_text(alloc, Some(4_294_967_295))?,
+            "{\"reply\":4294967295,\"session\":\"a\"}\n",
+        ),
+        (
+            numbers_text(alloc, &[])?,
+            "{\"reply\":[],\"session\":\"a\"}\n",
+        ),
+        (
+            numbers_text(alloc, &[7])?,
+            "{\"reply\":[7],\"session\":\"a\"}\n",
+        ),
+        (
+            numbers_text(alloc, &[3, 1, 20])?,
+            "{\"reply\":[3,1,20],\"session\":\"a\"}\n",
+        ),
+    ];
+    for (text, wanted) in &rows {
+        assert_eq!(rt; text.as_str(), *wanted);
+    }
     Ok(())
 }

@@ -4,7 +4,7 @@ ghost use Rattle.std.specs.List.{flat_map, list_all};
 ghost use Rattle.serde_json.specs.Data.{array, number, string, unsigned};
 ghost use Rattle.serde_json.specs.Written.{compact_text};
 ghost use Rattle.variant_value.specs.Values.{json_of};
-ghost use Rattle.wire_format.specs.Text.{elements, json_of_answer, json_of_meta, json_of_name, told_of, text_of_line, text_of_fault, is_session_text, is_plain_byte};
+ghost use Rattle.wire_format.specs.Text.{elements, number_elements, json_of_answer, json_of_found, json_of_meta, json_of_name, told_of, text_of_line, text_of_fault, is_session_text, is_plain_byte};
 
 use crate::fault::LineFault;
 use plain_types::Text;
@@ -105,6 +105,8 @@ fn push_answer(alloc: Global, buffer: &mut String, answer: &Answer) -> Result<()
 {
     match answer {
         Answer::Number(number) => write!(buffer, "{number}"),
+        Answer::Found(found) => push_found(buffer, *found),
+        Answer::Numbers(numbers) => push_numbers(buffer, numbers.as_slice()),
         Answer::Truth(truth) => write!(buffer, "{truth}"),
         Answer::Value(value) => push_value(alloc, buffer, value),
         Answer::Meta(meta) => push_meta(alloc, buffer, meta),
@@ -137,6 +139,32 @@ fn push_count(buffer: &mut String, count: u32) -> Result<(), AllocError>
         (string_bytes buffer.new ≡ string_bytes buffer.old ++ compact_text (number (unsigned count))) }
 {
     write!(buffer, "{count}")
+}
+
+/// Appends a number, or `null` where there is none.
+fn push_found(buffer: &mut String, found: Option<u32>) -> Result<(), AllocError>
+    ensures { OnOk result
+        (string_bytes buffer.new ≡ string_bytes buffer.old ++ compact_text (json_of_found found)) }
+{
+    match found {
+        Some(number) => push_count(buffer, number),
+        None => buffer.push_str("null"),
+    }
+}
+
+/// Appends numbers as an array.
+fn push_numbers(buffer: &mut String, numbers: &[u32]) -> Result<(), AllocError>
+    ensures { OnOk result
+        (string_bytes buffer.new ≡ string_bytes buffer.old ++ compact_text (array (number_elements numbers.now))) }
+{
+    buffer.push_str("[")?;
+    for (place, number) in numbers.iter().enumerate() {
+        if place != 0 {
+            buffer.push_str(",")?;
+        }
+        push_count(buffer, *number)?;
+    }
+    buffer.push_str("]")
 }
 
 /// Appends a name, or `null` where there is none.

@@ -1,0 +1,110 @@
+-- Edits of rows at a place, as changes of a forest.
+use Rattle.std.proofs.Common.{◌≡◌, ◌≢◌, ℕ, suc, ◌+◌, ◌<◌, ◌==◌, Bool, true, false, not, cond, List, [], ◌∷◌, ◌++◌, Option, Some, None, length, map, filter, get_or, set, refl, sym, ap, ◌∙◌, arith, ⊎_elim, nat_eq}
+use Rattle.std.specs.List.{IsDistinct, remove}
+use Rattle.std.specs.Option.{option_and_then, is_some}
+use Rattle.std.specs.Ordering.{nat_cmp}
+use Rattle.std.proofs.lemmas.Bool.{cases_lt, cases_order, cond-true, eq-eqb, eqb-false, eqb-true}
+use Rattle.std.proofs.lemmas.List.{get_or-map, length-map}
+use Rattle.std.proofs.lemmas.Map.Keys.{apart_from_distinct, sorted_head, sorted_tail}
+use Rattle.object_tree.specs.declared.row.Row.{Row}
+use Rattle.object_tree.specs.Rows.{has_parent, is_same, is_there, numbers, parent_of, row_of, stamps}
+use Rattle.object_tree.specs.Forest.{Forest}
+use Rattle.object_tree.specs.Changes.{added, changed, marked, moved, orphaned, removed, with_blocked}
+use Rattle.object_tree.proofs.ByNumber.{Rise, absent, at_place, without}
+
+-- no row is changed where none has the number
+pub unchanged : (f : Row → Row) (n : ℕ) (rows : List Row) → row_of rows n ≡ None → (changed f n rows ≡ rows) × (without n rows ≡ rows)
+unchanged f n [] e = (refl, refl)
+unchanged f n (row ∷ rest) e = by (row.number == n) refl e (λ h. unchanged f n rest h)
+  where
+    by : (b : Bool) → (row.number == n) ≡ b → cond b (Some row) (row_of rest n) ≡ None → (row_of rest n ≡ None → (changed f n rest ≡ rest) × (without n rest ≡ rest)) → (cond b (f row) row ∷ changed f n rest ≡ row ∷ rest) × (cond (not b) (row ∷ without n rest) (without n rest) ≡ row ∷ rest)
+    by true is e h = absurd (cc)
+    by false is e h = (ap (λ l. row ∷ l) (h e).0, ap (λ l. row ∷ l) (h e).1)
+
+-- a row that a search has found, and where
+module _ (rows found : List Row) (n k : ℕ) (rise : Rise rows) (same : found ≡ rows) (within : k < length found) (is : (d : Row) → (get_or found k d).number ≡ n) where
+  pub place_within : k < length rows
+  place_within = omega (arith, ap length same)
+
+  pub place_has : (d : Row) → (get_or rows k d).number ≡ n
+  place_has d = (λ i. (get_or (sym same i) k d).number) ∙ is d
+
+  pub row_there : (d : Row) → row_of rows n ≡ Some (get_or rows k d)
+  row_there d = (at_place (λ row. row) n rows k d rise place_within (place_has d)).0
+
+  pub edited : (f : Row → Row) (row : Row) → row ≡ get_or rows k row → set rows k (f row) ≡ changed f n rows
+  edited f row e = ap (λ r. set rows k (f r)) e ∙ sym (at_place f n rows k row rise place_within (place_has row)).1
+
+  pub taken_out : (d : Row) → remove rows k ≡ without n rows
+  taken_out d = sym (at_place (λ row. row) n rows k d rise place_within (place_has d)).2
+
+-- a child of an object that becomes a root is as it is when the object has gone, and there is one child less
+pub orphan_step : (o n : ℕ) (rows : List Row) → Rise rows → parent_of rows n ≡ Some o → (map (orphaned o) (changed (λ row. record row { parent = None }) n rows) ≡ map (orphaned o) rows) × (suc (length (filter (has_parent (Some o)) (changed (λ row. record row { parent = None }) n rows))) ≡ length (filter (has_parent (Some o)) rows))
+orphan_step o n [] rise e = absurd (cc)
+orphan_step o n (row ∷ rest) rise e = by (row.number == n) refl e (orphan_step o n rest (sorted_tail nat_cmp row.number (numbers rest) rise))
+  where
+    free : Row → Row
+    free r = record r { parent = None }
+
+    here : row.number ≡ n → row.parent ≡ Some o → (orphaned o (free row) ∷ map (orphaned o) (changed free n rest) ≡ orphaned o row ∷ map (orphaned o) rest) × (suc (length (filter (has_parent (Some o)) (free row ∷ changed free n rest))) ≡ length (filter (has_parent (Some o)) (row ∷ rest)))
+    here same to =
+        let stays : changed free n rest ≡ rest = (absent free n row.number rest (omega arith) (sorted_head nat_cmp row.number (numbers rest) rise)).1 in
+        let has : has_parent (Some o) row ≡ true = ap (λ p. is_same p (Some o)) to ∙ eq-eqb o o refl in
+        ((λ i. sym (cond-true (has_parent (Some o) row) (free row) row has) i ∷ map (orphaned o) (stays i)), ap (λ l. suc (length (filter (has_parent (Some o)) l))) stays ∙ ap length (sym (cond-true (has_parent (Some o) row) _ _ has)))
+
+    there : (map (orphaned o) (changed free n rest) ≡ map (orphaned o) rest) × (suc (length (filter (has_parent (Some o)) (changed free n rest))) ≡ length (filter (has_parent (Some o)) rest)) → (b : Bool) → suc (length (cond b (row ∷ filter (has_parent (Some o)) (changed free n rest)) (filter (has_parent (Some o)) (changed free n rest)))) ≡ length (cond b (row ∷ filter (has_parent (Some o)) rest) (filter (has_parent (Some o)) rest))
+    there h true = ap suc h.1
+    there h false = h.1
+
+    by : (b : Bool) → (row.number == n) ≡ b → option_and_then (λ (r : Row). r.parent) (cond b (Some row) (row_of rest n)) ≡ Some o → (parent_of rest n ≡ Some o → ((map (orphaned o) (changed free n rest) ≡ map (orphaned o) rest) × (suc (length (filter (has_parent (Some o)) (changed free n rest))) ≡ length (filter (has_parent (Some o)) rest)))) → ((map (orphaned o) (cond b (free row) row ∷ changed free n rest) ≡ map (orphaned o) (row ∷ rest)) × (suc (length (filter (has_parent (Some o)) (cond b (free row) row ∷ changed free n rest))) ≡ length (filter (has_parent (Some o)) (row ∷ rest))))
+    by true is e later = here (eqb-true row.number n is) e
+    by false is e later = let h = later e in (ap (λ l. orphaned o row ∷ l) h.0, there h (has_parent (Some o) row))
+
+-- where an object has no children all stays when it has gone
+pub orphan_none : (o : ℕ) (rows : List Row) → filter (has_parent (Some o)) rows ≡ [] → map (orphaned o) rows ≡ rows
+orphan_none o [] e = refl
+orphan_none o (row ∷ rest) e = by (has_parent (Some o) row) e (orphan_none o rest)
+  where
+    by : (b : Bool) → cond b (row ∷ filter (has_parent (Some o)) rest) (filter (has_parent (Some o)) rest) ≡ [] → (filter (has_parent (Some o)) rest ≡ [] → map (orphaned o) rest ≡ rest) → cond b (record row { parent = None }) row ∷ map (orphaned o) rest ≡ row ∷ rest
+    by true e h = absurd (cc)
+    by false e h = ap (λ l. row ∷ l) (h e)
+
+-- two rows have different stamps
+pub stamps_apart : (rows : List Row) (i j : ℕ) (d e : Row) → IsDistinct nat_eq (stamps rows) → i < length rows → j < length rows → i ≢ j → (get_or rows i d).stamp ≢ (get_or rows j e).stamp
+stamps_apart rows i j d e differ at_i at_j other same =
+    let all = length-map rows (λ (row : Row). row.stamp) in
+    let is : get_or (stamps rows) i 0 ≡ get_or (stamps rows) j 0 = get_or-map (λ (row : Row). row.stamp) rows i d 0 at_i ∙ (same ∙ sym (get_or-map (λ (row : Row). row.stamp) rows j e 0 at_j)) in
+    ⊎_elim
+    (λ lt. eqb-false _ _ (apart_from_distinct nat_eq (stamps rows) i j 0 differ lt (omega arith)) is)
+    (λ ge. eqb-false _ _ (apart_from_distinct nat_eq (stamps rows) j i 0 differ (⊎_elim (λ s. absurd (other s)) (λ o. ⊎_elim (λ lt. absurd (omega arith)) (λ gt. gt) o) (cases_order i j)) (omega arith)) (sym is))
+    (cases_lt i j)
+
+-- a row that is there has a place
+pub there_at : (rows : List Row) (n : ℕ) → is_there rows n ≡ true → (k : ℕ) × (k < length rows) × ((d : Row) → (get_or rows k d).number ≡ n)
+there_at [] n e = absurd (cc)
+there_at (row ∷ rest) n e = by (row.number == n) refl e (there_at rest n)
+  where
+    by : (b : Bool) → (row.number == n) ≡ b → is_some (cond b (Some row) (row_of rest n)) ≡ true → (is_there rest n ≡ true → (k : ℕ) × (k < length rest) × ((d : Row) → (get_or rest k d).number ≡ n)) → (k : ℕ) × (k < suc (length rest)) × ((d : Row) → (get_or (row ∷ rest) k d).number ≡ n)
+    by true is e later = (0, omega arith, λ d. eqb-true row.number n is)
+    by false is e later = let h = later e in (suc h.0, omega (arith, h.1), h.2)
+
+-- rows that changed, as a change of the forest
+pub marked_is : (forest : Forest) (n : ℕ) (rows : List Row) → rows ≡ changed (λ row. record row { dying = true }) n forest.rows → record { rows = rows; last_number = forest.last_number; last_stamp = forest.last_stamp } ≡ marked forest n
+unfolding marked
+marked_is forest n rows e = λ i. record { rows = e i; last_number = forest.last_number; last_stamp = forest.last_stamp }
+
+pub blocked_is : (forest : Forest) (n : ℕ) (on : Bool) (rows : List Row) → rows ≡ changed (λ row. record row { blocked = on }) n forest.rows → record { rows = rows; last_number = forest.last_number; last_stamp = forest.last_stamp } ≡ with_blocked forest n on
+unfolding with_blocked
+blocked_is forest n on rows e = λ i. record { rows = e i; last_number = forest.last_number; last_stamp = forest.last_stamp }
+
+pub removed_is : (forest : Forest) (n : ℕ) (rows : List Row) → rows ≡ map (orphaned n) (without n forest.rows) → record { rows = rows; last_number = forest.last_number; last_stamp = forest.last_stamp } ≡ removed forest n
+unfolding removed
+removed_is forest n rows e = λ i. record { rows = e i; last_number = forest.last_number; last_stamp = forest.last_stamp }
+
+pub moved_is : (forest : Forest) (n : ℕ) (parent : Option ℕ) (rows : List Row) → rows ≡ changed (λ row. record row { parent = parent; stamp = forest.last_stamp + 1 }) n forest.rows → record { rows = rows; last_number = forest.last_number; last_stamp = forest.last_stamp + 1 } ≡ moved forest n parent
+unfolding moved
+moved_is forest n parent rows e = λ i. record { rows = e i; last_number = forest.last_number; last_stamp = forest.last_stamp + 1 }
+
+pub added_at : (forest : Forest) (parent : Option ℕ) (class : ℕ) (rows : List Row) → rows ≡ forest.rows ++ record { number = forest.last_number + 1; class = class; parent = parent; stamp = forest.last_stamp + 1; dying = false; blocked = false } ∷ [] → record { rows = rows; last_number = forest.last_number + 1; last_stamp = forest.last_stamp + 1 } ≡ added forest parent class
+unfolding added
+added_at forest parent class rows e = λ i. record { rows = e i; last_number = forest.last_number + 1; last_stamp = forest.last_stamp + 1 }

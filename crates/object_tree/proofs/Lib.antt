@@ -1,0 +1,16 @@
+pub mod Keyed
+pub mod ByNumber
+pub mod Sorted
+pub mod KinLemmas
+pub mod Seating
+pub mod Levels
+pub mod Levelwise
+pub mod Walks
+pub mod Trees
+pub mod RowLemmas
+pub mod Keeping
+pub mod Soundness
+pub mod Allowed
+pub mod Edits
+pub mod Placing
+pub mod Nearest

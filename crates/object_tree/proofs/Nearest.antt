@@ -1,0 +1,272 @@
+-- The search by levels finds what is nearest.
+use Rattle.std.proofs.Common.{◌≡◌, ℕ, suc, zero, ◌+◌, ◌-◌, ◌<◌, ◌≤◌, ◌==◌, Bool, true, false, ◌&&◌, ◌||◌, cond, List, [], ◌∷◌, ◌++◌, Option, Some, None, length, map, filter, find, drop, get_or, refl, sym, ap, ◌∙◌, arith, subst, inl, inr, ◌⊎◌, ⊎_elim, nat_lt}
+use Rattle.std.specs.Cmp.{nat_eq_equiv}
+use Rattle.std.specs.List.{flat_map, list_any}
+use Rattle.std.specs.Option.{option_and_then, option_or, is_some}
+use Rattle.std.proofs.lemmas.Bool.{cases_Bool, cond-true, cond-false, eqb-true, eqb-false, eq-eqb, ne_eqb, cases_eq, false≢true, or_cases, or_left, or_right, and_parts, false_from_ne_true, ltb-true}
+use Rattle.std.proofs.lemmas.List.{append-nil, append_assoc}
+use Rattle.std.proofs.lemmas.List.Elements.{filter-append}
+use Rattle.std.proofs.lemmas.List.Folds.{list_any-append}
+use Rattle.std.proofs.lemmas.Map.Made.{is_member-filter}
+use Rattle.std.proofs.lemmas.Map.Keys.{sorted_head, sorted_tail}
+use Rattle.std.specs.Ordering.{nat_cmp}
+use Rattle.object_tree.specs.declared.kin.Kin.{Kin}
+use Rattle.object_tree.specs.declared.row.Row.{Row}
+use Rattle.object_tree.specs.Rows.{by_stamp, children, has_parent, inserted, is_same, is_there, numbers, parent_of, row_of}
+use Rattle.object_tree.specs.Lines.{depth, line, line_at, walk}
+use Rattle.object_tree.specs.Forest.{Forest, IsSound}
+use Rattle.object_tree.specs.Finding.{IsFirstAtLeast, IsNearest, all_below, children_of, found_below, found_within, preorder_within}
+use Rattle.object_tree.proofs.ByNumber.{Rise, absent}
+use Rattle.object_tree.proofs.Walks.{among, walk_within}
+
+-- lists of numbers
+any_at : (p : ℕ → Bool) (xs : List ℕ) → list_any p xs ≡ true → (m : ℕ) × (among xs m ≡ true) × (p m ≡ true)
+any_at p [] e = absurd (cc)
+any_at p (x ∷ xs) e = by (any_at p xs) (or_cases (p x) _ e)
+  where
+    by : (list_any p xs ≡ true → (m : ℕ) × (among xs m ≡ true) × (p m ≡ true)) → (p x ≡ true) ⊎ (list_any p xs ≡ true) → (m : ℕ) × (among (x ∷ xs) m ≡ true) × (p m ≡ true)
+    by rest (inl here) = (x, or_left (x == x) _ (eq-eqb x x refl), here)
+    by rest (inr later) = let h = rest later in (h.0, or_right (h.0 == x) _ h.1, h.2)
+
+none_at : (p : ℕ → Bool) (xs : List ℕ) → find p xs ≡ None → (m : ℕ) → among xs m ≡ true → p m ≡ true → ⊥
+none_at p [] e m in' pass = absurd (cc)
+none_at p (x ∷ xs) e m in' pass = ⊎_elim
+    (λ here. absurd (let some : Some x ≡ None = sym (cond-true (p x) (Some x) (find p xs) here) ∙ e in cc))
+    (λ other. ⊎_elim
+    (λ same. false≢true (sym other ∙ (ap p (sym (eqb-true m x same)) ∙ pass)))
+    (λ later. none_at p xs (sym (cond-false (p x) (Some x) (find p xs) other) ∙ e) m later pass)
+    (or_cases (m == x) _ in'))
+    (cases_Bool (p x))
+
+found_in : (p : ℕ → Bool) (xs : List ℕ) (m : ℕ) → find p xs ≡ Some m → among xs m ≡ true
+found_in p [] m e = absurd (cc)
+found_in p (x ∷ xs) m e = ⊎_elim
+    (λ here. let same : x ≡ m = (let some : Some x ≡ Some m = sym (cond-true (p x) (Some x) (find p xs) here) ∙ e in cc) in or_left (m == x) _ (eq-eqb m x (sym same)))
+    (λ other. or_right (m == x) _ (found_in p xs m (sym (cond-false (p x) (Some x) (find p xs) other) ∙ e)))
+    (cases_Bool (p x))
+
+find_both : (p q : ℕ → Bool) (xs : List ℕ) → find (λ m. p m && q m) xs ≡ find p (filter q xs)
+find_both p q [] = refl
+find_both p q (x ∷ xs) = by (p x) (q x) refl (find_both p q xs)
+  where
+    by : (a b : Bool) → p x ≡ a → find (λ m. p m && q m) xs ≡ find p (filter q xs) → cond (a && b) (Some x) (find (λ m. p m && q m) xs) ≡ find p (cond b (x ∷ filter q xs) (filter q xs))
+    by true true is h = sym (cond-true (p x) (Some x) (find p (filter q xs)) is)
+    by true false is h = h
+    by false true is h = h ∙ sym (cond-false (p x) (Some x) (find p (filter q xs)) is)
+    by false false is h = h
+
+among-filter : (q : ℕ → Bool) (xs : List ℕ) (m : ℕ) → among (filter q xs) m ≡ (among xs m && q m)
+among-filter q xs m = is_member-filter nat_eq_equiv q m (λ x e. ap q (eqb-true m x e)) xs
+
+flat_at : (g : ℕ → List ℕ) (xs : List ℕ) (m : ℕ) → among (flat_map g xs) m ≡ true → (c : ℕ) × (among xs c ≡ true) × (among (g c) m ≡ true)
+flat_at g [] m e = absurd (cc)
+flat_at g (x ∷ xs) m e = by (flat_at g xs m) (or_cases (among (g x) m) _ (sym (list_any-append (λ y. m == y) (g x) (flat_map g xs)) ∙ e))
+  where
+    by : (among (flat_map g xs) m ≡ true → (c : ℕ) × (among xs c ≡ true) × (among (g c) m ≡ true)) → (among (g x) m ≡ true) ⊎ (among (flat_map g xs) m ≡ true) → (c : ℕ) × (among (x ∷ xs) c ≡ true) × (among (g c) m ≡ true)
+    by rest (inl here) = (x, or_left (x == x) _ (eq-eqb x x refl), here)
+    by rest (inr later) = let h = rest later in (h.0, or_right (h.0 == x) _ h.1, h.2)
+
+flat_map-append : (g : ℕ → List ℕ) (xs ys : List ℕ) → flat_map g (xs ++ ys) ≡ flat_map g xs ++ flat_map g ys
+flat_map-append g [] ys = refl
+flat_map-append g (x ∷ xs) ys = ap (λ l. g x ++ l) (flat_map-append g xs ys) ∙ sym (append_assoc (g x) (flat_map g xs) (flat_map g ys))
+
+flat_map-flat_map : (g h : ℕ → List ℕ) (xs : List ℕ) → flat_map g (flat_map h xs) ≡ flat_map (λ x. flat_map g (h x)) xs
+flat_map-flat_map g h [] = refl
+flat_map-flat_map g h (x ∷ xs) = flat_map-append g (h x) (flat_map h xs) ∙ ap (λ l. flat_map g (h x) ++ l) (flat_map-flat_map g h xs)
+
+flat_map-one : (xs : List ℕ) → flat_map (λ x. x ∷ []) xs ≡ xs
+flat_map-one [] = refl
+flat_map-one (x ∷ xs) = ap (λ l. x ∷ l) (flat_map-one xs)
+
+filter-flat_map : (q : ℕ → Bool) (g h : ℕ → List ℕ) (xs : List ℕ) → ((c : ℕ) → among xs c ≡ true → filter q (g c) ≡ h c) → filter q (flat_map g xs) ≡ flat_map h xs
+filter-flat_map q g h [] each = refl
+filter-flat_map q g h (x ∷ xs) each = filter-append q (g x) (flat_map g xs) ∙ λ i. each x (or_left (x == x) _ (eq-eqb x x refl)) i ++ filter-flat_map q g h xs (λ c in'. each c (or_right (c == x) _ in')) i
+
+filter_none : (q : ℕ → Bool) (xs : List ℕ) → ((m : ℕ) → among xs m ≡ true → q m ≡ false) → filter q xs ≡ []
+filter_none q [] none = refl
+filter_none q (x ∷ xs) none = cond-false (q x) (x ∷ filter q xs) (filter q xs) (none x (or_left (x == x) _ (eq-eqb x x refl))) ∙ filter_none q xs (λ m in'. none m (or_right (m == x) _ in'))
+
+-- a tree by the children of each, where each child stands one level lower
+module _ (rows : List Row) (dep : ℕ → ℕ) (lower : (n c : ℕ) → among (children rows (Some n)) c ≡ true → dep c ≡ suc (dep n)) where
+  abbrev kids : ℕ → List ℕ
+  kids n = children rows (Some n)
+
+  -- the level so many below an object
+  abbrev level : ℕ → ℕ → List ℕ
+  level zero n = n ∷ []
+  level (suc k) n = children_of rows (level k n)
+
+  level_top : (k n : ℕ) → level (suc k) n ≡ flat_map (level k) (kids n)
+  level_top zero n = append-nil (kids n) ∙ sym (flat_map-one (kids n))
+  level_top (suc k) n = ap (children_of rows) (level_top k n) ∙ flat_map-flat_map kids (level k) (kids n)
+
+  level_depth : (k n m : ℕ) → among (level k n) m ≡ true → dep m ≡ dep n + k
+  level_depth zero n m in' = ⊎_elim (λ same. omega (arith, ap dep (eqb-true m n same))) (λ no. absurd (cc)) (or_cases (m == n) false in')
+  level_depth (suc k) n m in' =
+      let h = flat_at kids (level k n) m in' in
+      omega (arith, level_depth k n h.0 h.1, lower h.0 m h.2)
+
+  deeper : (f c m : ℕ) → among (preorder_within f rows c) m ≡ true → dep c ≤ dep m
+  deeper zero c m in' = absurd (cc)
+  deeper (suc f) c m in' = ⊎_elim
+      (λ same. omega (arith, ap dep (eqb-true m c same)))
+      (λ later. let h = flat_at (preorder_within f rows) (kids c) m later in omega (arith, lower c h.0 h.1, deeper f h.0 m h.2))
+      (or_cases (m == c) _ in')
+
+  -- all below an object stand deeper
+  below_deeper : (f n m : ℕ) → among (flat_map (preorder_within f rows) (kids n)) m ≡ true → dep n < dep m
+  below_deeper f n m in' = let h = flat_at (preorder_within f rows) (kids n) m in' in omega (arith, lower n h.0 h.1, deeper f h.0 m h.2)
+
+  -- those of one depth in preorder are a level
+  levels : (f k n : ℕ) → k < f → filter (λ m. dep m == dep n + k) (preorder_within f rows n) ≡ level k n
+  levels zero k n h = absurd (omega arith)
+  levels (suc f) zero n h =
+      cond-true (dep n == dep n + 0) _ _ (eq-eqb _ _ (omega arith))
+      ∙ ap (λ l. n ∷ l) (filter_none _ (flat_map (preorder_within f rows) (kids n)) (λ m in'. ne_eqb _ _ (λ same. absurd (omega (arith, below_deeper f n m in')))))
+  levels (suc f) (suc k) n h =
+      cond-false (dep n == dep n + suc k) _ _ (ne_eqb _ _ (λ same. absurd (omega arith)))
+      ∙ (filter-flat_map (λ m. dep m == dep n + suc k) (preorder_within f rows) (level k) (kids n) (λ c in'. (let e : dep n + suc k ≡ dep c + k = omega (arith, lower n c in') in (λ i. filter (λ m. dep m == e i) (preorder_within f rows c)) ∙ levels f k c (omega arith)))
+      ∙ sym (level_top k n))
+
+  -- where no level has a match
+  abbrev NoneOn : (ℕ → Bool) → ℕ → ℕ → ℕ → Type 0
+  NoneOn passes n from to = (i : ℕ) → from ≤ i → i < to → find passes (level i n) ≡ None
+
+  abbrev FoundOn : (ℕ → Bool) → ℕ → ℕ → ℕ → Option ℕ → Type 0
+  FoundOn passes n from to None = NoneOn passes n from to
+  FoundOn passes n from to (Some x) = (k : ℕ) × (from ≤ k) × (k < to) × (find passes (level k n) ≡ Some x) × NoneOn passes n from k
+
+  found_on : (passes : ℕ → Bool) (f k n : ℕ) → FoundOn passes n k (k + f) (found_within f rows passes (level k n))
+  found_on passes zero k n = λ i le lt. absurd (omega arith)
+  found_on passes (suc f) k n = by (find passes (level k n)) refl (found_within f rows passes (level (suc k) n)) (found_on passes f (suc k) n)
+    where
+      by : (here : Option ℕ) → find passes (level k n) ≡ here → (rest : Option ℕ) → FoundOn passes n (suc k) (suc k + f) rest → FoundOn passes n k (k + suc f) (option_or here rest)
+      by (Some x) is rest later = (k, omega arith, omega arith, is, λ i le lt. absurd (omega arith))
+      by None is None later = λ i le lt. ⊎_elim (λ same. ap (λ j. find passes (level j n)) same ∙ is) (λ other. later i (omega arith) (omega arith)) (cases_eq i k)
+      by None is (Some x) later = (later.0, omega (arith, later.1), omega (arith, later.2), later.3, λ i le lt. ⊎_elim (λ same. ap (λ j. find passes (level j n)) same ∙ is) (λ other. later.4 i (omega arith) lt) (cases_eq i k))
+
+  module _ (passes : ℕ → Bool) (object f : ℕ) (bounded : (m : ℕ) → dep m ≤ suc f) (positive : (m : ℕ) → 1 ≤ dep m) where
+    abbrev below : List ℕ
+    below = flat_map (preorder_within f rows) (kids object)
+
+    below_level : (k : ℕ) → 1 ≤ k → k < suc f → filter (λ m. dep m == dep object + k) below ≡ level k object
+    below_level k some within = sym (cond-false (dep object == dep object + k) _ _ (ne_eqb _ _ (λ same. absurd (omega arith)))) ∙ levels (suc f) k object within
+
+    -- a match below stands no higher than the first level that has one
+    no_higher : (to m : ℕ) → NoneOn passes object 1 to → among below m ≡ true → passes m ≡ true → dep m < dep object + to → ⊥
+    no_higher to m none in' pass high =
+        let deep = below_deeper f object m in' in
+        let i = dep m - dep object in
+        let at_i : dep m ≡ dep object + i = omega arith in
+        let within : i < suc f = omega (arith, bounded m, positive object) in
+        let on : among (level i object) m ≡ true = ap (λ l. among l m) (sym (below_level i (omega arith) within)) ∙ (among-filter (λ m. dep m == dep object + i) below m ∙ (λ j. in' j && eq-eqb _ _ at_i j)) in
+        none_at passes (level i object) (none i (omega arith) (omega arith)) m on pass
+
+    -- what a search finds
+    abbrev Nearest : Option ℕ → Type 0
+    Nearest found = IsFirstAtLeast dep below passes found
+
+    nearest_of : (found : Option ℕ) → FoundOn passes object 1 (1 + suc f) found → Nearest found
+    nearest_of None none = false_from_ne_true _ (λ t. let h = any_at passes below t in no_higher (1 + suc f) h.0 none h.1 h.2 (omega (arith, bounded h.0)))
+    nearest_of (Some x) on =
+        let k = on.0 in
+        let at_k : dep x ≡ dep object + k = level_depth k object x (found_in passes (level k object) x on.3) in
+        let within : k < suc f = omega (arith, bounded x, positive object) in (
+          find_both passes (λ m. dep m == dep x) below ∙ (ap (λ d. find passes (filter (λ m. dep m == d) below)) at_k ∙ (ap (find passes) (below_level k on.1 within) ∙ on.3)),
+          false_from_ne_true _ (λ t.
+              let h = any_at (λ m. passes m && nat_lt (dep m) (dep x)) below t in
+              let both = and_parts (passes h.0) _ h.2 in
+              no_higher k h.0 on.4 h.1 both.0 (omega (arith, ltb-true _ _ both.1))),
+        )
+
+    pub nearest : Nearest (found_within (suc f) rows passes (kids object))
+    nearest = nearest_of _ (subst (λ l. FoundOn passes object 1 (1 + suc f) (found_within (suc f) rows passes l)) (append-nil (kids object)) (found_on passes (suc f) 1 object))
+
+-- who is among the children of an object has it as parent
+among-inserted : (row : Row) (rows : List Row) (m : ℕ) → among (numbers (inserted row rows)) m ≡ (m == row.number || among (numbers rows) m)
+among-inserted row [] m = refl
+among-inserted row (first ∷ rest) m = by (nat_lt row.stamp first.stamp) (among-inserted row rest m)
+  where
+    swap : (a b c : Bool) → (a || (b || c)) ≡ (b || (a || c))
+    swap true true c = refl
+    swap true false c = refl
+    swap false b c = refl
+
+    by : (b : Bool) → among (numbers (inserted row rest)) m ≡ (m == row.number || among (numbers rest) m) → among (numbers (cond b (row ∷ first ∷ rest) (first ∷ inserted row rest))) m ≡ (m == row.number || (m == first.number || among (numbers rest) m))
+    by true h = refl
+    by false h = ap (λ b. m == first.number || b) h ∙ swap (m == first.number) (m == row.number) (among (numbers rest) m)
+
+among-by_stamp : (rows : List Row) (m : ℕ) → among (numbers (by_stamp rows)) m ≡ among (numbers rows) m
+among-by_stamp [] m = refl
+among-by_stamp (row ∷ rest) m = among-inserted row (by_stamp rest) m ∙ ap (λ b. m == row.number || b) (among-by_stamp rest m)
+
+filtered_row : (p : Row → Bool) (rows : List Row) (m : ℕ) → Rise rows → among (numbers (filter p rows)) m ≡ true → (row : Row) × (row_of rows m ≡ Some row) × (p row ≡ true)
+filtered_row p [] m rise in' = absurd (cc)
+filtered_row p (row ∷ rest) m rise in' = by (p row) (row.number == m) refl refl (filtered_row p rest m (sorted_tail nat_cmp row.number (numbers rest) rise)) in'
+  where
+    behind : row.number ≡ m → row_of rest m ≡ None
+    behind same = (absent (λ r. r) m row.number rest (omega arith) (sorted_head nat_cmp row.number (numbers rest) rise)).0
+
+    by : (a b : Bool) → p row ≡ a → (row.number == m) ≡ b → (among (numbers (filter p rest)) m ≡ true → (r : Row) × (row_of rest m ≡ Some r) × (p r ≡ true)) → among (numbers (cond a (row ∷ filter p rest) (filter p rest))) m ≡ true → (r : Row) × (cond b (Some row) (row_of rest m) ≡ Some r) × (p r ≡ true)
+    by true true pass same later in' = (row, refl, pass)
+    by true false pass other later in' = later (⊎_elim (λ t. absurd (eqb-false _ _ other (sym (eqb-true _ _ t)))) (λ t. t) (or_cases (m == row.number) _ in'))
+    by false true fail same later in' = let h = later in' in absurd (let none : None ≡ Some h.0 = sym (behind (eqb-true _ _ same)) ∙ h.1 in cc)
+    by false false fail other later in' = later in'
+
+pub child_parent : (rows : List Row) (n c : ℕ) → Rise rows → among (children rows (Some n)) c ≡ true → (parent_of rows c ≡ Some n) × (is_there rows c ≡ true)
+unfolding children
+child_parent rows n c rise in' =
+    let h = filtered_row (has_parent (Some n)) rows c rise (sym (among-by_stamp (filter (has_parent (Some n)) rows) c) ∙ in') in
+    (ap (option_and_then (λ (row : Row). row.parent)) h.1 ∙ by h.0.parent h.2, ap is_some h.1)
+  where
+    by : (p : Option ℕ) → is_same p (Some n) ≡ true → p ≡ Some n
+    by None e = absurd (cc)
+    by (Some x) e = ap Some (eqb-true x n e)
+
+-- no children, and the first of some
+inserted_some : (row : Row) (rows : List Row) → numbers (inserted row rows) ≡ [] → ⊥
+inserted_some row [] e = absurd (cc)
+inserted_some row (first ∷ rest) e = by (nat_lt row.stamp first.stamp) e
+  where
+    by : (b : Bool) → numbers (cond b (row ∷ first ∷ rest) (first ∷ inserted row rest)) ≡ [] → ⊥
+    by true e = absurd (cc)
+    by false e = absurd (cc)
+
+pub children_none : (rows : List Row) (parent : Option ℕ) → children rows parent ≡ [] → filter (has_parent parent) rows ≡ []
+unfolding children
+children_none rows parent e = by (filter (has_parent parent) rows) e
+  where
+    by : (kids : List Row) → numbers (by_stamp kids) ≡ [] → kids ≡ []
+    by [] e = refl
+    by (row ∷ rest) e = absurd (inserted_some row (by_stamp rest) e)
+
+pub no_numbers : (kids : List Kin) → (length kids == 0) ≡ true → map (λ (kin : Kin). kin.number) kids ≡ []
+no_numbers [] e = refl
+no_numbers (kin ∷ rest) e = absurd (let none : suc (length rest) ≡ 0 = eqb-true (suc (length rest)) 0 e in omega (arith, none))
+
+pub first_among : (kids : List Kin) (d : Kin) (ns : List ℕ) → map (λ (kin : Kin). kin.number) kids ≡ ns → (length kids == 0) ≡ false → among ns (get_or kids 0 d).number ≡ true
+first_among [] d ns are e = absurd (cc)
+first_among (kin ∷ rest) d ns are e = subst (λ ms. among ms kin.number ≡ true) are (or_left (kin.number == kin.number) _ (eq-eqb kin.number kin.number refl))
+
+module _ (forest : Forest) (sound : IsSound forest) where
+  child_lower : (n c : ℕ) → among (children forest.rows (Some n)) c ≡ true → depth forest.rows c ≡ suc (depth forest.rows n)
+  child_lower n c in' =
+      let h = child_parent forest.rows n c sound.numbers_rise in' in
+      ap length (sound.lines c h.1) ∙ ap (λ p. suc (length (line_at forest.rows p))) h.0
+
+  depth_within : (m : ℕ) → depth forest.rows m ≤ length forest.rows
+  unfolding line
+  depth_within m = walk_within (parent_of forest.rows) (length forest.rows) m
+
+  depth_positive : (f m : ℕ) → length forest.rows ≡ suc f → 1 ≤ depth forest.rows m
+  unfolding line
+  depth_positive f m e = subst (λ n. 1 ≤ length (walk (parent_of forest.rows) n m)) (sym e) (omega arith)
+
+  -- in a forest of this many rows
+  finds_within : (object : ℕ) (passes : ℕ → Bool) (n : ℕ) → length forest.rows ≡ n → IsFirstAtLeast (depth forest.rows) (drop 1 (preorder_within n forest.rows object)) passes (found_within n forest.rows passes (children forest.rows (Some object)))
+  finds_within object passes zero e = refl
+  finds_within object passes (suc f) e = nearest forest.rows (depth forest.rows) child_lower passes object f (λ m. omega (arith, depth_within m)) (λ m. depth_positive f m e)
+
+  pub finds_nearest : (object : ℕ) (passes : ℕ → Bool) → IsNearest forest.rows object passes (found_below forest.rows object passes)
+  unfolding found_below all_below
+  finds_nearest object passes = finds_within object passes (length forest.rows) refl

@@ -1,0 +1,6 @@
+use Rattle.std.proofs.Common.{◌≡◌, ◌-◌, ℕ, Bool, length}
+use Rattle.object_tree.specs.Finding.{AnswersBy, found_below, found_within}
+use Rattle.object_tree.proofs.objects.Objects.find_below.Given as goal
+
+abbrev pub invariant-levels : goal.invariant-levels
+invariant-levels g l = (passes : ℕ → Bool) → AnswersBy (goal.F-post g l.test) passes → found_within (length l.self - l._step) l.self passes l.level.items ≡ found_below l.self l.object passes

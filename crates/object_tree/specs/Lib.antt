@@ -1,0 +1,9 @@
+pub mod Sorting
+pub mod Rows
+pub mod Lines
+pub mod Forest
+pub mod Refusing
+pub mod Changes
+pub mod Finding
+pub mod Table
+pub mod Kin

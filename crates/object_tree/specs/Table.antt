@@ -1,0 +1,13 @@
+-- A forest for each place.
+use Rattle.std.specs.Prelude.{ℕ, slice_index_or}
+use Rattle.places.specs.Table as places
+use Rattle.places.specs.Table.{Table}
+use Rattle.object_tree.specs.Forest.{Forest, empty_forest}
+
+-- the forest at a place
+abbrev pub forest_at : Table Forest → ℕ → Forest
+forest_at table place = slice_index_or table.places place empty_forest
+
+-- the table with another forest at a place, and all else as before
+abbrev pub with_forest : Table Forest → ℕ → Forest → Table Forest
+with_forest table place forest = places.with_place table place forest

@@ -1,0 +1,117 @@
+//! The children of objects, the search among them, and how many levels hang at them.
+ghost use Rattle.std.specs.Prelude.{◌≡◌, ◌^◌, ◌++◌, ◌≤◌, IfOk, OnOk, ℕ, Bool, find, length, map};
+ghost use Rattle.object_tree.specs.Rows.{children};
+ghost use Rattle.object_tree.specs.Lines.{height, levels_within};
+ghost use Rattle.object_tree.specs.Finding.{AnswersBy, children_of, found_below};
+
+use crate::kin::Kin;
+use crate::objects::Objects;
+use std::alloc::{AllocError, Global};
+
+impl Objects {
+    /// The children of a parent, by age.
+    pub(crate) fn children(
+        &self,
+        alloc: Global,
+        parent: Option<u32>,
+    ) -> Result<Vec<u32>, AllocError>
+        ensures { IfOk result (λ found. found.items ≡ children self.now parent) }
+    {
+        let mut found = Vec::new(alloc);
+        append_numbers(&mut found, self.kids(parent))?;
+        Ok(found)
+    }
+
+    /// The children of all of these, in their order.
+    fn children_of(&self, alloc: Global, level: &[u32]) -> Result<Vec<u32>, AllocError>
+        ensures { IfOk result (λ found. found.items ≡ children_of self.now level.now) }
+    {
+        let mut found = Vec::new(alloc);
+        'numbers: for number in level {
+            append_numbers(&mut found, self.kids(Some(*number)))?;
+        }
+        Ok(found)
+    }
+
+    /// The first match on the first level below an object that has one.
+    #[tactic(auto, unfolding(crate::specs::Finding::found_below))]
+    pub(crate) fn find_below<F>(
+        &self,
+        alloc: Global,
+        object: u32,
+        test: &F,
+    ) -> Result<Option<u32>, AllocError>
+    where
+        F: Fn(u32) -> Result<bool, AllocError>,
+        requires { F.IsAlwaysCallable test.now }
+        ensures { (passes : ℕ → Bool) → AnswersBy (F.post test.now) passes
+            → IfOk result (λ found. found ≡ found_below self.now object passes) }
+    {
+        let mut level = self.children(alloc, Some(object))?;
+        'levels: for _step in 0..self.count() {
+            let numbers = level.as_slice();
+            if numbers.is_empty() {
+                return Ok(None);
+            }
+            let found = first_match(numbers, test)?;
+            if found.is_some() {
+                return Ok(found);
+            }
+            level = self.children_of(alloc, numbers)?;
+        }
+        Ok(None)
+    }
+
+    /// How many levels hang at an object and below it.
+    #[tactic(auto, unfolding(crate::specs::Lines::height))]
+    pub(crate) fn height(&self, number: u32) -> usize
+        ensures value { result ≡ height self.now number }
+        ensures bound { result ≤ length self.now }
+    {
+        self.levels_within(self.count(), number)
+    }
+
+    /// How many levels there are, counted to this many.
+    #[tactic(auto, using(crate::proofs::Levels::levels_end, crate::proofs::Levels::greatest_more))]
+    fn levels_within(&self, most: usize, number: u32) -> usize
+        ensures value { result ≡ levels_within most self.now number }
+        ensures bound { result ≤ most }
+    {
+        if most == 0 {
+            return 0;
+        }
+        let kids = self.kids(Some(number));
+        let mut below = 0;
+        'kids: for child in kids {
+            below = below.max(self.levels_within(most - 1, child.number));
+        }
+        1 + below
+    }
+}
+
+/// Appends the numbers of some children.
+fn append_numbers(found: &mut Vec<u32>, kids: &[Kin]) -> Result<(), AllocError>
+    ensures { OnOk result (found.new.items ≡ found.old.items ++ map (λ kin. kin.number) kids.now) }
+{
+    found.reserve(kids.len())?;
+    'kids: for child in kids {
+        found.push(child.number)?;
+    }
+    Ok(())
+}
+
+/// The first number of a level that passes.
+fn first_match<F>(level: &[u32], test: &F) -> Result<Option<u32>, AllocError>
+where
+    F: Fn(u32) -> Result<bool, AllocError>,
+    requires { F.IsAlwaysCallable test.now }
+    ensures { (passes : ℕ → Bool) → AnswersBy (F.post test.now) passes
+        → IfOk result (λ found. found ≡ find passes level.now) }
+{
+    'numbers: for number in level {
+        if test(*number)? {
+            return Ok(Some(*number));
+        }
+    }
+    Ok(None)
+}

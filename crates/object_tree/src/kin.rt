@@ -1,0 +1,124 @@
+//! The children of all parents in one order: by parent, and then by age.
+ghost use Rattle.std.specs.Prelude.{◌≡◌, ◌==◌, ◌+◌, ◌<◌, ◌≤◌, ◌^◌, ℕ, IfNone, IfSome, true, false, not, filter, length, slice_index_or, vec_capacity, vec_len};
+ghost use Rattle.std.specs.List.{All, list_any};
+ghost use Rattle.std.specs.List.Sorted.{IsStrictlySortedBy};
+ghost use Rattle.std.specs.Ordering.{nat_cmp};
+ghost use Rattle.object_tree.specs.Kin.{first_rank, kids_of, kin_of, rank_of, ranks};
+ghost use Rattle.object_tree.specs.Sorting.{inserted_by};
+
+use crate::row::Row;
+
+/// A child, with its parent and its age.
+#[derive(Clone, Copy, Debug)]
+pub(crate) struct Kin {
+    pub(crate) parent: Option<u32>,
+    pub(crate) stamp: u64,
+    pub(crate) number: u32,
+}
+
+/// What is kept of a row beside it.
+pub(crate) fn kin_of(row: Row) -> Kin
+    ensures { result ≡ kin_of row }
+{
+    Kin {
+        parent: row.parent,
+        stamp: row.stamp,
+        number: row.number,
+    }
+}
+
+/// A number that no rank of a child of this parent is below; roots come first.
+#[tactic(auto, unfolding(crate::specs::Kin::first_rank))]
+fn first_rank(parent: Option<u32>) -> u128
+    ensures value { result ≡ first_rank parent }
+    ensures bound { result ≤ 2 ^ 96 }
+{
+    match parent {
+        Some(number) => (number as u128 + 1) * (1 << 64),
+        None => 0,
+    }
+}
+
+/// Where a child stands among all.
+fn rank(kin: Kin) -> u128
+    ensures value { result ≡ rank_of kin }
+    ensures bound { result < 2 ^ 97 }
+{
+    first_rank(kin.parent) + kin.stamp as u128
+}
+
+/// The children of a parent, by age.
+pub(crate) fn kids(list: &[Kin], parent: Option<u32>) -> &[Kin]
+    requires rise { IsStrictlySortedBy nat_cmp (ranks list.now) }
+    requires fit { All (λ kin. kin.stamp < 2 ^ 64) list.now }
+    ensures { result.now ≡ kids_of list.now parent }
+{
+    let low = first_rank(parent);
+    let start = first_of(list, low);
+    let end = first_of(list, low + (1 << 64));
+    &list[start..end]
+}
+
+/// How many have a rank below this one.
+fn first_of(list: &[Kin], low: u128) -> usize
+    requires { IsStrictlySortedBy nat_cmp (ranks list.now) }
+    ensures within { result ≤ length list.now }
+    ensures before { (k : ℕ) (d : Kin) → k < result → rank_of (slice_index_or list.now k d) < low }
+    ensures behind { (k : ℕ) (d : Kin) → result ≤ k → k < length list.now
+        → low ≤ rank_of (slice_index_or list.now k d) }
+{
+    list.partition_point(|kin| rank(*kin) < low)
+}
+
+/// Puts a child in its place, where there is room for one more.
+#[tactic(auto, using(crate::proofs::Sorted::inserted_at))]
+pub(crate) fn seat(list: &mut Vec<Kin>, new: Kin)
+    requires rise { IsStrictlySortedBy nat_cmp (ranks list.old.items) }
+    requires room { vec_len list.old < vec_capacity list.old }
+    ensures { list.new.items ≡ inserted_by rank_of new list.old.items }
+{
+    let place = first_of(list.as_slice(), rank(new) + 1);
+    match list.insert(place, new) {
+        Ok(()) => {}
+        Err(_) => {}
+    }
+}
+
+/// Takes a child out.
+pub(crate) fn unseat(list: &mut Vec<Kin>, old: Kin)
+    requires rise { IsStrictlySortedBy nat_cmp (ranks list.old.items) }
+    requires there { list_any (λ kin. rank_of kin == rank_of old) list.old.items ≡ true }
+    ensures items { list.new.items ≡ filter (λ kin. not (rank_of kin == rank_of old)) list.old.items }
+    ensures room { vec_len list.new < vec_capacity list.new }
+{
+    match place_of_rank(list.as_slice(), rank(old)) {
+        Some(place) => {
+            list.remove(place);
+        }
+        None => {}
+    }
+}
+
+/// Where a rank stands.
+fn place_of_rank(list: &[Kin], wanted: u128) -> Option<usize>
+    requires { IsStrictlySortedBy nat_cmp (ranks list.now) }
+    ensures within { IfSome result (λ place. place < length list.now) }
+    ensures found { IfSome result (λ place. (d : Kin) → rank_of (slice_index_or list.now place d) ≡ wanted) }
+    ensures none { IfNone result (list_any (λ kin. rank_of kin == wanted) list.now ≡ false) }
+{
+    match list.binary_search_by_key(&wanted, |kin| rank(*kin)) {
+        Ok(place) => Some(place),
+        Err(_) => None,
+    }
+}
+
+/// Puts a child in another place.
+pub(crate) fn reseat(list: &mut Vec<Kin>, old: Kin, new: Kin)
+    requires rise { IsStrictlySortedBy nat_cmp (ranks list.old.items) }
+    requires there { list_any (λ kin. rank_of kin == rank_of old) list.old.items ≡ true }
+    ensures { list.new.items ≡ inserted_by rank_of new
+        (filter (λ kin. not (rank_of kin == rank_of old)) list.old.items) }
+{
+    unseat(list, old);
+    seat(list, new);
+}

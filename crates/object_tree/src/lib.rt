@@ -1,0 +1,16 @@
+//! Live objects in trees, a forest for each session: who is whose parent, the order of children by
+//! age, and the search for an object below another one.
+#![tactic(auto)]
+
+mod children;
+mod forests;
+mod kin;
+mod lines;
+mod objects;
+mod row;
+#[cfg(test)]
+mod tests;
+mod tree;
+
+pub use forests::Forests;
+pub use row::{DEPTH, OBJECTS, Row};

@@ -1,0 +1,24 @@
+//! Objects as rows of a table.
+
+/// The most objects that a forest holds.
+pub const OBJECTS: usize = 4096;
+
+/// The most levels of a tree; a root stands on the first.
+pub const DEPTH: usize = 64;
+
+/// An object.
+#[derive(Clone, Copy, Debug, PartialEq, Eq)]
+pub struct Row {
+    /// Counted from 1 in each forest, and never given again before it is cleared.
+    pub number: u32,
+    /// The number of its class.
+    pub class: u32,
+    /// The object above it; a root has none.
+    pub parent: Option<u32>,
+    /// When it came to this parent, against other objects: the greater the later.
+    pub stamp: u64,
+    /// Whether it is being deleted.
+    pub dying: bool,
+    /// Whether its signals are blocked.
+    pub blocked: bool,
+}

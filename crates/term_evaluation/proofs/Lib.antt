@@ -1,0 +1,4 @@
+pub mod Branches
+pub mod Sufficing
+pub mod ReadBodies
+pub mod UnfoldedBodies

@@ -1,0 +1,206 @@
+-- Every argument of a body that was read for so many parameters is one of theirs.
+use Rattle.std.proofs.Common.{◌≡◌, ℕ, List, [], Bool, true, false, Option, Some, None, Ok, Err, refl, codes, bytes_eq, nat_lt, is_some, arith}
+use Rattle.std.specs.Prelude.{IfOk, if◌then◌else◌, unwrap_or}
+use Rattle.std.specs.List.{All}
+use Rattle.std.specs.Option.{option_map_or}
+use Rattle.std.proofs.lemmas.Bool.Decides.{nat_tests}
+use Rattle.std.proofs.lemmas.List.Elements.{All-nil, All-cons}
+use Rattle.serde_json.specs.Data.{Data, null, boolean, number, string, array, object, Items, no_items, item, Members, no_members, member}
+use Rattle.serde_json.specs.Find.{get, as_array, as_bool}
+use Rattle.refusals.specs.declared.code.Code.TheVariants.{BadValue, Limit}
+use Rattle.term_core.specs.declared.action.Effect.{Effect}
+use Rattle.term_core.specs.declared.body.Body.{Body}
+use Rattle.term_core.specs.declared.operator.Operator.{Operator}
+use Rattle.term_core.specs.declared.operator.Operator.TheVariants.{Sum, Difference, Less, Equal, Joined}
+use Rattle.term_core.specs.Act.{Act, acts_of}
+use Rattle.term_core.specs.Bodies as bodies
+use Rattle.term_core.specs.Effects.{signature_in, unless_null, optional, flag_in, mode_in, terms_in, set_in, emit_in, connect_in, disconnect_in, delete_in, delete_later_in, block_in, set_parent_in, effect_in}
+use Rattle.term_core.specs.Forms as forms
+use Rattle.term_core.specs.Json.{Read, ◌>>=◌, formed, provided, at_key, name_in, natural_in, constant_in, target_in}
+use Rattle.term_core.specs.Term.{Term, const, arg}
+use Rattle.term_evaluation.specs.Laws.{TakesAtMost, EffectTakesAtMost, ActTakesAtMost, ActsTakeAtMost}
+
+-- what holds of whatever is read in the end
+
+always : {A B : Type 0} (Q : B → Type 0) (r : Read A) (f : A → Read B) → ((x : A) → IfOk (f x) Q) → IfOk (r >>= f) Q
+always Q (Ok x) f g = g x
+always Q (Err code) f g = tt
+
+kept : {A B : Type 0} (P : A → Type 0) (Q : B → Type 0) (r : Read A) (f : A → Read B) → IfOk r P → ((x : A) → P x → IfOk (f x) Q) → IfOk (r >>= f) Q
+kept P Q (Ok x) f h g = g x h
+kept P Q (Err code) f h g = tt
+
+either : {A : Type 0} (P : A → Type 0) (b : Bool) (x y : Read A) → IfOk x P → IfOk y P → IfOk (if b then x else y) P
+either P true x y h k = h
+either P false x y h k = k
+
+wherever : {A B : Type 0} (P : B → Type 0) (f : A → Read B) (o : Option A) (d : Read B) → ((x : A) → IfOk (f x) P) → IfOk d P → IfOk (option_map_or f o d) P
+wherever P f None d h k = k
+wherever P f (Some x) d h k = h x
+
+if_provided : {A : Type 0} (P : A → Type 0) (b : Bool) (x : A) → (b ≡ true → P x) → IfOk (provided b x) P
+if_provided P true x h = h refl
+if_provided P false x h = tt
+
+found : {A B : Type 0} (P : B → Type 0) (f : A → Read B) (b : Bool) (x : A) (rest : Option A) (d : Read B) → IfOk (f x) P → IfOk (option_map_or f rest d) P → IfOk (option_map_or f (if b then Some x else rest) d) P
+found P f true x rest d h k = h
+found P f false x rest d h k = k
+
+-- expressions
+
+-- where an expression stands
+abbrev Domain : {A B : Type 0} → (A → B) → Type 0
+Domain {A} f = A
+
+abbrev Scope : Type 0
+Scope = Domain forms.params
+
+abbrev Term_ok : Scope → Term → Type 0
+Term_ok scope = TakesAtMost (forms.params scope)
+
+argument_read : (scope : Scope) (json : Data) → IfOk (forms.argument_in scope json) (Term_ok scope)
+argument_read scope json = always (Term_ok scope) (natural_in json) _ (λ place. if_provided (Term_ok scope) (nat_lt place (forms.params scope)) (arg place) (λ e. grind (arith, nat_tests)))
+
+property_read : (scope : Scope) (json : Data) → IfOk (forms.property_in scope json) (Term_ok scope)
+property_read scope json = always (Term_ok scope) (at_key (codes "prop") json) _ (λ property. always (Term_ok scope) (name_in property) _ (λ name. always (Term_ok scope) (forms.subject_in json) _ (λ target. if_provided (Term_ok scope) _ _ (λ e. tt))))
+
+constant_read : (scope : Scope) (json : Data) → IfOk (constant_in json >>= λ value. Ok (const value)) (Term_ok scope)
+constant_read scope json = always (Term_ok scope) (constant_in json) _ (λ value. tt)
+
+mutual
+  term_read : (scope : Scope) (json : Data) → IfOk (forms.term_in scope json) (Term_ok scope)
+  term_read scope null = tt
+  term_read scope (boolean b) = tt
+  term_read scope (number n) = tt
+  term_read scope (string text) = tt
+  term_read scope (array items) = tt
+  term_read scope (object inside) = either (Term_ok scope) (is_some (get (codes "prop") (object inside))) _ _ (property_read scope (object inside)) (only_member_read scope inside)
+
+  only_member_read : (scope : Scope) (inside : Members) → IfOk (forms.only_member scope inside) (Term_ok scope)
+  only_member_read scope no_members = tt
+  only_member_read scope (member key json no_members) =
+      found (Term_ok scope) _ (bytes_eq key (codes "const")) _ _ _ (constant_read scope json) (
+      found (Term_ok scope) _ (bytes_eq key (codes "arg")) _ _ _ (argument_read scope json) (
+      found (Term_ok scope) _ (bytes_eq key (codes "+")) _ _ _ (binary_read scope Sum json) (
+      found (Term_ok scope) _ (bytes_eq key (codes "-")) _ _ _ (binary_read scope Difference json) (
+      found (Term_ok scope) _ (bytes_eq key (codes "<")) _ _ _ (binary_read scope Less json) (
+      found (Term_ok scope) _ (bytes_eq key (codes "=")) _ _ _ (binary_read scope Equal json) (
+      found (Term_ok scope) _ (bytes_eq key (codes "cat")) _ _ _ (binary_read scope Joined json) (
+      found (Term_ok scope) _ (bytes_eq key (codes "if")) _ _ _ (choice_read scope json) tt)))))))
+  only_member_read scope (member key json (member other more rest)) = tt
+
+  binary_read : (scope : Scope) (operator : Operator) (json : Data) → IfOk (forms.binary_in scope operator json) (Term_ok scope)
+  binary_read scope operator null = tt
+  binary_read scope operator (boolean b) = tt
+  binary_read scope operator (number n) = tt
+  binary_read scope operator (string text) = tt
+  binary_read scope operator (object inside) = tt
+  binary_read scope operator (array no_items) = tt
+  binary_read scope operator (array (item a no_items)) = tt
+  binary_read scope operator (array (item a (item b no_items))) = kept (Term_ok scope) (Term_ok scope) (forms.term_in scope a) _ (term_read scope a) (λ x hx. kept (Term_ok scope) (Term_ok scope) (forms.term_in scope b) _ (term_read scope b) (λ y hy. (hx, hy)))
+  binary_read scope operator (array (item a (item b (item c rest)))) = tt
+
+  choice_read : (scope : Scope) (json : Data) → IfOk (forms.choice_in scope json) (Term_ok scope)
+  choice_read scope null = tt
+  choice_read scope (boolean b) = tt
+  choice_read scope (number n) = tt
+  choice_read scope (string text) = tt
+  choice_read scope (object inside) = tt
+  choice_read scope (array no_items) = tt
+  choice_read scope (array (item t no_items)) = tt
+  choice_read scope (array (item t (item a no_items))) = tt
+  choice_read scope (array (item t (item a (item b no_items)))) = kept (Term_ok scope) (Term_ok scope) (forms.term_in scope t) _ (term_read scope t) (λ w hw. kept (Term_ok scope) (Term_ok scope) (forms.term_in scope a) _ (term_read scope a) (λ x hx. kept (Term_ok scope) (Term_ok scope) (forms.term_in scope b) _ (term_read scope b) (λ y hy. (hw, (hx, hy)))))
+  choice_read scope (array (item t (item a (item b (item c rest))))) = tt
+
+terms_read : (scope : Scope) (items : Items) → IfOk (terms_in scope items) (All (Term_ok scope))
+terms_read scope no_items = All-nil (Term_ok scope)
+terms_read scope (item json rest) = kept (Term_ok scope) (All (Term_ok scope)) (forms.term_in scope json) _ (term_read scope json) (λ x hx. kept (All (Term_ok scope)) (All (Term_ok scope)) (terms_in scope rest) _ (terms_read scope rest) (λ xs hxs. All-cons (Term_ok scope) x xs hx hxs))
+
+-- actions that do one thing
+
+abbrev Effect_ok : Scope → Effect → Type 0
+Effect_ok scope = EffectTakesAtMost (forms.params scope)
+
+set_read : (scope : Scope) (json named : Data) → IfOk (set_in scope json named) (Effect_ok scope)
+set_read scope json named = always (Effect_ok scope) (name_in named) _ (λ property. always (Effect_ok scope) (forms.subject_in json) _ (λ target. always (Effect_ok scope) (at_key (codes "to") json) _ (λ to. kept (Term_ok scope) (Effect_ok scope) (forms.term_in scope to) _ (term_read scope to) (λ value h. if_provided (Effect_ok scope) _ _ (λ e. h)))))
+
+emit_read : (scope : Scope) (json named : Data) → IfOk (emit_in scope json named) (Effect_ok scope)
+emit_read scope json named = always (Effect_ok scope) (signature_in named) _ (λ signal. always (Effect_ok scope) (forms.subject_in json) _ (λ target. always (Effect_ok scope) (at_key (codes "args") json) _ (λ there. always (Effect_ok scope) (formed (as_array there)) _ (λ items. kept (All (Term_ok scope)) (Effect_ok scope) (terms_in scope items) _ (terms_read scope items) (λ args h. if_provided (Effect_ok scope) _ _ (λ e. h))))))
+
+connect_read : (scope : Scope) (json named : Data) → IfOk (connect_in json named) (Effect_ok scope)
+connect_read scope json named = always (Effect_ok scope) (signature_in named) _ (λ signal. always (Effect_ok scope) (forms.subject_in json) _ (λ target. always (Effect_ok scope) (at_key (codes "to") json) _ (λ receiver. always (Effect_ok scope) (target_in receiver) _ (λ to. always (Effect_ok scope) (at_key (codes "method") json) _ (λ there. always (Effect_ok scope) (signature_in there) _ (λ method. always (Effect_ok scope) (mode_in json) _ (λ mode. always (Effect_ok scope) (flag_in (codes "unique") json) _ (λ unique. always (Effect_ok scope) (flag_in (codes "single") json) _ (λ single. if_provided (Effect_ok scope) _ _ (λ e. tt))))))))))
+
+disconnect_read : (scope : Scope) (json named : Data) → IfOk (disconnect_in json named) (Effect_ok scope)
+disconnect_read scope json named = always (Effect_ok scope) (unless_null signature_in named) _ (λ signal. always (Effect_ok scope) (forms.subject_in json) _ (λ target. always (Effect_ok scope) (optional target_in (codes "to") json) _ (λ to. always (Effect_ok scope) (optional signature_in (codes "method") json) _ (λ method. if_provided (Effect_ok scope) _ _ (λ e. tt)))))
+
+delete_read : (scope : Scope) (json named : Data) → IfOk (delete_in json named) (Effect_ok scope)
+delete_read scope json named = always (Effect_ok scope) (target_in named) _ (λ target. if_provided (Effect_ok scope) _ _ (λ e. tt))
+
+delete_later_read : (scope : Scope) (json named : Data) → IfOk (delete_later_in json named) (Effect_ok scope)
+delete_later_read scope json named = always (Effect_ok scope) (target_in named) _ (λ target. if_provided (Effect_ok scope) _ _ (λ e. tt))
+
+block_read : (scope : Scope) (json named : Data) → IfOk (block_in json named) (Effect_ok scope)
+block_read scope json named = always (Effect_ok scope) (formed (as_bool named)) _ (λ on. always (Effect_ok scope) (forms.subject_in json) _ (λ target. if_provided (Effect_ok scope) _ _ (λ e. tt)))
+
+set_parent_read : (scope : Scope) (json named : Data) → IfOk (set_parent_in json named) (Effect_ok scope)
+set_parent_read scope json named = always (Effect_ok scope) (unless_null target_in named) _ (λ parent. always (Effect_ok scope) (forms.subject_in json) _ (λ target. if_provided (Effect_ok scope) _ _ (λ e. tt)))
+
+effect_read : (scope : Scope) (json : Data) → IfOk (effect_in scope json) (Effect_ok scope)
+effect_read scope json =
+    wherever (Effect_ok scope) (set_in scope json) (get (codes "set") json) _ (set_read scope json) (
+    wherever (Effect_ok scope) (emit_in scope json) (get (codes "emit") json) _ (emit_read scope json) (
+    wherever (Effect_ok scope) (connect_in json) (get (codes "connect") json) _ (connect_read scope json) (
+    wherever (Effect_ok scope) (disconnect_in json) (get (codes "disconnect") json) _ (disconnect_read scope json) (
+    wherever (Effect_ok scope) (delete_in json) (get (codes "delete") json) _ (delete_read scope json) (
+    wherever (Effect_ok scope) (delete_later_in json) (get (codes "deleteLater") json) _ (delete_later_read scope json) (
+    wherever (Effect_ok scope) (block_in json) (get (codes "block") json) _ (block_read scope json) (
+    wherever (Effect_ok scope) (set_parent_in json) (get (codes "setParent") json) _ (set_parent_read scope json) tt)))))))
+
+-- all actions
+
+abbrev Act_ok : Scope → Act → Type 0
+Act_ok scope = ActTakesAtMost (forms.params scope)
+
+abbrev Acts_ok : Scope → List Act → Type 0
+Acts_ok scope actions = ActsTakeAtMost (forms.params scope) (acts_of actions)
+
+found_branch : {A : Type 0} (P : A → Type 0) (b : Bool) (x : Read A) (rest : Option (Read A)) (d : Read A) → IfOk x P → IfOk (unwrap_or rest d) P → IfOk (unwrap_or (if b then Some x else rest) d) P
+found_branch P true x rest d h k = h
+found_branch P false x rest d h k = k
+
+choice_made : (scope : Scope) (json : Data) (held failed : Option (Read (List Act))) → IfOk (unwrap_or held (Err BadValue)) (Acts_ok scope) → IfOk (unwrap_or failed (Ok [])) (Acts_ok scope) → IfOk (bodies.choice_in scope json held failed) (Act_ok scope)
+choice_made scope json held failed h k = always (Act_ok scope) (at_key (codes "when") json) _ (λ condition. kept (Term_ok scope) (Act_ok scope) (forms.term_in scope condition) _ (term_read scope condition) (λ test ht. kept (Acts_ok scope) (Act_ok scope) (unwrap_or held (Err BadValue)) _ h (λ a ha. kept (Acts_ok scope) (Act_ok scope) (unwrap_or failed (Ok [])) _ k (λ b hb. if_provided (Act_ok scope) _ _ (λ e. (ht, (ha, hb)))))))
+
+action_made : (scope : Scope) (json : Data) (held failed : Option (Read (List Act))) → IfOk (unwrap_or held (Err BadValue)) (Acts_ok scope) → IfOk (unwrap_or failed (Ok [])) (Acts_ok scope) → IfOk (bodies.made scope json held failed) (Act_ok scope)
+action_made scope json held failed h k = either (Act_ok scope) (is_some (get (codes "when") json)) _ _ (choice_made scope json held failed h k) (kept (Effect_ok scope) (Act_ok scope) (effect_in scope json) _ (effect_read scope json) (λ plain h. h))
+
+mutual
+  act_read : (scope : Scope) (json : Data) → IfOk (bodies.act_in scope json) (Act_ok scope)
+  act_read scope null = tt
+  act_read scope (boolean b) = tt
+  act_read scope (number n) = tt
+  act_read scope (string text) = tt
+  act_read scope (array items) = tt
+  act_read scope (object inside) = action_made scope (object inside) (bodies.branch_in scope (codes "then") inside) (bodies.branch_in scope (codes "else") inside) (branch_read scope (codes "then") inside (Err BadValue) tt) (branch_read scope (codes "else") inside (Ok []) tt)
+
+  branch_read : (scope : Scope) (key : List ℕ) (inside : Members) (d : Read (List Act)) → IfOk d (Acts_ok scope) → IfOk (unwrap_or (bodies.branch_in scope key inside) d) (Acts_ok scope)
+  branch_read scope key no_members d h = h
+  branch_read scope key (member other json rest) d h = found_branch (Acts_ok scope) (bytes_eq key other) _ _ d (actions_read scope json) (branch_read scope key rest d h)
+
+  actions_read : (scope : Scope) (json : Data) → IfOk (bodies.actions_in scope json) (Acts_ok scope)
+  actions_read scope null = tt
+  actions_read scope (boolean b) = tt
+  actions_read scope (number n) = tt
+  actions_read scope (string text) = tt
+  actions_read scope (object inside) = tt
+  actions_read scope (array items) = acts_read scope items
+
+  acts_read : (scope : Scope) (items : Items) → IfOk (bodies.acts_in scope items) (Acts_ok scope)
+  acts_read scope no_items = tt
+  acts_read scope (item json rest) = kept (Act_ok scope) (Acts_ok scope) (bodies.act_in scope json) _ (act_read scope json) (λ x hx. kept (Acts_ok scope) (Acts_ok scope) (bodies.acts_in scope rest) _ (acts_read scope rest) (λ xs hxs. (hx, hxs)))
+
+abbrev pub Body_ok : ℕ → Body → Type 0
+Body_ok n body = ActsTakeAtMost n (acts_of body.actions)
+
+pub body_read : (n : ℕ) (json : Data) → IfOk (bodies.body_of n json) (Body_ok n)
+body_read n json = kept (λ actions. ActsTakeAtMost n (acts_of actions)) (Body_ok n) _ bodies.limited_body (actions_read _ json) (λ actions h. either (Body_ok n) (bodies.is_body_limited actions) (Ok (record { actions = actions })) (Err Limit) h tt)

@@ -1,0 +1,7 @@
+pub mod Outcomes
+pub mod Reading
+pub mod Known
+pub mod Operations
+pub mod Evaluation
+pub mod Unfolding
+pub mod Laws

@@ -1,0 +1,85 @@
+//! The value of an expression.
+ghost use Rattle.std.specs.Prelude.{◌≡◌, List};
+ghost use Rattle.refusals.specs.Answers.{Answers};
+ghost use Rattle.term_evaluation.specs.Evaluation.{argument, eval_by};
+ghost use Rattle.term_evaluation.specs.Known.{Known, read_of};
+ghost use Rattle.term_evaluation.specs.Outcomes.{Ends};
+
+use crate::halt::Halt;
+use crate::operations::{apply, truth};
+use plain_types::Text;
+use refusals::{Code, Fault};
+use std::alloc::Global;
+use term_core::{Expr, Node, Target};
+use variant_value::Value;
+
+/// What reads the properties that an expression names.
+pub trait Reads {
+    /// What the reader may answer beside the codes.
+    type Own: Drop;
+
+    /// All properties that can be read, each with its value or with why it has none.
+    ghost reads: { Self → List (Known Self.Own) };
+
+    /// The value of a property of an object. A property that the reader lacks is `NoSuchProperty`
+    /// where it has another of that object, else `NoSuchObject`.
+    fn read(&self, alloc: Global, target: &Target, name: &Text) -> Result<Value, Halt<Self::Own>>
+        ensures { Ends result (read_of (reads self.now) target.now name.now) };
+}
+
+/// The reader of nothing: there is no object. It serves expressions of constants and arguments.
+#[derive(Debug, Drop)]
+pub struct NoObjects;
+
+impl Reads for NoObjects {
+    ghost use Rattle.std.specs.Prelude.{[]};
+
+    type Own = ();
+
+    ghost reads = { λ _. [] };
+
+    fn read(&self, _alloc: Global, _target: &Target, _name: &Text) -> Result<Value, Halt<()>> {
+        Err(Halt::Refused(Code::NoSuchObject))
+    }
+}
+
+/// The value of the expression, from left to right; the first fault ends it. Of two operands both are
+/// evaluated before their kinds are looked at, of a choice the test and then the branch that is taken.
+/// Operands of a wrong kind, a test that is no truth, a number below -2^63 or above 2^64 - 1 and an
+/// argument that is not given are `BadValue`; a text of more than `TEXT_BYTES` is `Limit`.
+pub fn evaluate<R: Reads>(
+    alloc: Global,
+    expr: &Expr,
+    args: &[Value],
+    reader: &R,
+) -> Result<Value, Halt<R::Own>>
+    ensures { Ends result (eval_by args.now (read_of (R.reads reader.now)) expr.now) }
+{
+    match &expr.node {
+        Node::Const(value) => Ok(value.copy(alloc)?),
+        Node::Arg(place) => Ok(argument(alloc, args, *place)?),
+        Node::Prop(target, name) => reader.read(alloc, target, name),
+        Node::Binary(operator, a, b) => {
+            let a = evaluate(alloc, a, args, reader)?;
+            let b = evaluate(alloc, b, args, reader)?;
+            Ok(apply(alloc, *operator, &a, &b)?)
+        }
+        Node::Choice(test, held, failed) => {
+            let test = evaluate(alloc, test, args, reader)?;
+            match truth(&test) {
+                Some(true) => evaluate(alloc, held, args, reader),
+                Some(false) => evaluate(alloc, failed, args, reader),
+                None => Err(Halt::Refused(Code::BadValue)),
+            }
+        }
+    }
+}
+
+fn argument(alloc: Global, args: &[Value], place: usize) -> Result<Value, Fault>
+    ensures { Answers result (argument args.now place) }
+{
+    match args.get(place) {
+        Some(value) => Ok(value.copy(alloc)?),
+        None => Err(Fault::Refused(Code::BadValue)),
+    }
+}

@@ -1,0 +1,18 @@
+//! What expressions and the bodies of slots mean: the properties that an expression reads, its value over
+//! what is read, and a body with its arguments put in.
+#![tactic(auto)]
+
+mod evaluation;
+mod halt;
+mod laws;
+mod operations;
+mod reading;
+mod substitution;
+#[cfg(test)]
+mod tests;
+
+pub use evaluation::{NoObjects, Reads, evaluate};
+pub use halt::Halt;
+pub use laws::{reads_suffice, unfolding_leaves_no_argument};
+pub use reading::{Read, reads_of};
+pub use substitution::unfold;
