@@ -4,13 +4,13 @@ ghost use Rattle.std.specs.Result.{result_err};
 ghost use Rattle.refusals.specs.Answers.{RefusedBy};
 ghost use Rattle.object_tree.specs.Rows.{children, numbers, row_of};
 ghost use Rattle.object_tree.specs.Forest.{IsSound, empty_forest};
-ghost use Rattle.object_tree.specs.Refusing.{add_refusal, keeps_parent, move_refusal, number_refusal, object_refusal, parent_refusal, room_refusal, set_parent_refusal, stamp_refusal, cycle_refusal, depth_refusal};
-ghost use Rattle.object_tree.specs.Changes.{added, marked, moved, orphaned, removed, reparented, with_blocked};
+ghost use Rattle.object_tree.specs.Refusing.{add_refusal, cycle_refusal, keeps_parent, move_refusal, object_refusal, parent_refusal, set_parent_refusal, stamp_refusal};
+ghost use Rattle.object_tree.specs.Changes.{added, marked, moved, removed, reparented, with_blocked};
 ghost use Rattle.object_tree.specs.Finding.{AnswersBy, found_below, IsNearest};
 ghost use Rattle.std.specs.Option.{option_map_or};
 ghost use Rattle.std.specs.List.Sorted.{IsStrictlySortedBy};
 ghost use Rattle.std.specs.Ordering.{nat_cmp};
-ghost use Rattle.std.specs.Prelude.{false, map, Some, None};
+ghost use Rattle.std.specs.Prelude.{false, None};
 
 use crate::lines::{depth_at, is_below, is_same, parent_of, row_of};
 use crate::objects::Objects;
