@@ -28,7 +28,14 @@ fn given(alloc: Global, session: &str, command: Command) -> Result<Tagged, Alloc
 
 fn make(alloc: Global, session: &str, class: &str) -> Result<Tagged, AllocError> {
     let class = Text::from_str(alloc, class)?;
-    given(alloc, session, Command::New { class, parent: None })
+    given(
+        alloc,
+        session,
+        Command::New {
+            class,
+            parent: None,
+        },
+    )
 }
 
 fn name(alloc: Global, object: u32, value: serde_json::Value) -> Result<Tagged, AllocError> {

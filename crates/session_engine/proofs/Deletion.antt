@@ -119,4 +119,4 @@ pub delete_rows : (old marked middle new : Rows) (ses target depth : ℕ) → Is
 delete_rows old marked middle new ses target depth seat lives e cut gone =
     let there = state_by_with old marked ses (dying_in (state_at old ses) target) seat e in
     delete_some (state_at old ses) (state_at middle ses) (state_at new ses) target depth lives
-        (subst (λ (state : State). Does (Cut target depth ∷ []) state (state_at middle ses)) there cut) gone
+    (subst (λ (state : State). Does (Cut target depth ∷ []) state (state_at middle ses)) there cut) gone

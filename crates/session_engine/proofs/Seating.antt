@@ -26,4 +26,4 @@ pub obeyed : (old : Seats) (rows : Rows) (ses : ℕ) (state : State) → Changes
 obeyed old rows ses state only fine is =
     ap (λ rows. with_rows old rows) (only ∙ ap (with_state old.rows ses) is)
     ∙ ap (λ failed. let seats : Seats = record { rows = with_state old.rows ses state; failed = failed } in seats)
-        (sym (place_same old.failed ses false) ∙ ap (with_place old.failed ses) fine)
+    (sym (place_same old.failed ses false) ∙ ap (with_place old.failed ses) fine)

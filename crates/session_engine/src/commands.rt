@@ -40,12 +40,7 @@ pub fn act(
 
 /// Does what a command asks, and answers what is replied.
 #[tactic(auto, using(crate::proofs::Placing::changes_itself))]
-fn answer(
-    setup: &Setup,
-    rows: &mut Rows,
-    ses: usize,
-    command: &Command,
-) -> Result<Answer, Fault>
+fn answer(setup: &Setup, rows: &mut Rows, ses: usize, command: &Command) -> Result<Answer, Fault>
     requires { IsSeat rows.old ses }
     ensures reply { (name : List ℕ)
         → Replies result (does (settings_of setup.now) name (state_at rows.old ses) (asked command.now)).lines }

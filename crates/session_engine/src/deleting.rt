@@ -44,13 +44,7 @@ fn cut(rows: &mut Rows, ses: usize, target: u32, depth: u32) -> Result<(), Alloc
 
 /// Deletes a child, unless it has gone, is dying or has another parent by now.
 #[cycle(deletion)]
-fn kin(
-    rows: &mut Rows,
-    ses: usize,
-    parent: u32,
-    child: u32,
-    depth: u32,
-) -> Result<(), AllocError>
+fn kin(rows: &mut Rows, ses: usize, parent: u32, child: u32, depth: u32) -> Result<(), AllocError>
     requires { IsSeat rows.old ses }
     ensures does { OnOk result (Does (Kin parent child depth ∷ []) (state_at rows.old ses) (state_at rows.new ses)) }
     ensures lessens { Lessens ses rows.old rows.new }

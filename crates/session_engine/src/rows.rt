@@ -119,7 +119,7 @@ impl Rows {
         requires { IsSeat self.old ses }
         ensures refusal { result_err result ≡ set_parent_refusal (state_at self.old ses).forest object parent }
         ensures ok { OnOk result (self.new ≡ with_state self.old ses (record (state_at self.old ses) {
-            forest = reparented (state_at self.old ses).forest object parent;
+          forest = reparented (state_at self.old ses).forest object parent;
         })) }
         ensures err { OnErr result (self.new ≡ self.old) }
     {
@@ -130,7 +130,7 @@ impl Rows {
     pub fn mark_dying(&mut self, ses: usize, object: u32)
         requires { IsSeat self.old ses }
         ensures { self.new ≡ with_state self.old ses (record (state_at self.old ses) {
-            forest = marked (state_at self.old ses).forest object;
+          forest = marked (state_at self.old ses).forest object;
         }) }
     {
         self.forests.mark_dying(ses, object);
@@ -184,13 +184,7 @@ impl Rows {
             return None;
         };
         match self.forests.row(ses, parent) {
-            Some(row) => {
-                if row.dying {
-                    Some(Code::Dying)
-                } else {
-                    None
-                }
-            }
+            Some(row) => { if row.dying { Some(Code::Dying) } else { None } }
             None => Some(Code::NoSuchObject),
         }
     }
@@ -231,7 +225,7 @@ impl Rows {
         requires { IsSeat self.now ses }
         ensures { IfOk result (λ found. found ≡ found_below (state_at self.now ses).forest.rows object
             (λ number. has_name (state_at self.now ses) name.now number
-                && is_of_class classes.now (state_at self.now ses) class number)) }
+            && is_of_class classes.now (state_at self.now ses) class number)) }
     {
         self.forests.find_child(ses, object, |number| {
             Ok(self.has_name(ses, number, name) && self.is_of_class(classes, ses, number, class))

@@ -59,7 +59,7 @@ marked-one number [] lives = absurd (cc)
 marked-one number (row ∷ rows) lives = ⊎_elim
     (λ e. ⊎_elim (λ dying. absurd (grind (arith, e, dying, lives))) (λ living. grind (arith, e, living, marked-fewer number rows)) (cases_Bool row.dying))
     (λ e. let rest = marked-one number rows (grind (arith, e, lives)) in
-        ⊎_elim (λ living. grind (arith, e, living, rest)) (λ dead. grind (arith, e, dead, rest)) (cases_Bool row.dying))
+    ⊎_elim (λ living. grind (arith, e, living, rest)) (λ dead. grind (arith, e, dead, rest)) (cases_Bool row.dying))
     (cases_Bool (has_number number row))
 
 -- what becomes a root is as living as before

@@ -5,13 +5,23 @@ use plain_types::Text;
 #[derive(Drop)]
 pub enum Command {
     /// Makes an object of a class, below a parent or as a root, and answers its number.
-    New { class: Text, parent: Option<u32> },
+    New {
+        class: Text,
+        parent: Option<u32>,
+    },
     /// Deletes an object and all below it.
-    Delete { object: u32 },
+    Delete {
+        object: u32,
+    },
     /// Gives an object another parent, or makes it a root.
-    SetParent { object: u32, parent: Option<u32> },
+    SetParent {
+        object: u32,
+        parent: Option<u32>,
+    },
     /// Answers the children of an object, or the roots.
-    Children { object: Option<u32> },
+    Children {
+        object: Option<u32>,
+    },
     /// Answers the nearest object below another one, of this name and of this class or one below it,
     /// where these are given.
     Find {
@@ -25,9 +35,13 @@ pub enum Command {
         value: serde_json::Value,
     },
     /// Reads the property `objectName` of an object.
-    Get { object: u32 },
+    Get {
+        object: u32,
+    },
     /// Describes a class.
-    Meta { class: Text },
+    Meta {
+        class: Text,
+    },
 }
 
 /// A command with the name of the session that gives it.

@@ -44,21 +44,21 @@ pub delete-returns-in_err-cut-clause-lessens : goal.delete-returns-in_err-cut-cl
 delete-returns-in_err-cut-clause-lessens t c =
     let lives : option_map_or is_living (row_of (state_at c.args.rows.now c.args.ses).forest.rows c.args.target) false ≡ true = grind arith in
     Lessens-twice c.args.rows.now c.mark_dying.new.self c.cut.new.rows c.args.ses
-        (marked_keeps c.args.rows.now c.mark_dying.new.self c.args.ses c.args.target c.requires lives c.mark_dying.ensures) c.cut.ensures.lessens
+    (marked_keeps c.args.rows.now c.mark_dying.new.self c.args.ses c.args.target c.requires lives c.mark_dying.ensures) c.cut.ensures.lessens
 
 pub delete-returns-clause-does : goal.delete-returns-clause-does
 delete-returns-clause-does t c =
     let lives : option_map_or is_living (row_of (state_at c.args.rows.now c.args.ses).forest.rows c.args.target) false ≡ true = grind arith in
     delete_rows c.args.rows.now c.mark_dying.new.self c.cut.new.rows c.gone.new.rows c.args.ses c.args.target c.args.depth c.requires lives c.mark_dying.ensures
-        c.in_ok-cut.ensures.does (c.gone.ensures.does c.args.depth)
+    c.in_ok-cut.ensures.does (c.gone.ensures.does c.args.depth)
 
 pub delete-returns-clause-lessens : goal.delete-returns-clause-lessens
 delete-returns-clause-lessens t c =
     let lives : option_map_or is_living (row_of (state_at c.args.rows.now c.args.ses).forest.rows c.args.target) false ≡ true = grind arith in
     Lessens-twice c.args.rows.now c.cut.new.rows c.gone.new.rows c.args.ses
-        (Lessens-twice c.args.rows.now c.mark_dying.new.self c.cut.new.rows c.args.ses
-        (marked_keeps c.args.rows.now c.mark_dying.new.self c.args.ses c.args.target c.requires lives c.mark_dying.ensures) c.cut.ensures.lessens)
-        c.gone.ensures.lessens
+    (Lessens-twice c.args.rows.now c.mark_dying.new.self c.cut.new.rows c.args.ses
+    (marked_keeps c.args.rows.now c.mark_dying.new.self c.args.ses c.args.target c.requires lives c.mark_dying.ensures) c.cut.ensures.lessens)
+    c.gone.ensures.lessens
 
 pub kin-returns-then-not-lives_below-clause-does : goal.kin-returns-then-not-lives_below-clause-does
 kin-returns-then-not-lives_below-clause-does t c =

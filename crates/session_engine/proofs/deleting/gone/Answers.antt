@@ -11,8 +11,8 @@ pub returns-clause-does : goal.returns-clause-does
 returns-clause-does c = λ depth.
     let state = state_at c.args.rows.now c.args.ses in
     subst (λ (new : State). Does (Gone c.args.target depth ∷ []) state new)
-        (sym (state_by_with c.args.rows.now c.remove.new.self c.args.ses (without_object state c.args.target) c.requires c.remove.ensures))
-        (gone_by state c.args.target depth)
+    (sym (state_by_with c.args.rows.now c.remove.new.self c.args.ses (without_object state c.args.target) c.requires c.remove.ensures))
+    (gone_by state c.args.target depth)
 
 pub returns-clause-lessens : goal.returns-clause-lessens
 returns-clause-lessens c = removed_lessens c.args.rows.now c.remove.new.self c.args.ses c.args.target c.requires c.remove.ensures

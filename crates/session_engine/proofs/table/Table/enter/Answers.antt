@@ -11,7 +11,7 @@ invariant_of-self-2 c =
     let absent : position (bytes_eq c.args.name.now) c.self.inside.names.keys ≡ None = ap (λ table. position (bytes_eq c.args.name.now) table.names) c.self.view_is ∙ c.requires in
     let keys : c.insert.new.self.keys ≡ c.self.inside.names.keys ++ c.args.name.now ∷ [] = c.in_ok-insert.ensures.keys ∙ insert_key-new _ _ _ c.in_ok-name.ensures absent in
     whole_opened c.self.inside.names.keys c.self.inside.seats c.ready.new.self c.self.inside.memory_refused c.ready.ensures.forests c.ready.ensures.names c.ready.ensures.failed
-        c.insert.new.self.keys c.open.new.self c.args.name.now c.self.invariant keys c.open.ensures.opened
+    c.insert.new.self.keys c.open.new.self c.args.name.now c.self.invariant keys c.open.ensures.opened
 
 pub returns-clause-place : goal.returns-clause-place
 returns-clause-place c =
@@ -22,5 +22,5 @@ returns-clause-ok c =
     let absent : position (bytes_eq c.args.name.now) c.self.inside.names.keys ≡ None = ap (λ table. position (bytes_eq c.args.name.now) table.names) c.self.view_is ∙ c.requires in
     let keys : c.insert.new.self.keys ≡ c.self.inside.names.keys ++ c.args.name.now ∷ [] = c.in_ok-insert.ensures.keys ∙ insert_key-new _ _ _ c.in_ok-name.ensures absent in
     table_opened c.self.inside.names.keys c.self.inside.seats c.ready.new.self c.self.inside.memory_refused c.ready.ensures.forests c.ready.ensures.names c.ready.ensures.failed
-        c.insert.new.self.keys c.open.new.self c.args.name.now c.self.invariant keys c.open.ensures.opened
+    c.insert.new.self.keys c.open.new.self c.args.name.now c.self.invariant keys c.open.ensures.opened
     ∙ ap (λ table. t.opened table c.args.name.now) c.self.view_is
