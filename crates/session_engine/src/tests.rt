@@ -108,130 +108,117 @@ fn listed(alloc: Global, texts: &Items<Text>) -> Result<String, AllocError> {
     Ok(list)
 }
 
-/// A session of an engine.
-#[derive(Drop)]
-struct Bed {
-    engine: Engine,
+/// The line that a session of a new engine is told for each of these commands in turn.
+fn answers(alloc: Global, commands: &[Command]) -> Result<Vec<Line>, AllocError> {
+    let mut engine = fresh(alloc)?;
+    let mut lines = Vec::new(alloc);
+    for command in commands {
+        if let Some(line) = told(&mut engine, alloc, "a", command)? {
+            lines.push(line)?;
+        }
+    }
+    Ok(lines)
+}
+
+/// Makes two trees: 1 above 2 and 3, 2 above 4, 3 above 5 and 6; and 7. 4 and 6 are torches, and the
+/// others lamps.
+fn two_trees(alloc: Global) -> Result<Vec<Command>, AllocError> {
+    let rows = [
+        ("Lamp", None),
+        ("Lamp", Some(1)),
+        ("Lamp", Some(1)),
+        ("Torch", Some(2)),
+        ("Lamp", Some(3)),
+        ("Torch", Some(3)),
+        ("Lamp", None),
+    ];
+    let mut commands = Vec::new(alloc);
+    for (class, parent) in rows {
+        let class = Text::from_str(alloc, class)?;
+        commands.push(Command::New { class, parent })?;
+    }
+    Ok(commands)
+}
+
+/// How many lines there are for the two trees.
+const TREES: usize = 7;
+
+/// Asks for the children of each of these.
+fn ask_children(commands: &mut Vec<Command>, objects: &[Option<u32>]) -> Result<(), AllocError> {
+    for object in objects {
+        commands.push(Command::Children { object: *object })?;
+    }
+    Ok(())
+}
+
+fn ask_name(
+    commands: &mut Vec<Command>,
     alloc: Global,
+    object: u32,
+    name: &str,
+) -> Result<(), AllocError> {
+    let value = serde_json::Value::String(String::from_str(alloc, name)?);
+    commands.push(Command::Set { object, value })?;
+    Ok(())
 }
 
-impl Bed {
-    fn new(alloc: Global) -> Result<Bed, AllocError> {
-        Ok(Bed {
-            engine: fresh(alloc)?,
-            alloc,
-        })
-    }
+fn ask_find(
+    commands: &mut Vec<Command>,
+    alloc: Global,
+    object: u32,
+    name: Option<&str>,
+    class: Option<&str>,
+) -> Result<(), AllocError> {
+    let (name, class) = (text(alloc, name)?, text(alloc, class)?);
+    commands.push(Command::Find {
+        object,
+        name,
+        class,
+    })?;
+    Ok(())
+}
 
-    fn told(&mut self, command: &Command) -> Result<Option<Line>, AllocError> {
-        told(&mut self.engine, self.alloc, "a", command)
-    }
-
-    /// The code by which a command is refused.
-    fn refusal(&mut self, command: &Command) -> Result<Option<Code>, AllocError> {
-        match self.told(command)? {
-            Some(Line::Error(code)) => Ok(Some(code)),
-            _ => Ok(None),
-        }
-    }
-
-    /// Whether a command replies true.
-    fn is_true(&mut self, command: &Command) -> Result<bool, AllocError> {
-        match self.told(command)? {
-            Some(Line::Reply(Answer::Truth(truth))) => Ok(truth),
-            _ => Ok(false),
-        }
-    }
-
-    fn text(&self, text: Option<&str>) -> Result<Option<Text>, AllocError> {
-        match text {
-            Some(text) => Ok(Some(Text::from_str(self.alloc, text)?)),
-            None => Ok(None),
-        }
-    }
-
-    fn new_command(&self, class: &str, parent: Option<u32>) -> Result<Command, AllocError> {
-        let class = Text::from_str(self.alloc, class)?;
-        Ok(Command::New { class, parent })
-    }
-
-    /// The number of the object that is made, or 0.
-    fn make(&mut self, class: &str, parent: Option<u32>) -> Result<u32, AllocError> {
-        let command = self.new_command(class, parent)?;
-        match self.told(&command)? {
-            Some(Line::Reply(Answer::Number(number))) => Ok(number),
-            _ => Ok(0),
-        }
-    }
-
-    /// So many objects, each below the one before it; answers the last.
-    fn chain(&mut self, length: usize) -> Result<Option<u32>, AllocError> {
-        let mut last = None;
-        for _ in 0..length {
-            last = Some(self.make("Lamp", last)?);
-        }
-        Ok(last)
-    }
-
-    fn delete(&mut self, object: u32) -> Result<bool, AllocError> {
-        self.is_true(&Command::Delete { object })
-    }
-
-    fn set_parent(&mut self, object: u32, parent: Option<u32>) -> Result<bool, AllocError> {
-        self.is_true(&Command::SetParent { object, parent })
-    }
-
-    fn has_children(&mut self, object: Option<u32>, wanted: &[u32]) -> Result<bool, AllocError> {
-        match self.told(&Command::Children { object })? {
-            Some(Line::Reply(Answer::Numbers(found))) => Ok(found.as_slice() == wanted),
-            _ => Ok(false),
-        }
-    }
-
-    /// The object that is found, or 0.
-    fn find(
-        &mut self,
-        object: u32,
-        name: Option<&str>,
-        class: Option<&str>,
-    ) -> Result<u32, AllocError> {
-        let name = self.text(name)?;
-        let class = self.text(class)?;
-        match self.told(&Command::Find {
-            object,
-            name,
-            class,
-        })? {
-            Some(Line::Reply(Answer::Found(Some(found)))) => Ok(found),
-            _ => Ok(0),
-        }
-    }
-
-    fn set_name(&mut self, object: u32, name: &str) -> Result<bool, AllocError> {
-        let value = serde_json::Value::String(String::from_str(self.alloc, name)?);
-        self.is_true(&Command::Set { object, value })
-    }
-
-    fn is_named(&mut self, object: u32, wanted: &str) -> Result<bool, AllocError> {
-        match self.told(&Command::Get { object })? {
-            Some(Line::Reply(Answer::Value(Value::Text(name)))) => Ok(name.as_str() == wanted),
-            _ => Ok(false),
-        }
+fn text(alloc: Global, text: Option<&str>) -> Result<Option<Text>, AllocError> {
+    match text {
+        Some(text) => Ok(Some(Text::from_str(alloc, text)?)),
+        None => Ok(None),
     }
 }
 
-/// Two trees: 1 above 2 and 3, 2 above 4, 3 above 5 and 6; and 7. 4 and 6 are torches, and the others
-/// lamps.
-fn two_trees(alloc: Global) -> Result<Bed, AllocError> {
-    let mut bed = Bed::new(alloc)?;
-    bed.make("Lamp", None)?;
-    bed.make("Lamp", Some(1))?;
-    bed.make("Lamp", Some(1))?;
-    bed.make("Torch", Some(2))?;
-    bed.make("Lamp", Some(3))?;
-    bed.make("Torch", Some(3))?;
-    bed.make("Lamp", None)?;
-    Ok(bed)
+fn has_numbers(lines: &[Line], place: usize, wanted: &[u32]) -> bool {
+    match lines.get(place) {
+        Some(Line::Reply(Answer::Numbers(found))) => found.as_slice() == wanted,
+        _ => false,
+    }
+}
+
+/// Whether this object is found; 0 is none.
+fn has_found(lines: &[Line], place: usize, wanted: u32) -> bool {
+    match lines.get(place) {
+        Some(Line::Reply(Answer::Found(found))) => found.unwrap_or(0) == wanted,
+        _ => false,
+    }
+}
+
+fn has_truth(lines: &[Line], place: usize) -> bool {
+    match lines.get(place) {
+        Some(Line::Reply(Answer::Truth(truth))) => *truth,
+        _ => false,
+    }
+}
+
+fn has_text(lines: &[Line], place: usize, wanted: &str) -> bool {
+    match lines.get(place) {
+        Some(Line::Reply(Answer::Value(Value::Text(name)))) => name.as_str() == wanted,
+        _ => false,
+    }
+}
+
+fn has_code(lines: &[Line], place: usize, wanted: Code) -> bool {
+    match lines.get(place) {
+        Some(Line::Error(code)) => *code == wanted,
+        _ => false,
+    }
 }
 
 #[test]
@@ -298,115 +285,76 @@ fn a_failed_session_refuses(rt: HostRuntime) -> Result<(), Fail> {
 
 #[test]
 fn keeps_trees(rt: HostRuntime) -> Result<(), Fail> {
-    let mut bed = two_trees(rt.alloc())?;
-    assert!(rt; bed.has_children(None, &[1, 7])?);
-    assert!(rt; bed.has_children(Some(1), &[2, 3])?);
-    assert!(rt; bed.has_children(Some(3), &[5, 6])?);
-    assert!(rt; bed.has_children(Some(4), &[])?);
-    let command = Command::Children { object: Some(8) };
-    assert_eq!(rt; bed.refusal(&command)?, Some(Code::NoSuchObject));
+    let alloc = rt.alloc();
+    let mut commands = two_trees(alloc)?;
+    ask_children(&mut commands, &[None, Some(1), Some(3), Some(8)])?;
+    commands.push(Command::SetParent {
+        object: 2,
+        parent: Some(7),
+    })?;
+    ask_children(&mut commands, &[Some(1), Some(7)])?;
+    let lines = answers(alloc, commands.as_slice())?;
+    let told = lines.as_slice();
+    assert!(rt; has_numbers(told, TREES, &[1, 7]));
+    assert!(rt; has_numbers(told, TREES + 1, &[2, 3]));
+    assert!(rt; has_numbers(told, TREES + 2, &[5, 6]));
+    assert!(rt; has_code(told, TREES + 3, Code::NoSuchObject));
+    assert!(rt; has_truth(told, TREES + 4));
+    assert!(rt; has_numbers(told, TREES + 5, &[3]));
+    assert!(rt; has_numbers(told, TREES + 6, &[2]));
     Ok(())
 }
 
 #[test]
 fn names_objects(rt: HostRuntime) -> Result<(), Fail> {
-    let mut bed = two_trees(rt.alloc())?;
-    assert!(rt; bed.is_named(3, "")?);
-    assert!(rt; bed.set_name(3, "hall")?);
-    assert!(rt; bed.is_named(3, "hall")?);
-    assert!(rt; bed.is_named(2, "")?);
-    assert!(rt; !bed.set_name(8, "hall")?);
+    let alloc = rt.alloc();
+    let mut commands = two_trees(alloc)?;
+    ask_name(&mut commands, alloc, 3, "hall")?;
+    ask_name(&mut commands, alloc, 8, "hall")?;
+    commands.push(Command::Get { object: 3 })?;
+    commands.push(Command::Get { object: 2 })?;
+    let lines = answers(alloc, commands.as_slice())?;
+    let told = lines.as_slice();
+    assert!(rt; has_truth(told, TREES));
+    assert!(rt; has_code(told, TREES + 1, Code::NoSuchObject));
+    assert!(rt; has_text(told, TREES + 2, "hall"));
+    assert!(rt; has_text(told, TREES + 3, ""));
     Ok(())
 }
 
 #[test]
 fn finds_by_name_and_class(rt: HostRuntime) -> Result<(), Fail> {
-    let mut bed = two_trees(rt.alloc())?;
-    assert!(rt; bed.set_name(5, "hall")?);
-    assert!(rt; bed.set_name(6, "hall")?);
-    assert_eq!(rt; bed.find(1, None, None)?, 2);
-    assert_eq!(rt; bed.find(1, Some("hall"), None)?, 5);
-    assert_eq!(rt; bed.find(1, Some("hall"), Some("Torch"))?, 6);
-    assert_eq!(rt; bed.find(1, None, Some("Torch"))?, 4);
-    assert_eq!(rt; bed.find(3, None, Some("Lamp"))?, 5);
-    assert_eq!(rt; bed.find(2, Some("hall"), None)?, 0);
-    assert_eq!(rt; bed.find(7, None, None)?, 0);
-    Ok(())
-}
-
-#[test]
-fn refuses_a_find(rt: HostRuntime) -> Result<(), Fail> {
-    let mut bed = two_trees(rt.alloc())?;
-    let class = Some(Text::from_str(rt.alloc(), "Nope")?);
-    let object = 1;
-    let name = None;
-    let command = Command::Find {
-        object,
-        name,
-        class,
-    };
-    assert_eq!(rt; bed.refusal(&command)?, Some(Code::NoSuchClass));
-    Ok(())
-}
-
-#[test]
-fn moves_objects(rt: HostRuntime) -> Result<(), Fail> {
-    let mut bed = two_trees(rt.alloc())?;
-    assert!(rt; bed.set_parent(2, Some(1))?);
-    assert!(rt; bed.has_children(Some(1), &[2, 3])?);
-    assert!(rt; bed.set_parent(2, Some(7))?);
-    assert!(rt; bed.has_children(Some(1), &[3])?);
-    assert!(rt; bed.has_children(Some(7), &[2])?);
-    assert!(rt; bed.set_parent(3, None)?);
-    assert!(rt; bed.has_children(None, &[1, 7, 3])?);
-    let object = 3;
-    let parent = Some(6);
-    let command = Command::SetParent { object, parent };
-    assert_eq!(rt; bed.refusal(&command)?, Some(Code::Cycle));
+    let alloc = rt.alloc();
+    let mut commands = two_trees(alloc)?;
+    ask_name(&mut commands, alloc, 5, "hall")?;
+    ask_name(&mut commands, alloc, 6, "hall")?;
+    ask_find(&mut commands, alloc, 1, None, None)?;
+    ask_find(&mut commands, alloc, 1, Some("hall"), None)?;
+    ask_find(&mut commands, alloc, 1, Some("hall"), Some("Torch"))?;
+    ask_find(&mut commands, alloc, 2, Some("hall"), Some("Lamp"))?;
+    ask_find(&mut commands, alloc, 1, None, Some("Nope"))?;
+    let lines = answers(alloc, commands.as_slice())?;
+    let told = lines.as_slice();
+    assert!(rt; has_found(told, TREES + 2, 2));
+    assert!(rt; has_found(told, TREES + 3, 5));
+    assert!(rt; has_found(told, TREES + 4, 6));
+    assert!(rt; has_found(told, TREES + 5, 0));
+    assert!(rt; has_code(told, TREES + 6, Code::NoSuchClass));
     Ok(())
 }
 
 #[test]
 fn deletes_a_whole_tree(rt: HostRuntime) -> Result<(), Fail> {
-    let mut bed = two_trees(rt.alloc())?;
-    assert!(rt; bed.delete(3)?);
-    assert!(rt; bed.has_children(None, &[1, 7])?);
-    assert!(rt; bed.has_children(Some(1), &[2])?);
-    assert!(rt; bed.has_children(Some(2), &[4])?);
-    assert!(rt; !bed.delete(3)?);
-    assert!(rt; !bed.delete(5)?);
-    assert!(rt; !bed.delete(6)?);
-    Ok(())
-}
-
-#[test]
-fn numbers_are_never_given_again(rt: HostRuntime) -> Result<(), Fail> {
-    let mut bed = two_trees(rt.alloc())?;
-    assert!(rt; bed.delete(7)?);
-    assert!(rt; bed.delete(1)?);
-    assert!(rt; bed.has_children(None, &[])?);
-    assert_eq!(rt; bed.make("Lamp", None)?, 8);
-    Ok(())
-}
-
-#[test]
-fn refuses_a_parent_before_the_class(rt: HostRuntime) -> Result<(), Fail> {
-    let mut bed = two_trees(rt.alloc())?;
-    let nowhere = bed.new_command("Nope", Some(8))?;
-    assert_eq!(rt; bed.refusal(&nowhere)?, Some(Code::NoSuchObject));
-    let nothing = bed.new_command("Nope", Some(7))?;
-    assert_eq!(rt; bed.refusal(&nothing)?, Some(Code::NoSuchClass));
-    Ok(())
-}
-
-#[test]
-fn chains_have_64_levels(rt: HostRuntime) -> Result<(), Fail> {
-    let mut bed = Bed::new(rt.alloc())?;
-    let last = bed.chain(64)?;
-    assert_eq!(rt; last, Some(64));
-    let deeper = bed.new_command("Lamp", last)?;
-    assert_eq!(rt; bed.refusal(&deeper)?, Some(Code::Limit));
-    assert!(rt; bed.delete(1)?);
-    assert!(rt; bed.has_children(None, &[])?);
+    let alloc = rt.alloc();
+    let mut commands = two_trees(alloc)?;
+    commands.push(Command::Delete { object: 3 })?;
+    commands.push(Command::Delete { object: 6 })?;
+    ask_children(&mut commands, &[None, Some(1)])?;
+    let lines = answers(alloc, commands.as_slice())?;
+    let told = lines.as_slice();
+    assert!(rt; has_truth(told, TREES));
+    assert!(rt; has_code(told, TREES + 1, Code::NoSuchObject));
+    assert!(rt; has_numbers(told, TREES + 2, &[1, 7]));
+    assert!(rt; has_numbers(told, TREES + 3, &[2]));
     Ok(())
 }
