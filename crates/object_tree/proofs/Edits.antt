@@ -1,6 +1,6 @@
 -- Edits of rows at a place, as changes of a forest.
 use Rattle.std.proofs.Common.{◌≡◌, ◌≢◌, ℕ, suc, ◌+◌, ◌<◌, ◌==◌, Bool, true, false, not, cond, List, [], ◌∷◌, ◌++◌, Option, Some, None, length, map, filter, get_or, set, refl, sym, ap, ◌∙◌, arith, ⊎_elim, nat_eq}
-use Rattle.std.specs.List.{IsDistinct, remove}
+use Rattle.std.specs.List.{All, IsDistinct}
 use Rattle.std.specs.Option.{option_and_then, is_some}
 use Rattle.std.specs.Ordering.{nat_cmp}
 use Rattle.std.proofs.lemmas.Bool.{cases_lt, cases_order, cond-true, eq-eqb, eqb-false, eqb-true}
@@ -10,7 +10,9 @@ use Rattle.object_tree.specs.declared.row.Row.{Row}
 use Rattle.object_tree.specs.Rows.{has_parent, is_same, is_there, numbers, parent_of, row_of, stamps}
 use Rattle.object_tree.specs.Forest.{Forest}
 use Rattle.object_tree.specs.Changes.{added, changed, marked, moved, orphaned, removed, with_blocked}
-use Rattle.object_tree.proofs.ByNumber.{Rise, absent, at_place, without}
+use Rattle.object_tree.proofs.ByNumber.{Rise, absent, at_place, number_of, without}
+use Rattle.object_tree.proofs.Keyed.{rise_at}
+use Rattle.object_tree.proofs.RowLemmas.{row-number}
 
 -- no row is changed where none has the number
 pub unchanged : (f : Row → Row) (n : ℕ) (rows : List Row) → row_of rows n ≡ None → (changed f n rows ≡ rows) × (without n rows ≡ rows)
@@ -20,23 +22,6 @@ unchanged f n (row ∷ rest) e = by (row.number == n) refl e (λ h. unchanged f 
     by : (b : Bool) → (row.number == n) ≡ b → cond b (Some row) (row_of rest n) ≡ None → (row_of rest n ≡ None → (changed f n rest ≡ rest) × (without n rest ≡ rest)) → (cond b (f row) row ∷ changed f n rest ≡ row ∷ rest) × (cond (not b) (row ∷ without n rest) (without n rest) ≡ row ∷ rest)
     by true is e h = absurd (cc)
     by false is e h = (ap (λ l. row ∷ l) (h e).0, ap (λ l. row ∷ l) (h e).1)
-
--- a row that a search has found, and where
-module _ (rows found : List Row) (n k : ℕ) (rise : Rise rows) (same : found ≡ rows) (within : k < length found) (is : (d : Row) → (get_or found k d).number ≡ n) where
-  pub place_within : k < length rows
-  place_within = omega (arith, ap length same)
-
-  pub place_has : (d : Row) → (get_or rows k d).number ≡ n
-  place_has d = (λ i. (get_or (sym same i) k d).number) ∙ is d
-
-  pub row_there : (d : Row) → row_of rows n ≡ Some (get_or rows k d)
-  row_there d = (at_place (λ row. row) n rows k d rise place_within (place_has d)).0
-
-  pub edited : (f : Row → Row) (row : Row) → row ≡ get_or rows k row → set rows k (f row) ≡ changed f n rows
-  edited f row e = ap (λ r. set rows k (f r)) e ∙ sym (at_place f n rows k row rise place_within (place_has row)).1
-
-  pub taken_out : (d : Row) → remove rows k ≡ without n rows
-  taken_out d = sym (at_place (λ row. row) n rows k d rise place_within (place_has d)).2
 
 -- a child of an object that becomes a root is as it is when the object has gone, and there is one child less
 pub orphan_step : (o n : ℕ) (rows : List Row) → Rise rows → parent_of rows n ≡ Some o → (map (orphaned o) (changed (λ row. record row { parent = None }) n rows) ≡ map (orphaned o) rows) × (suc (length (filter (has_parent (Some o)) (changed (λ row. record row { parent = None }) n rows))) ≡ length (filter (has_parent (Some o)) rows))
@@ -87,6 +72,43 @@ there_at (row ∷ rest) n e = by (row.number == n) refl e (there_at rest n)
     by : (b : Bool) → (row.number == n) ≡ b → is_some (cond b (Some row) (row_of rest n)) ≡ true → (is_there rest n ≡ true → (k : ℕ) × (k < length rest) × ((d : Row) → (get_or rest k d).number ≡ n)) → (k : ℕ) × (k < suc (length rest)) × ((d : Row) → (get_or (row ∷ rest) k d).number ≡ n)
     by true is e later = (0, omega arith, λ d. eqb-true row.number n is)
     by false is e later = let h = later e in (suc h.0, omega (arith, h.1), h.2)
+
+-- numbers that rise are the same only in one place
+pub same_place : (rows : List Row) (i j : ℕ) (d : Row) → Rise rows → i < length rows → j < length rows → (get_or rows i d).number ≡ (get_or rows j d).number → i ≡ j
+same_place rows i j d rise at_i at_j same = ⊎_elim
+    (λ s. s)
+    (λ order. ⊎_elim (λ lt. absurd (omega (arith, same, rise_at number_of rows i j d rise lt at_j))) (λ gt. absurd (omega (arith, same, rise_at number_of rows j i d rise gt at_i))) order)
+    (cases_order i j)
+
+-- a row that is there
+module _ (rows : List Row) (n : ℕ) (row : Row) (rise : Rise rows) (is : row_of rows n ≡ Some row) where
+  pub place_of_row : (k : ℕ) × (k < length rows) × ((d : Row) → get_or rows k d ≡ row)
+  place_of_row =
+      let place = there_at rows n (ap is_some is) in
+      (place.0, place.1, λ d. let same : get_or rows place.0 d ≡ row = (let h : Some (get_or rows place.0 d) ≡ Some row = sym (at_place (λ r. r) n rows place.0 d rise place.1 (place.2 d)).0 ∙ is in cc) in same)
+
+  pub row_has : row.number ≡ n
+  row_has = row-number rows n row is
+
+  pub own_row : row_of rows row.number ≡ Some row
+  own_row = ap (row_of rows) row_has ∙ is
+
+  pub is_own : is_there rows row.number ≡ true
+  is_own = ap is_some own_row
+
+  -- to put it changed is to change it
+  pub edited : (f : Row → Row) → changed (λ other. f row) row.number rows ≡ changed f n rows
+  edited f =
+      let place = place_of_row in
+      let has : (get_or rows place.0 row).number ≡ n = ap (λ (r : Row). r.number) (place.2 row) ∙ row_has in
+      ap (λ m. changed (λ other. f row) m rows) row_has
+      ∙ ((at_place (λ other. f row) n rows place.0 row rise place.1 has).1 ∙ (ap (λ r. set rows place.0 (f r)) (sym (place.2 row)) ∙ sym (at_place f n rows place.0 row rise place.1 has).1))
+
+  -- no other row has its stamp
+  pub others_apart : IsDistinct nat_eq (stamps rows) → All (λ (other : Row). other.number ≢ row.number → other.stamp ≢ row.stamp) rows
+  others_apart differ = λ i d within other same.
+      let place = place_of_row in
+      stamps_apart rows i place.0 d d differ within place.1 (λ at. other (ap (λ k. (get_or rows k d).number) at ∙ ap (λ (r : Row). r.number) (place.2 d))) (same ∙ sym (ap (λ (r : Row). r.stamp) (place.2 d)))
 
 -- rows that changed, as a change of the forest
 pub marked_is : (forest : Forest) (n : ℕ) (rows : List Row) → rows ≡ changed (λ row. record row { dying = true }) n forest.rows → record { rows = rows; last_number = forest.last_number; last_stamp = forest.last_stamp } ≡ marked forest n

@@ -3,7 +3,7 @@ use Rattle.std.proofs.Common.{◌≡◌, ◌≢◌, ℕ, suc, zero, ◌+◌, ◌
 use Rattle.std.specs.List.{All, AllByRecursion, IsDistinct, list_any, remove}
 use Rattle.std.specs.List.Sorted.{IsStrictlySortedBy}
 use Rattle.std.specs.Ordering.{nat_cmp}
-use Rattle.std.proofs.lemmas.Bool.{eqb-true, eqb-false, eq-eqb, ne_eqb, or_left, or_right}
+use Rattle.std.proofs.lemmas.Bool.{cond-false, eqb-true, eqb-false, eq-eqb, ne_eqb, or_left, or_right}
 use Rattle.std.proofs.lemmas.List.{append-nil, get_or-map, drop-map, length-map, length-take, map-append, set_split, take-map, get_or-take}
 use Rattle.std.proofs.lemmas.List.Elements.{All-from_recursion, All-take, All-weaker, recursion_from_All, filter_passes}
 use Rattle.std.proofs.lemmas.Map.Keys.{IsDistinct-head, IsDistinct-tail}
@@ -11,51 +11,38 @@ use Rattle.object_tree.specs.declared.row.Row.{Row}
 use Rattle.object_tree.specs.declared.kin.Kin.{Kin}
 use Rattle.object_tree.specs.Rows.{by_stamp, children, has_parent, inserted, is_same, numbers, stamps}
 use Rattle.object_tree.specs.Sorting.{inserted_by, sorted_by}
-use Rattle.object_tree.specs.Kin.{by_rank, first_rank, kids_of, kin_of, rank_of, ranks}
+use Rattle.object_tree.specs.Kin.{by_rank, first_rank, kids_of, kin_of, order_of, rank_of, ranks}
 use Rattle.object_tree.proofs.Keyed.{without_by}
 use Rattle.object_tree.proofs.Sorted.{AreApart, all-in_order, any-sorted, filter-sorted, rises-sorted, sorted-map, sorted-middle, without_place}
 
 -- two ranks are the same only of the same stamp
 pub rank_stamp : (a b : Kin) → a.stamp < 2 ^ 64 → b.stamp < 2 ^ 64 → rank_of a ≡ rank_of b → a.stamp ≡ b.stamp
 unfolding first_rank
-rank_stamp a b fit_a fit_b e = by a.parent b.parent e
-  where
-    by : (p q : Option ℕ) → first_rank p + a.stamp ≡ first_rank q + b.stamp → a.stamp ≡ b.stamp
-    by None None e = omega arith
-    by None (Some q) e = omega arith
-    by (Some p) None e = omega arith
-    by (Some p) (Some q) e = omega arith
+rank_stamp a b fit_a fit_b e = omega arith
 
 -- a rank lies between those of its parent and of the next one
-pub rank_low : (kin : Kin) (parent : Option ℕ) → kin.stamp < 2 ^ 64 → rank_of kin < first_rank parent → is_same kin.parent parent ≡ false
+pub rank_low : (kin : Kin) (parent : ℕ) → kin.stamp < 2 ^ 64 → rank_of kin < first_rank parent → (kin.parent == parent) ≡ false
 unfolding first_rank
-rank_low kin parent fit h = by kin.parent parent h
-  where
-    by : (p q : Option ℕ) → first_rank p + kin.stamp < first_rank q → is_same p q ≡ false
-    by None None h = absurd (omega arith)
-    by None (Some q) h = refl
-    by (Some p) None h = refl
-    by (Some p) (Some q) h = ne_eqb p q (λ same. absurd (omega arith))
+rank_low kin parent fit h = ne_eqb kin.parent parent (λ same. absurd (omega arith))
 
-pub rank_high : (kin : Kin) (parent : Option ℕ) → kin.stamp < 2 ^ 64 → first_rank parent + 2 ^ 64 ≤ rank_of kin → is_same kin.parent parent ≡ false
+pub rank_high : (kin : Kin) (parent : ℕ) → kin.stamp < 2 ^ 64 → first_rank parent + 2 ^ 64 ≤ rank_of kin → (kin.parent == parent) ≡ false
 unfolding first_rank
-rank_high kin parent fit h = by kin.parent parent h
-  where
-    by : (p q : Option ℕ) → first_rank q + 2 ^ 64 ≤ first_rank p + kin.stamp → is_same p q ≡ false
-    by None None h = absurd (omega arith)
-    by None (Some q) h = refl
-    by (Some p) None h = refl
-    by (Some p) (Some q) h = ne_eqb p q (λ same. absurd (omega arith))
+rank_high kin parent fit h = ne_eqb kin.parent parent (λ same. absurd (omega arith))
 
-pub rank_between : (kin : Kin) (parent : Option ℕ) → kin.stamp < 2 ^ 64 → first_rank parent ≤ rank_of kin → rank_of kin < first_rank parent + 2 ^ 64 → is_same kin.parent parent ≡ true
+pub rank_between : (kin : Kin) (parent : ℕ) → kin.stamp < 2 ^ 64 → first_rank parent ≤ rank_of kin → rank_of kin < first_rank parent + 2 ^ 64 → (kin.parent == parent) ≡ true
 unfolding first_rank
-rank_between kin parent fit low high = by kin.parent parent low high
-  where
-    by : (p q : Option ℕ) → first_rank q ≤ first_rank p + kin.stamp → first_rank p + kin.stamp < first_rank q + 2 ^ 64 → is_same p q ≡ true
-    by None None low high = refl
-    by None (Some q) low high = absurd (omega arith)
-    by (Some p) None low high = absurd (omega arith)
-    by (Some p) (Some q) low high = eq-eqb p q (omega arith)
+rank_between kin parent fit low high = eq-eqb kin.parent parent (omega arith)
+
+-- 0 is not among parents
+abbrev pub NoneIs0 : List Row → Type 0
+NoneIs0 rows = AllByRecursion (λ (row : Row). has_parent (Some 0) row ≡ false) rows
+
+-- two parents stand in one place only where they are the same
+same_order : (p q : Option ℕ) → is_same p (Some 0) ≡ false → is_same q (Some 0) ≡ false → (order_of p == order_of q) ≡ is_same p q
+same_order None None not_p not_q = refl
+same_order None (Some q) not_p not_q = ne_eqb 0 q (λ same. eqb-false q 0 not_q (sym same))
+same_order (Some p) None not_p not_q = not_p
+same_order (Some p) (Some q) not_p not_q = refl
 
 -- the stamps of rows fit
 abbrev pub Fit : List Row → Type 0
@@ -70,22 +57,24 @@ apart_rows [] fit differ = tt
 apart_rows (row ∷ rest) fit differ = (apart_from row rest fit.0 fit.1 (IsDistinct-head nat_eq row.stamp (stamps rest) differ), apart_rows rest fit.1 (IsDistinct-tail nat_eq row.stamp (stamps rest) differ))
 
 -- the children of a parent in this order
-same_kin : (parent : Option ℕ) (rows : List Row) → filter (λ (kin : Kin). is_same kin.parent parent) (map kin_of rows) ≡ map kin_of (filter (has_parent parent) rows)
-same_kin parent [] = refl
-same_kin parent (row ∷ rest) = by (is_same row.parent parent) (same_kin parent rest)
+same_kin : (parent : Option ℕ) (rows : List Row) → NoneIs0 rows → is_same parent (Some 0) ≡ false → kids_of (map kin_of rows) (order_of parent) ≡ map kin_of (filter (has_parent parent) rows)
+same_kin parent [] begin is = refl
+same_kin parent (row ∷ rest) begin is =
+    (λ i. cond (same_order row.parent parent begin.0 is i) (kin_of row ∷ kids_of (map kin_of rest) (order_of parent)) (kids_of (map kin_of rest) (order_of parent)))
+    ∙ by (is_same row.parent parent) (same_kin parent rest begin.1 is)
   where
-    by : (b : Bool) → filter (λ (kin : Kin). is_same kin.parent parent) (map kin_of rest) ≡ map kin_of (filter (has_parent parent) rest) → cond b (kin_of row ∷ filter (λ (kin : Kin). is_same kin.parent parent) (map kin_of rest)) (filter (λ (kin : Kin). is_same kin.parent parent) (map kin_of rest)) ≡ map kin_of (cond b (row ∷ filter (has_parent parent) rest) (filter (has_parent parent) rest))
+    by : (b : Bool) → kids_of (map kin_of rest) (order_of parent) ≡ map kin_of (filter (has_parent parent) rest) → cond b (kin_of row ∷ kids_of (map kin_of rest) (order_of parent)) (kids_of (map kin_of rest) (order_of parent)) ≡ map kin_of (cond b (row ∷ filter (has_parent parent) rest) (filter (has_parent parent) rest))
     by true h = ap (λ l. kin_of row ∷ l) h
     by false h = h
 
-first_same : (p q : Option ℕ) → is_same p q ≡ true → first_rank p ≡ first_rank q
+first_same : (p q : Option ℕ) → is_same p q ≡ true → first_rank (order_of p) ≡ first_rank (order_of q)
 first_same None None e = refl
 first_same None (Some q) e = absurd (cc)
 first_same (Some p) None e = absurd (cc)
-first_same (Some p) (Some q) e = ap (λ n. first_rank (Some n)) (eqb-true p q e)
+first_same (Some p) (Some q) e = ap first_rank (eqb-true p q e)
 
-all_same : (parent : Option ℕ) (rows : List Row) → AllByRecursion (λ (row : Row). rank_of (kin_of row) ≡ first_rank parent + row.stamp) (filter (has_parent parent) rows)
-all_same parent rows = recursion_from_All (λ (row : Row). rank_of (kin_of row) ≡ first_rank parent + row.stamp) (filter (has_parent parent) rows) (All-weaker (λ (row : Row). has_parent parent row ≡ true) (λ (row : Row). rank_of (kin_of row) ≡ first_rank parent + row.stamp) (λ row same. ap (λ n. n + row.stamp) (first_same row.parent parent same)) (filter (has_parent parent) rows) (filter_passes (has_parent parent) rows))
+all_same : (parent : Option ℕ) (rows : List Row) → AllByRecursion (λ (row : Row). rank_of (kin_of row) ≡ first_rank (order_of parent) + row.stamp) (filter (has_parent parent) rows)
+all_same parent rows = recursion_from_All (λ (row : Row). rank_of (kin_of row) ≡ first_rank (order_of parent) + row.stamp) (filter (has_parent parent) rows) (All-weaker (λ (row : Row). has_parent parent row ≡ true) (λ (row : Row). rank_of (kin_of row) ≡ first_rank (order_of parent) + row.stamp) (λ row same. ap (λ n. n + row.stamp) (first_same row.parent parent same)) (filter (has_parent parent) rows) (filter_passes (has_parent parent) rows))
 
 numbers_of_kin : (rows : List Row) → map (λ (kin : Kin). kin.number) (map kin_of rows) ≡ numbers rows
 numbers_of_kin [] = refl
@@ -99,11 +88,20 @@ by_stamp_is : (rows : List Row) → sorted_by (λ (r : Row). r.stamp) rows ≡ b
 by_stamp_is [] = refl
 by_stamp_is (row ∷ rest) = ap (inserted_by (λ (r : Row). r.stamp) row) (by_stamp_is rest) ∙ inserted_is row (by_stamp rest)
 
-pub kids_are : (rows : List Row) (parent : Option ℕ) → Fit rows → IsDistinct nat_eq (stamps rows) → map (λ (kin : Kin). kin.number) (kids_of (by_rank rows) parent) ≡ children rows parent
+pub kids_are : (rows : List Row) (parent : Option ℕ) → Fit rows → NoneIs0 rows → is_same parent (Some 0) ≡ false → IsDistinct nat_eq (stamps rows) → map (λ (kin : Kin). kin.number) (kids_of (by_rank rows) (order_of parent)) ≡ children rows parent
 unfolding children
-kids_are rows parent fit differ =
-    ap (map (λ (kin : Kin). kin.number)) (filter-sorted rank_of (λ kin. is_same kin.parent parent) (map kin_of rows) (apart_rows rows fit differ) ∙ (ap (sorted_by rank_of) (same_kin parent rows) ∙ sorted-map rank_of (λ (row : Row). row.stamp) kin_of (first_rank parent) (filter (has_parent parent) rows) (all_same parent rows)))
+kids_are rows parent fit begin is differ =
+    ap (map (λ (kin : Kin). kin.number)) (filter-sorted rank_of (λ kin. kin.parent == order_of parent) (map kin_of rows) (apart_rows rows fit differ) ∙ (ap (sorted_by rank_of) (same_kin parent rows begin is) ∙ sorted-map rank_of (λ (row : Row). row.stamp) kin_of (first_rank (order_of parent)) (filter (has_parent parent) rows) (all_same parent rows)))
     ∙ (numbers_of_kin (sorted_by (λ (row : Row). row.stamp) (filter (has_parent parent) rows)) ∙ ap numbers (by_stamp_is (filter (has_parent parent) rows)))
+
+-- 0 has no children
+no_kids : (rows : List Row) → NoneIs0 rows → filter (has_parent (Some 0)) rows ≡ []
+no_kids [] begin = refl
+no_kids (row ∷ rest) begin = cond-false (has_parent (Some 0) row) _ _ begin.0 ∙ no_kids rest begin.1
+
+pub none_below_0 : (rows : List Row) → NoneIs0 rows → children rows (Some 0) ≡ []
+unfolding children
+none_below_0 rows begin = ap (λ l. numbers (by_stamp l)) (no_kids rows begin)
 
 -- edits of rows, as edits of the order
 map-remove : (rows : List Row) (k : ℕ) → map kin_of (remove rows k) ≡ remove (map kin_of rows) k

@@ -14,3 +14,4 @@ pub mod Allowed
 pub mod Edits
 pub mod Placing
 pub mod Nearest
+pub mod Entries

@@ -1,19 +1,18 @@
 -- Searches in the order of all children.
-use Rattle.std.proofs.Common.{◌≡◌, ℕ, ◌+◌, ◌-◌, ◌<◌, ◌≤◌, ◌^◌, ◌==◌, true, false, List, Option, None, length, get_or, take, drop, sym, ap, ◌∙◌, arith, ⊎_elim}
+use Rattle.std.proofs.Common.{◌≡◌, ℕ, ◌+◌, ◌-◌, ◌<◌, ◌≤◌, ◌^◌, ◌==◌, true, false, List, length, get_or, take, drop, sym, ap, ◌∙◌, arith, ⊎_elim}
 use Rattle.std.specs.List.{All, list_any, remove}
 use Rattle.std.proofs.lemmas.Bool.{cases_lt, false≢true}
 use Rattle.object_tree.specs.declared.kin.Kin.{Kin}
-use Rattle.object_tree.specs.Rows.{is_same}
 use Rattle.object_tree.specs.Kin.{first_rank, kids_of, rank_of}
 use Rattle.object_tree.proofs.Keyed.{Rises, at_place, without_by}
 use Rattle.object_tree.proofs.KinLemmas.{rank_between, rank_high, rank_low}
 use Rattle.object_tree.proofs.Sorted.{stretch}
 
 nobody : Kin
-nobody = record { parent = None; stamp = 0; number = 0 }
+nobody = record { stamp = 0; parent = 0; number = 0 }
 
 -- the children of a parent lie between two ranks
-module _ (list : List Kin) (parent : Option ℕ) (low from to : ℕ) (is : low ≡ first_rank parent)
+module _ (list : List Kin) (parent : ℕ) (low from to : ℕ) (is : low ≡ first_rank parent)
     (fit : All (λ (kin : Kin). kin.stamp < 2 ^ 64) list) (from_within : from ≤ length list) (within : to ≤ length list)
     (before : (k : ℕ) (d : Kin) → k < from → rank_of (get_or list k d) < low)
     (behind : (k : ℕ) (d : Kin) → from ≤ k → k < length list → low ≤ rank_of (get_or list k d))
@@ -23,7 +22,7 @@ module _ (list : List Kin) (parent : Option ℕ) (low from to : ℕ) (is : low �
   kids_order = ⊎_elim (λ lt. absurd (omega (arith, before to nobody lt, behind_end to nobody (omega arith) (omega arith)))) (λ ge. ge) (cases_lt to from)
 
   pub kids_between : take (to - from) (drop from list) ≡ kids_of list parent
-  kids_between = sym (stretch rank_of (λ (kin : Kin). is_same kin.parent parent) list from to kids_order within
+  kids_between = sym (stretch rank_of (λ (kin : Kin). kin.parent == parent) list from to kids_order within
       (λ k d lt. rank_low (get_or list k d) parent (fit k d (omega arith)) (omega (arith, before k d lt, is)))
       (λ k d ge lt. rank_between (get_or list k d) parent (fit k d (omega arith)) (omega (arith, behind k d ge (omega arith), is)) (omega (arith, before_end k d lt, is)))
       (λ k d ge h. rank_high (get_or list k d) parent (fit k d h) (omega (arith, behind_end k d ge h, is))))

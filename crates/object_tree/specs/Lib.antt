@@ -7,3 +7,4 @@ pub mod Changes
 pub mod Finding
 pub mod Table
 pub mod Kin
+pub mod Entries

@@ -8,6 +8,7 @@ mod kin;
 mod lines;
 mod objects;
 mod row;
+mod rows;
 #[cfg(test)]
 mod tests;
 mod tree;

@@ -1,22 +1,23 @@
 //! The rows of a forest, and an index of the children of each parent.
-ghost use Rattle.std.specs.Prelude.{◌≡◌, ◌≢◌, ◌<◌, ◌^◌, ◌++◌, ◌∷◌, ℕ, List, [], IfNone, IfSome, OnOk, OnErr, Some, None, false, filter, length, map, not, set, slice_index_or, true};
+ghost use Rattle.std.specs.Prelude.{◌≡◌, ◌≢◌, ◌<◌, ◌≤◌, ◌^◌, ◌++◌, ◌∷◌, ℕ, [], IfNone, IfSome, IsFalse, IsTrue, OnOk, OnErr, Some, None, false, filter, length, map, not, true};
 ghost use Rattle.std.specs.List.{All};
 ghost use Rattle.std.specs.List.Sorted.{IsStrictlySortedBy};
 ghost use Rattle.std.specs.Option.{option_map_or};
 ghost use Rattle.std.specs.Ordering.{nat_cmp};
-ghost use Rattle.object_tree.specs.Rows.{children, has_number, numbers, parent_of, row_of};
+ghost use Rattle.object_tree.specs.Rows.{children, has_number, has_parent, is_there, numbers, parent_of, row_of};
 ghost use Rattle.object_tree.specs.Changes.{changed, orphaned};
 
-use crate::kin::{Kin, kids, kin_of, reseat, seat, unseat};
-use crate::lines::place_of;
+use crate::kin::{Kin, kids, kin_of, order_of, reseat, seat, unseat};
+use crate::lines::is_same;
 use crate::row::Row;
+use crate::rows::Rows;
 use std::alloc::{AllocError, Global};
 use std::marker::Model;
 
-/// Rows by rising number, where no two have the same stamp.
+/// Rows by rising number, where no two have the same stamp, and no object has number 0.
 #[derive(Drop)]
 pub(crate) struct Objects {
-    rows: Vec<Row>,
+    rows: Rows,
     kin: Vec<Kin>,
 }
 
@@ -27,9 +28,9 @@ impl Model for Objects {
 
     ghost Value = { List Row };
 
-    ghost view = { λ objects. objects.rows.items };
+    ghost view = { λ objects. objects.rows };
 
-    ghost invariant = { λ objects. IsKept objects.rows.items objects.kin.items };
+    ghost invariant = { λ objects. IsKept objects.rows objects.kin.items };
 }
 
 impl Objects {
@@ -37,7 +38,7 @@ impl Objects {
         ensures { result ≡ [] }
     {
         Objects {
-            rows: Vec::new(alloc),
+            rows: Rows::new(alloc),
             kin: Vec::new(alloc),
         }
     }
@@ -49,45 +50,52 @@ impl Objects {
         self.kin.clear();
     }
 
-    pub(crate) fn as_slice(&self) -> &[Row]
-        ensures { result.now ≡ self.now }
-    {
-        self.rows.as_slice()
-    }
-
     pub(crate) fn count(&self) -> usize
         ensures { result ≡ length self.now }
     {
-        self.rows.len()
+        self.rows.count()
+    }
+
+    /// The row of an object.
+    pub(crate) fn row(&self, number: u32) -> Option<Row>
+        ensures { result ≡ row_of self.now number }
+    {
+        self.rows.get(number)
     }
 
     /// The children of a parent, by age.
     pub(crate) fn kids(&self, parent: Option<u32>) -> &[Kin]
         ensures { map (λ kin. kin.number) result.now ≡ children self.now parent }
     {
-        kids(self.kin.as_slice(), parent)
+        let list = self.kin.as_slice();
+        if is_same(parent, Some(0)) {
+            return &[];
+        }
+        kids(list, order_of(parent))
     }
 
-    /// Adds a row of a greater number and of a greater stamp than all.
+    /// Adds a row of a greater number and of a greater stamp than all, below one that is there or
+    /// none.
     pub(crate) fn push(&mut self, row: Row) -> Result<(), AllocError>
+        requires begin { 1 ≤ row.number }
         requires number { All (λ other. other.number < row.number) self.old }
         requires stamp { All (λ other. other.stamp < row.stamp) self.old }
         requires fit { row.stamp < 2 ^ 64 }
+        requires parent { (number : ℕ) → row.parent ≡ Some number → IsTrue (is_there self.old number) }
         ensures ok { OnOk result (self.new ≡ self.old ++ row ∷ []) }
         ensures err { OnErr result (self.new ≡ self.old) }
     {
-        self.rows.reserve(1)?;
         self.kin.reserve(1)?;
+        self.rows.add(row)?;
         seat(&mut self.kin, kin_of(row));
-        self.rows.push_reserved(row);
         Ok(())
     }
 
     pub(crate) fn mark_dying(&mut self, number: u32)
         ensures { self.new ≡ changed (λ row. record row { dying = true }) number self.old }
     {
-        if let Some(place) = place_of(self.rows.as_slice(), number) {
-            self.rows[place].dying = true;
+        if let Some(row) = self.rows.get(number) {
+            self.rows.put(Row { dying: true, ..row });
         }
     }
 
@@ -96,26 +104,24 @@ impl Objects {
         ensures before { result ≡ option_map_or (λ row. row.blocked) (row_of self.old number) false }
         ensures after { self.new ≡ changed (λ row. record row { blocked = on }) number self.old }
     {
-        match place_of(self.rows.as_slice(), number) {
-            Some(place) => {
-                let row = &mut self.rows[place];
-                let before = row.blocked;
-                row.blocked = on;
-                before
+        match self.rows.get(number) {
+            Some(row) => {
+                self.rows.put(Row { blocked: on, ..row });
+                row.blocked
             }
             None => false,
         }
     }
 
-    /// Gives an object a parent, and a stamp that is greater than all.
+    /// Gives an object a parent that is there or none, and a stamp that is greater than all.
     pub(crate) fn move_to(&mut self, number: u32, parent: Option<u32>, stamp: u64)
-        requires { All (λ other. other.stamp < stamp) self.old }
+        requires stamp { All (λ other. other.stamp < stamp) self.old }
+        requires parent { (above : ℕ) → parent ≡ Some above → IsTrue (is_there self.old above) }
         ensures { self.new ≡ changed (λ row. record row { parent = parent; stamp = stamp }) number self.old }
     {
-        if let Some(place) = place_of(self.rows.as_slice(), number) {
-            let row = self.rows[place];
+        if let Some(row) = self.rows.get(number) {
             self.put(
-                place,
+                row,
                 Row {
                     parent,
                     stamp,
@@ -137,9 +143,9 @@ impl Objects {
     fn take_out(&mut self, number: u32)
         ensures { self.new ≡ filter (λ row. not (has_number number row)) self.old }
     {
-        if let Some(place) = place_of(self.rows.as_slice(), number) {
-            unseat(&mut self.kin, kin_of(self.rows[place]));
-            self.rows.remove(place);
+        if let Some(row) = self.rows.get(number) {
+            unseat(&mut self.kin, kin_of(row));
+            self.rows.remove(number);
         }
     }
 
@@ -170,10 +176,9 @@ impl Objects {
     fn free(&mut self, number: u32)
         ensures { self.new ≡ changed (λ row. record row { parent = None }) number self.old }
     {
-        if let Some(place) = place_of(self.rows.as_slice(), number) {
-            let row = self.rows[place];
+        if let Some(row) = self.rows.get(number) {
             self.put(
-                place,
+                row,
                 Row {
                     parent: None,
                     ..row
@@ -182,16 +187,15 @@ impl Objects {
         }
     }
 
-    /// Puts a row in the place of another one of its number.
-    fn put(&mut self, place: usize, row: Row)
-        requires within { place < length self.old }
-        requires number { (d : Row) → row.number ≡ (slice_index_or self.old place d).number }
-        requires stamp { (k : ℕ) (d : Row) → k < length self.old → k ≢ place
-            → (slice_index_or self.old k d).stamp ≢ row.stamp }
+    /// Puts a row in the place of the one of its number.
+    fn put(&mut self, old: Row, row: Row)
+        requires there { row_of self.old row.number ≡ Some old }
+        requires stamp { All (λ other. other.number ≢ row.number → other.stamp ≢ row.stamp) self.old }
         requires fit { row.stamp < 2 ^ 64 }
-        ensures { self.new ≡ set self.old place row }
+        requires parent { IsFalse (has_parent (Some 0) row) }
+        ensures { self.new ≡ changed (λ other. row) row.number self.old }
     {
-        reseat(&mut self.kin, kin_of(self.rows[place]), kin_of(row));
-        self.rows[place] = row;
+        reseat(&mut self.kin, kin_of(old), kin_of(row));
+        self.rows.put(row);
     }
 }

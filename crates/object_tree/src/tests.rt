@@ -128,6 +128,7 @@ fn keeps_trees(rt: HostRuntime) -> Result<(), Fail> {
     assert!(rt; bed.has_children(Some(3), &[5, 6])?);
     assert!(rt; bed.has_children(Some(4), &[])?);
     assert!(rt; bed.has_children(Some(9), &[])?);
+    assert!(rt; bed.has_children(Some(0), &[])?);
     assert!(rt; is_plain(bed.row(6), 6, Some(3), 6));
     assert!(rt; bed.row(8).is_none());
     bed.sound();

@@ -2,17 +2,15 @@
 ghost use Rattle.std.specs.Prelude.{◌≡◌, ◌+◌, ◌<◌, ◌≤◌, ◌^◌, ℕ, Bool, IfOk, OnOk, OnErr, Option, length};
 ghost use Rattle.std.specs.Result.{result_err};
 ghost use Rattle.refusals.specs.Answers.{RefusedBy};
-ghost use Rattle.object_tree.specs.Rows.{children, numbers, row_of};
+ghost use Rattle.object_tree.specs.Rows.{children, row_of};
 ghost use Rattle.object_tree.specs.Forest.{IsSound, empty_forest};
 ghost use Rattle.object_tree.specs.Refusing.{add_refusal, cycle_refusal, keeps_parent, move_refusal, object_refusal, parent_refusal, set_parent_refusal, stamp_refusal};
 ghost use Rattle.object_tree.specs.Changes.{added, marked, moved, removed, reparented, with_blocked};
 ghost use Rattle.object_tree.specs.Finding.{AnswersBy, found_below, IsNearest};
 ghost use Rattle.std.specs.Option.{option_map_or};
-ghost use Rattle.std.specs.List.Sorted.{IsStrictlySortedBy};
-ghost use Rattle.std.specs.Ordering.{nat_cmp};
 ghost use Rattle.std.specs.Prelude.{false, None};
 
-use crate::lines::{depth_at, is_below, is_same, parent_of, row_of};
+use crate::lines::{depth_at, is_below, is_same, parent_of};
 use crate::objects::Objects;
 use crate::row::{DEPTH, OBJECTS, Row};
 use refusals::{Code, Fault};
@@ -88,11 +86,11 @@ impl Tree {
     fn add_refusal(&self, parent: Option<u32>) -> Option<Code>
         ensures { result ≡ add_refusal self.now parent }
     {
-        let rows = self.objects.as_slice();
-        if let Some(code) = parent_refusal(rows, parent) {
+        let objects = &self.objects;
+        if let Some(code) = parent_refusal(objects, parent) {
             return Some(code);
         }
-        if rows.len() >= OBJECTS || depth_at(rows, parent) >= DEPTH {
+        if objects.count() >= OBJECTS || depth_at(objects, parent) >= DEPTH {
             return Some(Code::Limit);
         }
         if self.last_number == u32::MAX {
@@ -109,7 +107,7 @@ impl Tree {
         if let Some(code) = self.set_parent_refusal(object, parent) {
             return Err(code);
         }
-        if is_same(parent_of(self.objects.as_slice(), object), parent) {
+        if is_same(parent_of(&self.objects, object), parent) {
             return Ok(());
         }
         self.move_to(object, parent);
@@ -120,14 +118,14 @@ impl Tree {
     fn set_parent_refusal(&self, object: u32, parent: Option<u32>) -> Option<Code>
         ensures { result ≡ set_parent_refusal self.now object parent }
     {
-        let rows = self.objects.as_slice();
-        if let Some(code) = object_refusal(rows, object) {
+        let objects = &self.objects;
+        if let Some(code) = object_refusal(objects, object) {
             return Some(code);
         }
-        if let Some(code) = parent_refusal(rows, parent) {
+        if let Some(code) = parent_refusal(objects, parent) {
             return Some(code);
         }
-        if is_same(parent_of(rows, object), parent) {
+        if is_same(parent_of(objects, object), parent) {
             return None;
         }
         self.move_refusal(object, parent)
@@ -137,11 +135,11 @@ impl Tree {
     fn move_refusal(&self, object: u32, parent: Option<u32>) -> Option<Code>
         ensures { result ≡ move_refusal self.now object parent }
     {
-        let rows = self.objects.as_slice();
-        if let Some(code) = cycle_refusal(rows, object, parent) {
+        let objects = &self.objects;
+        if let Some(code) = cycle_refusal(objects, object, parent) {
             return Some(code);
         }
-        if depth_at(rows, parent) + self.objects.height(object) > DEPTH {
+        if depth_at(objects, parent) + self.objects.height(object) > DEPTH {
             return Some(Code::Limit);
         }
         stamp_refusal(self.last_stamp)
@@ -178,7 +176,7 @@ impl Tree {
     pub fn row(&self, object: u32) -> Option<Row>
         ensures { result ≡ row_of self.now.rows object }
     {
-        row_of(self.objects.as_slice(), object)
+        self.objects.row(object)
     }
 
     pub fn count(&self) -> usize
@@ -211,33 +209,30 @@ impl Tree {
     }
 }
 
-fn object_refusal(rows: &[Row], number: u32) -> Option<Code>
-    requires { IsStrictlySortedBy nat_cmp (numbers rows.now) }
-    ensures { result ≡ object_refusal rows.now number }
+fn object_refusal(objects: &Objects, number: u32) -> Option<Code>
+    ensures { result ≡ object_refusal objects.now number }
 {
-    match row_of(rows, number) {
+    match objects.row(number) {
         Some(row) => { if row.dying { Some(Code::Dying) } else { None } }
         None => Some(Code::NoSuchObject),
     }
 }
 
-fn parent_refusal(rows: &[Row], parent: Option<u32>) -> Option<Code>
-    requires { IsStrictlySortedBy nat_cmp (numbers rows.now) }
-    ensures { result ≡ parent_refusal rows.now parent }
+fn parent_refusal(objects: &Objects, parent: Option<u32>) -> Option<Code>
+    ensures { result ≡ parent_refusal objects.now parent }
 {
     match parent {
-        Some(number) => object_refusal(rows, number),
+        Some(number) => object_refusal(objects, number),
         None => None,
     }
 }
 
-fn cycle_refusal(rows: &[Row], object: u32, parent: Option<u32>) -> Option<Code>
-    requires { IsStrictlySortedBy nat_cmp (numbers rows.now) }
-    ensures { result ≡ cycle_refusal rows.now object parent }
+fn cycle_refusal(objects: &Objects, object: u32, parent: Option<u32>) -> Option<Code>
+    ensures { result ≡ cycle_refusal objects.now object parent }
 {
     match parent {
         Some(number) => {
-            if is_below(rows, object, number) {
+            if is_below(objects, object, number) {
                 Some(Code::Cycle)
             } else {
                 None

@@ -1,16 +1,15 @@
 -- The run of an agenda comes to its end: with each step a measure falls.
-use Rattle.std.proofs.Common.{◌≡◌, ◌<◌, ◌≤◌, ◌+◌, ◌*◌, ℕ, zero, suc, Bool, true, false, not, List, [], ◌∷◌, ◌++◌, length, map, filter, find, Option, Some, None, refl, sym, subst, ap, ◌∙◌, if◌then◌else◌, ⊎_elim, ltb, arith}
+use Rattle.std.proofs.Common.{◌≡◌, ◌<◌, ◌≤◌, ◌+◌, ◌*◌, ℕ, zero, suc, Bool, true, false, not, List, [], ◌∷◌, ◌++◌, length, map, filter, Option, Some, refl, sym, subst, ap, ◌∙◌, if◌then◌else◌, ⊎_elim, ltb, arith}
 use Rattle.std.specs.Option.{option_map_or}
 use Rattle.std.proofs.Math.Nat.{mul-le-mul_left, mul-le-mul_right, suc-mul}
 use Rattle.std.proofs.lemmas.List.{length-map}
 use Rattle.std.proofs.lemmas.Bool.{cases_Bool, cond-true, cond-false}
 use Rattle.object_tree.specs.declared.row.Row.{Row}
-use Rattle.object_tree.specs.Rows.{has_number, has_parent, row_of, numbers, inserted, by_stamp, children}
+use Rattle.object_tree.specs.Rows.{has_number, has_parent, row_of, inserted, by_stamp, children}
 use Rattle.object_tree.specs.Changes.{changed, marked, removed, orphaned}
 use Rattle.thread_model.specs.declared.line.Answer.{Answer}
 use Rattle.thread_model.specs.declared.line.Line.TheVariants as line
 use Rattle.thread_model.specs.Agenda.{Item, Delete, Cut, Kin, Gone, Reply, Doing, Next, puts, RunsToItsEnd, is_living, lives, lives_below, dying, gone, told, kins, step, steps, living, weight, weights, enough, run}
-use Rattle.thread_model.specs.State.{without_object}
 
 -- the objects, and how many of them are not dying
 abbrev objects : Doing → ℕ

@@ -1,7 +1,7 @@
 -- What a session is, and what a command does to it. The rules are those of Qt's object model in this
 -- server's profile; codes and limits are its own.
-use Rattle.std.specs.Prelude.{◌+◌, ◌&&◌, ℕ, Bool, true, false, List, [], ◌∷◌, length, map, slice_get, is_some, bytes_eq, if◌then◌else◌, option_map, option_and_then, Option, Some, None, Result, Ok, Err}
-use Rattle.std.specs.Option.{option_map_or, option_or}
+use Rattle.std.specs.Prelude.{◌+◌, ◌&&◌, ℕ, Bool, true, false, List, [], ◌∷◌, length, map, slice_get, bytes_eq, if◌then◌else◌, option_map, option_and_then, Option, Some, None, Result, Ok, Err}
+use Rattle.std.specs.Option.{option_map_or}
 use Rattle.serde_json.specs.Data.{Data, null}
 use Rattle.isolation.specs.Machine.{Effect}
 use Rattle.refusals.specs.declared.code.Code.{Code}
@@ -12,7 +12,6 @@ use Rattle.variant_value.specs.declared.value.Value.TheVariants as v
 use Rattle.variant_value.specs.Values.{value_of}
 use Rattle.class_table.specs.declared.class.Class.{Class}
 use Rattle.class_table.specs.Lookup.{inherited, inherits, method_text, methods, names, place_of, properties}
-use Rattle.object_tree.specs.declared.row.Row.{Row}
 use Rattle.object_tree.specs.Rows.{children, is_there, row_of}
 use Rattle.object_tree.specs.Refusing.{add_refusal, set_parent_refusal, parent_refusal}
 use Rattle.object_tree.specs.Changes.{reparented}

@@ -5,4 +5,4 @@ use Rattle.object_tree.specs.Lines.{depth, walk}
 use Rattle.object_tree.proofs.lines.depth.Given as goal
 
 abbrev pub invariant-levels : goal.invariant-levels
-invariant-levels l = (l.depth + length (option_map_or (walk (parent_of l.rows) (length l.rows - l._step)) l.at []) ≡ depth l.rows l.number) × (l.depth ≤ l._step)
+invariant-levels l = (l.depth + length (option_map_or (walk (parent_of l.objects) (length l.objects - l._step)) l.at []) ≡ depth l.objects l.number) × (l.depth ≤ l._step)

@@ -37,6 +37,12 @@ push-requires-clause-fit c =
     let can : CanAdd forest c.args.parent = add_allowed forest c.args.parent (ap (λ f. add_refusal f c.args.parent) c.self.view_is ∙ sym c.in_default.ensures) in
     omega (arith, can.stamp)
 
+pub push-requires-clause-parent : goal.push-requires-clause-parent
+push-requires-clause-parent c =
+    let forest : Forest = record { rows = c.self.inside.objects; last_number = c.self.inside.last_number; last_stamp = c.self.inside.last_stamp } in
+    let can : CanAdd forest c.args.parent = add_allowed forest c.args.parent (ap (λ f. add_refusal f c.args.parent) c.self.view_is ∙ sym c.in_default.ensures) in
+    can.above
+
 pub invariant_of-self-2 : goal.invariant_of-self-2
 invariant_of-self-2 c =
     let forest : Forest = record { rows = c.self.inside.objects; last_number = c.self.inside.last_number; last_stamp = c.self.inside.last_stamp } in

@@ -14,6 +14,12 @@ overflow_add-self c =
     let can : CanMove forest c.args.object c.args.parent = move_allowed forest c.args.object c.args.parent (ap (λ f. set_parent_refusal f c.args.object c.args.parent) c.self.view_is ∙ c.requires.refusal) (ap (λ f. keeps_parent f.rows c.args.object c.args.parent) c.self.view_is ∙ c.requires.another) in
     omega (arith, can.stamp)
 
+pub move_to-requires-clause-parent : goal.move_to-requires-clause-parent
+move_to-requires-clause-parent c =
+    let forest : Forest = record { rows = c.self.inside.objects; last_number = c.self.inside.last_number; last_stamp = c.self.inside.last_stamp } in
+    let can : CanMove forest c.args.object c.args.parent = move_allowed forest c.args.object c.args.parent (ap (λ f. set_parent_refusal f c.args.object c.args.parent) c.self.view_is ∙ c.requires.refusal) (ap (λ f. keeps_parent f.rows c.args.object c.args.parent) c.self.view_is ∙ c.requires.another) in
+    λ above is. (can.above above is).0
+
 pub invariant_of-self : goal.invariant_of-self
 invariant_of-self c =
     let forest : Forest = record { rows = c.self.inside.objects; last_number = c.self.inside.last_number; last_stamp = c.self.inside.last_stamp } in
