@@ -18,7 +18,7 @@ pub(crate) struct Kin {
     pub(crate) number: u32,
 }
 
-/// Where the children of a parent stand among those of others.
+/// The number of a parent, and 0 where there is none: the children of all parents stand in this order.
 pub(crate) fn order_of(parent: Option<u32>) -> u32
     ensures { result ≡ order_of parent }
 {

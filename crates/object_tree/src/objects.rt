@@ -164,6 +164,7 @@ impl Objects {
         ensures none { IfNone result (map (orphaned object) self.now ≡ self.now) }
         ensures rise { IsStrictlySortedBy nat_cmp (numbers self.now) }
     {
+        // The loan is for the proof, which then knows what holds of the rows.
         let _rows = &self.rows;
         let kids = self.kids(Some(object));
         if kids.is_empty() {

@@ -49,6 +49,7 @@ impl Tree {
     pub fn sound(&self)
         ensures { IsSound self.now }
     {
+        // The loan is for the proof, which then knows what holds of the objects.
         let _objects = &self.objects;
     }
 
