@@ -7,8 +7,6 @@ mod ends;
 mod list;
 mod pattern;
 mod table;
-#[cfg(test)]
-mod tests;
 
 pub use connection::{Connection, ConnectionType, NewConnection};
 pub use list::CONNECTIONS;

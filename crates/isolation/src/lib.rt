@@ -40,14 +40,3 @@ pub fn piece_laws<Name, State, Command, Line, Post, Fault>()
     ensures said_by_influence { (m : Machine Name State Command Line Post) → IsLawful m → SaidByInfluence Fault m }
     ensures told_alone { (m : Machine Name State Command Line Post) → IsLawful m → ToldAlone Fault m }
 {}
-
-#[cfg(test)]
-mod tests {
-    use crate::{laws, piece_laws};
-
-    #[test]
-    fn laws_hold_at_any_types() {
-        laws::<String, u64, bool, char, u8>();
-        piece_laws::<String, u64, bool, char, u8, u16>();
-    }
-}

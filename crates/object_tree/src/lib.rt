@@ -9,8 +9,6 @@ mod lines;
 mod objects;
 mod row;
 mod rows;
-#[cfg(test)]
-mod tests;
 mod tree;
 
 pub use forests::Forests;

@@ -89,26 +89,3 @@ impl<T> Places<T> {
         &mut self.items[place]
     }
 }
-
-#[cfg(test)]
-mod tests {
-    use super::*;
-    use std::test::Fail;
-
-    #[test]
-    fn keeps_a_value_for_each_place(rt: HostRuntime) -> Result<(), Fail> {
-        let mut places: Places<u32> = Places::new(rt.alloc());
-        assert!(rt; places.is_empty());
-        places.ready()?;
-        let first = places.open(7);
-        assert_eq!(rt; first, 0);
-        places.ready()?;
-        let second = places.open(3);
-        assert_eq!(rt; second, 1);
-        assert_eq!(rt; places.len(), 2);
-        *places.get_mut(0) = 9;
-        assert_eq!(rt; *places.get(0), 9);
-        assert_eq!(rt; *places.get(1), 3);
-        Ok(())
-    }
-}

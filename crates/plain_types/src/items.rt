@@ -83,23 +83,3 @@ impl<T: Drop> Items<T> {
         Ok(())
     }
 }
-
-#[cfg(test)]
-mod tests {
-    use super::*;
-    use std::test::Fail;
-
-    #[test]
-    fn keeps_the_order(rt: HostRuntime) -> Result<(), Fail> {
-        let mut items: Items<u32> = Items::new(rt.alloc());
-        assert!(rt; items.is_empty());
-        items.push(7)?;
-        items.push(3)?;
-        assert_eq!(rt; items.len(), 2);
-        assert_eq!(rt; items.get(1).copied(), Some(3));
-        assert_eq!(rt; items.get(2).copied(), None);
-        let again = Items::from_vec(items.into_vec());
-        assert_eq!(rt; again.as_slice(), [7, 3].as_slice());
-        Ok(())
-    }
-}

@@ -37,32 +37,3 @@ fn is_name_byte(byte: u8) -> bool
 {
     byte == b'_' || byte.is_ascii_alphanumeric()
 }
-
-#[cfg(test)]
-mod tests {
-    use super::*;
-
-    #[test]
-    fn tells_names(rt: HostRuntime) {
-        for name in [
-            "a",
-            "_",
-            "QObject",
-            "x1_Y",
-            "aaaaaaaaaabbbbbbbbbbccccccccccddddddddddeeeeeeeeeeffffffffffgggg",
-        ] {
-            assert!(rt; is_name(name), "{name}");
-        }
-        for text in [
-            "",
-            "1",
-            "a b",
-            "-",
-            "a-b",
-            "ä",
-            "aaaaaaaaaabbbbbbbbbbccccccccccddddddddddeeeeeeeeeeffffffffffggggg",
-        ] {
-            assert!(rt; !is_name(text), "{text}");
-        }
-    }
-}

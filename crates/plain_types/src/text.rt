@@ -96,24 +96,3 @@ impl Hash for Text {
         self.as_str().hash(state);
     }
 }
-
-#[cfg(test)]
-mod tests {
-    use super::*;
-    use std::test::Fail;
-
-    #[test]
-    fn copies_are_equal(rt: HostRuntime) -> Result<(), Fail> {
-        let alloc = rt.alloc();
-        let lamp = Text::from_str(alloc, "lämp")?;
-        let copy = lamp.copy(alloc)?;
-        assert!(rt; lamp == copy);
-        assert_eq!(rt; copy.as_str(), "lämp");
-        assert_eq!(rt; copy.len(), 5);
-        assert!(rt; !copy.is_empty());
-        let moved = Text::from_string(String::from_str(alloc, "")?);
-        assert!(rt; moved.is_empty());
-        assert!(rt; lamp != moved);
-        Ok(())
-    }
-}

@@ -93,23 +93,3 @@ impl fmt::Display for Code {
 }
 
 impl Error for Code {}
-
-#[cfg(test)]
-mod tests {
-    use super::*;
-    use std::test::Fail;
-
-    #[test]
-    fn prints_codes(rt: HostRuntime) -> Result<(), Fail> {
-        let printed = [
-            (Code::UnreadableLine, "E01"),
-            (Code::NoSuchObject, "E04"),
-            (Code::OutOfMemory, "E21"),
-        ];
-        for (code, text) in printed {
-            assert_eq!(rt; code.text(), text);
-            assert_eq!(rt; code.to_string(rt.alloc())?.as_str(), text);
-        }
-        Ok(())
-    }
-}

@@ -46,23 +46,3 @@ impl From<Code> for Fault {
         Fault::Refused(code)
     }
 }
-
-#[cfg(test)]
-mod tests {
-    use super::*;
-    use std::test::Fail;
-
-    fn limited() -> Result<u32, Fault> {
-        Err(Code::Limit)?
-    }
-
-    #[test]
-    fn prints_faults(rt: HostRuntime) -> Result<(), Fail> {
-        assert!(rt; matches!(limited(), Err(Fault::Refused(Code::Limit))));
-        let fault = Fault::from(Code::Limit);
-        assert_eq!(rt; fault.to_string(rt.alloc())?.as_str(), "refused: E14");
-        let memory = Fault::from(AllocError);
-        assert_eq!(rt; memory.to_string(rt.alloc())?.as_str(), "out of memory");
-        Ok(())
-    }
-}
