@@ -3,40 +3,48 @@
 # make test   proves everything from nothing, and runs every test
 # make bench  measures the program
 
-PROGRAM = crates/meta_main
+PROGRAM = meta_main
+CRATE = crates/$(PROGRAM)
 CC ?= cc
 
-.PHONY: all run test rows examples trees refusals bench clean
+.PHONY: all run test budget rows examples ends trees refusals bench clean
 
 all: bin/metad
 
 SOURCES = crates.txt HANDLES $(shell find crates -name out -prune -o -type f -print)
 
 bin/metad: $(SOURCES)
-	cd $(PROGRAM) && rt run < /dev/null
+	python3 tools/build.py . $(PROGRAM)
 	mkdir -p bin
-	cp $(PROGRAM)/out/meta_main $@
+	cp $(CRATE)/out/$(PROGRAM) $@
 
 run: bin/metad
-	bin/metad < $(PROGRAM)/stdin
+	bin/metad < $(CRATE)/stdin
 
 test:
 	rt ci
 	mkdir -p bin
-	cp $(PROGRAM)/out/meta_main bin/metad
-	$(MAKE) --no-print-directory rows examples trees refusals
+	cp $(CRATE)/out/$(PROGRAM) bin/metad
+	$(MAKE) --no-print-directory rows examples ends trees refusals
 
-# these four take bin/metad as it is
+budget:
+	python3 tools/budget.py .
+
+# these take bin/metad as it is
 rows:
 	python3 tools/rows.py bin/metad tests/rows
 
 examples:
 	python3 tools/examples.py bin/metad README.md docs/PROTOCOL.md
 
+ends:
+	python3 tools/ends.py bin/metad
+
 trees:
 	python3 tools/trees.py bin/metad
 
 refusals: bin/refuse_growth.so
+	python3 tools/outcomes.py
 	python3 tools/refusals.py bin/metad bin/refuse_growth.so tests/rows
 
 bin/refuse_growth.so: tools/refuse_growth.c

@@ -5,7 +5,8 @@ Usage: bench.py PROGRAM. It prints, for each input, the lines a second (the best
 peak of resident memory; for the first, a single line, only the peak. Then it prints how long `children`
 and `find` take for each object that they visit, among few and among many, and how much longer the
 program takes to start with a class file as large as one may be than with a tiny one (each the best of
-ten runs). Inputs and class files are the same in every run. It ends with 1 where a mark is missed.
+ten runs). Inputs and class files are the same in every run, and every reply is compared with what it
+must be. It ends with 1 where a mark is missed.
 """
 
 import json
@@ -15,6 +16,7 @@ import subprocess
 import sys
 import tempfile
 import time
+from itertools import zip_longest
 from pathlib import Path
 
 RUNS = 3
@@ -40,7 +42,7 @@ MOST_GROWTH = 2
 CLASSES = 1_024
 DEPTH = 8
 METHODS = 256
-METHODS_OF_QOBJECT = 3
+METHODS_OF_QOBJECT = ["destroyed()", "objectNameChanged(QString)", "deleteLater()"]
 
 # One of many classes, of about 1,020 bytes.
 LAMP = """
@@ -71,72 +73,98 @@ def lamps():
 
 
 def panel():
-    """A class with as many methods as there may be."""
-    own = METHODS - METHODS_OF_QOBJECT
+    """A class with as many methods as there may be, and what `meta` has to tell of it."""
+    own = METHODS - len(METHODS_OF_QOBJECT)
     signals = [f"signal{number}(int)" for number in range(own // 2)]
-    slots = [{"sig": f"slot{number}(int)", "body": []} for number in range(own // 2, own)]
-    return json.dumps({"name": "Panel", "super": "QObject", "signals": signals, "slots": slots})
+    slots = [f"slot{number}(int)" for number in range(own // 2, own)]
+    declared = {"name": "Panel", "super": "QObject", "signals": signals, "slots": [{"sig": it, "body": []} for it in slots]}
+    described = {
+        "class": "Panel",
+        "methodOffset": len(METHODS_OF_QOBJECT),
+        "methods": [*METHODS_OF_QOBJECT, *signals, *slots],
+        "properties": ["objectName"],
+        "propertyOffset": 1,
+        "super": "QObject",
+    }
+    return json.dumps(declared), described
 
 
-def new(session):
-    return f'{{"class":"QObject","do":"new","session":"{session}"}}\n'
+def reply(session, value):
+    """The line that replies a value."""
+    return json.dumps({"reply": value, "session": session}, separators=(",", ":")) + "\n"
 
 
-def child(session, parent):
-    return f'{{"class":"QObject","do":"new","parent":{parent},"session":"{session}"}}\n'
+# Each of these is a line with its reply.
+
+
+def new(session, number):
+    return f'{{"class":"QObject","do":"new","session":"{session}"}}\n', reply(session, number)
+
+
+def child(session, parent, number):
+    return f'{{"class":"QObject","do":"new","parent":{parent},"session":"{session}"}}\n', reply(session, number)
 
 
 def delete(session, number):
-    return f'{{"do":"delete","object":{number},"session":"{session}"}}\n'
+    return f'{{"do":"delete","object":{number},"session":"{session}"}}\n', reply(session, True)
 
 
 def write(session, value):
-    return f'{{"do":"set","object":1,"property":"objectName","session":"{session}","value":"{value}"}}\n'
+    line = f'{{"do":"set","object":1,"property":"objectName","session":"{session}","value":"{value}"}}\n'
+    return line, reply(session, True)
 
 
-def read(session):
-    return f'{{"do":"get","object":1,"property":"objectName","session":"{session}"}}\n'
+def read(session, value):
+    return f'{{"do":"get","object":1,"property":"objectName","session":"{session}"}}\n', reply(session, value)
 
 
-def meta(session, name):
-    return f'{{"class":"{name}","do":"meta","session":"{session}"}}\n'
+def meta(session, described):
+    return f'{{"class":"{described["class"]}","do":"meta","session":"{session}"}}\n', reply(session, described)
+
+
+def children(session, number, found):
+    return f'{{"do":"children","object":{number},"session":"{session}"}}\n', reply(session, found)
+
+
+def find_none(session, number):
+    return f'{{"do":"find","name":"none","object":{number},"session":"{session}"}}\n', reply(session, None)
 
 
 def in_turn(sessions, lines):
     """One object in each session, and then writes and reads, each session in turn."""
     names = [f"s{number}" for number in range(sessions)]
-    yield from map(new, names)
+    yield from (new(name, 1) for name in names)
     for number in range(lines // 2):
         name = names[number % sessions]
         yield write(name, f"lamp {number}")
-        yield read(name)
+        yield read(name, f"lamp {number}")
 
 
 def once_each(sessions):
     """An object, a write and a read in each session."""
     for number in range(sessions):
         name = f"s{number}"
-        yield from (new(name), write(name, "lamp"), read(name))
+        yield from (new(name, 1), write(name, "lamp"), read(name, "lamp"))
 
 
 def in_trees(rounds, objects):
     """In each round a tree of objects, made from its root down and deleted at once."""
     for root in range(1, rounds * objects + 1, objects):
-        yield new("a")
-        yield from (child("a", root + place // CHILDREN_OF_EACH) for place in range(objects - 1))
+        yield new("a", root)
+        yield from (child("a", root + place // CHILDREN_OF_EACH, root + place + 1) for place in range(objects - 1))
         yield delete("a", root)
 
 
-def family(children):
+def family(number):
     """An object with so many children."""
-    return [new("a"), *[child("a", 1)] * children]
+    return [new("a", 1), *(child("a", 1, it + 2) for it in range(number))]
 
 
 def come_and_go(standing, lines):
     """Objects that are made and deleted one by one beside others."""
     yield from family(standing)
     for number in range(standing + 2, standing + 2 + lines // 2):
-        yield child("a", 1)
+        yield child("a", 1, number)
         yield delete("a", number)
 
 
@@ -170,23 +198,30 @@ def replies_in(path):
         return sum(line.startswith(b'{"reply":') for line in lines)
 
 
-def seconds_of_lines(command, lines, room):
-    """How long the best of some runs with these lines takes."""
+def seconds_of_lines(name, command, lines, room):
+    """How long the best of some runs with these lines takes, each of which gives all replies."""
     given, wrote = f"{room}/stdin", f"{room}/stdout"
-    Path(given).write_text("".join(lines))
-    return min(seconds_of(command, given, wrote) for _ in range(RUNS))
+    Path(given).write_text("".join(line for line, _ in lines))
+    seconds = []
+    for _ in range(RUNS):
+        seconds.append(seconds_of(command, given, wrote))
+        with open(wrote) as replies:
+            for number, (got, (_, wanted)) in enumerate(zip_longest(replies, lines, fillvalue=("", "")), 1):
+                if got != wanted:
+                    sys.exit(f"{name}: line {number} is {got[:200]!r}, and not {wanted[:200]!r}")
+    return min(seconds)
 
 
-def nanoseconds_of_visit(line, children, command, room):
+def nanoseconds_of_visit(name, visit, number, command, room):
     """How long a line that visits all children of an object takes for each of them."""
-    alone, visits = family(children), [line] * (VISITS // children)
-    seconds = seconds_of_lines(command, alone + visits, room) - seconds_of_lines(command, alone, room)
+    alone, visits = family(number), [visit(number)] * (VISITS // number)
+    seconds = seconds_of_lines(name, command, alone + visits, room) - seconds_of_lines(name, command, alone, room)
     return 1e9 * seconds / VISITS
 
 
-def measure_visits(name, line, command, room):
+def measure_visits(name, visit, command, room):
     """Prints the time of a visit; answers whether it is the same among few and among many."""
-    few, many = (nanoseconds_of_visit(line, children, command, room) for children in FAMILIES)
+    few, many = (nanoseconds_of_visit(name, visit, number, command, room) for number in FAMILIES)
     missed = f"; more than {MOST_GROWTH} times as long" if many > MOST_GROWTH * few else ""
     print(f"{name}: {few:.0f} ns for each of {FAMILIES[0]:,} objects, {many:.0f} for each of {FAMILIES[1]:,}{missed}")
     return not missed
@@ -195,9 +230,7 @@ def measure_visits(name, line, command, room):
 def measure(name, lines, command, room, least=0):
     """Prints the measures of an input; answers whether they reach the mark."""
     given, wrote, lines = f"{room}/stdin", f"{room}/stdout", list(lines)
-    seconds = seconds_of_lines(command, lines, room)
-    if replies_in(wrote) != len(lines):
-        sys.exit(f"{name}: not one reply a line")
+    seconds = seconds_of_lines(name, command, lines, room)
     peak = peak_of(command, given, wrote, len(lines))
     speed = len(lines) / seconds
     shown = f"{speed:,.0f} lines a second, " if len(lines) > 1 else ""
@@ -224,7 +257,8 @@ def measure_reading(program, room):
 def main():
     program = str(Path(sys.argv[1]).resolve())
     with tempfile.TemporaryDirectory(prefix="metad-bench-") as room:
-        with_panel = [program, class_file(f"{room}/panel.json", [panel()])]
+        declared, described = panel()
+        with_panel = [program, class_file(f"{room}/panel.json", [declared])]
         reached = [
             measure("1 new in 1 session", in_turn(1, 0), [program], room),
             measure(f"{LINES} set/get lines in 1 session", in_turn(1, LINES), [program], room, LEAST_WRITES),
@@ -234,9 +268,9 @@ def main():
             measure(f"{ROUNDS} rounds of {OBJECTS} objects in a tree", in_trees(ROUNDS, OBJECTS), [program], room, LEAST_ROUNDS),
             measure(f"{LINES} lines that make and delete an object beside 1", come_and_go(0, LINES), [program], room, LEAST_ROUNDS),
             measure(f"the same beside {OBJECTS}", come_and_go(OBJECTS, LINES), [program], room, LEAST_ROUNDS),
-            measure_visits("children", '{"do":"children","object":1,"session":"a"}\n', [program], room),
-            measure_visits("find", '{"do":"find","name":"none","object":1,"session":"a"}\n', [program], room),
-            measure(f"{METAS} meta lines of {METHODS} methods", [meta("a", "Panel")] * METAS, with_panel, room, LEAST_METAS),
+            measure_visits("children", lambda number: children("a", 1, list(range(2, number + 2))), [program], room),
+            measure_visits("find", lambda number: find_none("a", 1), [program], room),
+            measure(f"{METAS} meta lines of {METHODS} methods", [meta("a", described)] * METAS, with_panel, room, LEAST_METAS),
             measure_reading(program, room),
         ]
     return 0 if all(reached) else 1

@@ -11,11 +11,12 @@ fiftieth at each step. A refused growth may
   others as in the row;
 - lose a line that was being read: it is answered by E21 for the session `-`, and all others as if it
   had not been there;
-- keep a session from being entered: the command is answered by E21 for its session, and all others as
-  if it had not been there;
+- keep a session from being entered, where it had no line before: the command is answered by E21 for
+  its session, and all others as if it had not been there;
 - end the program with status 5 and a prefix of the row's answer, which is none while it starts.
 
-Anything else fails. Usage: refusals.py PROGRAM SHIM ROWS
+Anything else fails, and so does it where one of the last four never came about: then the program does
+less than it should at some refused growth. Usage: refusals.py PROGRAM SHIM ROWS
 """
 
 import json
@@ -34,6 +35,7 @@ LARGE = 4 * 1024
 PART = 50
 OUT_OF_MEMORY = 5
 COMPLAINT = b"metad: out of memory\n"
+KINDS = ("session failed", "line lost", "session not entered", "program ended")
 
 
 def line(code, session):
@@ -112,7 +114,9 @@ class Trial:
             return "line lost" if others == self.answers_without(at) else None
         if answers == with_failed_session(self.answers, at):
             return "session failed"
-        if answers[at] == line("E21", session_of(self.answers[at])) and others == self.answers_without(at):
+        session = session_of(self.answers[at])
+        is_first = all(session_of(it) != session for it in self.answers[:at])
+        if is_first and answers[at] == line("E21", session) and others == self.answers_without(at):
             return "session not entered"
         return None
 
@@ -172,6 +176,11 @@ def try_row(program, shim, row, first):
     return trial.refuse_each(first, is_sparse=sum(map(len, classes_of(row))) > LARGE)
 
 
+def missing(outcomes):
+    """What should have come of some refused growth and never did."""
+    return [kind for kind in KINDS if not outcomes[kind]]
+
+
 def main():
     program, shim = (str(Path(it).resolve()) for it in sys.argv[1:3])
     rows = rows_in(sys.argv[3])
@@ -188,11 +197,10 @@ def main():
             failed += tried.fault is not None
             outcomes += tried.outcomes
     print("refused growths: " + ", ".join(f"{name} {count}" for name, count in sorted(outcomes.items())))
-    if not failed and not outcomes:
-        print("no growth was ever refused, so nothing was shown")
-        failed += 1
     print(f"refusals: {len(rows) - failed} passed, {failed} failed")
-    return 1 if failed else 0
+    for kind in missing(outcomes):
+        print(f"no refused growth ever led to this: {kind}")
+    return 1 if failed or missing(outcomes) else 0
 
 
 if __name__ == "__main__":

@@ -1,0 +1,98 @@
+#!/usr/bin/env python3
+"""Proves the crates that a program stands on, side by side where they do not need each other.
+
+A crate is begun as soon as all that it stands on is built, those at the foot of the longest chains first.
+Of the processors that are free each gets a share, so that a crate that all others wait for is proved with
+several. What `rt` says goes to the crate's own `out/build.log`; of a crate that fails it is shown.
+Usage: build.py REPOSITORY PROGRAM
+"""
+
+import os
+import subprocess
+import sys
+import time
+from concurrent.futures import FIRST_COMPLETED, ThreadPoolExecutor, wait
+from pathlib import Path
+
+AT_ONCE = 3
+
+
+def crates_of(repository):
+    """The crates of the repository, each with those of them that it names."""
+    lines = (line.partition("#")[0].strip() for line in (repository / "crates.txt").read_text().splitlines())
+    named = {head.split()[0]: tail.split() for head, _, tail in (line.partition(":") for line in lines if line)}
+    return {name: [it for it in below if it in named] for name, below in named.items()}
+
+
+def needed_by(program, crates):
+    """The crates below a program, at any depth."""
+    needed, found = set(), list(crates[program])
+    while found:
+        name = found.pop()
+        if name not in needed:
+            needed.add(name)
+            found += crates[name]
+    return {name: crates[name] for name in crates if name in needed}
+
+
+def heights_of(crates, lines):
+    """For each crate how many lines the longest chain has that ends in it and goes up."""
+    above = {name: [it for it in crates if name in crates[it]] for name in crates}
+    heights = {}
+
+    def height(name):
+        if name not in heights:
+            heights[name] = lines[name] + max(map(height, above[name]), default=0)
+        return heights[name]
+
+    return {name: height(name) for name in crates}
+
+
+def lines_of(folder):
+    return sum(path.read_bytes().count(b"\n") for ending in ("rt", "antt") for path in folder.rglob(f"*.{ending}"))
+
+
+def build(folder, words, jobs):
+    """Builds one crate, and tells whether that went well."""
+    (folder / "out").mkdir(exist_ok=True)
+    with open(folder / "out" / "build.log", "w") as log:
+        return subprocess.run(["rt", *words, "--jobs", str(jobs)], cwd=folder, stdin=subprocess.DEVNULL, stdout=log, stderr=log).returncode == 0
+
+
+def build_all(repository, crates):
+    """Builds the crates, each after what it stands on; answers the first that fails, or None."""
+    folders = {name: repository / "crates" / name for name in crates}
+    heights = heights_of(crates, {name: lines_of(folder) for name, folder in folders.items()})
+    waiting, built, running = set(crates), set(), {}
+    start = time.monotonic()
+    with ThreadPoolExecutor(AT_ONCE) as pool:
+        while waiting or running:
+            ready = sorted((it for it in waiting if built.issuperset(crates[it])), key=heights.get, reverse=True)[: AT_ONCE - len(running)]
+            jobs = max(1, (os.cpu_count() or 1) // max(1, len(running) + len(ready)))
+            for name in ready:
+                waiting.remove(name)
+                running[pool.submit(build, folders[name], ["lib"], jobs)] = name
+            for done in wait(running, return_when=FIRST_COMPLETED).done:
+                name = running.pop(done)
+                if not done.result():
+                    return name
+                built.add(name)
+                print(f"{time.monotonic() - start:5.0f} s: {name}, {len(built)} of {len(crates)}", flush=True)
+    return None
+
+
+def main():
+    repository, program = Path(sys.argv[1]).resolve(), sys.argv[2]
+    crates = crates_of(repository)
+    failed = build_all(repository, needed_by(program, crates))
+    if failed is None and not build(repository / "crates" / program, ["run"], os.cpu_count() or 1):
+        failed = program
+    if failed is not None:
+        print((repository / "crates" / failed / "out" / "build.log").read_text()[-4_000:])
+        print(f"{failed} is not built")
+        return 1
+    return 0
+
+
+if __name__ == "__main__":
+    sys.exit(main())

@@ -1,0 +1,94 @@
+#!/usr/bin/env python3
+"""Shows that the runner of refused growths tells good programs from bad ones.
+
+It is given programs that are made up here, each by what it writes where a growth is refused.
+Usage: outcomes.py
+"""
+
+import json
+import sys
+from collections import Counter
+from dataclasses import replace
+from subprocess import CompletedProcess
+
+from refusals import COMPLAINT, KINDS, OUT_OF_MEMORY, Trial, missing
+from row import Row
+
+
+def text(**keys):
+    return json.dumps(keys, separators=(",", ":"), sort_keys=True).encode() + b"\n"
+
+
+GIVEN = [
+    text(**{"class": "QObject", "do": "new", "session": "a"}),
+    text(**{"class": "QObject", "do": "new", "session": "b"}),
+    text(do="get", object=1, property="objectName", session="a"),
+    text(do="get", object=1, property="objectName", session="b"),
+]
+NUMBER_A, NUMBER_B = text(reply=1, session="a"), text(reply=1, session="b")
+TITLE_A, TITLE_B = text(reply="", session="a"), text(reply="", session="b")
+ROW = Row("made up", b"".join(GIVEN), NUMBER_A + NUMBER_B + TITLE_A + TITLE_B)
+
+
+def error(code, session):
+    return text(error=code, session=session)
+
+
+class MadeUp(Row):
+    """The row of a program that answers as if a session were fresh where its first line was not there."""
+
+    def run(self, program, **more):
+        first = {"a": NUMBER_A, "b": NUMBER_B}
+        seen, wrote = set(), []
+        for line in self.given.splitlines(keepends=True):
+            session = json.loads(line)["session"]
+            is_new = json.loads(line)["do"] == "new"
+            wrote.append(first[session] if is_new else text(reply="", session=session) if session in seen else error("E04", session))
+            seen |= {session} if is_new else set()
+        return CompletedProcess(program, 0, b"".join(wrote), b"")
+
+
+def ended(stdout, status=0, stderr=b""):
+    return CompletedProcess("made up", status, stdout, stderr)
+
+
+# what a program writes where one growth is refused, and what that is
+CASES = [
+    ("the row itself", ended(ROW.stdout), "not seen"),
+    ("a session fails", ended(NUMBER_A + NUMBER_B + error("E21", "a") + TITLE_B), "session failed"),
+    ("a session fails at its first line", ended(error("E21", "a") + NUMBER_B + error("E20", "a") + TITLE_B), "session failed"),
+    ("a session is not entered", ended(error("E21", "a") + NUMBER_B + error("E04", "a") + TITLE_B), "session not entered"),
+    ("a line is lost", ended(NUMBER_A + NUMBER_B + error("E21", "-") + TITLE_B), "line lost"),
+    ("a lost first line", ended(error("E21", "-") + NUMBER_B + error("E04", "a") + TITLE_B), "line lost"),
+    ("the end with a front of the row", ended(NUMBER_A, OUT_OF_MEMORY, COMPLAINT), "program ended"),
+    ("the end with something else", ended(NUMBER_B, OUT_OF_MEMORY, COMPLAINT), None),
+    ("the end without a word", ended(NUMBER_A, OUT_OF_MEMORY), None),
+    ("another status", ended(NUMBER_A, 3, COMPLAINT), None),
+    ("a session that is told of its failure and goes on", ended(NUMBER_A + error("E21", "b") + TITLE_A + TITLE_B), None),
+    ("a session that goes on after it had a line", ended(NUMBER_A + NUMBER_B + TITLE_A + error("E21", "b") + TITLE_B), None),
+    ("another session fails too", ended(error("E21", "a") + NUMBER_B + error("E20", "a") + error("E20", "b")), None),
+    ("a reply is missing", ended(NUMBER_A + NUMBER_B + TITLE_A), None),
+    ("a wrong reply", ended(NUMBER_A + NUMBER_B + TITLE_B + TITLE_A), None),
+    ("an answer of its own for want of memory", ended(NUMBER_A + error("E14", "b") + TITLE_A + error("E20", "b")), None),
+]
+
+
+def main():
+    row = MadeUp(**vars(ROW))
+    failed = 0
+    for name, ran, wanted in CASES:
+        got = Trial("made up", "", replace(row)).outcome(ran)
+        if got != wanted:
+            failed += 1
+            print(f"outcome {name}: {got}, and not {wanted}")
+    # a program that ends at every refused growth, and one that lacks one kind of outcome
+    for outcomes, wanted in [(Counter({"program ended": 9}), list(KINDS[:3])), (Counter(KINDS), []), (Counter(KINDS[1:]), [KINDS[0]])]:
+        if missing(outcomes) != wanted:
+            failed += 1
+            print(f"missing of {outcomes}: {missing(outcomes)}, and not {wanted}")
+    print(f"outcomes: {len(CASES) + 3 - failed} passed, {failed} failed")
+    return 1 if failed else 0
+
+
+if __name__ == "__main__":
+    sys.exit(main())
