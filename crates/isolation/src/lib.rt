@@ -11,7 +11,7 @@ ghost use Rattle.isolation.specs.Machine.{Machine, IsLawful};
 ghost use Rattle.isolation.specs.Laws.{FirstHalf, LeavingOut, FinalStates, SecondHalf, InfluencedStates, InfluenceIsLeast, SliceLaw, SliceFromMembers, SliceWithinInfluence, NotesGiveSlice, NotesAreRight, LeavingOutPieces, SaidStays, SaidByInfluence, ToldAlone};
 
 /// The laws of runs: each session is as if alone, and it does not see the commands of sessions
-/// that no chain of joins from it leads to, nor those that its slice leaves out.
+/// that no chain of joins from it leads to.
 ///
 /// There is nothing to run. The clauses are the theorems, for every lawful machine, every state
 /// at the start and every list of commands.
@@ -22,6 +22,13 @@ pub fn laws<Name, State, Command, Line, Post>()
     ensures second_half { (m : Machine Name State Command Line Post) → IsLawful m → SecondHalf m }
     ensures influenced_states { (m : Machine Name State Command Line Post) → IsLawful m → InfluencedStates m }
     ensures influence_is_least { (m : Machine Name State Command Line Post) → IsLawful m → InfluenceIsLeast m }
+{}
+
+/// The laws of slices: a session does not see the commands that its slice leaves out, and notes
+/// taken while a list is done give the slice.
+///
+/// There is nothing to run, as in `laws`.
+pub fn slice_laws<Name, State, Command, Line, Post>()
     ensures slice { (m : Machine Name State Command Line Post) → IsLawful m → SliceLaw m }
     ensures slice_from_members { (m : Machine Name State Command Line Post) → IsLawful m → SliceFromMembers m }
     ensures slice_within_influence { (m : Machine Name State Command Line Post) → IsLawful m → SliceWithinInfluence m }

@@ -1,5 +1,5 @@
 //! Texts, lists and names, codes and faults, places, and the laws of runs.
-use isolation::{laws, piece_laws};
+use isolation::{laws, piece_laws, slice_laws};
 use places::Places;
 use plain_types::{Items, Text, is_name};
 use refusals::{Code, Fault};
@@ -9,6 +9,7 @@ use std::test::Fail;
 #[test]
 fn laws_hold_at_any_types() {
     laws::<String, u64, bool, char, u8>();
+    slice_laws::<String, u64, bool, char, u8>();
     piece_laws::<String, u64, bool, char, u8, u16>();
 }
 
