@@ -3,8 +3,6 @@
 
 mod options;
 mod refusal;
-#[cfg(test)]
-mod tests;
 
 pub use options::{Options, options_of};
 pub use refusal::{goes_to_standard_output, status_of_refusal, text_of_refusal};

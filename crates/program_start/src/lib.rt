@@ -5,8 +5,6 @@ mod class_file;
 mod demonstration;
 mod ending;
 mod starting;
-#[cfg(test)]
-mod tests;
 
 pub use class_file::{
     ClassFileError, MOST_BYTES, classes_at, classes_in, classes_of, read_at_most,

@@ -9,6 +9,3 @@ mod whole;
 pub use adapter::Counted;
 pub use traits::{Failed, Sink, Source};
 pub use whole::write_all;
-
-#[cfg(test)]
-mod tests;

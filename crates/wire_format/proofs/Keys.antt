@@ -3,7 +3,7 @@ use Rattle.std.proofs.Common.{◌≡◌, ℕ, Bool, ◌&&◌, ◌||◌, List, []
 use Rattle.std.specs.List.{list_all, list_any}
 use Rattle.serde_json.specs.View.{members_view}
 use Rattle.serde_json.specs.declared.value.Value.{Value}
-use Rattle.wire_format.specs.Command.{is_known, all_are_known}
+use Rattle.wire_format.specs.Members.{is_known, all_are_known}
 
 pub list_any_map : {A B : Type 0} (test : B → Bool) (seen : A → B) (xs : List A) → list_any test (map seen xs) ≡ list_any (λ x. test (seen x)) xs
 list_any_map test seen [] = refl

@@ -1,140 +1,21 @@
 -- What a line is: a command of a session, or a fault.
-use Rattle.std.specs.Prelude.{◌≡◌, ◌-◌, ◌^◌, ◌==◌, ◌&&◌, ◌||◌, ℕ, Bool, true, false, List, [], ◌∷◌, length, codes, bytes_eq, nat_le, if◌then◌else◌, Option, Some, None, option_and_then, option_map, is_some, Result, Ok, Err}
-use Rattle.std.specs.List.{list_all, list_any}
+use Rattle.std.specs.Prelude.{◌≡◌, ◌==◌, ◌&&◌, ◌||◌, ℕ, Bool, List, length, codes, bytes_eq, nat_le, if◌then◌else◌, Option, Some, None, Result, Ok, Err}
+use Rattle.std.specs.List.{list_all}
 use Rattle.std.specs.Option.{option_map_or, ok_or}
 use Rattle.std.specs.Str.{is_utf8}
-use Rattle.serde_json.specs.Data.{Data, Members, no_members, member}
+use Rattle.serde_json.specs.Data.{Data}
 use Rattle.serde_json.specs.Read.{read}
-use Rattle.serde_json.specs.Find.{get, as_null, as_object, as_str, as_number, as_u64}
 use Rattle.isolation.specs.Machine.{Tagged}
-use Rattle.plain_types.specs.Names.{is_name}
 use Rattle.refusals.specs.declared.code.Code.TheVariants.{UnreadableLine, NotACommand}
-use Rattle.thread_model.specs.Asked.{Asked, New, Delete, SetParent, Children, Find, Set, Get, Meta}
+use Rattle.thread_model.specs.Asked.{Asked}
 use Rattle.wire_format.specs.declared.fault.LineFault.{LineFault}
 use Rattle.wire_format.specs.declared.fault.ReadError.{ReadError}
 use Rattle.wire_format.specs.declared.fault.ReadError.TheVariants.{Fault, Memory}
 use Rattle.wire_format.specs.declared.line.TheConstants.{LINE_BYTES}
-
-infixl 10 ◌>>=◌
-abbrev pub ◌>>=◌ : {A B : Type 0} → Option A → (A → Option B) → Option B
-o >>= f = option_and_then f o
-
--- the value, where the test is passed
-abbrev pub when : {A : Type 0} → Bool → A → Option A
-when test value = if test then Some value else None
-
--- the text that the member at this key is
-unfoldable pub text_at : List ℕ → Data → Option (List ℕ)
-text_at key json = option_and_then as_str (get key json)
-
--- the name that the member at this key is
-unfoldable pub name_at : List ℕ → Data → Option (List ℕ)
-name_at key json = do
-  text ← text_at key json
-  when (is_name text) text
-
--- the number of an object that the member at this key is
-unfoldable pub number_at : List ℕ → Data → Option ℕ
-number_at key json = do
-  found ← get key json
-  figure ← as_number found
-  n ← as_u64 figure
-  when (nat_le 1 n && nat_le n (2 ^ 32 - 1)) n
-
--- what is read at a key that may be absent
-abbrev pub unless_absent : {A : Type 0} → (List ℕ → Data → Option A) → List ℕ → Data → Option (Option A)
-unless_absent read key json = if is_some (get key json) then option_map Some (read key json) else Some None
-
--- the number of an object that may be absent, and the same of texts and names
-unfoldable pub some_number_at : List ℕ → Data → Option (Option ℕ)
-some_number_at key json = unless_absent number_at key json
-
-unfoldable pub some_text_at : List ℕ → Data → Option (Option (List ℕ))
-some_text_at key json = unless_absent text_at key json
-
-unfoldable pub some_name_at : List ℕ → Data → Option (Option (List ℕ))
-some_name_at key json = unless_absent name_at key json
-
--- the number of an object, or null for none
-unfoldable pub number_or_null_at : List ℕ → Data → Option (Option ℕ)
-number_or_null_at key json = do
-  found ← get key json
-  if is_some (as_null found) then Some None else option_map Some (number_at key json)
-
--- is the member at this key the name of the only property that there is
-unfoldable pub is_object_name : List ℕ → Data → Bool
-is_object_name key json = option_map_or (λ text. bytes_eq text (codes "objectName")) (text_at key json) false
-
--- is the key one of these, or one that every command has
-abbrev pub is_known : List (List ℕ) → List ℕ → Bool
-is_known keys key = bytes_eq key (codes "do") || bytes_eq key (codes "session") || list_any (bytes_eq key) keys
-
-abbrev pub all_are_known : List (List ℕ) → Members → Bool
-all_are_known keys no_members = true
-all_are_known keys (member key value rest) = is_known keys key && all_are_known keys rest
-
--- is the JSON an object with no keys but these and those that every command has
-unfoldable pub has_only : List (List ℕ) → Data → Bool
-has_only keys json = option_map_or (all_are_known keys) (as_object json) false
-
--- the number of an object, where the JSON names its only property and has no keys but these
-unfoldable pub target_of : List (List ℕ) → Data → Option ℕ
-target_of keys json = do
-  target ← number_at (codes "object") json
-  when (is_object_name (codes "property") json && has_only keys json) target
-
--- `new` makes an object of a class, below a parent where one is named
-unfoldable pub new_of : Data → Option Asked
-new_of json = do
-  class ← name_at (codes "class") json
-  parent ← some_number_at (codes "parent") json
-  when (has_only (codes "class" ∷ codes "parent" ∷ []) json) (New class parent)
-
--- `delete` deletes an object
-unfoldable pub delete_of : Data → Option Asked
-delete_of json = do
-  target ← number_at (codes "object") json
-  when (has_only (codes "object" ∷ []) json) (Delete target)
-
--- `setParent` gives an object another parent; null makes it a root
-unfoldable pub set_parent_of : Data → Option Asked
-set_parent_of json = do
-  target ← number_at (codes "object") json
-  parent ← number_or_null_at (codes "parent") json
-  when (has_only (codes "object" ∷ codes "parent" ∷ []) json) (SetParent target parent)
-
--- `children` tells the children of an object, or the roots
-unfoldable pub children_of : Data → Option Asked
-children_of json = do
-  target ← some_number_at (codes "object") json
-  when (has_only (codes "object" ∷ []) json) (Children target)
-
--- `find` looks for an object below another one
-unfoldable pub find_of : Data → Option Asked
-find_of json = do
-  target ← number_at (codes "object") json
-  name ← some_text_at (codes "name") json
-  class ← some_name_at (codes "class") json
-  when (has_only (codes "object" ∷ codes "name" ∷ codes "class" ∷ []) json) (Find target name class)
-
--- `set` writes a property; the value may be any JSON
-unfoldable pub set_of : Data → Option Asked
-set_of json = do
-  target ← target_of (codes "object" ∷ codes "property" ∷ codes "value" ∷ []) json
-  value ← get (codes "value") json
-  Some (Set target value)
-
--- `get` reads a property
-unfoldable pub get_of : Data → Option Asked
-get_of json = do
-  target ← target_of (codes "object" ∷ codes "property" ∷ []) json
-  Some (Get target)
-
--- `meta` describes a class
-unfoldable pub meta_of : Data → Option Asked
-meta_of json = do
-  class ← name_at (codes "class") json
-  when (has_only (codes "class" ∷ []) json) (Meta class)
+use Rattle.wire_format.specs.Members.{◌>>=◌, text_at, name_at}
+use Rattle.wire_format.specs.Trees.{new_of, delete_of, set_parent_of, children_of, find_of}
+use Rattle.wire_format.specs.Properties.{set_of, get_of}
+use Rattle.wire_format.specs.Classes.{meta_of}
 
 -- what is asked by this word
 unfoldable pub asked_as : List ℕ → Data → Option Asked

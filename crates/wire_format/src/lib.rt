@@ -3,11 +3,13 @@
 
 ghost use Rattle.wire_format.specs.Output.{LeavingOutLines, LeavingOutStrangers};
 
+mod classes;
 mod fault;
 mod line;
+mod members;
+mod properties;
 mod reading;
-#[cfg(test)]
-mod tests;
+mod trees;
 mod writing;
 
 pub use fault::{LineFault, ReadError};

@@ -12,6 +12,3 @@ pub use fault::RunFault;
 pub use stream::{Summary, run};
 pub use wire_devices::{Counted, Failed, Sink, Source};
 pub use wire_format::{LINE_BYTES, LineFault, ReadError, line_text, read_line};
-
-#[cfg(test)]
-mod tests;
