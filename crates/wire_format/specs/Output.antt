@@ -38,9 +38,13 @@ said_in (Blamed fault) = said_by (blamed fault) (Error fault.code) ∷ []
 abbrev pub text_of_said : List Said → List ℕ
 text_of_said lines = flat_map (λ line. line.text) lines
 
+-- what is answered to the pieces of an input, in order
+abbrev pub answers_to : Settings → World → List ℕ → List Answer
+answers_to settings world bytes = piece_answers (machine settings) world (pieces_of bytes)
+
 -- the lines that are written for an input, in order
 unfoldable pub said_all : Settings → World → List ℕ → List Said
-said_all settings world bytes = flat_map said_in (piece_answers (machine settings) world (pieces_of bytes))
+said_all settings world bytes = flat_map said_in (answers_to settings world bytes)
 
 -- what is written for an input
 unfoldable pub output : Settings → World → List ℕ → List ℕ

@@ -1,17 +1,16 @@
 -- What a run over a whole input promises.
-use Rattle.std.specs.Prelude.{◌≡◌, ◌⊎◌, ◌<◌, ◌≤◌, ℕ, Bool, true, false, List, [], length, Option, Result, Ok, Err, IsOk, IsFalse}
-use Rattle.std.specs.List.{flat_map}
+use Rattle.std.specs.Prelude.{◌≡◌, ◌⊎◌, ◌<◌, ◌≤◌, ◌^◌, ℕ, Bool, true, false, List, [], length, Option, Some, Result, Ok, Err, IsOk, IsErr, IfOk, IsFalse}
 use Rattle.std.specs.Io.KnownBytes.{Appends}
 use Rattle.isolation.specs.Alone.{items, alone_lines}
 use Rattle.isolation.specs.Influence.{influences}
 use Rattle.isolation.specs.Pieces.{commands_of, told}
 use Rattle.server_world.specs.declared.server.Server.{Server}
-use Rattle.server_world.specs.Server.{states, was_refused, settings}
+use Rattle.server_world.specs.Server.{states, names, was_refused, settings}
 use Rattle.thread_model.specs.Machine.{machine}
 use Rattle.thread_model.specs.Thread.{Settings}
 use Rattle.wire_devices.specs.Counts.{FailsOnce}
 use Rattle.wire_format.specs.Input.{lines_of, pieces_of, without}
-use Rattle.wire_format.specs.Output.{World, Answer, Said, said_in, text_of_said, said_all, lines_said_to, output, world_of}
+use Rattle.wire_format.specs.Output.{World, answers_to, said_all, lines_said_to, output, world_of}
 use Rattle.wire_lines.specs.declared.fault.RunFault.{RunFault}
 use Rattle.wire_lines.specs.declared.fault.RunFault.TheVariants.{Read, Write, Endless}
 use Rattle.wire_lines.specs.declared.stream.Summary.{Summary}
@@ -36,22 +35,48 @@ abbrev pub WriteFails : {T : Type 0} → ℕ → ℕ → Result T RunFault → T
 WriteFails old new (Err Write) = FailsOnce old new
 WriteFails old new r = new ≡ old
 
--- what is written are the texts of answers, and those to the commands of s are what s would be told alone
-abbrev pub WritesAlone : Settings → World → List ℕ → Option (List ℕ) → Option (List ℕ) → List ℕ → Type 0
-WritesAlone settings world input old new s =
-    (answers : List Answer) × Appends old new (text_of_said (flat_map said_in answers))
-    × (told (machine settings) s answers ≡ alone_lines (machine settings) s (world s) (items (machine settings) s world (commands_of (pieces_of input))))
+-- what is said to the commands of s is what s would be told alone
+abbrev pub IsToldAlone : Settings → World → List ℕ → List ℕ → Type 0
+IsToldAlone settings world input s =
+    told (machine settings) s (answers_to settings world input)
+    ≡ alone_lines (machine settings) s (world s) (items (machine settings) s world (commands_of (pieces_of input)))
 
 -- an input without the commands of the sessions that no chain of joins leads to from s
 abbrev pub without_strangers : Settings → World → List (List ℕ) → List ℕ → List ℕ → List ℕ
 without_strangers settings world known input s =
     without (influences (machine settings) world known (commands_of (pieces_of input)) s) input
 
--- what is written are lines, and those to s are what would be written to it without the commands of strangers
-abbrev pub WritesAsWithout : Settings → World → List (List ℕ) → List ℕ → Option (List ℕ) → Option (List ℕ) → List ℕ → Type 0
-WritesAsWithout settings world known input old new s =
-    (said : List Said) × Appends old new (text_of_said said)
-    × (lines_said_to s said ≡ lines_said_to s (said_all settings world (without_strangers settings world known input s)))
+-- the lines that name s are those that would be written to it without the commands of strangers
+abbrev pub IsToldAsWithout : Settings → World → List (List ℕ) → List ℕ → List ℕ → Type 0
+IsToldAsWithout settings world known input s =
+    lines_said_to s (said_all settings world input)
+    ≡ lines_said_to s (said_all settings world (without_strangers settings world known input s))
+
+-- what a run did with an input, where it went well
+pub record AnswersAll (input : List ℕ) (old new : Server) (held held_after : Option (List ℕ)) : Type 0 where
+  -- it wrote the output of the whole input, which is the text of the lines of `said_all`,
+  pub written : Appends held held_after (output (settings old) (states old) input)
+  pub behind : states new ≡ world_of (settings old) (states old) input
+  -- in which each session is told what it would be told alone,
+  pub alone : (s : List ℕ) → IsToldAlone (settings old) (states old) input s
+  -- and what it would be told without the commands of sessions from which no chain of joins leads to it
+  pub left_out : (s : List ℕ) → IsToldAsWithout (settings old) (states old) (names old) input s
+
+-- what a run over these bytes comes to
+pub record RunsOver (input : List ℕ) (old new : Server) (held held_after left_after : Option (List ℕ)) (result : Result Summary RunFault) : Type 0 where
+  pub well : WentWell result new → AnswersAll input old new held held_after
+  -- where it stops, it has written a front of that output,
+  pub stopped : IsErr result → IsFalse (was_refused new) → AppendsSome held held_after (output (settings old) (states old) input)
+  -- and it finds no end only behind so many lines or bytes
+  pub endless : result ≡ Err Endless → (2 ^ 32 < length (lines_of input)) ⊎ (2 ^ 40 ≤ length input)
+  -- also where memory was refused
+  pub all_read : IsOk result → left_after ≡ Some []
+  pub counted : IfOk result (λ summary. summary.lines ≡ length (lines_of input))
+
+-- how often the source and the sink of a run failed
+pub record DevicesFail (source source_after sink sink_after : ℕ) (result : Result Summary RunFault) : Type 0 where
+  pub read : ReadFails source source_after result
+  pub write : WriteFails sink sink_after result
 
 -- how a run over these bytes ends, from the point where they are all to come
 abbrev pub Ends : {T : Type 0} → ℕ → ℕ → Point → Point → Result T RunFault → Type 0

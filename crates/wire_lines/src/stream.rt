@@ -1,11 +1,8 @@
 //! Runs over whole inputs.
-ghost use Rattle.std.specs.Io.KnownBytes.{Appends};
-ghost use Rattle.std.specs.Prelude.{◌≡◌, ◌<◌, ◌≤◌, ◌⊎◌, ◌^◌, ◌++◌, ◌∷◌, ℕ, List, [], length, Some, None, IfSome, Err, IsOk, IsErr, IfOk, OnOk, IsTrue, IsFalse};
-ghost use Rattle.server_world.specs.Server.{states, names, was_refused, settings};
-ghost use Rattle.wire_format.specs.Input.{NoEnd, lines_of};
-ghost use Rattle.wire_format.specs.Output.{output, world_of};
-ghost use Rattle.wire_lines.specs.declared.fault.RunFault.TheVariants.{Endless};
-ghost use Rattle.wire_lines.specs.Run.{WentWell, AppendsSome, ReadFails, WriteFails, WritesAlone, WritesAsWithout, Ends, Runs, device_failed};
+ghost use Rattle.std.specs.Prelude.{◌≡◌, ◌<◌, ◌++◌, ◌∷◌, ℕ, List, [], length, Some, None, IfSome, IsOk, IfOk, OnOk};
+ghost use Rattle.server_world.specs.Server.{was_refused};
+ghost use Rattle.wire_format.specs.Input.{NoEnd};
+ghost use Rattle.wire_lines.specs.Run.{RunsOver, DevicesFail, ReadFails, WriteFails, Ends, Runs, device_failed};
 ghost use Rattle.wire_lines.specs.Stream.{Later, SinkFails, Feeds, Finishes};
 ghost use Rattle.wire_lines.specs.Feeding.{at};
 
@@ -198,43 +195,28 @@ fn split_line(bytes: &[u8]) -> Option<(&[u8], &[u8])>
 /// not, is told as unreadable. What is said is gathered, and all of it is written before each read:
 /// whoever waits for an answer gets it before the run waits for more input.
 ///
-/// Where memory is wanted for a command and not found, its line is `E21`, which takes no memory.
+/// Where memory is wanted and not found, the line is answered by `E21`, which takes no memory: for the
+/// session of the command, or for `-` where memory was wanted while the line was read. No clause says
+/// to whom; it is only tested.
 ///
 /// # Errors
 ///
 /// `Read` or `Write` where a device failed. `Endless` where the input goes on after 2^32 lines, or
-/// after 2^40 calls of `read`. `Memory` where there was none for the buffers of the run, or for the
-/// text of a line. What was said before is written, but for `Write`.
+/// after 2^40 calls of `read`. `Memory` where there was none for the buffers of the run, which are
+/// made before the first read, or for the text of a line that is longer than a line of input may be.
+/// What was said before is written, but for `Write`.
 pub fn run<R: Source, W: Sink>(
     alloc: Global,
     reader: &mut R,
     writer: &mut W,
     server: &mut Server,
 ) -> Result<Summary, RunFault>
-    // Where it goes well, it writes the output of the whole input,
-    ensures output { (input : List ℕ) → R.left reader.old ≡ Some input → WentWell result server.new
-        → Appends (W.held writer.old) (W.held writer.new) (output (settings server.old) (states server.old) input) }
-    ensures all_read { (input : List ℕ) → R.left reader.old ≡ Some input → IsOk result → R.left reader.new ≡ Some [] }
-    ensures states { (input : List ℕ) → R.left reader.old ≡ Some input → WentWell result server.new
-        → states server.new ≡ world_of (settings server.old) (states server.old) input }
-    // in which each session is told what it would be told alone,
-    ensures alone { (input s : List ℕ) → R.left reader.old ≡ Some input → WentWell result server.new
-        → WritesAlone (settings server.old) (states server.old) input (W.held writer.old) (W.held writer.new) s }
-    // and what it would be told without the commands of sessions to which no chain of joins leads from it.
-    ensures left_out { (input s : List ℕ) → R.left reader.old ≡ Some input → WentWell result server.new
-        → WritesAsWithout (settings server.old) (states server.old) (names server.old) input (W.held writer.old) (W.held writer.new) s }
-    // Where it stops, it has written a front of that output.
-    ensures prefix { (input : List ℕ) → R.left reader.old ≡ Some input → IsErr result → IsFalse (was_refused server.new)
-        → AppendsSome (W.held writer.old) (W.held writer.new) (output (settings server.old) (states server.old) input) }
-    ensures read_fails { ReadFails (R.failures reader.old) (R.failures reader.new) result }
-    ensures write_fails { WriteFails (W.failures writer.old) (W.failures writer.new) result }
-    ensures endless { (input : List ℕ) → R.left reader.old ≡ Some input → result ≡ Err Endless
-        → (2 ^ 32 < length (lines_of input)) ⊎ (2 ^ 40 ≤ length input) }
-    // Also where memory was refused.
-    ensures lines { (input : List ℕ) → R.left reader.old ≡ Some input → IfOk result (λ summary. summary.lines ≡ length (lines_of input)) }
+    // Where the bytes of the source are known: the output, and that it keeps the sessions apart.
+    ensures runs { (input : List ℕ) → R.left reader.old ≡ Some input
+        → RunsOver input server.old server.new (W.held writer.old) (W.held writer.new) (R.left reader.new) result }
+    ensures devices { DevicesFail (R.failures reader.old) (R.failures reader.new) (W.failures writer.old) (W.failures writer.new) result }
     ensures memory { IfOk result (λ summary. summary.memory_refused ≡ was_refused server.new) }
-    ensures kept { IsTrue (was_refused server.old) → IsTrue (was_refused server.new) }
-    ensures settings { settings server.new ≡ settings server.old }
+    ensures later { Later server.old server.new }
 {
     run_bounded(alloc, reader, writer, server, MOST_LINES, MOST_READS)
 }

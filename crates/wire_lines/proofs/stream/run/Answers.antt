@@ -1,31 +1,26 @@
+use Rattle.server_world.specs.Server.{states, settings}
 use Rattle.wire_lines.proofs.Whole.{Runs-well, Runs-lines, Runs-prefix, Runs-endless}
-use Rattle.wire_lines.proofs.Isolated.{writes_alone, writes_as_without}
+use Rattle.wire_lines.proofs.Isolated.{told_as_alone, told_as_without}
 use Rattle.wire_lines.proofs.stream.run.Goals as goal
 
-pub returns-clause-output : goal.returns-clause-output
-returns-clause-output g c = λ input known well.
-    (Runs-well _ _ input (g.W.Sink.held c.args.writer.now) (g.W.Sink.held c.run_bounded.new.writer) c.args.server.now c.run_bounded.new.server c.run_bounded.result (c.run_bounded.ensures.runs input known) well.0 well.1).0
-
-pub returns-clause-states : goal.returns-clause-states
-returns-clause-states g c = λ input known well.
-    (Runs-well _ _ input (g.W.Sink.held c.args.writer.now) (g.W.Sink.held c.run_bounded.new.writer) c.args.server.now c.run_bounded.new.server c.run_bounded.result (c.run_bounded.ensures.runs input known) well.0 well.1).1
-
-pub returns-clause-prefix : goal.returns-clause-prefix
-returns-clause-prefix g c = λ input known.
-    Runs-prefix _ _ input (g.W.Sink.held c.args.writer.now) (g.W.Sink.held c.run_bounded.new.writer) c.args.server.now c.run_bounded.new.server c.run_bounded.result (c.run_bounded.ensures.runs input known)
-
-pub returns-clause-endless : goal.returns-clause-endless
-returns-clause-endless g c = λ input known.
-    Runs-endless _ _ input (g.W.Sink.held c.args.writer.now) (g.W.Sink.held c.run_bounded.new.writer) c.args.server.now c.run_bounded.new.server c.run_bounded.result (c.run_bounded.ensures.runs input known)
-
-pub returns-clause-lines : goal.returns-clause-lines
-returns-clause-lines g c = λ input known.
-    Runs-lines _ _ input (g.W.Sink.held c.args.writer.now) (g.W.Sink.held c.run_bounded.new.writer) c.args.server.now c.run_bounded.new.server c.run_bounded.result (c.run_bounded.ensures.runs input known)
-
-pub returns-clause-alone : goal.returns-clause-alone
-returns-clause-alone g c = λ input s known well.
-    writes_alone _ _ input _ _ s (Runs-well _ _ input (g.W.Sink.held c.args.writer.now) (g.W.Sink.held c.run_bounded.new.writer) c.args.server.now c.run_bounded.new.server c.run_bounded.result (c.run_bounded.ensures.runs input known) well.0 well.1).0
-
-pub returns-clause-left_out : goal.returns-clause-left_out
-returns-clause-left_out g c = λ input s known well.
-    writes_as_without c.args.server.now input _ _ s (Runs-well _ _ input (g.W.Sink.held c.args.writer.now) (g.W.Sink.held c.run_bounded.new.writer) c.args.server.now c.run_bounded.new.server c.run_bounded.result (c.run_bounded.ensures.runs input known) well.0 well.1).0
+pub returns-clause-runs : goal.returns-clause-runs
+returns-clause-runs g c = λ input known.
+    let old = c.args.server.now in
+    let new = c.run_bounded.new.server in
+    let held = g.W.Sink.held c.args.writer.now in
+    let held_after = g.W.Sink.held c.run_bounded.new.writer in
+    let runs = c.run_bounded.ensures.runs input known in
+    record {
+      well = λ well.
+          let all = Runs-well _ _ input held held_after old new c.run_bounded.result runs well.0 well.1 in
+          record {
+            written = all.0;
+            behind = all.1;
+            alone = told_as_alone (settings old) (states old) input;
+            left_out = told_as_without old input;
+          };
+      stopped = Runs-prefix _ _ input held held_after old new c.run_bounded.result runs;
+      endless = Runs-endless _ _ input held held_after old new c.run_bounded.result runs;
+      all_read = c.run_bounded.ensures.all_read input known;
+      counted = Runs-lines _ _ input held held_after old new c.run_bounded.result runs;
+    }
