@@ -7,9 +7,11 @@ ghost use Rattle.variant_value.specs.Values.{json_of};
 ghost use Rattle.wire_format.specs.Text.{elements, number_elements, json_of_answer, json_of_found, json_of_meta, json_of_name, told_of, text_of_line, text_of_fault, is_session_text, is_plain_byte};
 
 use crate::fault::LineFault;
+use json::Writer;
 use plain_types::Text;
 use refusals::Code;
 use std::alloc::{AllocError, Global};
+use std::mem;
 use thread_model::{Answer, Line, MetaObject};
 use variant_value::Value;
 
@@ -214,13 +216,28 @@ fn push_text(alloc: Global, buffer: &mut String, text: &str) -> Result<(), Alloc
         (string_bytes buffer.new ≡ string_bytes buffer.old ++ compact_text (string text.now)) }
 {
     if !is_plain(text) {
-        let json = serde_json::Value::String(String::from_str(alloc, text)?);
-        return buffer.push_str(json.to_string(alloc)?.as_str());
+        return push_escaped(alloc, buffer, text);
     }
     buffer.push_str("\"")?;
     buffer.push_str(text)?;
     buffer.push_str("\"")?;
     Ok(())
+}
+
+/// The same of a text in which JSON escapes something. No copy of it is made.
+fn push_escaped(alloc: Global, buffer: &mut String, text: &str) -> Result<(), AllocError>
+    ensures { OnOk result
+        (string_bytes buffer.new ≡ string_bytes buffer.old ++ compact_text (string text.now)) }
+{
+    let before = mem::replace(buffer, String::new(alloc));
+    let mut writer = Writer::new(before.into_bytes());
+    let written = writer.string(text);
+    // Both parts are UTF-8, so that this is never refused.
+    let Ok(whole) = String::from_utf8(writer.into_inner()) else {
+        return Err(AllocError);
+    };
+    *buffer = whole;
+    written
 }
 
 /// Whether JSON escapes nothing in the text.

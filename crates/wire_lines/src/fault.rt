@@ -11,7 +11,8 @@ pub enum RunFault {
     Write,
     /// There were more lines than a run reads, or more calls of `read`.
     Endless,
-    /// There was no memory for the buffers of the run, or for the text of a line.
+    /// There was no memory for the buffers of the run, or for the text of a line that is longer than
+    /// a line of input may be.
     Memory,
 }
 

@@ -16,7 +16,7 @@ ghost use Rattle.wire_format.specs.Text.{text_of_line, is_session_text};
 ghost use Rattle.wire_lines.specs.Sending.{SentAll, out};
 ghost use Rattle.wire_lines.specs.Stream.{Later, SendFails};
 
-use crate::buffer::Buffer;
+use crate::buffer::{BUFFER_BYTES, Buffer};
 use crate::fault::RunFault;
 use refusals::Code;
 use server_world::Server;
@@ -30,7 +30,8 @@ use wire_format::{ReadError, error_parts, read_line, write_line};
 pub struct Output {
     alloc: Global,
     gathered: Buffer,
-    /// The text of one line, in memory that serves for all of them.
+    /// The text of one line, in memory that serves for all of them. A line of more than
+    /// [`BUFFER_BYTES`] makes it grow.
     text: String,
 }
 
@@ -41,7 +42,7 @@ impl Output {
         Ok(Output {
             alloc,
             gathered: Buffer::new(alloc)?,
-            text: String::new(alloc),
+            text: String::with_capacity(alloc, BUFFER_BYTES)?,
         })
     }
 
