@@ -7,7 +7,7 @@ PROGRAM = meta_main
 CRATE = crates/$(PROGRAM)
 CC ?= cc
 
-.PHONY: all run test budget rows examples ends trees refusals bench clean
+.PHONY: all run test budget rows examples ends pipes trees refusals bench clean
 
 all: bin/metad
 
@@ -25,7 +25,7 @@ test:
 	rt ci
 	mkdir -p bin
 	cp $(CRATE)/out/$(PROGRAM) bin/metad
-	$(MAKE) --no-print-directory rows examples ends trees refusals
+	$(MAKE) --no-print-directory rows examples ends pipes trees refusals
 
 budget:
 	python3 tools/budget.py .
@@ -39,6 +39,9 @@ examples:
 
 ends:
 	python3 tools/ends.py bin/metad
+
+pipes:
+	python3 tools/pipes.py bin/metad
 
 trees:
 	python3 tools/trees.py bin/metad
