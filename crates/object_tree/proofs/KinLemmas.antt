@@ -12,8 +12,8 @@ use Rattle.object_tree.specs.declared.kin.Kin.{Kin}
 use Rattle.object_tree.specs.Rows.{by_stamp, children, has_parent, inserted, is_same, numbers, stamps}
 use Rattle.object_tree.specs.Sorting.{inserted_by, sorted_by}
 use Rattle.object_tree.specs.Kin.{by_rank, first_rank, kids_of, kin_of, order_of, rank_of, ranks}
-use Rattle.object_tree.proofs.Keyed.{without_by}
-use Rattle.object_tree.proofs.Sorted.{AreApart, all-in_order, any-sorted, filter-sorted, rises-sorted, sorted-map, sorted-middle, without_place}
+use Rattle.object_tree.proofs.KeyedListLemmas.{without_by}
+use Rattle.object_tree.proofs.SortingLemmas.{AreApart, all-in_order, any-sorted, filter-sorted, rises-sorted, sorted-map, sorted-middle, without_place}
 
 -- two ranks are the same only of the same stamp
 pub rank_stamp : (a b : Kin) → a.stamp < 2 ^ 64 → b.stamp < 2 ^ 64 → rank_of a ≡ rank_of b → a.stamp ≡ b.stamp

@@ -12,8 +12,8 @@ use Rattle.std.proofs.lemmas.Map.Keys.{IsDistinct-from_apart, apart_from_distinc
 use Rattle.object_tree.specs.declared.row.Row.{Row}
 use Rattle.object_tree.specs.Rows.{has_number, has_parent, is_same, is_there, numbers, parent_of, row_of, stamps}
 use Rattle.object_tree.specs.Lines.{greatest, levels_within}
-use Rattle.object_tree.proofs.ByNumber.{without}
-use Rattle.object_tree.proofs.Walks.{among}
+use Rattle.object_tree.proofs.NumberLemmas.{without}
+use Rattle.object_tree.proofs.LineLemmas.{among}
 
 -- an object is there exactly where its number is
 pub there_among : (rows : List Row) (n : ℕ) → is_there rows n ≡ among (numbers rows) n

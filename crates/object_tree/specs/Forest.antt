@@ -1,4 +1,4 @@
--- The objects of a session, in trees.
+-- The objects of a place, in trees.
 use Rattle.std.specs.Prelude.{ℕ, ◌≡◌, ◌<◌, ◌≤◌, ◌==◌, ◌^◌, List, [], ◌∷◌, Some, IsTrue, length}
 use Rattle.std.specs.Ordering.{nat_cmp}
 use Rattle.std.specs.List.{All, IsDistinct}
@@ -20,8 +20,9 @@ empty_forest = record { rows = []; last_number = 0; last_stamp = 0 }
 
 -- what holds of every forest
 pub record IsSound (forest : Forest) : Type 0 where
-  -- the numbers rise, and none is above the last one
+  -- the numbers rise from 1, and none is above the last one
   pub numbers_rise : IsStrictlySortedBy nat_cmp (numbers forest.rows)
+  pub numbers_begin : All (λ row. 1 ≤ row.number) forest.rows
   pub numbers_given : All (λ row. row.number ≤ forest.last_number) forest.rows
   pub numbers_fit : forest.last_number < 2 ^ 32
   -- no two stamps are the same, and none is above the last one

@@ -72,7 +72,7 @@ impl Objects {
     }
 
     /// How many levels there are, counted to this many.
-    #[tactic(auto, using(crate::proofs::Levels::levels_end, crate::proofs::Levels::greatest_more))]
+    #[tactic(auto, using(crate::proofs::HeightLemmas::levels_end, crate::proofs::HeightLemmas::greatest_more))]
     fn levels_within(&self, most: usize, number: u32) -> usize
         ensures value { result ≡ levels_within most self.now number }
         ensures bound { result ≤ most }

@@ -1,4 +1,4 @@
-//! A forest for each session.
+//! A forest for each place.
 ghost use Rattle.std.specs.Prelude.{◌≡◌, ◌+◌, ◌≤◌, ℕ, Bool, [], false, IfOk, OnOk, OnErr, Option, length};
 ghost use Rattle.std.specs.Option.{option_map_or};
 ghost use Rattle.std.specs.Result.{result_err};
@@ -6,7 +6,7 @@ ghost use Rattle.places.specs.Table.{IsPlace, opened};
 ghost use Rattle.refusals.specs.Answers.{RefusedBy};
 ghost use Rattle.object_tree.specs.Rows.{children, row_of};
 ghost use Rattle.object_tree.specs.Forest.{IsSound, empty_forest};
-ghost use Rattle.object_tree.specs.Refusing.{add_refusal, set_parent_refusal};
+ghost use Rattle.object_tree.specs.Refusing.{add_refusal, object_refusal, parent_refusal, set_parent_refusal};
 ghost use Rattle.object_tree.specs.Changes.{added, marked, removed, reparented, with_blocked};
 ghost use Rattle.object_tree.specs.Finding.{AnswersBy, found_below, IsNearest};
 ghost use Rattle.object_tree.specs.Table.{forest_at, with_forest};
@@ -18,7 +18,7 @@ use refusals::{Code, Fault};
 use std::alloc::{AllocError, Global};
 use std::marker::Model;
 
-/// The objects of each session. A session is a place, and no call touches another place than the one
+/// The objects of each place, which is that of a session. No call touches another place than the one
 /// that it names.
 #[derive(Drop)]
 pub struct Forests {
@@ -57,38 +57,38 @@ impl Forests {
         self.trees.ready()
     }
 
-    /// Opens the next place with no objects, and answers its number.
+    /// Opens the next place with no objects, and returns its number.
     pub fn open(&mut self) -> usize
         requires { 1 ≤ self.old.room }
         ensures place { result ≡ length self.old.places }
         ensures opened { self.new ≡ opened self.old empty_forest }
     {
-        let tree = Tree::new(self.alloc);
-        self.trees.open(tree)
+        self.trees.open(Tree::new(self.alloc))
     }
 
-    /// Takes all objects of a place out; their numbers are then given again.
-    pub fn clear(&mut self, ses: usize)
-        requires { IsPlace self.old ses }
-        ensures { self.new ≡ with_forest self.old ses empty_forest }
+    /// Takes all objects of a place out, and gives their memory back; their numbers are then given
+    /// again.
+    pub fn clear(&mut self, place: usize)
+        requires { IsPlace self.old place }
+        ensures { self.new ≡ with_forest self.old place empty_forest }
     {
-        self.trees.get_mut(ses).clear();
+        *self.trees.get_mut(place) = Tree::new(self.alloc);
     }
 
-    /// Adds an object, and answers its number.
+    /// Adds an object, and returns its number.
     ///
     /// The first refusal of these counts: `NoSuchObject` for a parent that is not there, `Dying` for one
     /// that is dying, `Limit` where the place holds 4,096 objects or the parent stands on level 64, and
     /// `NumbersUsedUp` where the numbers or the stamps have run out.
-    pub fn add(&mut self, ses: usize, parent: Option<u32>, class: u32) -> Result<u32, Fault>
-        requires { IsPlace self.old ses }
-        ensures refusal { RefusedBy (add_refusal (forest_at self.old ses) parent) result }
-        ensures number { IfOk result (λ number. number ≡ (forest_at self.old ses).last_number + 1) }
-        ensures ok { OnOk result (self.new ≡ with_forest self.old ses
-            (added (forest_at self.old ses) parent class)) }
+    pub fn add(&mut self, place: usize, parent: Option<u32>, class: u32) -> Result<u32, Fault>
+        requires { IsPlace self.old place }
+        ensures refusal { RefusedBy (add_refusal (forest_at self.old place) parent) result }
+        ensures number { IfOk result (λ number. number ≡ (forest_at self.old place).last_number + 1) }
+        ensures ok { OnOk result (self.new ≡ with_forest self.old place
+            (added (forest_at self.old place) parent class)) }
         ensures err { OnErr result (self.new ≡ self.old) }
     {
-        self.trees.get_mut(ses).add(parent, class)
+        self.trees.get_mut(place).add(parent, class)
     }
 
     /// Gives an object another parent, or makes it a root, behind all that are there; it takes no memory.
@@ -97,90 +97,111 @@ impl Forests {
     /// parent. Of the parent that the object has nothing more is asked, and nothing changes. Else:
     /// `Cycle` where the parent is the object or below it, `Limit` where something that hangs at the
     /// object would stand below level 64, and `NumbersUsedUp` where the stamps have run out.
-    pub fn set_parent(&mut self, ses: usize, object: u32, parent: Option<u32>) -> Result<(), Code>
-        requires { IsPlace self.old ses }
-        ensures refusal { result_err result ≡ set_parent_refusal (forest_at self.old ses) object parent }
-        ensures ok { OnOk result (self.new ≡ with_forest self.old ses
-            (reparented (forest_at self.old ses) object parent)) }
+    pub fn set_parent(&mut self, place: usize, object: u32, parent: Option<u32>) -> Result<(), Code>
+        requires { IsPlace self.old place }
+        ensures refusal { result_err result ≡ set_parent_refusal (forest_at self.old place) object parent }
+        ensures ok { OnOk result (self.new ≡ with_forest self.old place
+            (reparented (forest_at self.old place) object parent)) }
         ensures err { OnErr result (self.new ≡ self.old) }
     {
-        self.trees.get_mut(ses).set_parent(object, parent)
+        self.trees.get_mut(place).set_parent(object, parent)
     }
 
     /// Marks an object as one that is being deleted.
-    pub fn mark_dying(&mut self, ses: usize, object: u32)
-        requires { IsPlace self.old ses }
-        ensures { self.new ≡ with_forest self.old ses (marked (forest_at self.old ses) object) }
+    pub fn mark_dying(&mut self, place: usize, object: u32)
+        requires { IsPlace self.old place }
+        ensures { self.new ≡ with_forest self.old place (marked (forest_at self.old place) object) }
     {
-        self.trees.get_mut(ses).mark_dying(object);
+        self.trees.get_mut(place).mark_dying(object);
     }
 
     /// Takes an object out. Its children become roots and keep their stamps.
-    pub fn remove(&mut self, ses: usize, object: u32)
-        requires { IsPlace self.old ses }
-        ensures { self.new ≡ with_forest self.old ses (removed (forest_at self.old ses) object) }
+    pub fn remove(&mut self, place: usize, object: u32)
+        requires { IsPlace self.old place }
+        ensures { self.new ≡ with_forest self.old place (removed (forest_at self.old place) object) }
     {
-        self.trees.get_mut(ses).remove(object);
+        self.trees.get_mut(place).remove(object);
     }
 
-    /// Blocks the signals of an object, or lets them through, and answers whether they were blocked.
-    pub fn set_blocked(&mut self, ses: usize, object: u32, on: bool) -> bool
-        requires { IsPlace self.old ses }
+    /// Blocks the signals of an object, or lets them through, and returns whether they were blocked.
+    pub fn set_blocked(&mut self, place: usize, object: u32, on: bool) -> bool
+        requires { IsPlace self.old place }
         ensures before { result ≡ option_map_or (λ row. row.blocked)
-            (row_of (forest_at self.old ses).rows object) false }
-        ensures after { self.new ≡ with_forest self.old ses
-            (with_blocked (forest_at self.old ses) object on) }
+            (row_of (forest_at self.old place).rows object) false }
+        ensures after { self.new ≡ with_forest self.old place
+            (with_blocked (forest_at self.old place) object on) }
     {
-        self.trees.get_mut(ses).set_blocked(object, on)
+        self.trees.get_mut(place).set_blocked(object, on)
     }
 
     /// The children of a parent in the order in which they came to it; of no parent, the roots.
-    pub fn children(&self, ses: usize, parent: Option<u32>) -> Result<Vec<u32>, AllocError>
-        requires { IsPlace self.now ses }
-        ensures { IfOk result (λ found. found.items ≡ children (forest_at self.now ses).rows parent) }
+    pub fn children(&self, place: usize, parent: Option<u32>) -> Result<Vec<u32>, AllocError>
+        requires { IsPlace self.now place }
+        ensures { IfOk result (λ found. found.items ≡ children (forest_at self.now place).rows parent) }
     {
-        self.trees.get(ses).children(self.alloc, parent)
+        self.trees.get(place).children(self.alloc, parent)
     }
 
     /// The object below another one at the least depth that passes, among equals the first in
-    /// preorder. An `AllocError` of the test is answered as it is.
+    /// preorder. An `AllocError` of the test is returned as it is.
     ///
-    /// The clauses speak of every `passes` that gives what the test answers: `levels` says which object
+    /// The clauses speak of every `passes` that gives what the test returns: `levels` says which object
     /// is found by the levels, and `nearest` that this is the one in depth and preorder.
-    pub fn find_child<F>(&self, ses: usize, object: u32, test: F) -> Result<Option<u32>, AllocError>
+    pub fn find_child<F>(
+        &self,
+        place: usize,
+        object: u32,
+        test: F,
+    ) -> Result<Option<u32>, AllocError>
     where
         F: Fn(u32) -> Result<bool, AllocError>,
-        requires place { IsPlace self.now ses }
+        requires place { IsPlace self.now place }
         requires callable { F.IsAlwaysCallable test }
         ensures levels { (passes : ℕ → Bool) → AnswersBy (F.post test) passes
-            → IfOk result (λ found. found ≡ found_below (forest_at self.now ses).rows object passes) }
+            → IfOk result (λ found. found ≡ found_below (forest_at self.now place).rows object passes) }
         ensures nearest { (passes : ℕ → Bool) → AnswersBy (F.post test) passes
-            → IfOk result (λ found. IsNearest (forest_at self.now ses).rows object passes found) }
+            → IfOk result (λ found. IsNearest (forest_at self.now place).rows object passes found) }
     {
-        self.trees.get(ses).find_child(self.alloc, object, test)
+        self.trees.get(place).find_child(self.alloc, object, test)
     }
 
     /// The row of an object.
-    pub fn row(&self, ses: usize, object: u32) -> Option<Row>
-        requires { IsPlace self.now ses }
-        ensures { result ≡ row_of (forest_at self.now ses).rows object }
+    pub fn row(&self, place: usize, object: u32) -> Option<Row>
+        requires { IsPlace self.now place }
+        ensures { result ≡ row_of (forest_at self.now place).rows object }
     {
-        self.trees.get(ses).row(object)
+        self.trees.get(place).row(object)
+    }
+
+    /// Why nothing is asked of an object: it is not there (`NoSuchObject`), or it is dying (`Dying`).
+    pub fn object_refusal(&self, place: usize, object: u32) -> Option<Code>
+        requires { IsPlace self.now place }
+        ensures { result ≡ object_refusal (forest_at self.now place).rows object }
+    {
+        self.trees.get(place).object_refusal(object)
+    }
+
+    /// The same of a parent, where there is to be one; of none nothing is refused.
+    pub fn parent_refusal(&self, place: usize, parent: Option<u32>) -> Option<Code>
+        requires { IsPlace self.now place }
+        ensures { result ≡ parent_refusal (forest_at self.now place).rows parent }
+    {
+        self.trees.get(place).parent_refusal(parent)
     }
 
     /// How many objects there are.
-    pub fn count(&self, ses: usize) -> usize
-        requires { IsPlace self.now ses }
-        ensures { result ≡ length (forest_at self.now ses).rows }
+    pub fn count(&self, place: usize) -> usize
+        requires { IsPlace self.now place }
+        ensures { result ≡ length (forest_at self.now place).rows }
     {
-        self.trees.get(ses).count()
+        self.trees.get(place).count()
     }
 
     /// What holds of every forest. There is nothing to run: the clause is for the proofs of callers.
-    pub fn sound(&self, ses: usize)
-        requires { IsPlace self.now ses }
-        ensures { IsSound (forest_at self.now ses) }
+    pub fn sound(&self, place: usize)
+        requires { IsPlace self.now place }
+        ensures { IsSound (forest_at self.now place) }
     {
-        self.trees.get(ses).sound();
+        self.trees.get(place).sound();
     }
 }

@@ -79,15 +79,15 @@ fn first_of(list: &[Kin], low: u128) -> usize
     list.partition_point(|kin| rank(*kin) < low)
 }
 
-/// Puts a child in its place, where there is room for one more.
-#[tactic(auto, using(crate::proofs::Sorted::inserted_at))]
+/// Puts a child where its rank is, where there is room for one more.
+#[tactic(auto, using(crate::proofs::SortingLemmas::inserted_at))]
 pub(crate) fn seat(list: &mut Vec<Kin>, new: Kin)
     requires rise { IsStrictlySortedBy nat_cmp (ranks list.old.items) }
     requires room { vec_len list.old < vec_capacity list.old }
     ensures { list.new.items ≡ inserted_by rank_of new list.old.items }
 {
-    let place = first_of(list.as_slice(), rank(new) + 1);
-    match list.insert(place, new) {
+    let index = first_of(list.as_slice(), rank(new) + 1);
+    match list.insert(index, new) {
         Ok(()) => {}
         Err(_) => {}
     }
@@ -100,28 +100,28 @@ pub(crate) fn unseat(list: &mut Vec<Kin>, old: Kin)
     ensures items { list.new.items ≡ filter (λ kin. not (rank_of kin == rank_of old)) list.old.items }
     ensures room { vec_len list.new < vec_capacity list.new }
 {
-    match place_of_rank(list.as_slice(), rank(old)) {
-        Some(place) => {
-            list.remove(place);
+    match index_of_rank(list.as_slice(), rank(old)) {
+        Some(index) => {
+            list.remove(index);
         }
         None => {}
     }
 }
 
 /// Where a rank stands.
-fn place_of_rank(list: &[Kin], wanted: u128) -> Option<usize>
+fn index_of_rank(list: &[Kin], wanted: u128) -> Option<usize>
     requires { IsStrictlySortedBy nat_cmp (ranks list.now) }
-    ensures within { IfSome result (λ place. place < length list.now) }
-    ensures found { IfSome result (λ place. (d : Kin) → rank_of (slice_index_or list.now place d) ≡ wanted) }
+    ensures within { IfSome result (λ index. index < length list.now) }
+    ensures found { IfSome result (λ index. (d : Kin) → rank_of (slice_index_or list.now index d) ≡ wanted) }
     ensures none { IfNone result (list_any (λ kin. rank_of kin == wanted) list.now ≡ false) }
 {
     match list.binary_search_by_key(&wanted, |kin| rank(*kin)) {
-        Ok(place) => Some(place),
+        Ok(index) => Some(index),
         Err(_) => None,
     }
 }
 
-/// Puts a child in another place.
+/// Puts a child where another rank is.
 pub(crate) fn reseat(list: &mut Vec<Kin>, old: Kin, new: Kin)
     requires rise { IsStrictlySortedBy nat_cmp (ranks list.old.items) }
     requires there { list_any (λ kin. rank_of kin == rank_of old) list.old.items ≡ true }

@@ -43,13 +43,6 @@ impl Objects {
         }
     }
 
-    pub(crate) fn clear(&mut self)
-        ensures { self.new ≡ [] }
-    {
-        self.rows.clear();
-        self.kin.clear();
-    }
-
     pub(crate) fn count(&self) -> usize
         ensures { result ≡ length self.now }
     {
@@ -188,7 +181,7 @@ impl Objects {
         }
     }
 
-    /// Puts a row in the place of the one of its number.
+    /// Puts a row for the one of its number.
     fn put(&mut self, old: Row, row: Row)
         requires there { row_of self.old row.number ≡ Some old }
         requires stamp { All (λ other. other.number ≢ row.number → other.stamp ≢ row.stamp) self.old }

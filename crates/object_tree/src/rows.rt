@@ -39,12 +39,6 @@ impl Rows {
         }
     }
 
-    pub(crate) fn clear(&mut self)
-        ensures { self.new ≡ [] }
-    {
-        self.map.clear();
-    }
-
     pub(crate) fn count(&self) -> usize
         ensures { result ≡ length self.now }
     {
@@ -67,7 +61,7 @@ impl Rows {
         Ok(())
     }
 
-    /// Puts a row in the place of the one of its number, which takes no memory.
+    /// Puts a row for the one of its number, which takes no memory.
     pub(crate) fn put(&mut self, row: Row)
         requires rise { IsStrictlySortedBy nat_cmp (numbers self.old) }
         requires there { IsTrue (is_there self.old row.number) }

@@ -1,4 +1,4 @@
-//! The forest of one session.
+//! The forest of one place.
 ghost use Rattle.std.specs.Prelude.{◌≡◌, ◌+◌, ◌<◌, ◌≤◌, ◌^◌, ℕ, Bool, IfOk, OnOk, OnErr, Option, length};
 ghost use Rattle.std.specs.Result.{result_err};
 ghost use Rattle.refusals.specs.Answers.{RefusedBy};
@@ -17,7 +17,7 @@ use refusals::{Code, Fault};
 use std::alloc::{AllocError, Global};
 use std::marker::Model;
 
-/// The objects of a session, and the last number and stamp that were given.
+/// The objects of a place, and the last number and stamp that were given.
 #[derive(Drop)]
 pub struct Tree {
     objects: Objects,
@@ -53,14 +53,6 @@ impl Tree {
         let _objects = &self.objects;
     }
 
-    pub fn clear(&mut self)
-        ensures { self.new ≡ empty_forest }
-    {
-        self.objects.clear();
-        self.last_number = 0;
-        self.last_stamp = 0;
-    }
-
     pub fn add(&mut self, parent: Option<u32>, class: u32) -> Result<u32, Fault>
         ensures refusal { RefusedBy (add_refusal self.old parent) result }
         ensures number { IfOk result (λ number. number ≡ self.old.last_number + 1) }
@@ -88,7 +80,7 @@ impl Tree {
         ensures { result ≡ add_refusal self.now parent }
     {
         let objects = &self.objects;
-        if let Some(code) = parent_refusal(objects, parent) {
+        if let Some(code) = self.parent_refusal(parent) {
             return Some(code);
         }
         if objects.count() >= OBJECTS || depth_at(objects, parent) >= DEPTH {
@@ -120,10 +112,10 @@ impl Tree {
         ensures { result ≡ set_parent_refusal self.now object parent }
     {
         let objects = &self.objects;
-        if let Some(code) = object_refusal(objects, object) {
+        if let Some(code) = self.object_refusal(object) {
             return Some(code);
         }
-        if let Some(code) = parent_refusal(objects, parent) {
+        if let Some(code) = self.parent_refusal(parent) {
             return Some(code);
         }
         if is_same(parent_of(objects, object), parent) {
@@ -180,6 +172,24 @@ impl Tree {
         self.objects.row(object)
     }
 
+    pub fn object_refusal(&self, object: u32) -> Option<Code>
+        ensures { result ≡ object_refusal self.now.rows object }
+    {
+        match self.objects.row(object) {
+            Some(row) => { if row.dying { Some(Code::Dying) } else { None } }
+            None => Some(Code::NoSuchObject),
+        }
+    }
+
+    pub fn parent_refusal(&self, parent: Option<u32>) -> Option<Code>
+        ensures { result ≡ parent_refusal self.now.rows parent }
+    {
+        match parent {
+            Some(number) => self.object_refusal(number),
+            None => None,
+        }
+    }
+
     pub fn count(&self) -> usize
         ensures { result ≡ length self.now.rows }
     {
@@ -207,24 +217,6 @@ impl Tree {
             → IfOk result (λ found. IsNearest self.now.rows object passes found) }
     {
         self.objects.find_below(alloc, object, &test)
-    }
-}
-
-fn object_refusal(objects: &Objects, number: u32) -> Option<Code>
-    ensures { result ≡ object_refusal objects.now number }
-{
-    match objects.row(number) {
-        Some(row) => { if row.dying { Some(Code::Dying) } else { None } }
-        None => Some(Code::NoSuchObject),
-    }
-}
-
-fn parent_refusal(objects: &Objects, parent: Option<u32>) -> Option<Code>
-    ensures { result ≡ parent_refusal objects.now parent }
-{
-    match parent {
-        Some(number) => object_refusal(objects, number),
-        None => None,
     }
 }
 

@@ -23,6 +23,8 @@ enum Call {
     FindChild(u32, u32, u32),
     /// The stamp of an object.
     Row(u32),
+    ObjectRefusal(u32),
+    ParentRefusal(Option<u32>),
     Count,
 }
 
@@ -89,6 +91,8 @@ impl Bed {
                 Some(row) => row.stamp,
                 None => 0,
             },
+            ObjectRefusal(object) => unless(forests.object_refusal(place, object))?,
+            ParentRefusal(parent) => unless(forests.parent_refusal(place, parent))?,
             Count => forests.count(place) as u64,
         };
         Ok(answer)
@@ -101,6 +105,13 @@ fn digits(numbers: &[u32]) -> u64 {
         digits = digits.wrapping_mul(10).wrapping_add(*number as u64);
     }
     digits
+}
+
+fn unless(refusal: Option<Code>) -> Result<u64, Code> {
+    match refusal {
+        Some(code) => Err(code),
+        None => Ok(0),
+    }
 }
 
 fn is_same(answer: Result<u64, Fault>, wanted: Answer) -> bool {
@@ -153,6 +164,12 @@ const CASES: &[(u32, usize, Call, Answer)] = &[
     // the object is asked for before the parent
     (1, 0, MarkDying(2), Ok(0)),
     (1, 0, MarkDying(8), Ok(0)),
+    (1, 0, ObjectRefusal(8), Err(Code::NoSuchObject)),
+    (1, 0, ObjectRefusal(2), Err(Code::Dying)),
+    (1, 0, ObjectRefusal(7), Ok(0)),
+    (1, 0, ParentRefusal(Some(8)), Err(Code::NoSuchObject)),
+    (1, 0, ParentRefusal(Some(2)), Err(Code::Dying)),
+    (1, 0, ParentRefusal(None), Ok(0)),
     (1, 0, Add(Some(8)), Err(Code::NoSuchObject)),
     (1, 0, Add(Some(2)), Err(Code::Dying)),
     (1, 0, SetParent(8, Some(2)), Err(Code::NoSuchObject)),

@@ -2,7 +2,7 @@ use Rattle.std.proofs.Common.{arith, nat_lt, rules}
 use Rattle.std.proofs.lemmas.Bool.{ltb-true, ltb-false}
 use Rattle.std.proofs.lemmas.List.Sorted.{IsPartitionPoint-from_clause, IsPartitionedBy-ltb}
 use Rattle.object_tree.specs.Kin.{rank_of}
-use Rattle.object_tree.proofs.Sorted.{non_decreasing}
+use Rattle.object_tree.proofs.SortingLemmas.{non_decreasing}
 use Rattle.object_tree.proofs.kin.first_of.Goals as goal
 
 pub returns-clause-before : goal.returns-clause-before

@@ -1,4 +1,4 @@
-use Rattle.object_tree.proofs.Seating.{kids_between, kids_order}
+use Rattle.object_tree.proofs.KinSearchLemmas.{kids_between, kids_order}
 use Rattle.object_tree.proofs.kin.kids.Goals as goal
 
 pub slice_bounds-result-count : goal.slice_bounds-result-count

@@ -1,7 +1,7 @@
 use Rattle.std.proofs.Common.{◌==◌, not, sym, subst}
 use Rattle.object_tree.specs.Kin.{rank_of}
-use Rattle.object_tree.proofs.Keyed.{Rises}
-use Rattle.object_tree.proofs.Sorted.{rises-filter}
+use Rattle.object_tree.proofs.KeyedListLemmas.{Rises}
+use Rattle.object_tree.proofs.SortingLemmas.{rises-filter}
 use Rattle.object_tree.proofs.kin.reseat.Goals as goal
 
 pub seat-requires-clause-rise : goal.seat-requires-clause-rise

@@ -1,4 +1,4 @@
-use Rattle.object_tree.proofs.Levels.{levels_end}
+use Rattle.object_tree.proofs.HeightLemmas.{levels_end}
 use Rattle.object_tree.proofs.objects.Objects.+levels_within.Goals as goal
 
 pub returns-clause-value : goal.returns-clause-value

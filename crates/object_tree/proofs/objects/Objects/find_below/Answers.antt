@@ -2,7 +2,7 @@ use Rattle.std.proofs.Common.{◌≡◌, ◌∙◌, ◌-◌, ◌+◌, [], length
 use Rattle.std.proofs.lemmas.List.{nil_from_length}
 use Rattle.std.proofs.lemmas.Bool.{eqb-true}
 use Rattle.object_tree.specs.Finding.{children_of, found_below, found_within}
-use Rattle.object_tree.proofs.Levelwise.{found_here, found_later, none_left}
+use Rattle.object_tree.proofs.FindBelowLemmas.{found_here, found_later, none_left}
 use Rattle.object_tree.proofs.objects.Objects.find_below.Goals as goal
 
 pub returns-then-is_empty : goal.returns-then-is_empty

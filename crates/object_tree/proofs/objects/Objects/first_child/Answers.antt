@@ -1,6 +1,6 @@
 use Rattle.std.proofs.Common.{◌∙◌, Some, sym}
-use Rattle.object_tree.proofs.Edits.{orphan_none}
-use Rattle.object_tree.proofs.Nearest.{child_parent, children_none, first_among, no_numbers}
+use Rattle.object_tree.proofs.ChangesLemmas.{orphan_none}
+use Rattle.object_tree.proofs.NearestLemmas.{child_parent, children_none, first_among, no_numbers}
 use Rattle.object_tree.proofs.objects.Objects.first_child.Goals as goal
 
 pub returns-then-is_empty-clause-none : goal.returns-then-is_empty-clause-none

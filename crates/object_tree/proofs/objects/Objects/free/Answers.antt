@@ -1,7 +1,7 @@
 use Rattle.std.proofs.Common.{None, ◌∙◌, sym}
 use Rattle.object_tree.specs.declared.row.Row.{Row}
-use Rattle.object_tree.proofs.Edits.{edited, others_apart, own_row, unchanged}
-use Rattle.object_tree.proofs.Keeping.{kept_fit}
+use Rattle.object_tree.proofs.ChangesLemmas.{edited, others_apart, own_row, unchanged}
+use Rattle.object_tree.proofs.ObjectsLemmas.{kept_fit}
 use Rattle.object_tree.proofs.objects.Objects.free.Goals as goal
 
 abbrev free : Row → Row

@@ -3,8 +3,8 @@ use Rattle.std.specs.List.{All}
 use Rattle.object_tree.specs.declared.kin.Kin.{Kin}
 use Rattle.object_tree.specs.Rows.{children}
 use Rattle.object_tree.specs.Kin.{kids_of, rank_of}
-use Rattle.object_tree.proofs.Keyed.{Rises}
-use Rattle.object_tree.proofs.Keeping.{kept_fits, kept_kids, kept_none, kept_rises}
+use Rattle.object_tree.proofs.KeyedListLemmas.{Rises}
+use Rattle.object_tree.proofs.ObjectsLemmas.{kept_fits, kept_kids, kept_none, kept_rises}
 use Rattle.object_tree.proofs.objects.Objects.kids.Goals as goal
 
 pub kids-requires-clause-rise : goal.kids-requires-clause-rise

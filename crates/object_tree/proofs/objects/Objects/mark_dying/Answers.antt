@@ -2,8 +2,8 @@ use Rattle.std.proofs.Common.{◌∙◌, true, refl, sym, ap, subst}
 use Rattle.object_tree.specs.declared.row.Row.{Row}
 use Rattle.object_tree.specs.Kin.{IsKept}
 use Rattle.object_tree.specs.Changes.{changed}
-use Rattle.object_tree.proofs.Edits.{edited, is_own, unchanged}
-use Rattle.object_tree.proofs.Keeping.{kept_changed}
+use Rattle.object_tree.proofs.ChangesLemmas.{edited, is_own, unchanged}
+use Rattle.object_tree.proofs.ObjectsLemmas.{kept_changed}
 use Rattle.object_tree.proofs.objects.Objects.mark_dying.Goals as goal
 
 abbrev mark : Row → Row

@@ -2,8 +2,8 @@ use Rattle.std.proofs.Common.{◌≢◌, ◌<◌, ℕ, Option, ◌∙◌, sym, a
 use Rattle.std.proofs.lemmas.List.Elements.{All-weaker}
 use Rattle.object_tree.specs.declared.row.Row.{Row}
 use Rattle.object_tree.specs.Rows.{is_there}
-use Rattle.object_tree.proofs.Edits.{edited, own_row, unchanged}
-use Rattle.object_tree.proofs.Keeping.{kept_parent}
+use Rattle.object_tree.proofs.ChangesLemmas.{edited, own_row, unchanged}
+use Rattle.object_tree.proofs.ObjectsLemmas.{kept_parent}
 use Rattle.object_tree.proofs.objects.Objects.move_to.Goals as goal
 
 abbrev moves : Option ℕ → ℕ → Row → Row

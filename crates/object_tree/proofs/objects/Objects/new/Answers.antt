@@ -1,4 +1,4 @@
-use Rattle.object_tree.proofs.Keeping.{kept_empty}
+use Rattle.object_tree.proofs.ObjectsLemmas.{kept_empty}
 use Rattle.object_tree.proofs.objects.Objects.new.Goals as goal
 
 pub invariant_of-result : goal.invariant_of-result

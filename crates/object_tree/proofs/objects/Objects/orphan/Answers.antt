@@ -1,7 +1,7 @@
 use Rattle.std.proofs.Common.{◌∙◌, Some, length, map, filter, ap, arith}
 use Rattle.object_tree.specs.Rows.{has_parent}
 use Rattle.object_tree.specs.Changes.{orphaned}
-use Rattle.object_tree.proofs.Edits.{orphan_step}
+use Rattle.object_tree.proofs.ChangesLemmas.{orphan_step}
 use Rattle.object_tree.proofs.objects.Objects.orphan.Goals as goal
 
 pub kids-smaller : goal.kids-smaller

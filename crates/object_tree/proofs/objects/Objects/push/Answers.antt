@@ -4,8 +4,8 @@ use Rattle.object_tree.specs.declared.row.Row.{Row}
 use Rattle.object_tree.specs.Rows.{is_there}
 use Rattle.object_tree.specs.Sorting.{inserted_by}
 use Rattle.object_tree.specs.Kin.{IsKept, rank_of}
-use Rattle.object_tree.proofs.Keyed.{Rises}
-use Rattle.object_tree.proofs.Keeping.{kept_parent, kept_pushed, kept_rises}
+use Rattle.object_tree.proofs.KeyedListLemmas.{Rises}
+use Rattle.object_tree.proofs.ObjectsLemmas.{kept_parent, kept_pushed, kept_rises}
 use Rattle.object_tree.proofs.objects.Objects.push.Goals as goal
 
 pub seat-requires-clause-rise : goal.seat-requires-clause-rise

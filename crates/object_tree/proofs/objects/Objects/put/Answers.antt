@@ -6,7 +6,7 @@ use Rattle.object_tree.specs.Rows.{row_of}
 use Rattle.object_tree.specs.Sorting.{inserted_by}
 use Rattle.object_tree.specs.Changes.{changed}
 use Rattle.object_tree.specs.Kin.{IsKept, rank_of}
-use Rattle.object_tree.proofs.Keeping.{kept_put, kept_rises, kept_there}
+use Rattle.object_tree.proofs.ObjectsLemmas.{kept_put, kept_rises, kept_there}
 use Rattle.object_tree.proofs.objects.Objects.put.Goals as goal
 
 pub reseat-requires-clause-rise : goal.reseat-requires-clause-rise

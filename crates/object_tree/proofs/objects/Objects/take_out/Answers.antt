@@ -1,9 +1,9 @@
 use Rattle.std.proofs.Common.{◌∙◌, ◌==◌, not, filter, sym, ap, subst}
 use Rattle.std.specs.List.{list_any}
 use Rattle.object_tree.specs.Kin.{IsKept, rank_of}
-use Rattle.object_tree.proofs.ByNumber.{without}
-use Rattle.object_tree.proofs.Edits.{unchanged}
-use Rattle.object_tree.proofs.Keeping.{kept_rises, kept_taken, kept_there}
+use Rattle.object_tree.proofs.NumberLemmas.{without}
+use Rattle.object_tree.proofs.ChangesLemmas.{unchanged}
+use Rattle.object_tree.proofs.ObjectsLemmas.{kept_rises, kept_taken, kept_there}
 use Rattle.object_tree.proofs.objects.Objects.take_out.Goals as goal
 
 pub unseat-requires-clause-rise : goal.unseat-requires-clause-rise

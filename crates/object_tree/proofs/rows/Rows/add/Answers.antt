@@ -1,7 +1,7 @@
 use Rattle.std.proofs.Common.{◌∙◌, ◌<◌, [], ◌∷◌, ◌++◌, sym, ap, subst}
 use Rattle.std.specs.List.{All}
 use Rattle.object_tree.specs.declared.row.Row.{Row}
-use Rattle.object_tree.proofs.Entries.{added_to, are_by_number, are_values}
+use Rattle.object_tree.proofs.EntriesLemmas.{added_to, are_by_number, are_values}
 use Rattle.object_tree.proofs.rows.Rows.add.Goals as goal
 
 pub invariant_of-self-2 : goal.invariant_of-self-2

@@ -1,6 +1,6 @@
 use Rattle.std.proofs.Common.{◌∙◌, ap}
 use Rattle.object_tree.specs.Rows.{row_of}
-use Rattle.object_tree.proofs.Entries.{found_in}
+use Rattle.object_tree.proofs.EntriesLemmas.{found_in}
 use Rattle.object_tree.proofs.rows.Rows.get.Goals as goal
 
 pub returns : goal.returns

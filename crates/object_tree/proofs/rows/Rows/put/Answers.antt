@@ -1,8 +1,8 @@
 use Rattle.std.proofs.Common.{◌∙◌, sym, ap, subst}
 use Rattle.object_tree.specs.Rows.{is_there}
 use Rattle.object_tree.specs.Changes.{changed}
-use Rattle.object_tree.proofs.ByNumber.{Rise}
-use Rattle.object_tree.proofs.Entries.{are_by_number, are_values, put_always}
+use Rattle.object_tree.proofs.NumberLemmas.{Rise}
+use Rattle.object_tree.proofs.EntriesLemmas.{are_by_number, are_values, put_always}
 use Rattle.object_tree.proofs.rows.Rows.put.Goals as goal
 
 pub invariant_of-self : goal.invariant_of-self

@@ -1,6 +1,6 @@
 use Rattle.std.proofs.Common.{◌∙◌, sym, ap, subst}
-use Rattle.object_tree.proofs.ByNumber.{Rise, without}
-use Rattle.object_tree.proofs.Entries.{are_by_number, are_values, taken_from}
+use Rattle.object_tree.proofs.NumberLemmas.{Rise, without}
+use Rattle.object_tree.proofs.EntriesLemmas.{are_by_number, are_values, taken_from}
 use Rattle.object_tree.proofs.rows.Rows.remove.Goals as goal
 
 pub invariant_of-self : goal.invariant_of-self

@@ -2,9 +2,9 @@ use Rattle.std.proofs.Common.{◌∙◌, sym, ap, subst, arith}
 use Rattle.object_tree.specs.Forest.{Forest, IsSound}
 use Rattle.object_tree.specs.Refusing.{add_refusal}
 use Rattle.object_tree.specs.Changes.{added}
-use Rattle.object_tree.proofs.Allowed.{CanAdd, add_allowed}
-use Rattle.object_tree.proofs.Edits.{added_at}
-use Rattle.object_tree.proofs.Soundness.{sound_added}
+use Rattle.object_tree.proofs.RefusingLemmas.{CanAdd, add_allowed}
+use Rattle.object_tree.proofs.ChangesLemmas.{added_at}
+use Rattle.object_tree.proofs.ForestLemmas.{sound_added}
 use Rattle.object_tree.proofs.tree.Tree.add.Goals as goal
 
 pub overflow_add-self-inside : goal.overflow_add-self-inside

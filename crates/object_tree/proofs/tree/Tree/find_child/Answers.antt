@@ -2,7 +2,7 @@ use Rattle.std.proofs.Common.{◌≡◌, Option, ℕ}
 use Rattle.std.proofs.lemmas.Result.{IfOk-weaker}
 use Rattle.object_tree.specs.Forest.{Forest}
 use Rattle.object_tree.specs.Finding.{IsNearest, found_below}
-use Rattle.object_tree.proofs.Nearest.{finds_nearest}
+use Rattle.object_tree.proofs.NearestLemmas.{finds_nearest}
 use Rattle.object_tree.proofs.tree.Tree.find_child.Goals as goal
 
 pub returns-clause-nearest : goal.returns-clause-nearest

@@ -1,8 +1,8 @@
 use Rattle.std.proofs.Common.{◌∙◌, sym, ap, subst}
 use Rattle.object_tree.specs.Forest.{Forest, IsSound}
 use Rattle.object_tree.specs.Changes.{marked}
-use Rattle.object_tree.proofs.Edits.{marked_is}
-use Rattle.object_tree.proofs.Soundness.{sound_marked}
+use Rattle.object_tree.proofs.ChangesLemmas.{marked_is}
+use Rattle.object_tree.proofs.ForestLemmas.{sound_marked}
 use Rattle.object_tree.proofs.tree.Tree.mark_dying.Goals as goal
 
 pub invariant_of-self : goal.invariant_of-self

@@ -3,9 +3,9 @@ use Rattle.object_tree.specs.declared.row.Row.{Row}
 use Rattle.object_tree.specs.Forest.{Forest, IsSound}
 use Rattle.object_tree.specs.Refusing.{keeps_parent, set_parent_refusal}
 use Rattle.object_tree.specs.Changes.{moved}
-use Rattle.object_tree.proofs.Allowed.{CanMove, move_allowed}
-use Rattle.object_tree.proofs.Edits.{moved_is, there_at}
-use Rattle.object_tree.proofs.Soundness.{sound_moved}
+use Rattle.object_tree.proofs.RefusingLemmas.{CanMove, move_allowed}
+use Rattle.object_tree.proofs.ChangesLemmas.{moved_is, there_at}
+use Rattle.object_tree.proofs.ForestLemmas.{sound_moved}
 use Rattle.object_tree.proofs.tree.Tree.move_to.Goals as goal
 
 pub overflow_add-self : goal.overflow_add-self

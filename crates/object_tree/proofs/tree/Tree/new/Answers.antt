@@ -1,4 +1,4 @@
-use Rattle.object_tree.proofs.Soundness.{sound_empty}
+use Rattle.object_tree.proofs.ForestLemmas.{sound_empty}
 use Rattle.object_tree.proofs.tree.Tree.new.Goals as goal
 
 pub invariant_of-result : goal.invariant_of-result

@@ -1,8 +1,8 @@
 use Rattle.std.proofs.Common.{◌∙◌, sym, ap, subst}
 use Rattle.object_tree.specs.Forest.{Forest, IsSound}
 use Rattle.object_tree.specs.Changes.{removed}
-use Rattle.object_tree.proofs.Edits.{removed_is}
-use Rattle.object_tree.proofs.Soundness.{sound_removed}
+use Rattle.object_tree.proofs.ChangesLemmas.{removed_is}
+use Rattle.object_tree.proofs.ForestLemmas.{sound_removed}
 use Rattle.object_tree.proofs.tree.Tree.remove.Goals as goal
 
 pub invariant_of-self : goal.invariant_of-self

@@ -1,8 +1,8 @@
 use Rattle.std.proofs.Common.{◌∙◌, sym, ap, subst}
 use Rattle.object_tree.specs.Forest.{Forest, IsSound}
 use Rattle.object_tree.specs.Changes.{with_blocked}
-use Rattle.object_tree.proofs.Edits.{blocked_is}
-use Rattle.object_tree.proofs.Soundness.{sound_blocked}
+use Rattle.object_tree.proofs.ChangesLemmas.{blocked_is}
+use Rattle.object_tree.proofs.ForestLemmas.{sound_blocked}
 use Rattle.object_tree.proofs.tree.Tree.set_blocked.Goals as goal
 
 pub invariant_of-self : goal.invariant_of-self

@@ -16,8 +16,8 @@ use Rattle.object_tree.specs.Rows.{by_stamp, children, has_parent, inserted, is_
 use Rattle.object_tree.specs.Lines.{depth, line, line_at, walk}
 use Rattle.object_tree.specs.Forest.{Forest, IsSound}
 use Rattle.object_tree.specs.Finding.{IsFirstAtLeast, IsNearest, all_below, children_of, found_below, found_within, preorder_within}
-use Rattle.object_tree.proofs.ByNumber.{Rise, absent}
-use Rattle.object_tree.proofs.Walks.{among, walk_within}
+use Rattle.object_tree.proofs.NumberLemmas.{Rise, absent}
+use Rattle.object_tree.proofs.LineLemmas.{among, walk_within}
 
 -- lists of numbers
 any_at : (p : ℕ → Bool) (xs : List ℕ) → list_any p xs ≡ true → (m : ℕ) × (among xs m ≡ true) × (p m ≡ true)

@@ -6,7 +6,7 @@ use Rattle.std.specs.Ordering.{nat_cmp}
 use Rattle.object_tree.specs.declared.row.Row.{Row}
 use Rattle.object_tree.specs.Rows.{numbers, row_of}
 use Rattle.object_tree.specs.Changes.{changed}
-use Rattle.object_tree.proofs.Keyed as keyed
+use Rattle.object_tree.proofs.KeyedListLemmas as keyed
 
 abbrev pub number_of : Row → ℕ
 number_of row = row.number

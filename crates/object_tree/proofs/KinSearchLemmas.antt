@@ -4,9 +4,9 @@ use Rattle.std.specs.List.{All, list_any, remove}
 use Rattle.std.proofs.lemmas.Bool.{cases_lt, false≢true}
 use Rattle.object_tree.specs.declared.kin.Kin.{Kin}
 use Rattle.object_tree.specs.Kin.{first_rank, kids_of, rank_of}
-use Rattle.object_tree.proofs.Keyed.{Rises, at_place, without_by}
+use Rattle.object_tree.proofs.KeyedListLemmas.{Rises, at_place, without_by}
 use Rattle.object_tree.proofs.KinLemmas.{rank_between, rank_high, rank_low}
-use Rattle.object_tree.proofs.Sorted.{stretch}
+use Rattle.object_tree.proofs.SortingLemmas.{stretch}
 
 nobody : Kin
 nobody = record { stamp = 0; parent = 0; number = 0 }

@@ -6,7 +6,7 @@ use Rattle.std.specs.Ordering.{nat_cmp}
 use Rattle.std.proofs.lemmas.Bool.{cases_Bool, cond-true, cond-false, ltb-true, ltb-false, lt-ltb, le-ltb, eq-eqb, ne_eqb, cases_eq, cases_lt, cases_order}
 use Rattle.std.proofs.lemmas.Bool.Decides.{nat_tests}
 use Rattle.object_tree.specs.Sorting.{inserted_by, sorted_by}
-use Rattle.object_tree.proofs.Keyed.{Above, Rises, below-from_cmp, rise_at, without_by}
+use Rattle.object_tree.proofs.KeyedListLemmas.{Above, Rises, below-from_cmp, rise_at, without_by}
 
 less_cmp : (a b : ℕ) → a < b → nat_cmp a b ≡ Less
 less_cmp a b h = grind (arith, nat_tests)

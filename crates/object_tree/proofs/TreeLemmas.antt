@@ -5,7 +5,7 @@ use Rattle.std.proofs.lemmas.Bool.{cases_Bool, eqb-true, cases_eq, or_cases, or_
 use Rattle.std.proofs.lemmas.List.{length_push}
 use Rattle.std.proofs.lemmas.List.Folds.{list_any-append}
 use Rattle.object_tree.specs.Lines.{walk}
-use Rattle.object_tree.proofs.Walks.{among, ends, longer, walk_within, enough, agree, cut, walk_among}
+use Rattle.object_tree.proofs.LineLemmas.{among, ends, longer, walk_within, enough, agree, cut, walk_among}
 
 -- what is above a number is there, and each line ends and is no longer than `deepest`
 pub record IsTree (up : ℕ → Option ℕ) (ns : List ℕ) (deepest : ℕ) : Type 0 where

@@ -16,9 +16,9 @@ use Rattle.object_tree.specs.Rows.{children, has_number, has_parent, is_same, is
 use Rattle.object_tree.specs.Changes.{changed}
 use Rattle.object_tree.specs.Sorting.{inserted_by}
 use Rattle.object_tree.specs.Kin.{IsKept, kids_of, kin_of, order_of, rank_of}
-use Rattle.object_tree.proofs.ByNumber.{at_place, without}
-use Rattle.object_tree.proofs.Edits.{place_of_row, row_has, same_place, there_at}
-use Rattle.object_tree.proofs.Keyed.{Rises, without_by}
+use Rattle.object_tree.proofs.NumberLemmas.{at_place, without}
+use Rattle.object_tree.proofs.ChangesLemmas.{place_of_row, row_has, same_place, there_at}
+use Rattle.object_tree.proofs.KeyedListLemmas.{Rises, without_by}
 use Rattle.object_tree.proofs.KinLemmas.{Fit, NoneIs0, by_rank-map, by_rank_fits, by_rank_has, by_rank_push, by_rank_rises, by_rank_set, by_rank_without, kids_are, none_below_0}
 use Rattle.object_tree.proofs.RowLemmas.{IsDistinct-stamps_filter, change_one, distinct-set, numbers-filter, numbers-mapped, rise_push, stamps-mapped}
 

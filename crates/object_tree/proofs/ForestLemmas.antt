@@ -18,10 +18,10 @@ use Rattle.object_tree.specs.Rows.{has_number, has_parent, is_same, is_there, nu
 use Rattle.object_tree.specs.Lines.{depth_at, height, is_below, levels_within, line, line_at, walk}
 use Rattle.object_tree.specs.Forest.{Forest, IsSound, empty_forest}
 use Rattle.object_tree.specs.Changes.{added, changed, marked, moved, orphaned, removed, with_blocked}
-use Rattle.object_tree.proofs.ByNumber.{at_place, without}
+use Rattle.object_tree.proofs.NumberLemmas.{at_place, without}
 use Rattle.object_tree.proofs.RowLemmas.{IsDistinct-stamps_filter, change_one, distinct-set, find-filter_other, find-filter_same, length-filter_le, levels_child, levels_one, numbers-filter, numbers-mapped, rise_push, row-number, row_of-mapped, stamps-mapped, there_among}
-use Rattle.object_tree.proofs.Trees.{IsTree, added_tree, cut_tree, lines_from_tree, moved_tree, tree_from_lines}
-use Rattle.object_tree.proofs.Walks.{among}
+use Rattle.object_tree.proofs.TreeLemmas.{IsTree, added_tree, cut_tree, lines_from_tree, moved_tree, tree_from_lines}
+use Rattle.object_tree.proofs.LineLemmas.{among}
 
 -- the shape of the trees of some rows
 abbrev pub AreTrees : List Row → Type 0
@@ -49,6 +49,7 @@ trees_of forest sound =
 -- what a forest has beside its trees
 pub record IsCounted (forest : Forest) : Type 0 where
   pub numbers_rise : IsStrictlySortedBy nat_cmp (numbers forest.rows)
+  pub numbers_begin : All (λ (row : Row). 1 ≤ row.number) forest.rows
   pub numbers_given : All (λ (row : Row). row.number ≤ forest.last_number) forest.rows
   pub numbers_fit : forest.last_number < 2 ^ 32
   pub stamps_differ : IsDistinct (λ a b. a == b) (stamps forest.rows)
@@ -61,6 +62,7 @@ sound_from forest counted trees =
     let rows = forest.rows in
     record {
       numbers_rise = counted.numbers_rise;
+      numbers_begin = counted.numbers_begin;
       numbers_given = counted.numbers_given;
       numbers_fit = counted.numbers_fit;
       stamps_differ = counted.stamps_differ;
@@ -77,6 +79,7 @@ unfolding IsStrictlySortedBy IsDistinct
 sound_empty = sound_from empty_forest
     (record {
       numbers_rise = tt;
+      numbers_begin = λ k d h. absurd (omega arith);
       numbers_given = λ k d h. absurd (omega arith);
       numbers_fit = omega arith;
       stamps_differ = tt;
@@ -126,6 +129,7 @@ sound_changed f o forest number stamp parent sound = sound_from _ counted trees
     counted : IsCounted (record forest { rows = changed f o forest.rows })
     counted = record {
       numbers_rise = subst (IsStrictlySortedBy nat_cmp) (sym same_numbers) sound.numbers_rise;
+      numbers_begin = All-map (λ (row : Row). 1 ≤ row.number) (change_one f o) forest.rows (All-weaker (λ (row : Row). 1 ≤ row.number) (λ (row : Row). 1 ≤ (change_one f o row).number) (λ row h. omega (arith, number' row)) forest.rows sound.numbers_begin);
       numbers_given = All-map (λ (row : Row). row.number ≤ forest.last_number) (change_one f o) forest.rows (All-weaker (λ (row : Row). row.number ≤ forest.last_number) (λ (row : Row). (change_one f o row).number ≤ forest.last_number) (λ row h. omega (arith, number' row)) forest.rows sound.numbers_given);
       numbers_fit = sound.numbers_fit;
       stamps_differ = subst (IsDistinct (λ a b. a == b)) (sym same_stamps) sound.stamps_differ;
@@ -209,6 +213,7 @@ module _ (forest : Forest) (o : ℕ) (sound : IsSound forest) where
   gone_counted : IsCounted (record forest { rows = gone_rows })
   gone_counted = record {
     numbers_rise = subst (IsStrictlySortedBy nat_cmp) (sym gone_numbers) (IsStrictlySortedBy-filter nat_cmp (λ m. not (m == o)) (numbers forest.rows) sound.numbers_rise);
+    numbers_begin = All-map (λ (row : Row). 1 ≤ row.number) (orphaned o) (without o forest.rows) (All-weaker (λ (row : Row). 1 ≤ row.number) (λ (row : Row). 1 ≤ (orphaned o row).number) (λ row h. omega (arith, orphan_number row)) (without o forest.rows) (All-filter (λ row. not (has_number o row)) (λ (row : Row). 1 ≤ row.number) forest.rows sound.numbers_begin));
     numbers_given = All-map (λ (row : Row). row.number ≤ forest.last_number) (orphaned o) (without o forest.rows) (All-weaker (λ (row : Row). row.number ≤ forest.last_number) (λ (row : Row). (orphaned o row).number ≤ forest.last_number) (λ row h. omega (arith, orphan_number row)) (without o forest.rows) (All-filter (λ row. not (has_number o row)) (λ (row : Row). row.number ≤ forest.last_number) forest.rows sound.numbers_given));
     numbers_fit = sound.numbers_fit;
     stamps_differ = subst (IsDistinct (λ a b. a == b)) (sym gone_stamps) (IsDistinct-stamps_filter (λ row. not (has_number o row)) forest.rows sound.stamps_differ);
@@ -267,6 +272,7 @@ module _ (forest : Forest) (parent : Option ℕ) (class : ℕ) (sound : IsSound 
       counted : IsCounted (record { rows = forest.rows ++ new_row ∷ []; last_number = forest.last_number + 1; last_stamp = forest.last_stamp + 1 })
       counted = record {
         numbers_rise = subst (IsStrictlySortedBy nat_cmp) (sym new_numbers) (rise_push (numbers forest.rows) (forest.last_number + 1) sound.numbers_rise (recursion_from_All (λ n. n < forest.last_number + 1) (numbers forest.rows) (All-map (λ n. n < forest.last_number + 1) (λ (row : Row). row.number) forest.rows (All-weaker (λ (row : Row). row.number ≤ forest.last_number) (λ (row : Row). row.number < forest.last_number + 1) (λ row h. omega arith) forest.rows sound.numbers_given))));
+        numbers_begin = All-push (λ (row : Row). 1 ≤ row.number) forest.rows new_row sound.numbers_begin (omega arith);
         numbers_given = All-push (λ (row : Row). row.number ≤ forest.last_number + 1) forest.rows new_row (All-weaker (λ (row : Row). row.number ≤ forest.last_number) (λ (row : Row). row.number ≤ forest.last_number + 1) (λ row h. omega arith) forest.rows sound.numbers_given) (omega arith);
         numbers_fit = omega arith;
         stamps_differ = subst (IsDistinct (λ a b. a == b)) (sym new_stamps) (IsDistinct-push nat_eq_equiv (stamps forest.rows) (forest.last_stamp + 1) sound.stamps_differ absent_stamp);
@@ -334,6 +340,7 @@ module _ (forest : Forest) (o : ℕ) (parent : Option ℕ) (k : ℕ) (d : Row) (
       counted : IsCounted (record { rows = changed moves o forest.rows; last_number = forest.last_number; last_stamp = forest.last_stamp + 1 })
       counted = record {
         numbers_rise = subst (IsStrictlySortedBy nat_cmp) (sym moved_numbers) sound.numbers_rise;
+        numbers_begin = All-map (λ (row : Row). 1 ≤ row.number) (change_one moves o) forest.rows (All-weaker (λ (row : Row). 1 ≤ row.number) (λ (row : Row). 1 ≤ (change_one moves o row).number) (λ row h. omega (arith, move_number row)) forest.rows sound.numbers_begin);
         numbers_given = All-map (λ (row : Row). row.number ≤ forest.last_number) (change_one moves o) forest.rows (All-weaker (λ (row : Row). row.number ≤ forest.last_number) (λ (row : Row). (change_one moves o row).number ≤ forest.last_number) (λ row h. omega (arith, move_number row)) forest.rows sound.numbers_given);
         numbers_fit = sound.numbers_fit;
         stamps_differ = subst (IsDistinct (λ a b. a == b)) (sym moved_stamps) moved_differ;

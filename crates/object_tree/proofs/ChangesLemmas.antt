@@ -10,8 +10,8 @@ use Rattle.object_tree.specs.declared.row.Row.{Row}
 use Rattle.object_tree.specs.Rows.{has_parent, is_same, is_there, numbers, parent_of, row_of, stamps}
 use Rattle.object_tree.specs.Forest.{Forest}
 use Rattle.object_tree.specs.Changes.{added, changed, marked, moved, orphaned, removed, with_blocked}
-use Rattle.object_tree.proofs.ByNumber.{Rise, absent, at_place, number_of, without}
-use Rattle.object_tree.proofs.Keyed.{rise_at}
+use Rattle.object_tree.proofs.NumberLemmas.{Rise, absent, at_place, number_of, without}
+use Rattle.object_tree.proofs.KeyedListLemmas.{rise_at}
 use Rattle.object_tree.proofs.RowLemmas.{row-number}
 
 -- no row is changed where none has the number

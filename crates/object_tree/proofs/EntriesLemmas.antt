@@ -14,9 +14,9 @@ use Rattle.object_tree.specs.declared.row.Row.{Row}
 use Rattle.object_tree.specs.Rows.{is_there, numbers, row_of}
 use Rattle.object_tree.specs.Changes.{changed}
 use Rattle.object_tree.specs.Entries.{AreByNumber, entries_of}
-use Rattle.object_tree.proofs.ByNumber.{Rise, absent, number_of, without}
-use Rattle.object_tree.proofs.Edits.{there_at}
-use Rattle.object_tree.proofs.Keyed.{above-at}
+use Rattle.object_tree.proofs.NumberLemmas.{Rise, absent, number_of, without}
+use Rattle.object_tree.proofs.ChangesLemmas.{there_at}
+use Rattle.object_tree.proofs.KeyedListLemmas.{above-at}
 
 same_at : (n m : ℕ) → is_at (nat_cmp n) m ≡ (m == n)
 same_at n m = unsigned_tied n m ∙ nat_eq_equiv.symm n m
