@@ -1,3 +1,3 @@
-pub mod Filtered
-pub mod Rising
-pub mod Searched
+pub mod WithoutLemmas
+pub mod RowsLemmas
+pub mod PositionLemmas

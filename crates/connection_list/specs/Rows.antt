@@ -40,7 +40,7 @@ connect_refusal place new unique =
 
 -- the new connection under its number
 abbrev pub numbered : ℕ → NewConnection → Connection
-numbered number new = record { number = number; sender = new.sender; signal = new.signal; receiver = new.receiver; method = new.method; mode = new.mode; single = new.single }
+numbered number new = record { number = number; sender = new.sender; signal = new.signal; receiver = new.receiver; callee = new.callee; mode = new.mode; single = new.single }
 
 -- the place with one more connection, which has the next number
 abbrev pub connected : Rows → NewConnection → Rows
@@ -59,7 +59,7 @@ pub record IsAt (rows : List Connection) (number at : ℕ) : Type 0 where
   pub in_range : at < length rows
   pub is : (default : Connection) → (slice_index_or rows at default).number ≡ number
 
--- does this signal of this object call the connection's method, and is its number at most `up_to`
+-- does this signal of this object call the connection's callee, and is its number at most `up_to`
 abbrev pub is_sent : ℕ → ℕ → ℕ → Connection → Bool
 is_sent sender signal up_to row = nat_le row.number up_to && calls sender signal row
 

@@ -1,15 +1,6 @@
 //! A connection.
 
-/// How a connection's method is called (`Qt::ConnectionType`).
-#[derive(Clone, Copy, Debug, PartialEq, Eq)]
-pub enum ConnectionType {
-    /// Direct, since sender and receiver always live in one session.
-    Auto,
-    /// At once, while the signal is being sent.
-    Direct,
-    /// By an event that is posted to the session's queue.
-    Queued,
-}
+use connection_types::{Callee, ConnectionType};
 
 /// A connection, as `connect` is asked for it.
 #[derive(Clone, Copy, Debug, PartialEq, Eq)]
@@ -17,11 +8,11 @@ pub struct NewConnection {
     /// The object that sends the signal.
     pub sender: u32,
     pub signal: u32,
-    /// The object whose method is called.
+    /// The object whose method is called, or that is the functor's context.
     pub receiver: u32,
-    pub method: u32,
+    pub callee: Callee,
     pub mode: ConnectionType,
-    /// Taken out before its method is first called (`Qt::SingleShotConnection`).
+    /// Taken out before its callee is first called (`Qt::SingleShotConnection`).
     pub single: bool,
 }
 
@@ -33,10 +24,10 @@ pub struct Connection {
     /// The object that sends the signal.
     pub sender: u32,
     pub signal: u32,
-    /// The object whose method is called.
+    /// The object whose method is called, or that is the functor's context.
     pub receiver: u32,
-    pub method: u32,
+    pub callee: Callee,
     pub mode: ConnectionType,
-    /// Taken out before its method is first called (`Qt::SingleShotConnection`).
+    /// Taken out before its callee is first called (`Qt::SingleShotConnection`).
     pub single: bool,
 }

@@ -1,9 +1,10 @@
 //! What is asked of a connection's two ends.
 ghost use Rattle.std.specs.Prelude.{◌≡◌};
-ghost use Rattle.connection_list.specs.Ends.{allows, allows_receiver, same_ends, matches, touches, calls};
+ghost use Rattle.connection_list.specs.Ends.{allows, allows_method, allows_receiver, same_ends, matches, touches, calls};
 
 use crate::connection::{Connection, NewConnection};
 use crate::pattern::{Pattern, Receiver};
+use connection_types::Callee;
 
 /// Whether a new connection would join what another joins already.
 pub fn same_ends(new: &NewConnection, row: &Connection) -> bool
@@ -12,7 +13,7 @@ pub fn same_ends(new: &NewConnection, row: &Connection) -> bool
     new.sender == row.sender
         && new.signal == row.signal
         && new.receiver == row.receiver
-        && new.method == row.method
+        && new.callee == row.callee
 }
 
 /// Whether a connection matches a pattern.
@@ -37,8 +38,20 @@ fn allows_receiver(wanted: Option<Receiver>, row: &Connection) -> bool
     ensures { result ≡ allows_receiver wanted row.now }
 {
     match wanted {
-        Some(wanted) => wanted.object == row.receiver && allows(wanted.method, row.method),
+        Some(wanted) => {
+            wanted.object == row.receiver && allows_method(wanted.method, row.callee)
+        }
         None => true,
+    }
+}
+
+fn allows_method(wanted: Option<u32>, callee: Callee) -> bool
+    ensures { result ≡ allows_method wanted callee }
+{
+    match (wanted, callee) {
+        (None, _) => true,
+        (Some(wanted), Callee::Method(index)) => wanted == index,
+        (Some(_), Callee::Functor(_)) => false,
     }
 }
 
@@ -49,7 +62,7 @@ pub fn touches(object: u32, row: &Connection) -> bool
     row.sender == object || row.receiver == object
 }
 
-/// Whether a signal of an object calls a connection's method.
+/// Whether a signal of an object calls a connection's callee.
 pub fn calls(sender: u32, signal: u32, row: &Connection) -> bool
     ensures { result ≡ calls sender signal row.now }
 {

@@ -1,5 +1,5 @@
-//! Connections of signals to methods: for each place a list by rising number. Objects, signals and
-//! methods are numbers here; what they are is not known.
+//! Connections of signals to methods and functors: for each place a list by rising number. Objects,
+//! signals, methods and functors are numbers here; what they are is not known.
 #![tactic(auto)]
 
 mod connection;
@@ -8,7 +8,7 @@ mod list;
 mod pattern;
 mod table;
 
-pub use connection::{Connection, ConnectionType, NewConnection};
+pub use connection::{Connection, NewConnection};
 pub use list::CONNECTIONS;
 pub use pattern::{Pattern, Receiver};
 pub use table::Connections;

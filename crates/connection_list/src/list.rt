@@ -43,7 +43,7 @@ impl ConnectionList {
         }
     }
 
-    /// Adds a connection, and answers its number.
+    /// Adds a connection, and returns its number.
     pub fn connect(&mut self, new: NewConnection, unique: bool) -> Result<u32, Fault>
         ensures refusal { RefusedBy (connect_refusal self.old new unique) result }
         ensures number { IfOk result (λ number. number ≡ self.old.last_number + 1) }
@@ -80,7 +80,7 @@ impl ConnectionList {
         self.rows.iter().any(|row| same_ends(new, row))
     }
 
-    /// Takes out the connection with a number, and answers whether it stood.
+    /// Takes out the connection with a number, and returns whether it stood.
     pub fn disconnect_one(&mut self, number: u32) -> bool
         ensures stood { result ≡ list_any (has_number number) self.old.rows }
         ensures rows { self.new ≡ without (has_number number) self.old }
@@ -94,7 +94,7 @@ impl ConnectionList {
         }
     }
 
-    /// Takes out the connections that match a pattern, and answers how many.
+    /// Takes out the connections that match a pattern, and returns how many.
     pub fn disconnect_matching(&mut self, pattern: &Pattern) -> u32
         ensures count { result ≡ count_by (matches pattern.now) self.old.rows }
         ensures rows { self.new ≡ without (matches pattern.now) self.old }
@@ -167,7 +167,7 @@ fn numbered(number: u32, new: &NewConnection) -> Connection
         sender: new.sender,
         signal: new.signal,
         receiver: new.receiver,
-        method: new.method,
+        callee: new.callee,
         mode: new.mode,
         single: new.single,
     }

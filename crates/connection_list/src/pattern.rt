@@ -4,7 +4,7 @@
 #[derive(Clone, Copy, Debug, PartialEq, Eq)]
 pub struct Receiver {
     pub object: u32,
-    /// Absent, every method of the object is meant.
+    /// Absent, every method is meant, and every functor with this object as its context.
     pub method: Option<u32>,
 }
 

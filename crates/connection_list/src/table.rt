@@ -53,7 +53,7 @@ impl Connections {
         self.places.ready()
     }
 
-    /// Opens the next place, where nothing is connected, and answers its number.
+    /// Opens the next place, where nothing is connected, and returns its number.
     pub fn open(&mut self) -> usize
         requires { 1 ≤ self.old.room }
         ensures place { result ≡ length self.old.places }
@@ -64,51 +64,51 @@ impl Connections {
 
     /// Takes out all connections of a place and forgets its numbers, so that they are counted from 1
     /// again.
-    pub fn clear(&mut self, ses: usize)
-        requires { IsPlace self.old ses }
-        ensures { self.new ≡ with_rows self.old ses no_rows }
+    pub fn clear(&mut self, place: usize)
+        requires { IsPlace self.old place }
+        ensures { self.new ≡ with_rows self.old place no_rows }
     {
-        *self.places.get_mut(ses) = ConnectionList::new(self.alloc);
+        *self.places.get_mut(place) = ConnectionList::new(self.alloc);
     }
 
-    /// Adds a connection behind all others, and answers its number. Where `unique` is asked, it is
-    /// refused as `Code::ConnectedAlready` if its sender, signal, receiver and method are joined
-    /// already; then `Code::Limit` is beyond `CONNECTIONS`, and `Code::NumbersUsedUp` after the
+    /// Adds a connection behind all others, and returns its number. Where `unique` is asked, it is
+    /// refused as `Code::ConnectedAlready` if its sender, signal, receiver and callee are joined
+    /// already: a functor is compared here as a method is, and is never one; then `Code::Limit` is beyond `CONNECTIONS`, and `Code::NumbersUsedUp` after the
     /// number 4,294,967,295.
-    pub fn connect(&mut self, ses: usize, new: NewConnection, unique: bool) -> Result<u32, Fault>
-        requires { IsPlace self.old ses }
-        ensures refusal { RefusedBy (connect_refusal (rows_at self.old ses) new unique) result }
-        ensures number { IfOk result (λ number. number ≡ (rows_at self.old ses).last_number + 1) }
-        ensures ok { OnOk result (self.new ≡ with_rows self.old ses (connected (rows_at self.old ses) new)) }
+    pub fn connect(&mut self, place: usize, new: NewConnection, unique: bool) -> Result<u32, Fault>
+        requires { IsPlace self.old place }
+        ensures refusal { RefusedBy (connect_refusal (rows_at self.old place) new unique) result }
+        ensures number { IfOk result (λ number. number ≡ (rows_at self.old place).last_number + 1) }
+        ensures ok { OnOk result (self.new ≡ with_rows self.old place (connected (rows_at self.old place) new)) }
         ensures err { OnErr result (self.new ≡ self.old) }
     {
-        self.places.get_mut(ses).connect(new, unique)
+        self.places.get_mut(place).connect(new, unique)
     }
 
-    /// Takes out the connection with a number, and answers whether it stood.
-    pub fn disconnect_one(&mut self, ses: usize, number: u32) -> bool
-        requires { IsPlace self.old ses }
-        ensures stood { result ≡ list_any (has_number number) (rows_at self.old ses).rows }
-        ensures rows { self.new ≡ with_rows self.old ses (without (has_number number) (rows_at self.old ses)) }
+    /// Takes out the connection with a number, and returns whether it stood.
+    pub fn disconnect_one(&mut self, place: usize, number: u32) -> bool
+        requires { IsPlace self.old place }
+        ensures stood { result ≡ list_any (has_number number) (rows_at self.old place).rows }
+        ensures rows { self.new ≡ with_rows self.old place (without (has_number number) (rows_at self.old place)) }
     {
-        self.places.get_mut(ses).disconnect_one(number)
+        self.places.get_mut(place).disconnect_one(number)
     }
 
-    /// Takes out the connections that match a pattern, and answers how many.
-    pub fn disconnect_matching(&mut self, ses: usize, pattern: &Pattern) -> u32
-        requires { IsPlace self.old ses }
-        ensures count { result ≡ count_by (matches pattern.now) (rows_at self.old ses).rows }
-        ensures rows { self.new ≡ with_rows self.old ses (without (matches pattern.now) (rows_at self.old ses)) }
+    /// Takes out the connections that match a pattern, and returns how many.
+    pub fn disconnect_matching(&mut self, place: usize, pattern: &Pattern) -> u32
+        requires { IsPlace self.old place }
+        ensures count { result ≡ count_by (matches pattern.now) (rows_at self.old place).rows }
+        ensures rows { self.new ≡ with_rows self.old place (without (matches pattern.now) (rows_at self.old place)) }
     {
-        self.places.get_mut(ses).disconnect_matching(pattern)
+        self.places.get_mut(place).disconnect_matching(pattern)
     }
 
     /// Takes out the connections that have an object at either end.
-    pub fn drop_object(&mut self, ses: usize, object: u32)
-        requires { IsPlace self.old ses }
-        ensures { self.new ≡ with_rows self.old ses (without (touches object) (rows_at self.old ses)) }
+    pub fn drop_object(&mut self, place: usize, object: u32)
+        requires { IsPlace self.old place }
+        ensures { self.new ≡ with_rows self.old place (without (touches object) (rows_at self.old place)) }
     {
-        self.places.get_mut(ses).drop_object(object);
+        self.places.get_mut(place).drop_object(object);
     }
 
     /// The connection that an emission of `sender`'s `signal` calls next: of those that stand, the one
@@ -116,45 +116,45 @@ impl Connections {
     /// its beginning as `up_to`, so that what is connected meanwhile is not called.
     pub fn next_after(
         &self,
-        ses: usize,
+        place: usize,
         sender: u32,
         signal: u32,
         after: u32,
         up_to: u32,
     ) -> Option<Connection>
-        requires { IsPlace self.now ses }
-        ensures next { result ≡ find (is_next sender signal after up_to) (rows_at self.now ses).rows }
-        ensures sound { IsSound (rows_at self.now ses) }
+        requires { IsPlace self.now place }
+        ensures next { result ≡ find (is_next sender signal after up_to) (rows_at self.now place).rows }
+        ensures sound { IsSound (rows_at self.now place) }
     {
         self.places
-            .get(ses)
+            .get(place)
             .next_after(sender, signal, after, up_to)
     }
 
     /// The connection with a number.
-    pub fn row(&self, ses: usize, number: u32) -> Option<Connection>
-        requires { IsPlace self.now ses }
-        ensures row { result ≡ find (has_number number) (rows_at self.now ses).rows }
-        ensures sound { IsSound (rows_at self.now ses) }
+    pub fn row(&self, place: usize, number: u32) -> Option<Connection>
+        requires { IsPlace self.now place }
+        ensures row { result ≡ find (has_number number) (rows_at self.now place).rows }
+        ensures sound { IsSound (rows_at self.now place) }
     {
-        self.places.get(ses).row(number)
+        self.places.get(place).row(number)
     }
 
     /// The number that was given last, or 0.
-    pub fn last_number(&self, ses: usize) -> u32
-        requires { IsPlace self.now ses }
-        ensures number { result ≡ (rows_at self.now ses).last_number }
-        ensures sound { IsSound (rows_at self.now ses) }
+    pub fn last_number(&self, place: usize) -> u32
+        requires { IsPlace self.now place }
+        ensures number { result ≡ (rows_at self.now place).last_number }
+        ensures sound { IsSound (rows_at self.now place) }
     {
-        self.places.get(ses).last_number()
+        self.places.get(place).last_number()
     }
 
     /// How many connections stand, at most `CONNECTIONS`.
-    pub fn count(&self, ses: usize) -> usize
-        requires { IsPlace self.now ses }
-        ensures count { result ≡ length (rows_at self.now ses).rows }
-        ensures sound { IsSound (rows_at self.now ses) }
+    pub fn count(&self, place: usize) -> usize
+        requires { IsPlace self.now place }
+        ensures count { result ≡ length (rows_at self.now place).rows }
+        ensures sound { IsSound (rows_at self.now place) }
     {
-        self.places.get(ses).count()
+        self.places.get(place).count()
     }
 }

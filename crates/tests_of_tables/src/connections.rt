@@ -1,13 +1,15 @@
 //! Connections of two places, call by call.
 ghost use Rattle.std.specs.Prelude.{◌≡◌, ◌<◌, length};
 
+use Callee::{Functor, Method};
 use ConnectionType::{Auto, Direct, Queued};
-use connection_list::{Connection, ConnectionType, Connections, NewConnection, Pattern, Receiver};
+use connection_list::{Connection, Connections, NewConnection, Pattern, Receiver};
+use connection_types::{Callee, ConnectionType};
 use refusals::{Code, Fault};
 use std::alloc::{AllocError, Global};
 use std::test::Fail;
 
-/// Sender, signal, receiver and method.
+/// Sender, signal, receiver and the number of a method or functor.
 type Ends = (u32, u32, u32, u32);
 
 /// What is asked of a table.
@@ -18,6 +20,8 @@ enum Call {
     Unique(Ends),
     /// The same, of this type, and single or not.
     UniqueAs(Ends, ConnectionType, bool),
+    /// To a functor, with `unique`.
+    UniqueFunctor(Ends),
     DisconnectOne(u32),
     /// By a sender, and where they are told, a signal, and a receiver with a method where it is told.
     DisconnectMatching(u32, Option<u32>, Option<(u32, Option<u32>)>),
@@ -58,10 +62,17 @@ impl Bench {
         let place = place.min(1);
         let table = &mut self.table;
         let answer = match call {
-            Connect(ends) => table.connect(place, joins(ends, Auto, false), false)? as u64,
-            Unique(ends) => table.connect(place, joins(ends, Auto, false), true)? as u64,
+            Connect(ends) => {
+                table.connect(place, joins(ends, Method(ends.3), Auto, false), false)? as u64
+            }
+            Unique(ends) => {
+                table.connect(place, joins(ends, Method(ends.3), Auto, false), true)? as u64
+            }
             UniqueAs(ends, mode, single) => {
-                table.connect(place, joins(ends, mode, single), true)? as u64
+                table.connect(place, joins(ends, Method(ends.3), mode, single), true)? as u64
+            }
+            UniqueFunctor(ends) => {
+                table.connect(place, joins(ends, Functor(ends.3), Auto, false), true)? as u64
             }
             DisconnectOne(number) => table.disconnect_one(place, number) as u64,
             DisconnectMatching(sender, signal, to) => {
@@ -106,13 +117,13 @@ impl Bench {
     }
 }
 
-fn joins(ends: Ends, mode: ConnectionType, single: bool) -> NewConnection {
-    let (sender, signal, receiver, method) = ends;
+fn joins(ends: Ends, callee: Callee, mode: ConnectionType, single: bool) -> NewConnection {
+    let (sender, signal, receiver, _number) = ends;
     NewConnection {
         sender,
         signal,
         receiver,
-        method,
+        callee,
         mode,
         single,
     }
@@ -163,6 +174,23 @@ const CASES: &[(u32, usize, Call, Answer)] = &[
     (1, 0, Unique((1, 5, 2, 7)), Err(Code::ConnectedAlready)),
     (1, 0, DisconnectOne(6), Ok(1)),
     (1, 0, Unique((1, 5, 2, 7)), Ok(7)),
+    // a functor is no method
+    (1, 0, UniqueFunctor((1, 5, 2, 7)), Ok(8)),
+    (
+        1,
+        0,
+        UniqueFunctor((1, 5, 2, 7)),
+        Err(Code::ConnectedAlready),
+    ),
+    (1, 0, UniqueFunctor((1, 5, 2, 8)), Ok(9)),
+    (1, 0, Unique((1, 5, 2, 8)), Ok(10)),
+    (
+        1,
+        0,
+        DisconnectMatching(1, Some(5), Some((2, Some(7)))),
+        Ok(1),
+    ),
+    (1, 0, DisconnectMatching(1, Some(5), Some((2, None))), Ok(4)),
     (1, 0, Clear, Ok(0)),
     // from row to row, also past rows that are taken out meanwhile
     (2, 0, Connect((1, 5, 2, 7)), Ok(2)),

@@ -1,5 +1,5 @@
 use Rattle.std.proofs.Common.{sym, arith, ◌∙◌}
-use Rattle.connection_list.proofs.Rising.{none_sent_from}
+use Rattle.connection_list.proofs.RowsLemmas.{none_sent_from}
 use Rattle.connection_list.proofs.list.first_sent.Goals as goal
 
 -- the row is above `up_to`, and so are all behind it

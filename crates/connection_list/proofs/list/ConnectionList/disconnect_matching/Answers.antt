@@ -1,7 +1,7 @@
 use Rattle.std.proofs.Common.{◌≡◌, ap, not, rules, arith, filter, length}
 use Rattle.std.proofs.lemmas.Fn.{filter_same}
 use Rattle.connection_list.specs.Ends.{matches}
-use Rattle.connection_list.proofs.Filtered.{IsSound-without, length-without}
+use Rattle.connection_list.proofs.WithoutLemmas.{IsSound-without, length-without}
 use Rattle.connection_list.proofs.list.ConnectionList.disconnect_matching.Goals as goal
 
 pub invariant_of-self : goal.invariant_of-self

@@ -1,7 +1,7 @@
 use Rattle.std.proofs.Common.{◌≡◌, sym, ap}
 use Rattle.connection_list.specs.Rows.{Rows, has_number}
-use Rattle.connection_list.proofs.Filtered.{IsSound-without, filter_all}
-use Rattle.connection_list.proofs.Rising.{IsOnly, only_at}
+use Rattle.connection_list.proofs.WithoutLemmas.{IsSound-without, filter_all}
+use Rattle.connection_list.proofs.RowsLemmas.{IsOnly, only_at}
 use Rattle.connection_list.proofs.list.ConnectionList.disconnect_one.Goals as goal
 
 pub invariant_of-self : goal.invariant_of-self

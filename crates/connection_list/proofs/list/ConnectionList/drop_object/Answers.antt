@@ -1,7 +1,7 @@
 use Rattle.std.proofs.Common.{◌≡◌, not, rules, filter}
 use Rattle.std.proofs.lemmas.Fn.{filter_same}
 use Rattle.connection_list.specs.Ends.{touches}
-use Rattle.connection_list.proofs.Filtered.{IsSound-without}
+use Rattle.connection_list.proofs.WithoutLemmas.{IsSound-without}
 use Rattle.connection_list.proofs.list.ConnectionList.drop_object.Goals as goal
 
 pub invariant_of-self : goal.invariant_of-self

@@ -4,7 +4,7 @@ use Rattle.std.specs.List.Sorted.{IsPartitionPoint, IsPartitionedBy}
 use Rattle.std.proofs.lemmas.List.Sorted.{IsPartitionPoint-from_clause}
 use Rattle.connection_list.specs.declared.connection.Connection.{Connection}
 use Rattle.connection_list.specs.Rows.{is_sent}
-use Rattle.connection_list.proofs.Rising.{next_after_start, rows_up_to, before_start, behind_start}
+use Rattle.connection_list.proofs.RowsLemmas.{next_after_start, rows_up_to, before_start, behind_start}
 use Rattle.connection_list.proofs.list.ConnectionList.next_after.Goals as goal
 
 -- the search ends behind the rows up to `after`, and the slice begins there

@@ -1,7 +1,7 @@
 use Rattle.std.proofs.Common.{◌≡◌, ◌∙◌, ap, rules}
 use Rattle.std.proofs.lemmas.List.Sorted.{answers_always}
 use Rattle.connection_list.specs.Rows.{Rows}
-use Rattle.connection_list.proofs.Searched.{searched}
+use Rattle.connection_list.proofs.PositionLemmas.{searched}
 use Rattle.connection_list.proofs.list.ConnectionList.position.Goals as goal
 
 -- the closure gives a row's number, and the slice is the place's rows

@@ -1,8 +1,8 @@
 use Rattle.std.proofs.Common.{sym, ap, ◌∙◌, Some}
 use Rattle.std.proofs.Common.{◌≡◌}
 use Rattle.connection_list.specs.Rows.{Rows, has_number}
-use Rattle.connection_list.proofs.Filtered.{find_none}
-use Rattle.connection_list.proofs.Rising.{only_at}
+use Rattle.connection_list.proofs.WithoutLemmas.{find_none}
+use Rattle.connection_list.proofs.RowsLemmas.{only_at}
 use Rattle.connection_list.proofs.list.ConnectionList.row.Goals as goal
 
 pub returns-in-Some-clause-row : goal.returns-in-Some-clause-row

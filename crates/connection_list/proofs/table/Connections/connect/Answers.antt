@@ -10,6 +10,6 @@ pub returns-clause-err : goal.returns-clause-err
 returns-clause-err c =
     on_err_weaker c.connect.result
     (λ (same : c.connect.new.self ≡ c.get_mut.result.now).
-    ap (with_place c.self.inside.places c.args.ses) (same ∙ c.get_mut.ensures.value no_rows)
-    ∙ (ap (λ places. record { places = places; room = c.self.inside.places.room }) (set-get_or c.self.inside.places.places c.args.ses no_rows) ∙ c.self.view_is))
+    ap (with_place c.self.inside.places c.args.place) (same ∙ c.get_mut.ensures.value no_rows)
+    ∙ (ap (λ places. record { places = places; room = c.self.inside.places.room }) (set-get_or c.self.inside.places.places c.args.place no_rows) ∙ c.self.view_is))
     c.connect.ensures.err

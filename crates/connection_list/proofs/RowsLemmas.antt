@@ -6,7 +6,7 @@ use Rattle.std.proofs.lemmas.Bool.Decides.{nat_tests}
 use Rattle.std.proofs.lemmas.List.Folds.{list_any_none}
 use Rattle.connection_list.specs.declared.connection.Connection.{Connection}
 use Rattle.connection_list.specs.Rows.{IsRising, IsAt, has_number, is_sent, is_next}
-use Rattle.connection_list.proofs.Filtered.{filter_all, find_none}
+use Rattle.connection_list.proofs.WithoutLemmas.{filter_all, find_none}
 
 -- without the first row numbers rise too
 pub rising_tail : (row : Connection) (rows : List Connection) → IsRising (row ∷ rows) → IsRising rows

@@ -1,0 +1,10 @@
+//! What is called.
+
+/// What a connection calls at its receiver.
+#[derive(Clone, Copy, Debug, PartialEq, Eq)]
+pub enum Callee {
+    /// The method of the receiver's class with this index.
+    Method(u32),
+    /// The functor with this index; the receiver is its context object.
+    Functor(u32),
+}
