@@ -18,8 +18,7 @@ use refusals::{Code, Fault};
 use std::alloc::{AllocError, Global};
 use std::marker::Model;
 
-/// The objects of each place, which is that of a session. No call touches another place than the one
-/// that it names.
+/// The objects of each session, by place. No call touches another place than the one that it names.
 #[derive(Drop)]
 pub struct Forests {
     trees: Places<Tree>,
@@ -173,7 +172,8 @@ impl Forests {
         self.trees.get(place).row(object)
     }
 
-    /// Why nothing is asked of an object: it is not there (`NoSuchObject`), or it is dying (`Dying`).
+    /// Why an object is refused: `NoSuchObject` where it is not there, and `Dying` where it is being
+    /// deleted.
     pub fn object_refusal(&self, place: usize, object: u32) -> Option<Code>
         requires { IsPlace self.now place }
         ensures { result ≡ object_refusal (forest_at self.now place).rows object }
@@ -181,7 +181,7 @@ impl Forests {
         self.trees.get(place).object_refusal(object)
     }
 
-    /// The same of a parent, where there is to be one; of none nothing is refused.
+    /// Why a parent is refused: as an object is. Nothing is refused where there is to be none.
     pub fn parent_refusal(&self, place: usize, parent: Option<u32>) -> Option<Code>
         requires { IsPlace self.now place }
         ensures { result ≡ parent_refusal (forest_at self.now place).rows parent }
