@@ -1,11 +1,12 @@
 -- The test of influence computes the least set that is closed under joins.
-use Rattle.std.proofs.Common.{◌≡◌, Bool, true, ◌&&◌, List, [], ◌∷◌, ◌++◌, map, refl, sym, subst, ⊎_elim, arith}
-use Rattle.std.proofs.lemmas.Bool.{or_cases, or_left, or_right, and_parts}
+use Rattle.std.proofs.Common.{◌≡◌, Bool, true, ◌&&◌, List, [], ◌∷◌, ◌++◌, map, refl, sym, ap, subst, ⊎_elim, ◌∙◌, arith}
+use Rattle.std.proofs.lemmas.Bool.{cases_Bool, false_from_ne_true, both_ways, or_cases, or_left, or_right, and_parts}
 use Rattle.isolation.specs.Machine.{Machine, IsLawful, Tagged}
 use Rattle.isolation.specs.World.{after, is_in}
-use Rattle.isolation.specs.Influence.{Reached, Self, Joined, reaches, accepted, joined, Influences, influences, KnowsAll, IsClosed}
-use Rattle.isolation.specs.Laws.{SecondHalf, InfluencedStates, InfluenceIsLeast}
-use Rattle.isolation.proofs.LeftOut.{leaving_out, final_states}
+use Rattle.isolation.specs.Influence.{Reached, Self, Joined, reaches, accepted, joined, stood, Influences, influences, KnowsAll, IsClosed}
+use Rattle.isolation.specs.Laws.{SecondHalf, InfluencedStates, InfluenceIsLeast, JoinsStood, InfluenceOfStanding}
+use Rattle.isolation.proofs.Worlds.{after-own}
+use Rattle.isolation.proofs.LeftOut.{joined-after, leaving_out, final_states}
 
 -- one join is a chain
 pub reaches_at_once : {Name : Type 0} (joins : Name → Name → Bool) (names : List Name) (r t : Name) → joins r t ≡ true → reaches joins names r t ≡ true
@@ -23,6 +24,13 @@ reaches_through_other joins by others r x t rest to from =
     let to_first = rest r by in
     let from_first = rest by t in
     grind (arith, straight, to_first, from_first, to, from)
+
+-- two tests are one where each passes what the other does
+same_truth : (one other : Bool) → (one ≡ true → other ≡ true) → (other ≡ true → one ≡ true) → one ≡ other
+same_truth one other to from = ⊎_elim
+    (λ passes. passes ∙ sym (to passes))
+    (λ fails. fails ∙ sym (false_from_ne_true other (λ passes. both_ways one fails (from passes))))
+    (cases_Bool one)
 
 -- what a chain leads to is reached from where its begin is
 pub Reached-reaches : {Name : Type 0} (joins : Name → Name → Bool) (s : Name) (names : List Name) (r t : Name) → reaches joins names r t ≡ true → Reached joins s r → Reached joins s t
@@ -120,3 +128,40 @@ module _ {Name State Command Line Post : Type 0} (m : Machine Name State Command
 
     pub influenced_states : InfluencedStates m
     influenced_states world other known ts knows s agree = final_states m lawful (influences m world known ts s) world other ts (IsClosed-influences world known ts knows s) agree
+
+    -- a join that is accepted stands after its command
+    names-accepted : (world : Name → State) (c : Tagged Name Command) (r t : Name) → (m.same r c.session && m.accepts r (world r) c.command t) ≡ true → m.names (after m world c r) t ≡ true
+    names-accepted world c r t h =
+        let both = and_parts (m.same r c.session) (m.accepts r (world r) c.command t) h in
+        let accepts_here : m.accepts c.session (world c.session) c.command t ≡ true = subst (λ n. m.accepts n (world n) c.command t ≡ true) (lawful.equal r c.session both.0) both.1 in
+        ap (λ state. m.names state t) (after-own m lawful world c r both.0) ∙ lawful.stands c.session (world c.session) c.command t accepts_here
+
+    stood-now : (world : Name → State) (cs : List (Tagged Name Command)) (r t : Name) → m.names (world r) t ≡ true → stood m world cs r t ≡ true
+    stood-now world [] r t h = h
+    stood-now world (c ∷ cs) r t h = or_left _ _ h
+
+    stood-accepted : (world : Name → State) (cs : List (Tagged Name Command)) (r t : Name) → accepted m world cs r t ≡ true → stood m world cs r t ≡ true
+    stood-accepted world [] r t h = absurd cc
+    stood-accepted world (c ∷ cs) r t h = or_right (m.names (world r) t) _ (⊎_elim
+        (λ here. stood-now (after m world c) cs r t (names-accepted world c r t here))
+        (λ later. stood-accepted (after m world c) cs r t later)
+        (or_cases (m.same r c.session && m.accepts r (world r) c.command t) _ h))
+
+    stood-joined : (world : Name → State) (cs : List (Tagged Name Command)) (r t : Name) → joined m world cs r t ≡ true → stood m world cs r t ≡ true
+    stood-joined world cs r t h = ⊎_elim (stood-now world cs r t) (stood-accepted world cs r t) (or_cases (m.names (world r) t) _ h)
+
+    joined-stood : (world : Name → State) (cs : List (Tagged Name Command)) (r t : Name) → stood m world cs r t ≡ true → joined m world cs r t ≡ true
+    joined-stood world [] r t h = or_left _ _ h
+    joined-stood world (c ∷ cs) r t h = ⊎_elim
+        (λ now. or_left _ _ now)
+        (λ later. joined-after m lawful world c cs r t (joined-stood (after m world c) cs r t later))
+        (or_cases (m.names (world r) t) _ h)
+
+    pub joins_stood : JoinsStood m
+    joins_stood world ts r t = same_truth _ _ (stood-joined world ts r t) (joined-stood world ts r t)
+
+    pub influence_of_standing : InfluenceOfStanding m
+    influence_of_standing world ts s t = (
+      Reached-more (joined m world ts) (stood m world ts) (stood-joined world ts) s t,
+      Reached-more (stood m world ts) (joined m world ts) (joined-stood world ts) s t,
+    )

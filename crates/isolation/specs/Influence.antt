@@ -23,6 +23,11 @@ module _ {Name State Command Line Post : Type 0} (m : Machine Name State Command
   abbrev pub joined : (Name → State) → List (Tagged Name Command) → Name → Name → Bool
   joined world cs r t = m.names (world r) t || accepted world cs r t
 
+  -- does a join of r that names t stand at the start, or after a command of the run
+  abbrev pub stood : (Name → State) → List (Tagged Name Command) → Name → Name → Bool
+  stood world [] r t = m.names (world r) t
+  stood world (c ∷ cs) r t = m.names (world r) t || stood (after m world c) cs r t
+
   -- t influences s: s itself, and every session that a chain of joins from s leads to
   abbrev pub Influences : (Name → State) → List (Tagged Name Command) → Name → Name → Type 0
   Influences world cs s t = Reached (joined world cs) s t

@@ -4,7 +4,7 @@ use Rattle.std.specs.List.{flat_map}
 use Rattle.isolation.specs.Machine.{Machine, Tagged}
 use Rattle.isolation.specs.World.{entries_of, only, world_after, world_lines, world_posts, at_session, is_in}
 use Rattle.isolation.specs.Alone.{items, alone_after, alone_lines, alone_posts}
-use Rattle.isolation.specs.Influence.{Influences, influences, KnowsAll, IsClosed, Agree}
+use Rattle.isolation.specs.Influence.{Reached, joined, stood, Influences, influences, KnowsAll, IsClosed, Agree}
 use Rattle.isolation.specs.Slice.{Note, kept, slice, AreNotes, notes_of, back}
 use Rattle.isolation.specs.Pieces.{Piece, commands_of, only_pieces, only_answers, piece_answers, said, told}
 
@@ -66,6 +66,14 @@ module _ {Name State Command Line Post : Type 0} (m : Machine Name State Command
   InfluenceIsLeast =
       (world : Name → State) (known : List Name) (ts : List (Tagged Name Command)) → KnowsAll m world known →
       (s : Name) → IsLeast world known ts s
+
+  -- a join counts in a run exactly where it stands at the start or after a command
+  abbrev pub JoinsStood : Type 0
+  JoinsStood = (world : Name → State) (ts : List (Tagged Name Command)) (r t : Name) → joined m world ts r t ≡ stood m world ts r t
+
+  -- so exactly that influences s to which a chain of joins that stood leads
+  abbrev pub InfluenceOfStanding : Type 0
+  InfluenceOfStanding = (world : Name → State) (ts : List (Tagged Name Command)) (s t : Name) → Influences m world ts s t ↔ Reached (stood m world ts) s t
 
   -- a session does not see the commands that its slice leaves out
   abbrev pub SliceLaw : Type 0

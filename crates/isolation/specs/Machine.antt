@@ -20,12 +20,13 @@ pub record Machine (Name State Command Line Post : Type 0) : Type 0 where
   -- is the command, in the session of this name and state, accepted as a join of that name
   pub accepts : Name → State → Command → Name → Bool
 
--- names are told apart, what no join names is passed over, and only an accepted join adds a name
+-- names are told apart, what no join names is passed over, and an accepted join adds its name and nothing else does
 pub record IsLawful {Name State Command Line Post : Type 0} (m : Machine Name State Command Line Post) : Type 0 where
   pub equal : (a b : Name) → m.same a b ≡ true → a ≡ b
   pub itself : (a : Name) → m.same a a ≡ true
   pub stranger : (state : State) (from : Name) (post : Post) → m.names state from ≡ false → m.arrives state from post ≡ state
   pub made : (self : Name) (state : State) (command : Command) (name : Name) → m.names (m.does self state command).state name ≡ true → (m.names state name ≡ true) ⊎ (m.accepts self state command name ≡ true)
+  pub stands : (self : Name) (state : State) (command : Command) (name : Name) → m.accepts self state command name ≡ true → m.names (m.does self state command).state name ≡ true
   pub arrived : (state : State) (from : Name) (post : Post) (name : Name) → m.names (m.arrives state from post) name ≡ true → m.names state name ≡ true
 
 -- a command, and the session that gives it

@@ -2,13 +2,13 @@
 //!
 //! A machine says what a session does with a command, what arrives at the others, and whom a join
 //! names. It is lawful where a session passes over the posts of a session that none of its joins
-//! names, and where a join comes only from a command that is accepted as one. The words stand in
-//! `specs`; for a server it is enough to show that its machine is lawful, and that its calls do
-//! what the machine does.
+//! names, and where a join stands after a command that is accepted as one, and comes from no other.
+//! The words stand in `specs`; for a server it is enough to show that its machine is lawful, and that
+//! its calls do what the machine does.
 #![tactic(auto)]
 
 ghost use Rattle.isolation.specs.Machine.{Machine, IsLawful};
-ghost use Rattle.isolation.specs.Laws.{FirstHalf, LeavingOut, FinalStates, SecondHalf, InfluencedStates, InfluenceIsLeast, SliceLaw, SliceFromMembers, SliceWithinInfluence, NotesGiveSlice, NotesAreRight, LeavingOutPieces, SaidStays, SaidByInfluence, ToldAlone};
+ghost use Rattle.isolation.specs.Laws.{FirstHalf, LeavingOut, FinalStates, SecondHalf, InfluencedStates, InfluenceIsLeast, JoinsStood, InfluenceOfStanding, SliceLaw, SliceFromMembers, SliceWithinInfluence, NotesGiveSlice, NotesAreRight, LeavingOutPieces, SaidStays, SaidByInfluence, ToldAlone};
 
 /// The laws of runs: each session is as if alone, and it does not see the commands of sessions
 /// that no chain of joins from it leads to.
@@ -22,6 +22,8 @@ pub fn laws<Name, State, Command, Line, Post>()
     ensures second_half { (m : Machine Name State Command Line Post) → IsLawful m → SecondHalf m }
     ensures influenced_states { (m : Machine Name State Command Line Post) → IsLawful m → InfluencedStates m }
     ensures influence_is_least { (m : Machine Name State Command Line Post) → IsLawful m → InfluenceIsLeast m }
+    ensures joins_stood { (m : Machine Name State Command Line Post) → IsLawful m → JoinsStood m }
+    ensures influence_of_standing { (m : Machine Name State Command Line Post) → IsLawful m → InfluenceOfStanding m }
 {}
 
 /// The laws of slices: a session does not see the commands that its slice leaves out, and notes
