@@ -8,8 +8,6 @@ mod fault;
 mod file;
 mod form;
 mod table;
-#[cfg(test)]
-mod tests;
 
 pub use class::{CLASSES, Class, METHODS, Method, PROPERTIES, Property};
 pub use fault::{ClassError, ClassFault, ClassFaultKind};

@@ -63,29 +63,3 @@ impl Kind {
         }
     }
 }
-
-#[cfg(test)]
-mod tests {
-    use super::*;
-    use std::test::Fail;
-
-    #[test]
-    fn names_and_kinds(rt: HostRuntime) -> Result<(), Fail> {
-        let rows = [
-            ("bool", Kind::Bool),
-            ("int", Kind::Int),
-            ("uint", Kind::Uint),
-            ("qlonglong", Kind::Longlong),
-            ("qulonglong", Kind::Ulonglong),
-            ("QString", Kind::Text),
-        ];
-        for (name, kind) in rows {
-            assert_eq!(rt; Kind::from_name(name), Some(kind));
-            assert_eq!(rt; kind.name(), name);
-        }
-        assert_eq!(rt; Kind::from_name("Bool"), None);
-        assert_eq!(rt; Kind::from_name("int "), None);
-        assert_eq!(rt; Kind::from_name(""), None);
-        Ok(())
-    }
-}

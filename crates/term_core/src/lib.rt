@@ -11,8 +11,6 @@ mod limits;
 mod operator;
 mod scope;
 mod target;
-#[cfg(test)]
-mod tests;
 
 pub use action::{Action, Effect, Mode, Step};
 pub use body::Body;

@@ -8,8 +8,6 @@ mod laws;
 mod operations;
 mod reading;
 mod substitution;
-#[cfg(test)]
-mod tests;
 
 pub use evaluation::{NoObjects, Reads, evaluate};
 pub use halt::Halt;
