@@ -21,7 +21,7 @@ bin/metad: $(SOURCES)
 run: bin/metad
 	bin/metad < $(CRATE)/stdin
 
-test:
+test: budget
 	rt ci
 	mkdir -p bin
 	cp $(CRATE)/out/$(PROGRAM) bin/metad
