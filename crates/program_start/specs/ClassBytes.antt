@@ -49,3 +49,8 @@ CountsUnreadable old new (Ok value) = new ≡ old
 CountsUnreadable old new (Err (Refused fault)) = new ≡ old
 CountsUnreadable old new (Err Unreadable) = FailsOnce old new
 CountsUnreadable old new (Err Memory) = new ≡ old
+
+-- the file at a path answers by all bytes that it has, where they are known; without a path the demonstration classes do
+abbrev pub AnswersAt : (List ℕ → Option (List ℕ)) → Option (List ℕ) → Result (List Class) ClassFileError → Type 0
+AnswersAt holds None result = AnswersOfDemonstration result
+AnswersAt holds (Some path) result = IfSome (holds path) (λ bytes. AnswersOfFile result (table_of bytes))

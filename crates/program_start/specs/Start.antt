@@ -1,5 +1,5 @@
 -- What the start of the program comes to.
-use Rattle.std.specs.Prelude.{◌≡◌, ◌⊎◌, ℕ, List, Option, Some, None, Result, Ok, Err, IfErr}
+use Rattle.std.specs.Prelude.{◌≡◌, ◌⊎◌, ℕ, List, Option, Some, None, Result, Ok, Err, IfErr, IfSome}
 use Rattle.class_table.specs.declared.class.Class.{Class}
 use Rattle.class_table.specs.declared.fault.ClassFault.{ClassFault}
 use Rattle.class_table.specs.ClassFile.{table_of}
@@ -10,30 +10,40 @@ use Rattle.program_start.specs.declared.ending.TheConstants.{NO_UTF_8}
 use Rattle.program_start.specs.declared.ending.Stream.TheVariants.{StandardOutput, StandardError}
 use Rattle.program_start.specs.Ending.{IsEnding, IsOutOfMemory, class_text, line}
 
--- a run is asked for, and it has these classes, which are known where there is no class file
-abbrev pub RunsWith : Asked → List Class → Type 0
-RunsWith (run None) classes = table_of DEMONSTRATION.now ≡ Ok classes
-RunsWith (run (Some path)) classes = Unit {0}
-RunsWith help classes = ⊥
-RunsWith mistake classes = ⊥
+-- the files by their paths: the bytes of each, where they are known
+abbrev pub Files : Type 0
+Files = List ℕ → Option (List ℕ)
+
+-- a run is asked for, and it has these classes: those of the file that is named, or the demonstration classes
+abbrev pub RunsWith : Files → Asked → List Class → Type 0
+RunsWith files (run None) classes = table_of DEMONSTRATION.now ≡ Ok classes
+RunsWith files (run (Some path)) classes = IfSome (files path) (λ bytes. table_of bytes ≡ Ok classes)
+RunsWith files help classes = ⊥
+RunsWith files mistake classes = ⊥
+
+-- a class file that cannot be read, or has this fault
+abbrev pub IsRefused : Option (List ℕ) → Option ClassFault → Type 0
+IsRefused file None = Unit {0}
+IsRefused file (Some fault) = IfSome file (λ bytes. table_of bytes ≡ Err fault)
 
 -- help is shown, a mistake in the words is told, or what is wrong with the classes
-abbrev pub EndsFor : Asked → Ending → Type 0
-EndsFor help ending = (ending.status ≡ 0) × (ending.stream ≡ StandardOutput)
-EndsFor mistake ending = (ending.status ≡ 2) × (ending.stream ≡ StandardError)
-EndsFor (run None) ending =
+abbrev pub EndsFor : Files → Asked → Ending → Type 0
+EndsFor files help ending = (ending.status ≡ 0) × (ending.stream ≡ StandardOutput)
+EndsFor files mistake ending = (ending.status ≡ 2) × (ending.stream ≡ StandardError)
+EndsFor files (run None) ending =
     (fault : ClassFault) × (table_of DEMONSTRATION.now ≡ Err fault) × IsEnding 1 StandardError (line (class_text (Some fault))) ending
-EndsFor (run (Some path)) ending = (fault : Option ClassFault) × IsEnding 1 StandardError (line (class_text fault)) ending
+EndsFor files (run (Some path)) ending =
+    (fault : Option ClassFault) × IsRefused (files path) fault × IsEnding 1 StandardError (line (class_text fault)) ending
 
 -- there are classes where a run is asked for, and else the program ends as the words ask, or for want of memory
-abbrev pub Starts : Asked → Result (List Class) Ending → Type 0
-Starts wanted (Ok classes) = RunsWith wanted classes
-Starts wanted (Err ending) = IsOutOfMemory ending ⊎ EndsFor wanted ending
+abbrev pub Starts : Files → Asked → Result (List Class) Ending → Type 0
+Starts files wanted (Ok classes) = RunsWith files wanted classes
+Starts files wanted (Err ending) = IsOutOfMemory ending ⊎ EndsFor files wanted ending
 
 -- words that are no UTF-8 are told as a mistake in them, and memory may be wanted for them
 abbrev pub SaysNoWords : Ending → Type 0
 SaysNoWords ending = IsOutOfMemory ending ⊎ IsEnding 2 StandardError NO_UTF_8.now ending
 
 -- the program starts as some words ask, which are those that it was given, or there are none
-abbrev pub StartsByProcess : Result (List Class) Ending → Type 0
-StartsByProcess result = ((words : List (List ℕ)) × Starts (asked words) result) ⊎ IfErr result (λ ending. SaysNoWords ending)
+abbrev pub StartsByProcess : Files → Result (List Class) Ending → Type 0
+StartsByProcess files result = ((words : List (List ℕ)) × Starts files (asked words) result) ⊎ IfErr result (λ ending. SaysNoWords ending)

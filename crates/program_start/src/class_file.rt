@@ -1,18 +1,16 @@
 //! Where the classes come from: a class file, or the demonstration classes.
-ghost use Rattle.std.specs.Prelude.{◌≡◌, ◌≢◌, ◌+◌, ◌-◌, ◌<◌, ◌≤◌, ◌++◌, ℕ, List, Err, IfOk, IfSome, IsNone, OnOk, take, vec_len};
+ghost use Rattle.std.specs.Prelude.{◌≡◌, ◌≢◌, ◌+◌, ◌-◌, ◌<◌, ◌≤◌, ◌++◌, ℕ, List, Err, IfOk, IfSome, OnOk, option_map, take, vec_len};
 ghost use Rattle.std.specs.Io.KnownBytes.{Consumes, IsAtEnd};
 ghost use Rattle.class_table.specs.declared.fault.ClassFault.{ClassFault};
 ghost use Rattle.class_table.specs.ClassFile.{table_of};
 ghost use Rattle.program_start.specs.declared.class_file.ClassFileError.TheVariants.{Refused};
-ghost use Rattle.program_start.specs.ClassBytes.{Answers, AnswersFor, AnswersOfDemonstration, AnswersOfFile, CountsUnreadable, TakesAtMost};
+ghost use Rattle.program_start.specs.ClassBytes.{Answers, AnswersAt, AnswersFor, AnswersOfFile, CountsUnreadable, TakesAtMost};
 
+use crate::class_files::ClassFiles;
 use crate::demonstration::DEMONSTRATION;
 use class_table::{ClassError, ClassFault, ClassTable, FILE_BYTES};
 use std::alloc::{AllocError, Global};
-use std::fs;
-use std::io::ErrorKind;
-use std::rt::Files;
-use wire_devices::{Counted, Failed, Source};
+use wire_devices::{Failed, Source};
 
 /// The most bytes that are read of a class file: one more than it may have, so that a longer one is
 /// known to be too long.
@@ -65,29 +63,18 @@ impl From<ClassError> for ClassFileError {
     }
 }
 
-/// The classes of the file at this path, or the demonstration classes where there is no path. An
-/// empty path is that of no file. A read that is interrupted is made again, at most 1,000 times in
-/// a row.
-pub fn classes_at<R: Files + AllocGlobal>(
-    rt: &R,
+/// The classes of the file at this path, or the demonstration classes where there is no path.
+pub fn classes_at<F: ClassFiles + AllocGlobal>(
+    files: &F,
     path: Option<&str>,
 ) -> Result<ClassTable, ClassFileError>
-    ensures { IsNone path.entry → AnswersOfDemonstration result }
+    ensures { AnswersAt (F.holds files.now) (option_map (λ path. path.now) path.entry) result }
 {
     let file = match path {
-        Some(path) => Some(opened(rt, path)?),
+        Some(path) => Some(files.class_file(path)?),
         None => None,
     };
-    classes_of(rt.alloc(), file)
-}
-
-/// The file at this path.
-fn opened<R: Files>(rt: &R, path: &str) -> Result<Counted<R::File>, ClassFileError> {
-    match fs::open(rt, path) {
-        Ok(file) => Ok(Counted::new(file)),
-        Err(error) if error.kind() == ErrorKind::OutOfMemory => Err(ClassFileError::Memory),
-        Err(_) => Err(ClassFileError::Unreadable),
-    }
+    classes_of(files.alloc(), file)
 }
 
 /// The classes of a class file, or the demonstration classes where there is none.

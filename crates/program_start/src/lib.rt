@@ -2,6 +2,7 @@
 #![tactic(auto)]
 
 mod class_file;
+mod class_files;
 mod demonstration;
 mod ending;
 mod starting;
@@ -9,6 +10,7 @@ mod starting;
 pub use class_file::{
     ClassFileError, MOST_BYTES, classes_at, classes_in, classes_of, read_at_most,
 };
+pub use class_files::ClassFiles;
 pub use demonstration::DEMONSTRATION;
 pub use ending::{Ending, Stream, class_text};
 pub use starting::{start, start_with, words_of};

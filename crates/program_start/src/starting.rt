@@ -4,6 +4,7 @@ ghost use Rattle.command_line.specs.Asked.{asked};
 ghost use Rattle.program_start.specs.Start.{Starts, StartsByProcess, SaysNoWords};
 
 use crate::class_file::classes_at;
+use crate::class_files::ClassFiles;
 use crate::ending::Ending;
 use class_table::ClassTable;
 use command_line::options_of;
@@ -12,12 +13,11 @@ use std::convert::AsStr;
 use std::env;
 use std::env::Env;
 use std::io::ErrorKind;
-use std::rt::Files;
 
 /// The classes that the program is to run with, or how it ends where there is no run: by the command
 /// line of the process, and then by the class file that it names.
-pub fn start<R: Files + Env + AllocGlobal>(rt: &R) -> Result<ClassTable, Ending>
-    ensures { StartsByProcess result }
+pub fn start<R: ClassFiles + Env + AllocGlobal>(rt: &R) -> Result<ClassTable, Ending>
+    ensures { StartsByProcess (R.holds rt.now) result }
 {
     let words = words_of(rt)?;
     start_with(rt, words.as_slice())
@@ -41,11 +41,11 @@ pub fn words_of<R: Env + AllocGlobal>(rt: &R) -> Result<Vec<String>, Ending>
 }
 
 /// The classes that the program is to run with, or how it ends, by these words of a command line.
-pub fn start_with<R: Files + AllocGlobal, S: AsStr>(
+pub fn start_with<R: ClassFiles + AllocGlobal, S: AsStr>(
     rt: &R,
     words: &[S],
 ) -> Result<ClassTable, Ending>
-    ensures { Starts (asked (map S.text words.now)) result }
+    ensures { Starts (R.holds rt.now) (asked (map S.text words.now)) result }
 {
     let alloc = rt.alloc();
     let options = match options_of(alloc, words) {

@@ -1,11 +1,12 @@
 //! Sources, sinks, readers and processes that give, take or fail as they are told.
-ghost use Rattle.std.specs.Prelude.{Some};
+ghost use Rattle.std.specs.Prelude.{Some, None, bytes_eq, if◌then◌else◌};
 
+use program_start::{ClassFileError, ClassFiles};
 use std::alloc::Global;
 use std::env::{Env, FillError};
 use std::io;
 use std::io::{ErrorKind, Read, Write};
-use wire_devices::{Failed, Sink, Source};
+use wire_devices::{Counted, Failed, Sink, Source};
 
 /// Gives the bytes of a slice, a few a call, and fails at one of its calls.
 #[derive(Drop)]
@@ -125,6 +126,36 @@ impl<'a> Write for Troubled<'a> {
 
     fn flush(&mut self) -> io::Result<()> {
         Ok(())
+    }
+}
+
+/// One class file at one path.
+#[derive(Drop)]
+pub struct Shelf<'a> {
+    pub alloc: Global,
+    pub path: &'a str,
+    pub file: &'a [u8],
+}
+
+impl<'a> Alloc for Shelf<'a> {
+    type A = Global;
+
+    fn alloc(&self) -> Global {
+        self.alloc
+    }
+}
+
+impl<'a> ClassFiles for Shelf<'a> {
+    type File = Counted<&'a [u8]>;
+
+    ghost holds = { λ shelf path. if bytes_eq path shelf.path.now then Some shelf.file.now else None };
+
+    fn class_file(&self, path: &str) -> Result<Counted<&'a [u8]>, ClassFileError> {
+        if path == self.path {
+            Ok(Counted::new(self.file))
+        } else {
+            Err(ClassFileError::Unreadable)
+        }
     }
 }
 

@@ -1,9 +1,9 @@
-use Rattle.std.proofs.Common.{◌≡◌, None, rules, map}
+use Rattle.std.proofs.Common.{rules, map}
 use Rattle.command_line.specs.Asked.{asked}
 use Rattle.program_start.proofs.StartLemmas.{ends_for}
 use Rattle.program_start.proofs.starting.start_with.Goals as goal
 
 pub returns : goal.returns
 returns g c =
-    ends_for (asked (map g.S.AsStr.text c.args.words.now)) c.in-Ok.options.classes c.in-Err-classes_at.error c.of_class_file.result c.in-Ok.ensures.asked
-    (λ (none : c.in-Ok.options.classes ≡ None). c.in-Err-classes_at.ensures (search rules)) c.of_class_file.ensures
+    ends_for (g.R.ClassFiles.holds c.args.rt.now) (asked (map g.S.AsStr.text c.args.words.now)) c.in-Ok.options.classes c.in-Err-classes_at.error c.of_class_file.result c.in-Ok.ensures.asked
+    (search rules) c.of_class_file.ensures
