@@ -1,17 +1,31 @@
 -- What is declared is what was written.
-use Rattle.std.proofs.Common.{◌≡◌, ◌∙◌, ℕ, ◌+◌, ◌<◌, ◌≤◌, Bool, true, false, ◌&&◌, List, [], ◌∷◌, Option, Some, None, Ok, Err, length, map, IsTrue, refl, sym, ap, subst, arith, length-append}
+use Rattle.std.proofs.Common.{◌≡◌, ◌∙◌, ℕ, ◌+◌, ◌<◌, ◌≤◌, Bool, true, false, ◌&&◌, List, [], ◌∷◌, ◌++◌, Option, Some, None, Result, Ok, Err, length, map, position, slice_get, is_none, IsTrue, refl, sym, ap, subst, arith, length-append}
+use Rattle.std.specs.Prelude.{IfOk}
+use Rattle.std.specs.List.{All}
+use Rattle.std.specs.Option.{ok_or, option_map, option_map_or}
 use Rattle.std.proofs.lemmas.List.{length-map, map-append}
+use Rattle.std.proofs.lemmas.List.Elements.{All-nil, All-cons}
+use Rattle.std.proofs.lemmas.Option.{slice_get-map}
+use Rattle.refusals.specs.declared.code.Code.{Code}
+use Rattle.signature_core.specs.declared.kind.Kind.{Kind}
+use Rattle.signature_core.specs.declared.signature.Signature.{Signature}
+use Rattle.signature_core.specs.Reading.{signature_of}
 use Rattle.term_core.specs.Bodies.{body_of}
 use Rattle.term_core.specs.declared.body.Body.{Body}
+use Rattle.term_core.proofs.BodyLemmas.{IsReadFor, body_read}
 use Rattle.serde_json.specs.Data.{Data}
 use Rattle.class_table.specs.declared.class.TheConstants.{METHODS, PROPERTIES}
 use Rattle.class_table.specs.declared.class.Class.{Class}
 use Rattle.class_table.specs.declared.class.Method.{Method}
 use Rattle.class_table.specs.declared.class.Property.{Property}
-use Rattle.class_table.specs.Declaring.{SignedMethod, body_in, empty_body, is_declared_once, method_of, new_names, new_signatures, notify_of, property_of}
-use Rattle.class_table.specs.Lookup.{FitsBehind, methods, names, place_of, properties, signatures}
-use Rattle.class_table.specs.Steps.{Read, ◌>>=◌, each}
+use Rattle.class_table.specs.declared.fault.ClassFaultKind.TheVariants.{BadNotify}
+use Rattle.class_table.specs.Declaring.{SignedMethod, are_signals, body_in, empty_body, is_declared_once, is_signal_at, method_of, new_names, new_signatures, notify_of, number_of, property_of, signal_named, tells}
+use Rattle.class_table.specs.Lookup.{is_same, methods, names, index_of, properties, signatures}
+use Rattle.class_table.specs.Sound.{IsMethod, is_told, is_told_by, FitsBehind}
+use Rattle.class_table.specs.Steps.{Read, ◌>>=◌, each, provided}
 use Rattle.class_table.specs.Written.{WrittenProperty}
+use Rattle.class_table.proofs.ListLemmas.{position_passes}
+use Rattle.class_table.proofs.OnceLemmas.{Decides-is_same}
 
 -- what each element keeps, all of them keep
 module _ {A B C : Type 0} (f : A → Read B) (of_a : A → C) (of_b : B → C) (keeps : (x : A) (y : B) → f x ≡ Ok y → of_b y ≡ of_a x) where
@@ -35,7 +49,7 @@ method_keeps new method e = by new.body e
     of (Err k) h = absurd (cc)
 
     by : (body : Option Data) → method_of (record { signature = new.signature; body = body }) ≡ Ok method → method.signature ≡ new.signature
-    by None h = let is : (record { signature = new.signature; is_signal = true; body = empty_body }) ≡ method = cc in ap (λ (m : Method). m.signature) (sym is)
+    by None h = let is : (record { signature = new.signature; is_signal = true; body = empty_body (length new.signature.kinds) }) ≡ method = cc in ap (λ (m : Method). m.signature) (sym is)
     by (Some json) h = of (body_in (body_of (length new.signature.kinds) json)) h
 
 property_keeps : (base : List Method) (new : List SignedMethod) (written : WrittenProperty) (property : Property) → property_of base new written ≡ Ok property → property.name ≡ written.name
@@ -45,15 +59,133 @@ property_keeps base new written property e = of (notify_of base new written) e
     of (Ok notify) h = let is : (record { name = written.name; kind = written.kind; notify = notify; bindable = written.bindable }) ≡ property = cc in ap (λ (p : Property). p.name) (sym is)
     of (Err k) h = absurd (cc)
 
+-- what holds of each element that is read holds of all
+module _ {A B : Type 0} (f : A → Read B) (P : B → Type 0) (holds : (x : A) (y : B) → f x ≡ Ok y → P y) where
+  each-all : (xs : List A) (ys : List B) → each f xs ≡ Ok ys → All P ys
+  each-all [] [] e = All-nil P
+  each-all [] (y ∷ ys) e = absurd (cc)
+  each-all (x ∷ xs) ys e = first (f x) refl (each f xs) refl e (each-all xs)
+    where
+      first : (r : Read B) → f x ≡ r → (rest : Read (List B)) → each f xs ≡ rest → (r >>= λ y. rest >>= λ zs. Ok (y ∷ zs)) ≡ Ok ys → ((zs : List B) → each f xs ≡ Ok zs → All P zs) → All P ys
+      first (Err k) a rest b h more = absurd (cc)
+      first (Ok y) a (Err k) b h more = absurd (cc)
+      first (Ok y) a (Ok zs) b h more =
+          let is : y ∷ zs ≡ ys = cc in
+          subst (All P) is (All-cons P y zs (holds x y a) (more zs b))
+
+-- a method whose body was read for its parameters
+method_sound : (new : SignedMethod) (method : Method) → method_of new ≡ Ok method → IsMethod method
+method_sound new method e = by new.body e
+  where
+    of : (r : Result Body Code) → IfOk r (IsReadFor (length new.signature.kinds)) → (body_in r >>= λ body. Ok (record { signature = new.signature; is_signal = false; body = body })) ≡ Ok method → IsMethod method
+    of (Ok body) read h =
+        let is : (record { signature = new.signature; is_signal = false; body = body }) ≡ method = cc in
+        subst IsMethod is (record { params = read.0; body = read.1 })
+    of (Err fault) read h = absurd (cc)
+
+    by : (body : Option Data) → method_of (record { signature = new.signature; body = body }) ≡ Ok method → IsMethod method
+    by None h =
+        let is : (record { signature = new.signature; is_signal = true; body = empty_body (length new.signature.kinds) }) ≡ method = cc in
+        subst IsMethod is (record { params = refl; body = record { limited = refl; arguments = tt } })
+    by (Some json) h = of (body_of (length new.signature.kinds) json) (body_read (length new.signature.kinds) json) h
+
+signal_keeps : (new : SignedMethod) (method : Method) → method_of new ≡ Ok method → method.is_signal ≡ is_none new.body
+signal_keeps new method e = by new.body e
+  where
+    of : (r : Read Body) (json : Data) → (r >>= λ body. Ok (record { signature = new.signature; is_signal = false; body = body })) ≡ Ok method → method.is_signal ≡ false
+    of (Ok body) json h = let is : (record { signature = new.signature; is_signal = false; body = body }) ≡ method = cc in ap (λ (m : Method). m.is_signal) (sym is)
+    of (Err k) json h = absurd (cc)
+
+    by : (body : Option Data) → method_of (record { signature = new.signature; body = body }) ≡ Ok method → method.is_signal ≡ is_none body
+    by None h = let is : (record { signature = new.signature; is_signal = true; body = empty_body (length new.signature.kinds) }) ≡ method = cc in ap (λ (m : Method). m.is_signal) (sym is)
+    by (Some json) h = of (body_in (body_of (length new.signature.kinds) json)) json h
+
 both_true : (a b : Bool) → (a && b) ≡ true → IsTrue a × IsTrue b
 both_true true true e = (refl, refl)
 both_true true false e = absurd (cc)
 both_true false b e = absurd (cc)
 
+-- a signal whose kinds are as wanted tells what the wanted one does
+tells_same : (kind : Kind) (kinds wanted : List Kind) → kinds ≡ wanted → tells kind wanted ≡ true → tells kind kinds ≡ true
+tells_same kind kinds wanted e h = ap (tells kind) e ∙ h
+
+module _ (base : List Method) (new : List SignedMethod) (own : List Method) (same : signatures own ≡ new_signatures new) (signals : map (λ method. method.is_signal) own ≡ map (λ method. is_none method.body) new) where
+  -- the signal that was found tells
+  told : (kind : Kind) (wanted : Signature) (number : ℕ) → number_of base new wanted ≡ Some number → (is_signal_at base new number && tells kind wanted.kinds) ≡ true → IsTrue (is_told_by (base ++ own) kind number)
+  told kind wanted number at is = by (slice_get (base ++ own) number) refl
+    where
+      all : List Method
+      all = base ++ own
+
+      kinds : map (λ method. method.signature) all ≡ signatures base ++ new_signatures new
+      kinds = map-append (λ method. method.signature) base own ∙ ap (λ l. signatures base ++ l) same
+
+      marks : map (λ method. method.is_signal) all ≡ are_signals base new
+      marks = map-append (λ method. method.is_signal) base own ∙ ap (λ l. map (λ method. method.is_signal) base ++ l) signals
+
+      parts : IsTrue (is_signal_at base new number) × IsTrue (tells kind wanted.kinds)
+      parts = both_true (is_signal_at base new number) (tells kind wanted.kinds) is
+
+      found : position (λ there. is_same there wanted) (map (λ method. method.signature) all) ≡ Some number
+      found = ap (position (λ there. is_same there wanted)) kinds ∙ at
+
+      passes : option_map_or (λ there. is_same there wanted) (slice_get (map (λ method. method.signature) all) number) false ≡ true
+      passes = position_passes (λ there. is_same there wanted) (map (λ method. method.signature) all) number found
+
+      marked : option_map_or (λ signal. signal) (slice_get (map (λ method. method.is_signal) all) number) false ≡ true
+      marked = ap (λ l. option_map_or (λ signal. signal) (slice_get l number) false) marks ∙ parts.0
+
+      by : (o : Option Method) → slice_get all number ≡ o → option_map_or (λ method. method.is_signal && tells kind method.signature.kinds) o false ≡ true
+      by None e =
+          let nothing = sym passes ∙ ap (λ o. option_map_or (λ there. is_same there wanted) o false) (slice_get-map (λ method. method.signature) all number ∙ ap (option_map (λ method. method.signature)) e) in
+          absurd (cc)
+      by (Some method) e =
+          let same_one : is_same method.signature wanted ≡ true = sym (ap (λ o. option_map_or (λ there. is_same there wanted) o false) (slice_get-map (λ method. method.signature) all number ∙ ap (option_map (λ method. method.signature)) e)) ∙ passes in
+          let signal : method.is_signal ≡ true = sym (ap (λ o. option_map_or (λ signal. signal) o false) (slice_get-map (λ method. method.is_signal) all number ∙ ap (option_map (λ method. method.is_signal)) e)) ∙ marked in
+          let is_wanted : method.signature ≡ wanted = (Decides-is_same method.signature wanted).0 same_one in
+          let tells_it : tells kind method.signature.kinds ≡ true = tells_same kind method.signature.kinds wanted.kinds (ap (λ (s : Signature). s.kinds) is_wanted) parts.1 in
+          rw (signal, tells_it)
+
+  named : (kind : Kind) (text : List ℕ) (number : ℕ) → signal_named base new kind text ≡ Ok number → IsTrue (is_told_by (base ++ own) kind number)
+  unfolding signal_named
+  named kind text number e = first (signature_of text) e
+    where
+      third : (wanted : Signature) (n : ℕ) → number_of base new wanted ≡ Some n → (b : Bool) → (is_signal_at base new n && tells kind wanted.kinds) ≡ b → provided b BadNotify (Ok n) ≡ Ok number → IsTrue (is_told_by (base ++ own) kind number)
+      third wanted n at true is h =
+          let this : n ≡ number = cc in
+          let P : ℕ → Type 0 = λ k. IsTrue (is_told_by (base ++ own) kind k) in
+          subst P this (told kind wanted n at is)
+      third wanted n at false is h = absurd (cc)
+
+      second : (wanted : Signature) (o : Option ℕ) → number_of base new wanted ≡ o → (ok_or o BadNotify >>= λ n. provided (is_signal_at base new n && tells kind wanted.kinds) BadNotify (Ok n)) ≡ Ok number → IsTrue (is_told_by (base ++ own) kind number)
+      second wanted None at h = absurd (cc)
+      second wanted (Some n) at h = third wanted n at (is_signal_at base new n && tells kind wanted.kinds) refl h
+
+      first : (o : Option Signature) → (ok_or o BadNotify >>= λ wanted. ok_or (number_of base new wanted) BadNotify >>= λ n. provided (is_signal_at base new n && tells kind wanted.kinds) BadNotify (Ok n)) ≡ Ok number → IsTrue (is_told_by (base ++ own) kind number)
+      first None h = absurd (cc)
+      first (Some wanted) h = second wanted (number_of base new wanted) refl h
+
+  property_told : (written : WrittenProperty) (property : Property) → property_of base new written ≡ Ok property → IsTrue (is_told (base ++ own) property)
+  property_told written property e = by written.notify e
+    where
+      of : (r : Read ℕ) → ((number : ℕ) → r ≡ Ok number → IsTrue (is_told_by (base ++ own) written.kind number)) → ((r >>= λ number. Ok (Some number)) >>= λ notify. Ok (record { name = written.name; kind = written.kind; notify = notify; bindable = written.bindable })) ≡ Ok property → IsTrue (is_told (base ++ own) property)
+      of (Ok number) tells h =
+          let is : (record { name = written.name; kind = written.kind; notify = Some number; bindable = written.bindable }) ≡ property = cc in
+          let P : Property → Type 0 = λ p. IsTrue (is_told (base ++ own) p) in
+          subst P is (tells number refl)
+      of (Err k) tells h = absurd (cc)
+
+      by : (notify : Option (List ℕ)) → property_of base new (record { name = written.name; kind = written.kind; notify = notify; bindable = written.bindable }) ≡ Ok property → IsTrue (is_told (base ++ own) property)
+      by None h =
+          let is : (record { name = written.name; kind = written.kind; notify = None; bindable = written.bindable }) ≡ property = cc in
+          let P : Property → Type 0 = λ p. IsTrue (is_told (base ++ own) p) in
+          subst P is refl
+      by (Some text) h = of (signal_named base new written.kind text) (named written.kind text) h
+
 -- a class that was checked may stand behind the others
 pub fits_behind : (classes : List Class) (base : ℕ) (name : List ℕ) (method_offset property_offset : ℕ) (new : List SignedMethod) (written : List WrittenProperty) (own_methods : List Method) (own_properties : List Property)
     → base < length classes
-    → place_of name classes ≡ None
+    → index_of name classes ≡ None
     → method_offset ≡ length (methods classes base)
     → property_offset ≡ length (properties classes base)
     → is_declared_once (methods classes base) new (properties classes base) written ≡ true
@@ -66,6 +198,7 @@ unfolding is_declared_once
 fits_behind classes base name method_offset property_offset new written own_methods own_properties there free m_is p_is once few_m few_p ms ps =
     let same_m : signatures own_methods ≡ new_signatures new = each-keeps method_of (λ n. n.signature) (λ m. m.signature) method_keeps new own_methods ms in
     let same_p : names own_properties ≡ new_names written = each-keeps (property_of (methods classes base) new) (λ w. w.name) (λ p. p.name) (property_keeps (methods classes base) new) written own_properties ps in
+    let same_s = each-keeps method_of (λ n. is_none n.body) (λ m. m.is_signal) signal_keeps new own_methods ms in
     let len_m : length own_methods ≡ length new = sym (length-map own_methods (λ m. m.signature)) ∙ (ap length same_m ∙ length-map new (λ n. n.signature)) in
     let len_p : length own_properties ≡ length written = sym (length-map own_properties (λ p. p.name)) ∙ (ap length same_p ∙ length-map written (λ w. w.name)) in
     let two = both_true _ _ once in
@@ -78,4 +211,6 @@ fits_behind classes base name method_offset property_offset new written own_meth
       few_properties = omega (arith, length-append (properties classes base) own_properties);
       methods_once = rw (map-append (λ m. m.signature) (methods classes base) own_methods, same_m) two.0;
       properties_once = rw (map-append (λ p. p.name) (properties classes base) own_properties, same_p) two.1;
+      each_method = each-all method_of IsMethod method_sound new own_methods ms;
+      each_property = each-all (property_of (methods classes base) new) (λ property. IsTrue (is_told (methods classes base ++ own_methods) property)) (property_told (methods classes base) new own_methods same_m same_s) written own_properties ps;
     }

@@ -1,10 +1,11 @@
--- Lists: the first place that passes, and lists with no element twice.
-use Rattle.std.proofs.Common.{◌≡◌, ◌≢◌, inl, inr, ℕ, suc, zero, ◌+◌, ◌<◌, ◌≤◌, ◌==◌, Bool, true, false, not, cond, List, [], ◌∷◌, ◌++◌, length, map, position, slice_get, Option, Some, None, refl, sym, ap, ◌∙◌, arith, add-zero, nat_lt, take}
-use Rattle.std.specs.Option.{option_or, option_map}
+-- Lists: the first index that passes, and lists with no element twice.
+use Rattle.std.proofs.Common.{◌≡◌, ◌≢◌, inl, inr, ℕ, suc, zero, ◌+◌, ◌<◌, ◌≤◌, ◌==◌, Bool, true, false, not, cond, List, [], ◌∷◌, ◌++◌, length, map, position, slice_get, Option, Some, None, get_or, refl, sym, ap, ◌∙◌, arith, add-zero, nat_lt, take}
+use Rattle.std.specs.Option.{option_or, option_map, option_map_or}
 use Rattle.std.specs.List.{position_from, prefix_len}
 use Rattle.std.proofs.lemmas.Bool.Decides.{eqb_tells}
 use Rattle.std.proofs.lemmas.Iterator.Adapters.{position_from-zero}
 use Rattle.std.proofs.lemmas.List.{length-map, map-append}
+use Rattle.std.proofs.lemmas.List.Quantifiers.{position-Some}
 use Rattle.std.proofs.lemmas.Option.{slice_get-map}
 
 pub eq_self : (n : ℕ) → (n == n) ≡ true
@@ -13,7 +14,7 @@ eq_self n = elim (eqb_tells n n) [ inl p ↦ p.0 | inr p ↦ absurd (p.1 refl) ]
 pub eq_other : (m n : ℕ) → m ≢ n → (m == n) ≡ false
 eq_other m n h = elim (eqb_tells m n) [ inl p ↦ absurd (h p.1) | inr p ↦ p.0 ]
 
--- the first place that passes, where places are counted from `at`
+-- the first index that passes, where indexes are counted from `at`
 from_append : {X : Type 0} (p : X → Bool) (at : ℕ) (xs ys : List X) → position_from p at (xs ++ ys) ≡ option_or (position_from p at xs) (position_from p (at + length xs) ys)
 from_append p at [] ys = λ i. position_from p (sym (add-zero at) i) ys
 from_append p at (x ∷ xs) ys = by (p x) (from_append p (at + 1) xs ys)
@@ -36,7 +37,7 @@ from_shifted p at more (x ∷ xs) = by (p x) (from_shifted p (at + 1) more xs)
     by true rest = refl
     by false rest = (λ i. position_from p (moved i) xs) ∙ rest
 
--- the first place that passes in two lists, one behind the other
+-- the first index that passes in two lists, one behind the other
 pub position-append : {X : Type 0} (p : X → Bool) (xs ys : List X) → position p (xs ++ ys) ≡ option_or (position p xs) (option_map (λ i. length xs + i) (position p ys))
 position-append p xs ys =
     let apart : position_from p 0 (xs ++ ys) ≡ option_or (position_from p 0 xs) (position_from p (0 + length xs) ys) = from_append p 0 xs ys in
@@ -44,7 +45,7 @@ position-append p xs ys =
     let behind : position_from p (0 + length xs) ys ≡ option_map (λ i. length xs + i) (position_from p 0 ys) = (λ i. position_from p (moved i) ys) ∙ from_shifted p 0 (length xs) ys in
     position_from-zero p (xs ++ ys) ∙ (apart ∙ (λ i. option_or (sym (position_from-zero p xs) i) ((behind ∙ (λ j. option_map (λ k. length xs + k) (sym (position_from-zero p ys) j))) i)))
 
--- a place that holds nothing is past the end
+-- a index that holds nothing is past the end
 pub past_end : {X : Type 0} (xs : List X) (i : ℕ) → slice_get xs i ≡ None → length xs ≤ i
 past_end [] i e = omega arith
 past_end (x ∷ xs) zero e = absurd (cc)
@@ -54,7 +55,7 @@ prefix_len-map : {X Y : Type 0} (p : Y → Bool) (f : X → Y) (xs : List X) →
 prefix_len-map p f [] = refl
 prefix_len-map p f (x ∷ xs) = λ i. cond (p (f x)) (1 + prefix_len-map p f xs i) 0
 
--- the first place that passes, seen through a map
+-- the first index that passes, seen through a map
 pub position-map : {X Y : Type 0} (p : Y → Bool) (f : X → Y) (xs : List X) → position p (map f xs) ≡ position (λ x. p (f x)) xs
 position-map p f xs = λ i. cond (nat_lt (prefix_len-map (λ y. not (p y)) f xs i) (length-map xs f i)) (Some (prefix_len-map (λ y. not (p y)) f xs i)) None
 
@@ -69,7 +70,7 @@ option_or-assoc : {A : Type 0} (a b c : Option A) → option_or (option_or a b) 
 option_or-assoc None b c = refl
 option_or-assoc (Some a) b c = refl
 
--- the first place that passes in two lists, or else another
+-- the first index that passes in two lists, or else another
 pub position-seam : {X : Type 0} (p : X → Bool) (xs ys : List X) (other : Option ℕ) → option_or (position p (xs ++ ys)) other ≡ option_or (position p xs) (option_or (option_map (λ i. length xs + i) (position p ys)) other)
 position-seam p xs ys other = (λ i. option_or (position-append p xs ys i) other) ∙ option_or-assoc (position p xs) (option_map (λ i. length xs + i) (position p ys)) other
 
@@ -97,3 +98,20 @@ taken-whole [] zero h = refl
 taken-whole [] (suc i) h = refl
 taken-whole (x ∷ xs) zero h = absurd (omega arith)
 taken-whole (x ∷ xs) (suc i) h = λ j. x ∷ taken-whole xs i (omega arith) j
+
+got : {X : Type 0} (xs : List X) (i : ℕ) (x d : X) → slice_get xs i ≡ Some x → get_or xs i d ≡ x
+got [] i x d e = absurd (cc)
+got (y ∷ ys) zero x d e = cc
+got (y ∷ ys) (suc i) x d e = got ys i x d e
+
+-- what stands at the first index that passes does pass
+pub position_passes : {X : Type 0} (p : X → Bool) (xs : List X) (i : ℕ) → position p xs ≡ Some i → option_map_or p (slice_get xs i) false ≡ true
+position_passes p [] i e = absurd (cc)
+position_passes {X = X} p (x ∷ xs) i e = by (slice_get (x ∷ xs) i) refl
+  where
+    passed : (i < length (x ∷ xs)) × (p (get_or (x ∷ xs) i x) ≡ true) × ((k : ℕ) → k < i → p (get_or (x ∷ xs) k x) ≡ false)
+    passed = position-Some p (x ∷ xs) i x e
+
+    by : (o : Option X) → slice_get (x ∷ xs) i ≡ o → option_map_or p o false ≡ true
+    by None h = absurd (omega (arith, past_end (x ∷ xs) i h, passed.0))
+    by (Some y) h = ap p (sym (got (x ∷ xs) i y x h)) ∙ passed.1

@@ -1,30 +1,32 @@
 -- Methods and properties that are declared once.
-use Rattle.std.proofs.Common.{◌≡◌, ◌∙◌, ℕ, ◌+◌, ◌<◌, Bool, true, false, not, cond, ◌&&◌, ◌||◌, List, [], ◌∷◌, ◌++◌, Some, length, map, position, bytes_eq, is_none, drop, get_or, suc, add-one, refl, sym, ap, IsTrue}
-use Rattle.std.specs.List.{list_all, list_any, position_from}
+use Rattle.std.proofs.Common.{◌≡◌, ◌∙◌, ℕ, ◌+◌, Bool, true, false, not, cond, ◌&&◌, ◌||◌, List, [], ◌∷◌, ◌++◌, Some, Ok, map, position, bytes_eq, is_none, refl, sym, ap, subst, IsTrue, Decides}
+use Rattle.std.specs.Cmp.Lexicographic.{pointwise, pointwise_decides}
+use Rattle.std.specs.List.{All, list_all, list_any, position_from}
+use Rattle.std.proofs.lemmas.Bool.Decides.{same_from_decides}
 use Rattle.std.proofs.lemmas.Iterator.Adapters.{position_from-zero}
-use Rattle.std.proofs.Math.Seq.{drop-cons}
+use Rattle.std.proofs.lemmas.List.Elements.{All-nil, All-cons, All-head, All-tail}
 use Rattle.std.proofs.lemmas.List.Folds.{list_any-append}
+use Rattle.std.proofs.lemmas.Slice.Eq.{bytes_eq-Decides}
 use Rattle.signature_core.specs.declared.signature.Signature.{Signature}
+use Rattle.signature_core.specs.Kinds.{is_same_kind}
+use Rattle.signature_core.specs.Reading.{IsNormal, signature_of}
+use Rattle.signature_core.proofs.FitLemmas.{Decides-is_same_kind}
+use Rattle.signature_core.proofs.Normal.{normal_text_read}
 use Rattle.class_table.specs.declared.class.Method.{Method}
 use Rattle.class_table.specs.declared.class.Property.{Property}
 use Rattle.class_table.specs.declared.declare.Signed.{Signed}
 use Rattle.class_table.specs.declared.form.PropertyForm.{PropertyForm}
 use Rattle.class_table.specs.Declaring.{new_names, new_signatures}
 use Rattle.class_table.specs.Forms.{property_seen}
-use Rattle.class_table.specs.Lookup.{are_distinct_methods, are_distinct_properties, is_distinct, is_same, method_number, names, property_number, signatures}
+use Rattle.class_table.specs.Lookup.{are_distinct_methods, are_distinct_properties, is_distinct, is_same, method_number, names, property_number, signatures, text_of}
 use Rattle.class_table.specs.Signed.{signed_seen}
+use Rattle.class_table.specs.Steps.{Read}
 
 list_any-map : {A B : Type 0} (test : B → Bool) (seen : A → B) (xs : List A) → list_any test (map seen xs) ≡ list_any (λ x. test (seen x)) xs
 list_any-map test seen [] = refl
 list_any-map test seen (x ∷ xs) = ap (λ rest. test (seen x) || rest) (list_any-map test seen xs)
 
-pub any_signature : (signature : Signature) (new : List Signed) → list_any (is_same signature) (new_signatures (map signed_seen new)) ≡ list_any (λ n. is_same signature n.signature) new
-any_signature signature new = list_any-map (is_same signature) (λ m. m.signature) (map signed_seen new) ∙ list_any-map (λ m. is_same signature m.signature) signed_seen new
-
-pub any_name : (name : List ℕ) (new : List PropertyForm) → list_any (bytes_eq name) (new_names (map property_seen new)) ≡ list_any (λ n. bytes_eq name n.name.now) new
-any_name name new = list_any-map (bytes_eq name) (λ p. p.name) (map property_seen new) ∙ list_any-map (λ p. bytes_eq name p.name) property_seen new
-
--- no place passes where no element does
+-- no index passes where no element does
 none_from : {X : Type 0} (p : X → Bool) (at : ℕ) (xs : List X) → is_none (position_from p at xs) ≡ not (list_any p xs)
 none_from p at [] = refl
 none_from p at (x ∷ xs) = by (p x) (none_from p (at + 1) xs)
@@ -90,22 +92,74 @@ new_properties_once base new once =
     list_all-map _ (λ p. p.name) (map property_seen new) ∙ (list_all-map _ property_seen new ∙ list_all-same _ _ (λ n. ap not (list_any-map (λ s. bytes_eq s n.name.now) (λ p. p.name) base) ∙ sym (none-position (λ p. bytes_eq p.name n.name.now) base)) new) in
     distinct-append bytes_eq (names base) (new_names (map property_seen new)) once ∙ ap (λ a. a && are_distinct_properties (new_names (map property_seen new))) apart
 
--- the element at a place and those behind it
-pub here : {X : Type 0} (xs : List X) (i : ℕ) (x : X) → i < length xs → x ≡ get_or xs i x → drop i xs ≡ x ∷ drop (i + 1) xs
-here xs i x within is = rw add-one (drop-cons xs i x within ∙ λ j. sym is j ∷ drop (suc i) xs)
+-- signatures by their normal texts
 
--- a new method and those behind it
-pub methods_at : (new : List Signed) (i : ℕ) (x : Signed) → i < length new → x ≡ get_or new i x
-    → are_distinct_methods (new_signatures (map signed_seen (drop i new))) ≡ (not (list_any (λ n. is_same x.signature n.signature) (drop (i + 1) new)) && are_distinct_methods (new_signatures (map signed_seen (drop (i + 1) new))))
-methods_at new i x within is =
-    let rest = drop (i + 1) new in
-    ap (λ l. are_distinct_methods (new_signatures (map signed_seen l))) (here new i x within is)
-    ∙ ap (λ b. not b && are_distinct_methods (new_signatures (map signed_seen rest))) (any_signature x.signature rest)
+pub Decides-is_same : (a b : Signature) → Decides (is_same a b) (a ≡ b)
+Decides-is_same a b = (told (bytes_eq a.name b.name) (pointwise is_same_kind a.kinds b.kinds) refl refl, λ e. subst Same e self)
+  where
+    Same : Signature → Type 0
+    Same s = is_same a s ≡ true
 
-pub names_at : (new : List PropertyForm) (i : ℕ) (d : PropertyForm) → i < length new
-    → are_distinct_properties (new_names (map property_seen (drop i new))) ≡ (not (list_any (λ n. bytes_eq (get_or new i d).name.now n.name.now) (drop (i + 1) new)) && are_distinct_properties (new_names (map property_seen (drop (i + 1) new))))
-names_at new i d within =
-    let rest = drop (i + 1) new in
-    let split : drop i new ≡ get_or new i d ∷ drop (i + 1) new = rw add-one (drop-cons new i d within) in
-    ap (λ l. are_distinct_properties (new_names (map property_seen l))) split
-    ∙ ap (λ b. not b && are_distinct_properties (new_names (map property_seen rest))) (any_name (get_or new i d).name.now rest)
+    self : is_same a a ≡ true
+    self = λ i. (bytes_eq-Decides a.name a.name).1 refl i && (pointwise_decides Decides-is_same_kind a.kinds a.kinds).1 refl i
+
+    told : (p q : Bool) → bytes_eq a.name b.name ≡ p → pointwise is_same_kind a.kinds b.kinds ≡ q → (p && q) ≡ true → a ≡ b
+    told true true n k e = λ i. record { name = (bytes_eq-Decides a.name b.name).0 n i; kinds = (pointwise_decides Decides-is_same_kind a.kinds b.kinds).0 k i }
+    told true false n k e = absurd (cc)
+    told false q n k e = absurd (cc)
+
+Decides-text : (a b : Signature) → IsNormal a → IsNormal b → Decides (bytes_eq (text_of a) (text_of b)) (a ≡ b)
+Decides-text a b m n = (told, λ e. (bytes_eq-Decides (text_of a) (text_of b)).1 (ap text_of e))
+  where
+    told : bytes_eq (text_of a) (text_of b) ≡ true → a ≡ b
+    told e =
+        let texts : text_of a ≡ text_of b = (bytes_eq-Decides (text_of a) (text_of b)).0 e in
+        let read : Some a ≡ Some b = sym (normal_text_read a m) ∙ (ap signature_of texts ∙ normal_text_read b n) in
+        cc
+
+any_text : (a : Signature) (ss : List Signature) → IsNormal a → All IsNormal ss → list_any (is_same a) ss ≡ list_any (bytes_eq (text_of a)) (map text_of ss)
+any_text a [] m all = refl
+any_text a (s ∷ ss) m all =
+    let n = All-head IsNormal s ss all in
+    λ i. same_from_decides (is_same a s) (bytes_eq (text_of a) (text_of s)) (Decides-is_same a s) (Decides-text a s m n) i || any_text a ss m (All-tail IsNormal s ss all) i
+
+distinct_texts : (ss : List Signature) → All IsNormal ss → are_distinct_methods ss ≡ is_distinct bytes_eq (map text_of ss)
+distinct_texts [] all = refl
+distinct_texts (s ∷ ss) all = λ i. not (any_text s ss (All-head IsNormal s ss all) (All-tail IsNormal s ss all) i) && distinct_texts ss (All-tail IsNormal s ss all) i
+
+all_normal : (new : List Signed) → All (λ n. IsNormal n.signature) new → All IsNormal (new_signatures (map signed_seen new))
+all_normal [] all = All-nil IsNormal
+all_normal (n ∷ new) all = All-cons IsNormal n.signature (new_signatures (map signed_seen new)) (All-head (λ m. IsNormal m.signature) n new all) (all_normal new (All-tail (λ m. IsNormal m.signature) n new all))
+
+texts_of : (new : List Signed) → map text_of (new_signatures (map signed_seen new)) ≡ map (λ n. text_of n.signature) new
+texts_of [] = refl
+texts_of (n ∷ new) = ap (λ rest. text_of n.signature ∷ rest) (texts_of new)
+
+pub methods_by_text : (new : List Signed) → All (λ n. IsNormal n.signature) new → are_distinct_methods (new_signatures (map signed_seen new)) ≡ is_distinct bytes_eq (map (λ n. text_of n.signature) new)
+methods_by_text new all = distinct_texts (new_signatures (map signed_seen new)) (all_normal new all) ∙ ap (is_distinct bytes_eq) (texts_of new)
+
+names_of : (new : List PropertyForm) → new_names (map property_seen new) ≡ map (λ n. n.name.now) new
+names_of [] = refl
+names_of (n ∷ new) = ap (λ rest. n.name.now ∷ rest) (names_of new)
+
+pub properties_by_text : (new : List PropertyForm) → are_distinct_properties (new_names (map property_seen new)) ≡ is_distinct bytes_eq (map (λ n. n.name.now) new)
+properties_by_text new = ap (is_distinct bytes_eq) (names_of new)
+
+-- one text after another
+
+turned : (x y : List ℕ) → bytes_eq x y ≡ bytes_eq y x
+turned x y = same_from_decides (bytes_eq x y) (bytes_eq y x) (bytes_eq-Decides x y) (λ e. sym ((bytes_eq-Decides y x).0 e), λ e. (bytes_eq-Decides y x).1 (sym e))
+
+any_turned : (text : List ℕ) (done : List (List ℕ)) → list_any (λ x. bytes_eq x text) done ≡ list_any (bytes_eq text) done
+any_turned text [] = refl
+any_turned text (x ∷ xs) = λ i. turned x text i || any_turned text xs i
+
+pub found_again : (done : List (List ℕ)) (text : List ℕ) (rest : List (List ℕ)) → IsTrue (is_distinct bytes_eq done) → list_any (bytes_eq text) done ≡ true → is_distinct bytes_eq (done ++ text ∷ rest) ≡ false
+found_again done text rest once found = rw (distinct-append bytes_eq done (text ∷ rest) once, any_turned text done, found)
+
+pub once_more : (done : List (List ℕ)) (text : List ℕ) → IsTrue (is_distinct bytes_eq done) → list_any (bytes_eq text) done ≡ false → IsTrue (is_distinct bytes_eq (done ++ text ∷ []))
+once_more done text once new = rw (distinct-append bytes_eq done (text ∷ []) once, any_turned text done, new)
+
+-- two values that one reading gives
+pub same_value : {A : Type 0} (x y : A) (read : Read A) → read ≡ Ok x → read ≡ Ok y → x ≡ y
+same_value x y read e f = cc

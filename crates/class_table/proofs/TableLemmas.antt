@@ -1,40 +1,46 @@
 -- What the classes of a table have.
-use Rattle.std.proofs.Common.{◌≡◌, ◌⊎◌, inl, inr, ℕ, zero, suc, ◌+◌, ◌<◌, ◌≤◌, Bool, List, [], ◌∷◌, ◌++◌, length, reverse, slice_get, Option, Some, None, refl, sym, ap, ◌∙◌, subst, arith, length-append, position, bytes_eq}
+use Rattle.std.proofs.Common.{◌≡◌, ◌⊎◌, inl, inr, ℕ, zero, suc, ◌+◌, ◌<◌, ◌≤◌, Bool, List, [], ◌∷◌, ◌++◌, length, reverse, slice_get, Option, Some, None, true, IsTrue, false, codes, refl, sym, ap, ◌∙◌, subst, arith, length-append, position, bytes_eq}
+use Rattle.std.specs.List.{All}
 use Rattle.std.specs.Option.{option_map, option_map_or, option_or, ForSome}
 use Rattle.std.proofs.lemmas.List.{reverse-append, length-reverse}
+use Rattle.std.proofs.lemmas.List.Elements.{All-nil, All-cons}
+use Rattle.signature_core.specs.declared.kind.Kind.{Kind}
+use Rattle.signature_core.specs.declared.kind.Kind.TheVariants as kind
 use Rattle.signature_core.specs.declared.signature.Signature.{Signature}
 use Rattle.class_table.specs.declared.class.Class.{Class}
 use Rattle.class_table.specs.declared.class.Method.{Method}
 use Rattle.class_table.specs.declared.class.Property.{Property}
 use Rattle.class_table.specs.declared.class.TheConstants.{CLASSES}
-use Rattle.class_table.specs.Lookup.{gathered, of_class, inherited, methods, properties, is_same, method_number, property_number, IsClassAt, FitsBehind, IsTable}
+use Rattle.class_table.specs.Lookup.{gathered, of_class, inherited, methods, properties, is_same, method_number, property_number}
+use Rattle.class_table.specs.Declaring.{delete_later_body, empty_body, q_object}
+use Rattle.class_table.specs.Sound.{IsMethod, is_told, is_told_by, IsClassAt, FitsBehind, IsTable}
 use Rattle.class_table.proofs.ListLemmas.{eq_self, eq_other, position-seam}
 
 module _ {A : Type 0} (own : ℕ → Class → List A) where
   -- a further class leaves those before it as they were
-  pub gathered-earlier : (class : Class) (earlier : List Class) (place : ℕ) → place < length earlier → gathered own (class ∷ earlier) place ≡ gathered own earlier place
+  pub gathered-earlier : (class : Class) (earlier : List Class) (index : ℕ) → index < length earlier → gathered own (class ∷ earlier) index ≡ gathered own earlier index
   unfolding gathered
-  gathered-earlier class earlier place h = rw (eq_other place (length earlier) (λ e. omega arith))
+  gathered-earlier class earlier index h = rw (eq_other index (length earlier) (λ e. omega arith))
 
   pub gathered-new : (class : Class) (earlier : List Class) → gathered own (class ∷ earlier) (length earlier) ≡ option_map_or (λ base. gathered own earlier base) class.superclass [] ++ own (length earlier) class
   unfolding gathered
   gathered-new class earlier = rw (eq_self (length earlier))
 
   -- no class, nothing
-  pub gathered-none : (classes : List Class) (place : ℕ) → length classes ≤ place → gathered own classes place ≡ []
+  pub gathered-none : (classes : List Class) (index : ℕ) → length classes ≤ index → gathered own classes index ≡ []
   unfolding gathered
-  gathered-none [] place h = refl
-  gathered-none (class ∷ earlier) place h = rw (eq_other place (length earlier) (λ e. omega arith)) (gathered-none earlier place (omega arith))
+  gathered-none [] index h = refl
+  gathered-none (class ∷ earlier) index h = rw (eq_other index (length earlier) (λ e. omega arith)) (gathered-none earlier index (omega arith))
 
 module _ {A : Type 0} (own : ℕ → Class → List A) (classes : List Class) (class : Class) where
   turned : reverse (classes ++ class ∷ []) ≡ class ∷ reverse classes
   turned = reverse-append classes (class ∷ [])
 
   -- the same in the order of the file
-  pub of_class-earlier : (place : ℕ) → place < length classes → of_class own (classes ++ class ∷ []) place ≡ of_class own classes place
-  of_class-earlier place h =
-      let short : place < length (reverse classes) = omega (arith, length-reverse classes) in
-      rw turned (gathered-earlier own class (reverse classes) place short)
+  pub of_class-earlier : (index : ℕ) → index < length classes → of_class own (classes ++ class ∷ []) index ≡ of_class own classes index
+  of_class-earlier index h =
+      let short : index < length (reverse classes) = omega (arith, length-reverse classes) in
+      rw turned (gathered-earlier own class (reverse classes) index short)
 
   pub of_class-new : of_class own (classes ++ class ∷ []) (length classes) ≡ inherited (of_class own classes) class.superclass ++ own (length classes) class
   of_class-new =
@@ -45,27 +51,29 @@ module _ {A : Type 0} (own : ℕ → Class → List A) (classes : List Class) (c
   inherited-earlier None h = refl
   inherited-earlier (Some b) h = of_class-earlier b (h b refl)
 
-pub of_class-none : {A : Type 0} (own : ℕ → Class → List A) (classes : List Class) (place : ℕ) → length classes ≤ place → of_class own classes place ≡ []
-of_class-none own classes place h = gathered-none own (reverse classes) place (omega (arith, length-reverse classes))
+pub of_class-none : {A : Type 0} (own : ℕ → Class → List A) (classes : List Class) (index : ℕ) → length classes ≤ index → of_class own classes index ≡ []
+of_class-none own classes index h = gathered-none own (reverse classes) index (omega (arith, length-reverse classes))
 
 -- a class that was there keeps what it has
-kept : (classes : List Class) (new : Class) (place : ℕ) (class : Class) → place < length classes → IsClassAt classes place class → IsClassAt (classes ++ new ∷ []) place class
-kept classes new place class h is =
-    let below : ForSome class.superclass (λ b. b < length classes) = λ b e. (let near : b < place = is.base_is_earlier b e in omega arith) in
+kept : (classes : List Class) (new : Class) (index : ℕ) (class : Class) → index < length classes → IsClassAt classes index class → IsClassAt (classes ++ new ∷ []) index class
+kept classes new index class h is =
+    let below : ForSome class.superclass (λ b. b < length classes) = λ b e. (let near : b < index = is.base_is_earlier b e in omega arith) in
     let same_line = inherited-earlier (λ at c. at ∷ []) classes new class.superclass below in
     let same_methods = inherited-earlier (λ at c. c.methods) classes new class.superclass below in
     let same_properties = inherited-earlier (λ at c. c.properties) classes new class.superclass below in
     record {
       base_is_earlier = is.base_is_earlier;
-      its_line = rw (of_class-earlier (λ at c. at ∷ []) classes new place h, same_line) is.its_line;
-      its_methods = rw (of_class-earlier (λ at c. c.methods) classes new place h, same_methods) is.its_methods;
-      its_properties = rw (of_class-earlier (λ at c. c.properties) classes new place h, same_properties) is.its_properties;
+      its_line = rw (of_class-earlier (λ at c. at ∷ []) classes new index h, same_line) is.its_line;
+      its_methods = rw (of_class-earlier (λ at c. c.methods) classes new index h, same_methods) is.its_methods;
+      its_properties = rw (of_class-earlier (λ at c. c.properties) classes new index h, same_properties) is.its_properties;
       method_offset = rw same_methods is.method_offset;
       property_offset = rw same_properties is.property_offset;
       few_methods = rw same_methods is.few_methods;
       few_properties = rw same_properties is.few_properties;
       methods_once = rw same_methods is.methods_once;
       properties_once = rw same_properties is.properties_once;
+      each_method = is.each_method;
+      each_property = rw same_methods is.each_property;
     }
 
 -- the new class has what it is to have
@@ -85,9 +93,11 @@ joined classes new fits =
       few_properties = rw same_properties fits.few_properties;
       methods_once = rw same_methods fits.methods_once;
       properties_once = rw same_properties fits.properties_once;
+      each_method = fits.each_method;
+      each_property = rw same_methods fits.each_property;
     }
 
--- a place in a longer list
+-- a index in a longer list
 seam : {X : Type 0} (xs : List X) (y : X) (k : ℕ) (x : X) → slice_get (xs ++ y ∷ []) k ≡ Some x → ((k < length xs) × (slice_get xs k ≡ Some x)) ⊎ ((k ≡ length xs) × (y ≡ x))
 seam [] y zero x e = inr (refl, (cc))
 seam [] y (suc k) x e = absurd (cc)
@@ -98,28 +108,84 @@ seam (z ∷ zs) y (suc k) x e = elim (seam zs y k x e) [ inl p ↦ inl (omega ar
 pub IsTable-push : (classes : List Class) (new : Class) → IsTable classes → length classes ≤ CLASSES → FitsBehind classes new → IsTable (classes ++ new ∷ [])
 IsTable-push classes new table room fits = record {
   few = omega (arith, length-append classes (new ∷ []));
-  each = λ place class e. by place class (seam classes new place class e);
+  first = still classes table.first;
+  each = λ index class e. by index class (seam classes new index class e);
 }
   where
-    by : (place : ℕ) (class : Class) → ((place < length classes) × (slice_get classes place ≡ Some class)) ⊎ ((place ≡ length classes) × (new ≡ class)) → IsClassAt (classes ++ new ∷ []) place class
-    by place class (inl p) = kept classes new place class p.0 (table.each place class p.1)
-    by place class (inr p) =
+    still : (classes : List Class) → slice_get classes 0 ≡ Some q_object → slice_get (classes ++ new ∷ []) 0 ≡ Some q_object
+    still [] e = absurd (cc)
+    still (class ∷ rest) e = e
+
+    by : (index : ℕ) (class : Class) → ((index < length classes) × (slice_get classes index ≡ Some class)) ⊎ ((index ≡ length classes) × (new ≡ class)) → IsClassAt (classes ++ new ∷ []) index class
+    by index class (inl p) = kept classes new index class p.0 (table.each index class p.1)
+    by index class (inr p) =
         let P : ℕ → Type 0 = λ k. IsClassAt (classes ++ new ∷ []) k class in
         let Q : Class → Type 0 = λ c. IsClassAt (classes ++ new ∷ []) (length classes) c in
         subst P (sym p.0) (subst Q p.1 (joined classes new fits))
 
+-- the table of `QObject` alone
+
+quiet : (name : List ℕ) (kinds : List Kind) → IsMethod (record { signature = record { name = name; kinds = kinds }; is_signal = true; body = empty_body (length kinds) })
+quiet name kinds = record { params = refl; body = record { limited = refl; arguments = tt } }
+
+posts : IsMethod (record { signature = record { name = codes "deleteLater"; kinds = [] }; is_signal = false; body = delete_later_body })
+posts = record { params = refl; body = record { limited = refl; arguments = (tt, tt) } }
+
+three : (a b c : Method) → IsMethod a → IsMethod b → IsMethod c → All IsMethod (a ∷ b ∷ c ∷ [])
+three a b c first second third = All-cons IsMethod a (b ∷ c ∷ []) first (All-cons IsMethod b (c ∷ []) second (All-cons IsMethod c [] third (All-nil IsMethod)))
+
+one : (P : Property → Type 0) (property : Property) → P property → All P (property ∷ [])
+one P property h = All-cons P property [] h (All-nil P)
+
+first_fits : FitsBehind [] q_object
+first_fits = record {
+  is_new = refl;
+  base_is_there = λ b e. absurd (cc);
+  method_offset = refl;
+  property_offset = refl;
+  few_methods = omega arith;
+  few_properties = omega arith;
+  methods_once = refl;
+  properties_once = refl;
+  each_method = three _ _ _ (quiet (codes "destroyed") []) (quiet (codes "objectNameChanged") (kind.Text ∷ [])) posts;
+  each_property = one (λ property. IsTrue (is_told q_object.methods property)) (record { name = codes "objectName"; kind = kind.Text; notify = Some 1; bindable = true }) refl;
+}
+
+pub first_table : IsTable (q_object ∷ [])
+first_table = record { few = omega arith; first = refl; each = at }
+  where
+    at : (index : ℕ) (class : Class) → slice_get (q_object ∷ []) index ≡ Some class → IsClassAt (q_object ∷ []) index class
+    at zero class e =
+        let is : q_object ≡ class = cc in
+        let P : Class → Type 0 = λ c. IsClassAt (q_object ∷ []) 0 c in
+        subst P is (joined [] q_object first_fits)
+    at (suc index) class e = absurd (cc)
+
+-- a property's signal, where more methods stand behind
+pub told_behind : (methods more : List Method) (property : Property) → IsTrue (is_told methods property) → IsTrue (is_told (methods ++ more) property)
+told_behind methods more property h = by property.notify h
+  where
+    at : (methods : List Method) (number : ℕ) → IsTrue (is_told_by methods property.kind number) → IsTrue (is_told_by (methods ++ more) property.kind number)
+    at [] number h = absurd (cc)
+    at (method ∷ rest) zero h = h
+    at (method ∷ rest) (suc number) h = at rest number h
+
+    by : (notify : Option ℕ) → IsTrue (option_map_or (is_told_by methods property.kind) notify true) → IsTrue (option_map_or (is_told_by (methods ++ more) property.kind) notify true)
+    by None h = h
+    by (Some number) h = at methods number h
+
 -- a step up from a class to its superclass, in the search for a method and for a property
-pub method-step : (classes : List Class) (place : ℕ) (class : Class) → IsClassAt classes place class → (signature : Signature) (found : Option ℕ)
-    → option_or (method_number signature (inherited (methods classes) class.superclass)) (option_or (option_map (λ i. class.method_offset + i) (method_number signature class.methods)) found) ≡ option_or (method_number signature (methods classes place)) found
-method-step classes place class has signature found =
+pub method-step : (classes : List Class) (index : ℕ) (class : Class) → IsClassAt classes index class → (signature : Signature) (found : Option ℕ)
+    → option_or (method_number signature (inherited (methods classes) class.superclass)) (option_or (option_map (λ i. class.method_offset + i) (method_number signature class.methods)) found) ≡ option_or (method_number signature (methods classes index)) found
+method-step classes index class has signature found =
     let p : Method → Bool = λ method. is_same method.signature signature in
     let base = inherited (methods classes) class.superclass in
     (λ i. option_or (position p base) (option_or (option_map (λ k. has.method_offset i + k) (position p class.methods)) found))
     ∙ (sym (position-seam p base class.methods found) ∙ λ i. option_or (position p (sym has.its_methods i)) found)
 
-pub property-step : (classes : List Class) (place : ℕ) (class : Class) → IsClassAt classes place class → (name : List ℕ) (found : Option ℕ)
-    → option_or (property_number name (inherited (properties classes) class.superclass)) (option_or (option_map (λ i. class.property_offset + i) (property_number name class.properties)) found) ≡ option_or (property_number name (properties classes place)) found
-property-step classes place class has name found =
+pub property-step : (classes : List Class) (index : ℕ) (class : Class) → IsClassAt classes index class → (name : List ℕ) (found : Option ℕ)
+    → option_or (property_number name (inherited (properties classes) class.superclass)) (option_or (option_map (λ i. class.property_offset + i) (property_number name class.properties)) found) ≡ option_or (property_number name (properties classes index)) found
+property-step classes index class has name found =
     let p : Property → Bool = λ property. bytes_eq property.name name in
     let base = inherited (properties classes) class.superclass in
     (λ i. option_or (position p base) (option_or (option_map (λ k. has.property_offset i + k) (position p class.properties)) found))

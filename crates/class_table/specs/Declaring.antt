@@ -20,7 +20,7 @@ use Rattle.class_table.specs.declared.class.Method.{Method}
 use Rattle.class_table.specs.declared.class.Property.{Property}
 use Rattle.class_table.specs.declared.fault.ClassFaultKind.{ClassFaultKind}
 use Rattle.class_table.specs.declared.fault.ClassFaultKind.TheVariants.{NameTaken, NoSuperclass, BadSignature, DeclaredTwice, BadNotify, BadBody, Limit}
-use Rattle.class_table.specs.Lookup.{is_same, methods, properties, place_of, signatures, names, are_distinct_methods, are_distinct_properties}
+use Rattle.class_table.specs.Lookup.{is_same, methods, properties, index_of, signatures, names, are_distinct_methods, are_distinct_properties}
 use Rattle.class_table.specs.Steps.{Read, ◌>>=◌, provided, each}
 use Rattle.class_table.specs.Written.{WrittenMethod, WrittenProperty, WrittenClass, class_in}
 
@@ -72,13 +72,13 @@ property_of base new written = do
   notify ← notify_of base new written
   Ok (record { name = written.name; kind = written.kind; notify = notify; bindable = written.bindable })
 
--- a signal does nothing of itself
-abbrev pub empty_body : Body
-empty_body = record { actions = [] }
+-- a signal with so many parameters does nothing of itself
+abbrev pub empty_body : ℕ → Body
+empty_body params = record { params = params; actions = [] }
 
 -- the body `[{"deleteLater":"self"}]`
 abbrev pub delete_later_body : Body
-delete_later_body = record { actions = effect (DeleteLater Itself) ∷ [] }
+delete_later_body = record { params = 0; actions = effect (DeleteLater Itself) ∷ [] }
 
 -- the fault of a class whose slot has a body with this fault
 abbrev pub body_fault : Code → ClassFaultKind
@@ -93,7 +93,7 @@ abbrev pub method_of : SignedMethod → Read Method
 method_of new = option_map_or
     (λ json. body_in (body_of (length new.signature.kinds) json) >>= λ body. Ok (record { signature = new.signature; is_signal = false; body = body }))
     new.body
-    (Ok (record { signature = new.signature; is_signal = true; body = empty_body }))
+    (Ok (record { signature = new.signature; is_signal = true; body = empty_body (length new.signature.kinds) }))
 
 -- is nothing declared twice, superclasses included
 unfoldable pub is_declared_once : List Method → List SignedMethod → List Property → List WrittenProperty → Bool
@@ -119,8 +119,8 @@ class_below classes base written =
 unfoldable pub class_of : List Class → Data → Read Class
 class_of classes json =
     class_in json >>= λ written.
-    provided (is_none (place_of written.name classes)) NameTaken (
-    ok_or (place_of written.base classes) NoSuperclass >>= λ base.
+    provided (is_none (index_of written.name classes)) NameTaken (
+    ok_or (index_of written.base classes) NoSuperclass >>= λ base.
     class_below classes base written)
 
 -- the class that all others are below
@@ -131,8 +131,8 @@ q_object = record {
   method_offset = 0;
   property_offset = 0;
   methods =
-      record { signature = record { name = codes "destroyed"; kinds = [] }; is_signal = true; body = empty_body } ∷
-      record { signature = record { name = codes "objectNameChanged"; kinds = kind.Text ∷ [] }; is_signal = true; body = empty_body } ∷
+      record { signature = record { name = codes "destroyed"; kinds = [] }; is_signal = true; body = empty_body 0 } ∷
+      record { signature = record { name = codes "objectNameChanged"; kinds = kind.Text ∷ [] }; is_signal = true; body = empty_body 1 } ∷
       record { signature = record { name = codes "deleteLater"; kinds = [] }; is_signal = false; body = delete_later_body } ∷ [];
   properties = record { name = codes "objectName"; kind = kind.Text; notify = Some 1; bindable = true } ∷ [];
 }

@@ -4,6 +4,7 @@ pub mod Steps
 pub mod Written
 pub mod Forms
 pub mod Declaring
+pub mod Sound
 pub mod Signed
 pub mod ClassFile
 pub mod Table

@@ -3,7 +3,7 @@ use Rattle.std.specs.Prelude.{◌≡◌, List, map, string_bytes}
 use Rattle.indexmap.specs.IndexMap.{keys, values}
 use Rattle.class_table.specs.declared.class.Class.{Class}
 use Rattle.class_table.specs.declared.table.ClassTable.TheInside.{Inside}
-use Rattle.class_table.specs.Lookup.{IsTable}
+use Rattle.class_table.specs.Sound.{IsTable}
 
 -- the classes in the order of the file, `QObject` first
 abbrev pub classes_of : Inside → List Class

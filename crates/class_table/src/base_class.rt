@@ -1,5 +1,5 @@
 //! The class that all others are below.
-ghost use Rattle.std.specs.Prelude.{◌≡◌, ◌∷◌, [], true, false, codes, IfOk};
+ghost use Rattle.std.specs.Prelude.{◌≡◌, ◌∷◌, [], true, false, codes, length, IfOk};
 ghost use Rattle.signature_core.specs.declared.kind.Kind.TheVariants as kind;
 ghost use Rattle.class_table.specs.Declaring.{delete_later_body, empty_body, q_object};
 
@@ -39,16 +39,17 @@ fn signal(alloc: Global, name: &str, kinds: Items<Kind>) -> Result<Method, Alloc
     ensures { IfOk result (λ method. method ≡ record {
       signature = record { name = name.now; kinds = kinds };
       is_signal = true;
-      body = empty_body;
+      body = empty_body (length kinds);
     }) }
 {
+    let body = empty_body(alloc, kinds.len());
     Ok(Method {
         signature: Signature {
             name: Text::from_str(alloc, name)?,
             kinds,
         },
         is_signal: true,
-        body: empty_body(alloc),
+        body,
     })
 }
 
@@ -78,6 +79,6 @@ fn delete_later(alloc: Global) -> Result<Method, AllocError>
             kinds: Items::new(alloc),
         },
         is_signal: false,
-        body: Body { actions },
+        body: Body { params: 0, actions },
     })
 }

@@ -39,7 +39,7 @@ pub struct Property {
 #[derive(Drop)]
 pub struct Class {
     pub name: Text,
-    /// The superclass by its place in the table; only `QObject` has none.
+    /// The superclass by its index in the table; only `QObject` has none.
     pub superclass: Option<u32>,
     /// How many methods the superclasses have.
     pub method_offset: u32,
@@ -54,28 +54,28 @@ impl Class {
     /// The number of the method with this signature among those that the class declares itself.
     pub(crate) fn own_method(&self, signature: &Signature) -> Option<u32>
         requires { self.now.method_offset + length self.now.methods ≤ METHODS }
-        ensures { result ≡ option_map (λ place. self.now.method_offset + place)
+        ensures { result ≡ option_map (λ index. self.now.method_offset + index)
             (method_number signature.now self.now.methods) }
     {
-        let place = method_place(self.methods.as_slice(), signature)?;
-        Some(self.method_offset + place as u32)
+        let index = method_index(self.methods.as_slice(), signature)?;
+        Some(self.method_offset + index as u32)
     }
 
     /// The number of the property of this name among those that the class declares itself.
     pub(crate) fn own_property(&self, name: &str) -> Option<u32>
         requires { self.now.property_offset + length self.now.properties ≤ PROPERTIES }
-        ensures { result ≡ option_map (λ place. self.now.property_offset + place)
+        ensures { result ≡ option_map (λ index. self.now.property_offset + index)
             (property_number name.now self.now.properties) }
     {
-        let place = property_place(self.properties.as_slice(), name)?;
-        Some(self.property_offset + place as u32)
+        let index = property_index(self.properties.as_slice(), name)?;
+        Some(self.property_offset + index as u32)
     }
 }
 
 /// Where the method with this signature stands.
-fn method_place(methods: &[Method], signature: &Signature) -> Option<usize>
+fn method_index(methods: &[Method], signature: &Signature) -> Option<usize>
     ensures value { result ≡ method_number signature.now methods.now }
-    ensures within { IfSome result (λ place. place < length methods.now) }
+    ensures within { IfSome result (λ index. index < length methods.now) }
 {
     methods
         .iter()
@@ -83,9 +83,9 @@ fn method_place(methods: &[Method], signature: &Signature) -> Option<usize>
 }
 
 /// Where the property of this name stands.
-fn property_place(properties: &[Property], name: &str) -> Option<usize>
+fn property_index(properties: &[Property], name: &str) -> Option<usize>
     ensures value { result ≡ property_number name.now properties.now }
-    ensures within { IfSome result (λ place. place < length properties.now) }
+    ensures within { IfSome result (λ index. index < length properties.now) }
 {
     properties
         .iter()

@@ -1,14 +1,15 @@
 //! What a written class declares, and the first fault in it.
-ghost use Rattle.std.specs.Prelude.{◌≡◌, None, ◌++◌, ◌+◌, ◌<◌, ◌≤◌, IfOk, IfSome, IsTrue, length, map, position, bytes_eq, is_none};
+ghost use Rattle.std.specs.Prelude.{◌≡◌, None, Ok, ◌++◌, ◌+◌, ◌<◌, ◌≤◌, IfOk, IfSome, IsTrue, length, map, position, bytes_eq, is_none};
 ghost use Rattle.std.specs.Option.{ok_or};
-ghost use Rattle.std.specs.List.{list_all, list_any};
+ghost use Rattle.std.specs.List.{All, list_all};
 ghost use Rattle.serde_json.specs.View.{view};
-ghost use Rattle.signature_core.specs.Reading.{signature_of};
+ghost use Rattle.signature_core.specs.Reading.{IsNormal, signature_of};
 ghost use Rattle.term_core.specs.Bodies.{body_of};
 ghost use Rattle.class_table.specs.Declaring.{body_in, class_below, class_of, empty_body, is_declared_once, is_signal_at, method_of, new_names, new_signatures, notify_of, number_of, property_of, signal_named, signed_of, tells};
 ghost use Rattle.class_table.specs.Faults.{Gives};
 ghost use Rattle.class_table.specs.Forms.{class_seen, method_seen, property_seen};
-ghost use Rattle.class_table.specs.Lookup.{FitsBehind, is_same, are_distinct_methods, are_distinct_properties, method_number, methods, names, place_of, properties, property_number, signatures};
+ghost use Rattle.class_table.specs.Lookup.{is_same, is_distinct, are_distinct_methods, are_distinct_properties, method_number, methods, names, index_of, properties, property_number, signatures, text_of};
+ghost use Rattle.class_table.specs.Sound.{FitsBehind};
 ghost use Rattle.class_table.specs.Signed.{signed_seen};
 ghost use Rattle.class_table.specs.Steps.{each};
 
@@ -16,6 +17,7 @@ use crate::class::{Class, METHODS, Method, PROPERTIES, Property, is_same};
 use crate::fault::{ClassFaultKind, Stop};
 use crate::form::{ClassForm, MethodForm, PropertyForm};
 use crate::table::ClassTable;
+use indexmap::IndexSet;
 use plain_types::{Items, Text};
 use refusals::{Code, Fault};
 use serde_json::Value;
@@ -33,7 +35,8 @@ pub(crate) struct Signed<'j> {
 
 /// The methods with their signatures.
 fn signed_methods<'j>(alloc: Global, forms: &[MethodForm<'j>]) -> Result<Vec<Signed<'j>>, Stop>
-    ensures { Gives (λ v. map signed_seen v.items) result (each signed_of (map method_seen forms.now)) }
+    ensures exact { Gives (λ v. map signed_seen v.items) result (each signed_of (map method_seen forms.now)) }
+    ensures normal { IfOk result (λ v. All (λ new. IsNormal new.signature) v.items) }
 {
     let mut signed = Vec::new(alloc);
     for form in forms {
@@ -48,7 +51,8 @@ fn signed_methods<'j>(alloc: Global, forms: &[MethodForm<'j>]) -> Result<Vec<Sig
 
 /// The signature that a text spells; a text that spells none is a fault of this kind.
 fn signature(alloc: Global, text: &str, kind: ClassFaultKind) -> Result<Signature, Stop>
-    ensures { Gives (λ s. s) result (ok_or (signature_of text.now) kind) }
+    ensures exact { Gives (λ s. s) result (ok_or (signature_of text.now) kind) }
+    ensures normal { IfOk result IsNormal }
 {
     match Signature::normalise(alloc, text) {
         Ok(signature) => Ok(signature),
@@ -59,12 +63,21 @@ fn signature(alloc: Global, text: &str, kind: ClassFaultKind) -> Result<Signatur
 
 /// Whether no method is declared twice.
 #[tactic(auto, using(crate::proofs::OnceLemmas::new_methods_once))]
-fn are_new_methods(table: &ClassTable, base: u32, signed: &[Signed]) -> bool
-    requires { IsTrue (are_distinct_methods (signatures (methods table.now base))) }
-    ensures { result ≡ are_distinct_methods
-        (signatures (methods table.now base) ++ new_signatures (map signed_seen signed.now)) }
+fn are_new_methods(
+    alloc: Global,
+    table: &ClassTable,
+    base: u32,
+    signed: &[Signed],
+) -> Result<bool, Stop>
+    requires once { IsTrue (are_distinct_methods (signatures (methods table.now base))) }
+    requires normal { All (λ new. IsNormal new.signature) signed.now }
+    ensures { Gives (λ b. b) result (Ok (are_distinct_methods
+        (signatures (methods table.now base) ++ new_signatures (map signed_seen signed.now)))) }
 {
-    are_not_inherited(table, base, signed) && are_distinct(signed)
+    if !are_not_inherited(table, base, signed) {
+        return Ok(false);
+    }
+    are_distinct(alloc, normal_texts(alloc, signed)?)
 }
 
 fn are_not_inherited(table: &ClassTable, base: u32, signed: &[Signed]) -> bool
@@ -76,32 +89,46 @@ fn are_not_inherited(table: &ClassTable, base: u32, signed: &[Signed]) -> bool
         .all(|new| table.method(base, &new.signature).is_none())
 }
 
-#[tactic(auto, using(crate::proofs::OnceLemmas::any_signature))]
-fn are_distinct(signed: &[Signed]) -> bool
-    ensures { result ≡ are_distinct_methods (new_signatures (map signed_seen signed.now)) }
+/// The normal texts of the signatures.
+fn normal_texts(alloc: Global, signed: &[Signed]) -> Result<Vec<Text>, Stop>
+    ensures { Gives (λ v. v.items) result (Ok (map (λ new. text_of new.signature) signed.now)) }
 {
-    for (place, new) in signed.iter().enumerate() {
-        if is_among(&new.signature, &signed[place + 1..]) {
-            return false;
-        }
+    let mut texts = Vec::new(alloc);
+    for new in signed {
+        texts.push(Text::from_string(new.signature.text(alloc)?))?;
     }
-    true
+    Ok(texts)
 }
 
-fn is_among(signature: &Signature, signed: &[Signed]) -> bool
-    ensures { result ≡ list_any (λ new. is_same signature.now new.signature) signed.now }
+/// Whether no two of the texts are the same.
+fn are_distinct(alloc: Global, texts: Vec<Text>) -> Result<bool, Stop>
+    ensures { Gives (λ b. b) result (Ok (is_distinct bytes_eq texts.items)) }
 {
-    signed.iter().any(|new| is_same(signature, &new.signature))
+    let mut seen = IndexSet::new(alloc);
+    for text in texts {
+        if !seen.insert(text)? {
+            return Ok(false);
+        }
+    }
+    Ok(true)
 }
 
 /// Whether no property is declared twice.
 #[tactic(auto, using(crate::proofs::OnceLemmas::new_properties_once))]
-fn are_new_properties(table: &ClassTable, base: u32, forms: &[PropertyForm]) -> bool
+fn are_new_properties(
+    alloc: Global,
+    table: &ClassTable,
+    base: u32,
+    forms: &[PropertyForm],
+) -> Result<bool, Stop>
     requires { IsTrue (are_distinct_properties (names (properties table.now base))) }
-    ensures { result ≡ are_distinct_properties
-        (names (properties table.now base) ++ new_names (map property_seen forms.now)) }
+    ensures { Gives (λ b. b) result (Ok (are_distinct_properties
+        (names (properties table.now base) ++ new_names (map property_seen forms.now)))) }
 {
-    names_are_not_inherited(table, base, forms) && names_are_distinct(forms)
+    if !names_are_not_inherited(table, base, forms) {
+        return Ok(false);
+    }
+    are_distinct(alloc, name_texts(alloc, forms)?)
 }
 
 fn names_are_not_inherited(table: &ClassTable, base: u32, forms: &[PropertyForm]) -> bool
@@ -113,22 +140,15 @@ fn names_are_not_inherited(table: &ClassTable, base: u32, forms: &[PropertyForm]
         .all(|new| table.property(base, new.name).is_none())
 }
 
-#[tactic(auto, using(crate::proofs::OnceLemmas::any_name))]
-fn names_are_distinct(forms: &[PropertyForm]) -> bool
-    ensures { result ≡ are_distinct_properties (new_names (map property_seen forms.now)) }
+/// The names of the properties.
+fn name_texts(alloc: Global, forms: &[PropertyForm]) -> Result<Vec<Text>, Stop>
+    ensures { Gives (λ v. v.items) result (Ok (map (λ new. new.name.now) forms.now)) }
 {
-    for (place, new) in forms.iter().enumerate() {
-        if name_is_among(new.name, &forms[place + 1..]) {
-            return false;
-        }
+    let mut texts = Vec::new(alloc);
+    for new in forms {
+        texts.push(Text::from_str(alloc, new.name)?)?;
     }
-    true
-}
-
-fn name_is_among(name: &str, forms: &[PropertyForm]) -> bool
-    ensures { result ≡ list_any (λ new. bytes_eq name.now new.name.now) forms.now }
-{
-    forms.iter().any(|new| name == new.name)
+    Ok(texts)
 }
 
 /// The number that a signature has, where the new methods stand behind those of the superclass.
@@ -139,16 +159,16 @@ fn number_of(table: &ClassTable, base: u32, signed: &[Signed], wanted: &Signatur
 {
     match table.method(base, wanted) {
         Some(number) => Some(number),
-        None => match place_of(signed, wanted) {
-            Some(place) => Some(table.method_count(base) + place as u32),
+        None => match index_of(signed, wanted) {
+            Some(index) => Some(table.method_count(base) + index as u32),
             None => None,
         },
     }
 }
 
-fn place_of(signed: &[Signed], wanted: &Signature) -> Option<usize>
+fn index_of(signed: &[Signed], wanted: &Signature) -> Option<usize>
     ensures value { result ≡ position (λ new. is_same new.signature wanted.now) signed.now }
-    ensures within { IfSome result (λ place. place < length signed.now) }
+    ensures within { IfSome result (λ index. index < length signed.now) }
 {
     signed
         .iter()
@@ -267,21 +287,17 @@ fn declared_method(alloc: Global, new: Signed) -> Result<Method, Stop>
     ensures { Gives (λ m. m) result (method_of (signed_seen new.entry)) }
 {
     let Signed { signature, body } = new;
-    match body {
-        Some(json) => {
-            let body = slot_body(alloc, json, signature.kinds.len())?;
-            Ok(Method {
-                signature,
-                is_signal: false,
-                body,
-            })
-        }
-        None => Ok(Method {
-            signature,
-            is_signal: true,
-            body: empty_body(alloc),
-        }),
-    }
+    let params = signature.kinds.len();
+    let is_signal = body.is_none();
+    let body = match body {
+        Some(json) => slot_body(alloc, json, params)?,
+        None => empty_body(alloc, params),
+    };
+    Ok(Method {
+        signature,
+        is_signal,
+        body,
+    })
 }
 
 fn slot_body(alloc: Global, json: &Value, params: usize) -> Result<Body, Stop>
@@ -295,11 +311,12 @@ fn slot_body(alloc: Global, json: &Value, params: usize) -> Result<Body, Stop>
     }
 }
 
-/// The body of a signal.
-pub(crate) fn empty_body(alloc: Global) -> Body
-    ensures { result ≡ empty_body }
+/// The body of a signal with so many parameters.
+pub(crate) fn empty_body(alloc: Global, params: usize) -> Body
+    ensures { result ≡ empty_body params }
 {
     Body {
+        params,
         actions: Items::new(alloc),
     }
 }
@@ -330,14 +347,14 @@ fn class_below(
 ) -> Result<Class, Stop>
     requires base_is_there { base < length table.now }
     ensures exact { Gives (λ class. class) result (class_below table.now base (class_seen form.now)) }
-    ensures fits { place_of form.now.name.now table.now ≡ None
+    ensures fits { index_of form.now.name.now table.now ≡ None
         → IfOk result (λ class. FitsBehind table.now class) }
 {
     let method_offset = table.method_count(base);
     let property_offset = table.property_count(base);
     let signed = signed_methods(alloc, form.methods.as_slice())?;
     let forms = form.properties.as_slice();
-    if !is_declared_once(table, base, signed.as_slice(), forms) {
+    if !is_declared_once(alloc, table, base, signed.as_slice(), forms)? {
         return Err(Stop::Fault(ClassFaultKind::DeclaredTwice));
     }
     if method_offset as usize + signed.len() > METHODS
@@ -357,18 +374,24 @@ fn class_below(
     })
 }
 
+/// Whether no method and no property is declared twice.
 #[tactic(auto, unfolding(crate::specs::Declaring::is_declared_once))]
 fn is_declared_once(
+    alloc: Global,
     table: &ClassTable,
     base: u32,
     signed: &[Signed],
     forms: &[PropertyForm],
-) -> bool
+) -> Result<bool, Stop>
     requires methods_once { IsTrue (are_distinct_methods (signatures (methods table.now base))) }
     requires properties_once { IsTrue (are_distinct_properties (names (properties table.now base))) }
-    ensures { result ≡ is_declared_once
+    requires normal { All (λ new. IsNormal new.signature) signed.now }
+    ensures { Gives (λ b. b) result (Ok (is_declared_once
         (methods table.now base) (map signed_seen signed.now)
-        (properties table.now base) (map property_seen forms.now) }
+        (properties table.now base) (map property_seen forms.now))) }
 {
-    are_new_methods(table, base, signed) && are_new_properties(table, base, forms)
+    if !are_new_methods(alloc, table, base, signed)? {
+        return Ok(false);
+    }
+    are_new_properties(alloc, table, base, forms)
 }

@@ -4,7 +4,6 @@ ghost use Rattle.serde_json.specs.View.{view};
 ghost use Rattle.class_table.specs.ClassFile.{classes_in, declared, json_in, table_of};
 ghost use Rattle.class_table.specs.Faults.{Answers, Gives};
 
-use crate::base_class::q_object;
 use crate::class::CLASSES;
 use crate::declare::declared_class;
 use crate::fault::{ClassError, ClassFaultKind, Stop};
@@ -31,9 +30,7 @@ impl ClassTable {
             Ok(written) => written,
             Err(stop) => return Err(stop.at(0)),
         };
-        let mut table = ClassTable::new(alloc);
-        table.push(q_object(alloc)?)?;
-        declare(alloc, table, written)
+        declare(alloc, ClassTable::new(alloc)?, written)
     }
 }
 
@@ -81,8 +78,8 @@ fn declare(
     requires { length table + length written.now ≤ CLASSES + 1 }
     ensures { Answers result (declared 1 table (map view written.now)) }
 {
-    for (place, json) in written.iter().enumerate() {
-        let number = place as u32 + 1;
+    for (index, json) in written.iter().enumerate() {
+        let number = index as u32 + 1;
         let class = match declared_class(alloc, &table, json) {
             Ok(class) => class,
             Err(stop) => return Err(stop.at(number)),

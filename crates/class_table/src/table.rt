@@ -2,8 +2,11 @@
 ghost use Rattle.std.specs.Prelude.{◌≡◌, ◌≤◌, ◌++◌, ◌∷◌, List, [], Some, None, IsTrue, IfSome, IfNone, IfOk, OnOk, IfErr, length, map, slice_get, string_bytes};
 ghost use Rattle.std.specs.Option.{option_copied};
 ghost use Rattle.class_table.specs.declared.fault.ClassError.TheVariants.{Memory};
-ghost use Rattle.class_table.specs.Lookup.{FitsBehind, IsClassAt, are_distinct_methods, are_distinct_properties, inherits, line, method_number, method_text, methods, names, place_of, properties, property_number, signatures};
+ghost use Rattle.class_table.specs.Declaring.{q_object};
+ghost use Rattle.class_table.specs.Lookup.{are_distinct_methods, are_distinct_properties, inherits, line, method_number, method_text, methods, names, index_of, properties, property_number, signatures};
+ghost use Rattle.class_table.specs.Sound.{FitsBehind, IsClassAt, IsMethod, IsTable, is_told};
 
+use crate::base_class::q_object;
 use crate::class::{CLASSES, Class, METHODS, Method, PROPERTIES, Property};
 use crate::fault::ClassError;
 use indexmap::IndexMap;
@@ -11,8 +14,8 @@ use signature_core::Signature;
 use std::alloc::{AllocError, Global};
 use std::marker::Model;
 
-/// The classes of a class file behind `QObject`, whose place is 0; the first class of the file has
-/// place 1.
+/// The classes of a class file behind `QObject`, whose index is 0; the first class of the file has
+/// index 1.
 #[derive(Drop)]
 pub struct ClassTable {
     alloc: Global,
@@ -37,13 +40,16 @@ impl Model for ClassTable {
 }
 
 impl ClassTable {
-    pub(crate) fn new(alloc: Global) -> ClassTable
-        ensures { result ≡ [] }
+    /// The table of `QObject` alone.
+    pub(crate) fn new(alloc: Global) -> Result<ClassTable, ClassError>
+        ensures ok { IfOk result (λ table. table ≡ q_object ∷ []) }
+        ensures err { IfErr result (λ error. error ≡ Memory) }
     {
-        ClassTable {
-            alloc,
-            classes: IndexMap::new(alloc),
-        }
+        let class = q_object(alloc)?;
+        let name = String::from_str(alloc, class.name.as_str())?;
+        let mut classes = IndexMap::new(alloc);
+        classes.insert(name, class)?;
+        Ok(ClassTable { alloc, classes })
     }
 
     pub(crate) fn len(&self) -> usize
@@ -64,17 +70,18 @@ impl ClassTable {
         Ok(())
     }
 
-    /// The place of the class of this name.
+    /// The index of the class of this name.
     pub fn find(&self, name: &str) -> Option<u32>
-        ensures { result ≡ place_of name.now self.now }
+        ensures { result ≡ index_of name.now self.now }
     {
-        let place = self.classes.get_index_of(name)?;
-        Some(place as u32)
+        let index = self.classes.get_index_of(name)?;
+        Some(index as u32)
     }
 
-    /// The class at this place.
+    /// The class at this index.
     pub fn class_row(&self, class: u32) -> Option<&Class>
         ensures value { option_copied result ≡ slice_get self.now class }
+        ensures table { IsTable self.now }
         ensures has { IfSome result (λ row. IsClassAt self.now class row.now) }
         ensures no_methods { IfNone result (methods self.now class ≡ []) }
         ensures no_properties { IfNone result (properties self.now class ≡ []) }
@@ -146,8 +153,8 @@ impl ClassTable {
     {
         let mut found = None;
         let mut next = Some(class);
-        while let Some(place) = next {
-            let Some(row) = self.class_row(place) else {
+        while let Some(index) = next {
+            let Some(row) = self.class_row(index) else {
                 return found;
             };
             found = row.own_method(signature).or(found);
@@ -162,8 +169,8 @@ impl ClassTable {
     {
         let mut found = None;
         let mut next = Some(class);
-        while let Some(place) = next {
-            let Some(row) = self.class_row(place) else {
+        while let Some(index) = next {
+            let Some(row) = self.class_row(index) else {
                 return found;
             };
             found = row.own_property(name).or(found);
@@ -177,11 +184,11 @@ impl ClassTable {
         ensures { result ≡ inherits self.now class base }
     {
         let mut next = Some(class);
-        while let Some(place) = next {
-            let Some(row) = self.class_row(place) else {
+        while let Some(index) = next {
+            let Some(row) = self.class_row(index) else {
                 return false;
             };
-            if place == base {
+            if index == base {
                 return true;
             }
             next = row.superclass;
@@ -191,11 +198,12 @@ impl ClassTable {
 
     /// The method of this number.
     pub fn method_row(&self, class: u32, number: u32) -> Option<&Method>
-        ensures { option_copied result ≡ slice_get (methods self.now class) number }
+        ensures value { option_copied result ≡ slice_get (methods self.now class) number }
+        ensures sound { IfSome result (λ method. IsMethod method.now) }
     {
         let mut next = Some(class);
-        while let Some(place) = next {
-            let row = self.class_row(place)?;
+        while let Some(index) = next {
+            let row = self.class_row(index)?;
             if row.method_offset <= number {
                 return row.methods.get((number - row.method_offset) as usize);
             }
@@ -206,11 +214,12 @@ impl ClassTable {
 
     /// The property of this number.
     pub fn property_row(&self, class: u32, number: u32) -> Option<&Property>
-        ensures { option_copied result ≡ slice_get (properties self.now class) number }
+        ensures value { option_copied result ≡ slice_get (properties self.now class) number }
+        ensures told { IfSome result (λ property. IsTrue (is_told (methods self.now class) property.now)) }
     {
         let mut next = Some(class);
-        while let Some(place) = next {
-            let row = self.class_row(place)?;
+        while let Some(index) = next {
+            let row = self.class_row(index)?;
             if row.property_offset <= number {
                 return row.properties.get((number - row.property_offset) as usize);
             }

@@ -1,5 +1,5 @@
 -- The bodies of slots in JSON.
-use Rattle.std.specs.Prelude.{◌&&◌, ℕ, Bool, List, [], ◌∷◌, Option, Some, None, Ok, Err, codes, bytes_eq, if◌then◌else◌, is_some, nat_le, option_map, unwrap_or}
+use Rattle.std.specs.Prelude.{◌&&◌, ℕ, Bool, List, [], ◌∷◌, Option, Some, None, Ok, Err, IsTrue, codes, bytes_eq, if◌then◌else◌, is_some, nat_le, option_map, unwrap_or}
 use Rattle.serde_json.specs.Data.{Data, array, object, Items, no_items, item, Members, no_members, member}
 use Rattle.serde_json.specs.Find.{get}
 use Rattle.refusals.specs.declared.code.Code.TheVariants.{BadValue, Limit}
@@ -8,6 +8,7 @@ use Rattle.term_core.specs.declared.limits.TheConstants.{ACTIONS}
 use Rattle.term_core.specs.declared.scope.Scope.{Scope}
 use Rattle.term_core.specs.declared.scope.Scope.TheVariants.{Slot}
 use Rattle.term_core.specs.Act.{Act, effect, when, acts_of, counts, are_limited}
+use Rattle.term_core.specs.Arguments.{ActsTakeAtMost}
 use Rattle.term_core.specs.Effects.{effect_in}
 use Rattle.term_core.specs.Forms.{term_in}
 use Rattle.term_core.specs.Json.{Read, ◌>>=◌, has_only, at_key, provided}
@@ -53,9 +54,14 @@ action_in scope json = made scope json (option_map (actions_in scope) (get (code
 abbrev pub is_body_limited : List Act → Bool
 is_body_limited actions = nat_le (counts (acts_of actions)) ACTIONS && are_limited (acts_of actions)
 
-abbrev pub limited_body : List Act → Read Body
-limited_body actions = if is_body_limited actions then Ok (record { actions = actions }) else Err Limit
+abbrev pub limited_body : ℕ → List Act → Read Body
+limited_body params actions = if is_body_limited actions then Ok (record { params = params; actions = actions }) else Err Limit
 
 -- the body of a slot with so many parameters
 abbrev pub body_of : ℕ → Data → Read Body
-body_of params json = actions_in (Slot params) json >>= limited_body
+body_of params json = actions_in (Slot params) json >>= limited_body params
+
+-- a body keeps to the limits, and takes no argument but its parameters
+pub record IsBody (body : Body) : Type 0 where
+  pub limited : IsTrue (is_body_limited body.actions)
+  pub arguments : ActsTakeAtMost body.params (acts_of body.actions)

@@ -8,8 +8,8 @@ use Rattle.signature_core.specs.declared.signature.Signature.{Signature}
 use Rattle.signature_core.specs.Reading.{signature_of}
 use Rattle.term_core.specs.declared.action.Effect.{Effect}
 use Rattle.term_core.specs.declared.action.Effect.TheVariants as e
-use Rattle.term_core.specs.declared.action.Mode.{Mode}
-use Rattle.term_core.specs.declared.action.Mode.TheVariants as mode
+use Rattle.connection_types.specs.declared.connection_type.ConnectionType.{ConnectionType}
+use Rattle.connection_types.specs.declared.connection_type.ConnectionType.TheVariants as mode
 use Rattle.term_core.specs.declared.scope.Scope.{Scope}
 use Rattle.term_core.specs.Term.{Term}
 use Rattle.term_core.specs.Json.{Read, ◌>>=◌, formed, provided, has_only, at_key, name_in, target_in}
@@ -33,13 +33,13 @@ abbrev pub flag_in : List ℕ → Data → Read Bool
 flag_in key json = option_map_or (λ there. formed (as_bool there)) (get key json) (Ok false)
 
 -- how calls are made
-abbrev pub mode_named : List ℕ → Option Mode
+abbrev pub mode_named : List ℕ → Option ConnectionType
 mode_named word =
     if bytes_eq word (codes "auto") then Some mode.Auto else (
     if bytes_eq word (codes "direct") then Some mode.Direct else (
     if bytes_eq word (codes "queued") then Some mode.Queued else None))
 
-abbrev pub mode_in : Data → Read Mode
+abbrev pub mode_in : Data → Read ConnectionType
 mode_in json = option_map_or (λ there. formed (option_and_then mode_named (as_str there))) (get (codes "type") json) (Ok mode.Auto)
 
 -- the expressions of a list

@@ -4,6 +4,7 @@ pub mod Nodes
 pub mod Json
 pub mod Forms
 pub mod Act
+pub mod Arguments
 pub mod CodedAct
 pub mod Steps
 pub mod StepFalls

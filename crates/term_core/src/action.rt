@@ -6,20 +6,10 @@ ghost use Rattle.term_core.specs.Act.{effect, when, acts_of, count, counts, is_e
 
 use crate::expr::Expr;
 use crate::target::Target;
+use connection_types::ConnectionType;
 use plain_types::{Items, Text};
 use signature_core::Signature;
 use std::marker::Model;
-
-/// How the calls of a connection are made.
-#[derive(Clone, Copy, Debug, PartialEq, Eq)]
-pub enum Mode {
-    /// At once: the sender and the receiver live in one session.
-    Auto,
-    /// At once.
-    Direct,
-    /// Later, from the session's queue of events.
-    Queued,
-}
 
 /// An action that does one thing. `of` is the object that it acts on. A target's object is looked up
 /// when the action is run.
@@ -43,7 +33,7 @@ pub enum Effect {
         signal: Signature,
         to: Target,
         method: Signature,
-        mode: Mode,
+        mode: ConnectionType,
         unique: bool,
         single: bool,
     },

@@ -1,8 +1,8 @@
 //! Bodies of slots.
-ghost use Rattle.std.specs.Prelude.{◌≡◌, IfOk, IsTrue};
+ghost use Rattle.std.specs.Prelude.{◌≡◌, IfOk};
 ghost use Rattle.serde_json.specs.View.{view, items_view};
 ghost use Rattle.refusals.specs.Answers.{Answers};
-ghost use Rattle.term_core.specs.Bodies.{body_of, is_body_limited, action_in, actions_in, acts_in};
+ghost use Rattle.term_core.specs.Bodies.{IsBody, body_of, action_in, actions_in, acts_in};
 
 use crate::action::{Action, are_limited, count_all};
 use crate::effects::effect;
@@ -18,6 +18,8 @@ use std::alloc::Global;
 /// What a slot does when it is run: its actions, one after another.
 #[derive(Drop)]
 pub struct Body {
+    /// How many parameters the slot has.
+    pub params: usize,
     pub actions: Items<Action>,
 }
 
@@ -28,14 +30,15 @@ impl Body {
     /// text of more than `TEXT_BYTES`, is `Limit`, but only where nothing is `BadValue`.
     pub fn from_json(alloc: Global, json: &Json, params: usize) -> Result<Body, Fault>
         ensures answers { Answers result (body_of params (view json.now)) }
-        ensures limited { IfOk result (λ body. IsTrue (is_body_limited body.actions)) }
+        ensures params { IfOk result (λ body. body.params ≡ params) }
+        ensures sound { IfOk result IsBody }
     {
         let actions = actions(alloc, Scope::Slot(params), json)?;
         let list = actions.as_slice();
         if count_all(list) > ACTIONS || !are_limited(list) {
             return Err(Fault::Refused(Code::Limit));
         }
-        Ok(Body { actions })
+        Ok(Body { params, actions })
     }
 }
 

@@ -5,12 +5,13 @@ ghost use Rattle.refusals.specs.Answers.{Answers};
 ghost use Rattle.term_core.specs.Json.{target_in};
 ghost use Rattle.term_core.specs.Effects.{signature_in, unless_null, optional, flag_in, mode_in, mode_named, terms_in, set_in, emit_in, connect_in, disconnect_in, delete_in, delete_later_in, block_in, set_parent_in, effect_in};
 
-use crate::action::{Effect, Mode};
+use crate::action::Effect;
 use crate::expr::Expr;
 use crate::forms::{expression, subject};
 use crate::json::{BAD, has_only, name, target};
 use crate::scope::Scope;
 use crate::target::Target;
+use connection_types::ConnectionType;
 use plain_types::Items;
 use refusals::Fault;
 use serde_json::Value as Json;
@@ -61,24 +62,24 @@ fn flag(json: &Json, key: &str) -> Result<bool, Fault>
     }
 }
 
-fn mode_from_name(name: &str) -> Option<Mode>
+fn mode_from_name(name: &str) -> Option<ConnectionType>
     ensures { result ≡ mode_named name.now }
 {
     match name {
-        "auto" => Some(Mode::Auto),
-        "direct" => Some(Mode::Direct),
-        "queued" => Some(Mode::Queued),
+        "auto" => Some(ConnectionType::Auto),
+        "direct" => Some(ConnectionType::Direct),
+        "queued" => Some(ConnectionType::Queued),
         _ => None,
     }
 }
 
 /// The mode behind the key `type`.
-fn mode(json: &Json) -> Result<Mode, Fault>
+fn mode(json: &Json) -> Result<ConnectionType, Fault>
     ensures { Answers result (mode_in (view json.now)) }
 {
     match json.get("type") {
         Some(name) => name.as_str().and_then(mode_from_name).ok_or(BAD),
-        None => Ok(Mode::Auto),
+        None => Ok(ConnectionType::Auto),
     }
 }
 

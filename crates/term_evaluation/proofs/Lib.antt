@@ -1,4 +1,3 @@
 pub mod Branches
-pub mod Sufficing
-pub mod ReadBodies
-pub mod UnfoldedBodies
+pub mod EvaluationLemmas
+pub mod SubstitutionLemmas

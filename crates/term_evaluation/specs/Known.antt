@@ -1,4 +1,4 @@
--- What a reader knows: of finitely many properties what reading them answers.
+-- A reader of finitely many properties.
 use Rattle.std.specs.Prelude.{ℕ, Bool, true, false, ◌&&◌, ◌==◌, List, Err, bytes_eq, if◌then◌else◌}
 use Rattle.std.specs.List.{find, list_any}
 use Rattle.std.specs.Option.{option_map_or}
@@ -34,6 +34,6 @@ is_about target name known = is_of target known && bytes_eq name known.name
 abbrev pub unknown : {O : Type 0} → List (Known O) → Target → Code
 unknown all target = if list_any (is_of target) all then NoSuchProperty else NoSuchObject
 
--- what reading a property answers by all that is known
+-- what reading a property answers where this is all that is known
 abbrev pub read_of : {O : Type 0} → List (Known O) → Target → List ℕ → Answer O
 read_of all target name = option_map_or (λ known. known.answer) (find (is_about target name) all) (Err (refused (unknown all target)))

@@ -1,20 +1,19 @@
 -- What holds of evaluation and of unfolding.
-use Rattle.std.specs.Prelude.{◌≡◌, ◌≤◌, ◌<◌, ℕ, List, length, Ok}
+use Rattle.std.specs.Prelude.{◌≡◌, ◌≤◌, ℕ, List, [], length, IfOk, IsTrue}
 use Rattle.std.specs.List.{All}
-use Rattle.serde_json.specs.Data.{Data}
 use Rattle.variant_value.specs.declared.value.Value.{Value}
-use Rattle.term_core.specs.declared.action.Effect.{Effect}
-use Rattle.term_core.specs.declared.action.Effect.TheVariants as e
+use Rattle.variant_value.specs.Values.{IsShort}
 use Rattle.term_core.specs.declared.body.Body.{Body}
 use Rattle.term_core.specs.declared.target.Target.{Target}
-use Rattle.term_core.specs.Act.{Act, Acts, effect, when, nothing, more, acts_of}
-use Rattle.term_core.specs.Bodies.{body_of}
-use Rattle.term_core.specs.Term.{Term, const, arg, prop, binary, choice}
+use Rattle.term_core.specs.Act.{acts_of, counts}
+use Rattle.term_core.specs.Arguments.{ActsTakeAtMost}
+use Rattle.term_core.specs.Bodies.{is_body_limited}
+use Rattle.term_core.specs.Term.{Term, nodes, has_short_texts}
 use Rattle.term_evaluation.specs.declared.reading.Read.{Read}
 use Rattle.term_evaluation.specs.Evaluation.{eval_by}
 use Rattle.term_evaluation.specs.Outcomes.{Answer}
 use Rattle.term_evaluation.specs.Reading.{reads_of}
-use Rattle.term_evaluation.specs.Unfolding.{unfolded_body}
+use Rattle.term_evaluation.specs.Unfolding.{unfolded_body, unfolded_term}
 
 -- two readers answer the same at each of these properties
 abbrev pub AgreeOn : {O : Type 0} → List Read → (Target → List ℕ → Answer O) → (Target → List ℕ → Answer O) → Type 0
@@ -24,30 +23,26 @@ AgreeOn reads one other = All (λ read. one read.target read.name ≡ other read
 abbrev pub ReadsSuffice : Type 0 → Type 0
 ReadsSuffice O = (term : Term) (args : List Value) (one other : Target → List ℕ → Answer O) → AgreeOn (reads_of term) one other → eval_by args one term ≡ eval_by args other term
 
--- every argument of an expression is among the first so many
-abbrev pub TakesAtMost : ℕ → Term → Type 0
-TakesAtMost n (const value) = Unit {0}
-TakesAtMost n (arg place) = place < n
-TakesAtMost n (prop target name) = Unit {0}
-TakesAtMost n (binary operator a b) = TakesAtMost n a × TakesAtMost n b
-TakesAtMost n (choice test a b) = TakesAtMost n test × (TakesAtMost n a × TakesAtMost n b)
+-- evaluating over arguments is evaluating what has them put in
+abbrev pub EvaluatesInPlace : Type 0 → Type 0
+EvaluatesInPlace O = (term : Term) (args : List Value) (read : Target → List ℕ → Answer O) → eval_by args read term ≡ eval_by [] read (unfolded_term args term)
 
--- so it is in an action that does one thing, and in any action
-abbrev pub EffectTakesAtMost : ℕ → Effect → Type 0
-EffectTakesAtMost n (e.Set of property value) = TakesAtMost n value
-EffectTakesAtMost n (e.Emit of signal sent) = All (TakesAtMost n) sent
-EffectTakesAtMost n other = Unit {0}
+-- where constants, arguments and what is read are short, so is a value that comes of them
+abbrev pub ValuesAreShort : Type 0 → Type 0
+ValuesAreShort O = (term : Term) (args : List Value) (read : Target → List ℕ → Answer O) → IsTrue (has_short_texts term) → All IsShort args → ((target : Target) (name : List ℕ) → IfOk (read target name) IsShort) → IfOk (eval_by args read term) IsShort
 
-abbrev mutual
-  pub ActTakesAtMost : ℕ → Act → Type 0
-  ActTakesAtMost n (effect plain) = EffectTakesAtMost n plain
-  ActTakesAtMost n (when test held failed) = TakesAtMost n test × (ActsTakeAtMost n held × ActsTakeAtMost n failed)
-
-  pub ActsTakeAtMost : ℕ → Acts → Type 0
-  ActsTakeAtMost n nothing = Unit {0}
-  ActsTakeAtMost n (more action rest) = ActTakesAtMost n action × ActsTakeAtMost n rest
-
--- a body that was read for so many parameters has no argument left where it is unfolded with as many
+-- a body that takes no argument but its parameters has none left where it is unfolded with as many
 -- arguments, or more
 abbrev pub UnfoldingLeavesNoArgument : Type 0
-UnfoldingLeavesNoArgument = (params : ℕ) (json : Data) (body : Body) (args : List Value) → body_of params json ≡ Ok body → params ≤ length args → ActsTakeAtMost 0 (acts_of (unfolded_body args body))
+UnfoldingLeavesNoArgument = (body : Body) (args : List Value) → ActsTakeAtMost body.params (acts_of body.actions) → body.params ≤ length args → ActsTakeAtMost 0 (acts_of (unfolded_body args body))
+
+-- unfolding keeps how many forms an expression is made of, and how many actions a body has
+abbrev pub UnfoldingKeepsNodes : Type 0
+UnfoldingKeepsNodes = (term : Term) (args : List Value) → nodes (unfolded_term args term) ≡ nodes term
+
+abbrev pub UnfoldingKeepsActions : Type 0
+UnfoldingKeepsActions = (body : Body) (args : List Value) → counts (acts_of (unfolded_body args body)) ≡ counts (acts_of body.actions)
+
+-- so with short arguments it keeps to the limits
+abbrev pub UnfoldingKeepsLimits : Type 0
+UnfoldingKeepsLimits = (body : Body) (args : List Value) → All IsShort args → IsTrue (is_body_limited body.actions) → IsTrue (is_body_limited (unfolded_body args body))

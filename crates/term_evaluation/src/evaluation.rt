@@ -1,9 +1,9 @@
 //! The value of an expression.
-ghost use Rattle.std.specs.Prelude.{◌≡◌, List};
+ghost use Rattle.std.specs.Prelude.{◌≡◌, ℕ, List};
 ghost use Rattle.refusals.specs.Answers.{Answers};
+ghost use Rattle.term_core.specs.declared.target.Target.{Target};
 ghost use Rattle.term_evaluation.specs.Evaluation.{argument, eval_by};
-ghost use Rattle.term_evaluation.specs.Known.{Known, read_of};
-ghost use Rattle.term_evaluation.specs.Outcomes.{Ends};
+ghost use Rattle.term_evaluation.specs.Outcomes.{Answer, Ends};
 
 use crate::halt::Halt;
 use crate::operations::{apply, truth};
@@ -18,13 +18,12 @@ pub trait Reads {
     /// What the reader may answer beside the codes.
     type Own: Drop;
 
-    /// All properties that can be read, each with its value or with why it has none.
-    ghost reads: { Self → List (Known Self.Own) };
+    /// What reading a property of an object gives: its value, or why it has none.
+    ghost reads: { Self → Target → List ℕ → Answer Self.Own };
 
-    /// The value of a property of an object. A property that the reader lacks is `NoSuchProperty`
-    /// where it has another of that object, else `NoSuchObject`.
+    /// The value of a property of an object.
     fn read(&self, alloc: Global, target: &Target, name: &Text) -> Result<Value, Halt<Self::Own>>
-        ensures { Ends result (read_of (reads self.now) target.now name.now) };
+        ensures { Ends result (reads self.now target.now name.now) };
 }
 
 /// The reader of nothing: there is no object. It serves expressions of constants and arguments.
@@ -32,11 +31,13 @@ pub trait Reads {
 pub struct NoObjects;
 
 impl Reads for NoObjects {
-    ghost use Rattle.std.specs.Prelude.{[]};
+    ghost use Rattle.std.specs.Prelude.{Err};
+    ghost use Rattle.refusals.specs.declared.code.Code.TheVariants.{NoSuchObject};
+    ghost use Rattle.term_evaluation.specs.Outcomes.{refused};
 
     type Own = ();
 
-    ghost reads = { λ _. [] };
+    ghost reads = { λ _ _ _. Err (refused NoSuchObject) };
 
     fn read(&self, _alloc: Global, _target: &Target, _name: &Text) -> Result<Value, Halt<()>> {
         Err(Halt::Refused(Code::NoSuchObject))
@@ -53,7 +54,7 @@ pub fn evaluate<R: Reads>(
     args: &[Value],
     reader: &R,
 ) -> Result<Value, Halt<R::Own>>
-    ensures { Ends result (eval_by args.now (read_of (R.reads reader.now)) expr.now) }
+    ensures { Ends result (eval_by args.now (R.reads reader.now) expr.now) }
 {
     match &expr.node {
         Node::Const(value) => Ok(value.copy(alloc)?),

@@ -1,19 +1,36 @@
-//! What holds of evaluation and of unfolding.
-ghost use Rattle.term_evaluation.specs.Laws.{ReadsSuffice, UnfoldingLeavesNoArgument};
+//! What holds of evaluation and of unfolding. There is nothing to run in these functions: the clause of each
+//! is a theorem.
+ghost use Rattle.term_evaluation.specs.Laws.{EvaluatesInPlace, ReadsSuffice, UnfoldingKeepsActions, UnfoldingKeepsLimits, UnfoldingKeepsNodes, UnfoldingLeavesNoArgument, ValuesAreShort};
 
 /// The value of an expression depends on no property but those that `reads_of` names: readers that
 /// answer the same at these, whatever they answer elsewhere and whatever faults of their own they
 /// have, give the expression the same value or the same fault.
-///
-/// There is nothing to run: the clause is the theorem.
 pub fn reads_suffice<O>()
     ensures { ReadsSuffice O }
 {}
 
-/// A body that was read for so many parameters has no argument left where it is unfolded with as many
+/// An expression has over arguments what it has with the arguments put in, over none. So the body of a
+/// slot can be run where it stands, and no copy of it is needed.
+pub fn evaluates_in_place<O>()
+    ensures { EvaluatesInPlace O }
+{}
+
+/// An expression whose constants are short texts, as those of bindings and bodies are, has a short value
+/// or a fault over short arguments and short values of properties.
+pub fn values_are_short<O>()
+    ensures { ValuesAreShort O }
+{}
+
+/// A body that takes no argument but its parameters has none left where it is unfolded with as many
 /// arguments, or more.
-///
-/// There is nothing to run: the clause is the theorem.
 pub fn unfolding_leaves_no_argument()
     ensures { UnfoldingLeavesNoArgument }
+{}
+
+/// An unfolded body has as many actions, each of its expressions is made of as many forms, and with short
+/// arguments it keeps to the limits as the body does.
+pub fn unfolding_keeps_limits()
+    ensures nodes { UnfoldingKeepsNodes }
+    ensures actions { UnfoldingKeepsActions }
+    ensures limits { UnfoldingKeepsLimits }
 {}

@@ -11,6 +11,9 @@ mod substitution;
 
 pub use evaluation::{NoObjects, Reads, evaluate};
 pub use halt::Halt;
-pub use laws::{reads_suffice, unfolding_leaves_no_argument};
+pub use laws::{
+    evaluates_in_place, reads_suffice, unfolding_keeps_limits, unfolding_leaves_no_argument,
+    values_are_short,
+};
 pub use reading::{Read, reads_of};
 pub use substitution::unfold;

@@ -5,7 +5,10 @@ use serde_json::Value as Json;
 use std::alloc::{AllocError, Global};
 use std::test::Fail;
 use term_core::{Action, Body, Effect, Expr, Step};
-use term_evaluation::{reads_suffice, unfold, unfolding_leaves_no_argument};
+use term_evaluation::{
+    evaluates_in_place, reads_suffice, unfolding_keeps_limits, unfolding_leaves_no_argument,
+    values_are_short,
+};
 
 /// The bodies of the demonstration, and what is no body of a slot with two parameters.
 const BODIES: &str = r#"[
@@ -95,5 +98,8 @@ pub(crate) fn branch(actions: &[Action]) -> &[Action] {
 #[test]
 fn there_are_laws() {
     reads_suffice::<()>();
+    evaluates_in_place::<()>();
+    values_are_short::<()>();
     unfolding_leaves_no_argument();
+    unfolding_keeps_limits();
 }

@@ -24,13 +24,14 @@ impl Reads for Cell {
     ghost use Rattle.refusals.specs.declared.code.Code.TheVariants.{Dying};
     ghost use Rattle.term_core.specs.declared.target.Target.TheVariants.{Itself, Object};
     ghost use Rattle.variant_value.specs.declared.value.Value.TheVariants.{Int};
+    ghost use Rattle.term_evaluation.specs.Known.{read_of};
     ghost use Rattle.term_evaluation.specs.Outcomes.{refused, own};
 
     type Own = Loop;
 
-    ghost reads = { λ _. record { target = Itself; name = codes "x"; answer = Ok (Int (pos 7)) }
+    ghost reads = { λ _. read_of (record { target = Itself; name = codes "x"; answer = Ok (Int (pos 7)) }
         ∷ record { target = Itself; name = codes "loop"; answer = Err (own (record {})) }
-        ∷ record { target = Object 2; name = codes "gone"; answer = Err (refused Dying) } ∷ [] };
+        ∷ record { target = Object 2; name = codes "gone"; answer = Err (refused Dying) } ∷ []) };
 
     fn read(&self, _alloc: Global, target: &Target, name: &Text) -> Result<Value, Halt<Loop>> {
         match target {

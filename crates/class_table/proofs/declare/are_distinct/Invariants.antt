@@ -1,8 +1,11 @@
-use Rattle.std.proofs.Common.{◌≡◌, drop, map}
-use Rattle.class_table.specs.Declaring.{new_signatures}
-use Rattle.class_table.specs.Lookup.{are_distinct_methods}
-use Rattle.class_table.specs.Signed.{signed_seen}
+use Rattle.std.proofs.Common.{◌≡◌, ◌++◌, IsTrue, bytes_eq}
+use Rattle.std.specs.Vec.Iter.{into_iter_items}
+use Rattle.class_table.specs.Lookup.{is_distinct}
 use Rattle.class_table.proofs.declare.are_distinct.Given as goal
 
-abbrev pub invariant-loop-place : goal.invariant-loop-place
-invariant-loop-place l = are_distinct_methods (new_signatures (map signed_seen (drop l.place l.signed))) ≡ are_distinct_methods (new_signatures (map signed_seen l.signed))
+-- The texts that were seen, and those that are left.
+abbrev pub invariant-loop-text : goal.invariant-loop-text
+invariant-loop-text l =
+    (goal.iterator-loop-text).can_next l.text-iterator ×
+    (goal.iterator-loop-text).is_finite l.text-iterator ×
+    ((l.seen.keys ++ into_iter_items l.text-iterator ≡ l.fn.texts.items) × IsTrue (is_distinct bytes_eq l.seen.keys))

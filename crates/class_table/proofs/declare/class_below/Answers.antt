@@ -1,4 +1,4 @@
-use Rattle.std.proofs.Common.{◌≡◌, ◌∙◌, ◌≤◌, ◌+◌, Ok, true, sym, ap, arith, length, map}
+use Rattle.std.proofs.Common.{◌≡◌, ◌∙◌, ◌≤◌, ◌+◌, Ok, true, refl, ap, arith, length, map}
 use Rattle.std.proofs.lemmas.List.{length-map}
 use Rattle.class_table.specs.declared.class.TheConstants.{METHODS, PROPERTIES}
 use Rattle.class_table.specs.Declaring.{is_declared_once, method_of, property_of}
@@ -7,6 +7,7 @@ use Rattle.class_table.specs.Lookup.{methods, properties}
 use Rattle.class_table.specs.Signed.{signed_seen}
 use Rattle.class_table.specs.Steps.{each}
 use Rattle.class_table.proofs.DeclaringLemmas.{fits_behind}
+use Rattle.class_table.proofs.OnceLemmas.{same_value}
 use Rattle.class_table.proofs.declare.class_below.Goals as goal
 
 pub returns-clause-fits : goal.returns-clause-fits
@@ -17,7 +18,8 @@ returns-clause-fits c free =
     let written = map property_seen c.args.form.now.properties.items in
     let is_new = c.as_slice-2.ensures.value in
     let is_written = c.as_slice-forms.ensures.value in
-    let once : is_declared_once (methods rows base) new (properties rows base) written ≡ true = rw (is_new, is_written) at (sym c.is_declared_once.ensures ∙ c.if-not-is_declared_once.false) in
+    let said : is_declared_once (methods rows base) (map signed_seen c.as_slice-2.result.now) (properties rows base) (map property_seen c.as_slice-forms.result.now) ≡ c.in_ok-is_declared_once.field-0 = same_value _ _ (Ok (is_declared_once (methods rows base) (map signed_seen c.as_slice-2.result.now) (properties rows base) (map property_seen c.as_slice-forms.result.now))) refl c.in_ok-is_declared_once.ensures in
+    let once : is_declared_once (methods rows base) new (properties rows base) written ≡ true = rw (is_new, is_written) at (said ∙ c.if-not-branch.false) in
     let few_m : c.method_count-method_offset.result + length new ≤ METHODS = omega (arith, c.len.ensures, length-map c.in_ok-signed.signed.items signed_seen) in
     let few_p : c.property_count-property_offset.result + length written ≤ PROPERTIES = omega (arith, ap length is_written, length-map c.args.form.now.properties.items property_seen) in
     let ms : each method_of new ≡ Ok c.in_ok-methods.methods.items = c.in_ok-methods.ensures in

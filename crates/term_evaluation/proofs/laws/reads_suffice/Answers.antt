@@ -1,4 +1,4 @@
-use Rattle.term_evaluation.proofs.Sufficing.{same_value}
+use Rattle.term_evaluation.proofs.EvaluationLemmas.{same_value}
 use Rattle.term_evaluation.proofs.laws.reads_suffice.Goals as goal
 
 pub returns : goal.returns

@@ -1,4 +1,4 @@
-use Rattle.term_evaluation.proofs.UnfoldedBodies.{no_argument_left}
+use Rattle.term_evaluation.proofs.SubstitutionLemmas.{no_argument_left}
 use Rattle.term_evaluation.proofs.laws.unfolding_leaves_no_argument.Goals as goal
 
 pub returns : goal.returns

@@ -11,7 +11,7 @@ loop-number-preserved c =
     rw c.in_ok-push.ensures.items
     (map-append (λ text. string_bytes text) c.loop-number.texts.items (c.in_ok-text.field-0 ∷ [])
     ∙ ((λ i. c.loop-number.invariant i ++ said i ∷ [])
-    ∙ sym (map-taken method_text rows c.loop-number.number c.in-Some.method.now c.in-Some.ensures)))
+    ∙ sym (map-taken method_text rows c.loop-number.number c.in-Some.method.now c.in-Some.ensures.value)))
 
 pub returns : goal.returns
 returns c =

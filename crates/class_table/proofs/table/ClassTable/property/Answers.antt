@@ -10,6 +10,6 @@ loop-next-preserved c =
     let wanted = c.args.name.now in
     let row = c.in-Some-class_row.row.now in
     let found = c.loop-next.found in
-    let up = property-step rows c.in-Some.place row c.in-Some-class_row.ensures.has wanted found in
+    let up = property-step rows c.in-Some.index row c.in-Some-class_row.ensures.has wanted found in
     let here = (λ i. option_or (property_number wanted (inherited (properties rows) (sym c.in-Some.is i))) found) ∙ c.loop-next.invariant in
     rw (c.or-found.ensures, c.own_property.ensures) (up ∙ here)

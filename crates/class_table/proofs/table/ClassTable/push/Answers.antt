@@ -1,6 +1,6 @@
 use Rattle.std.proofs.Common.{◌≡◌, ◌∙◌, string_bytes}
 use Rattle.std.specs.Map.{values_of}
-use Rattle.class_table.specs.Lookup.{FitsBehind}
+use Rattle.class_table.specs.Sound.{FitsBehind}
 use Rattle.class_table.proofs.EntryLemmas.{entries-push, names-push, values-push}
 use Rattle.class_table.proofs.TableLemmas.{IsTable-push}
 use Rattle.class_table.proofs.table.ClassTable.push.Goals as goal

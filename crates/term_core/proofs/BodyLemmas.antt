@@ -1,5 +1,5 @@
 -- Every argument of a body that was read for so many parameters is one of theirs.
-use Rattle.std.proofs.Common.{◌≡◌, ℕ, List, [], Bool, true, false, Option, Some, None, Ok, Err, refl, codes, bytes_eq, nat_lt, is_some, arith}
+use Rattle.std.proofs.Common.{◌≡◌, ℕ, List, [], Bool, true, false, Option, Some, None, Ok, Err, refl, subst, codes, bytes_eq, nat_lt, is_some, arith}
 use Rattle.std.specs.Prelude.{IfOk, if◌then◌else◌, unwrap_or}
 use Rattle.std.specs.List.{All}
 use Rattle.std.specs.Option.{option_map_or}
@@ -13,12 +13,13 @@ use Rattle.term_core.specs.declared.body.Body.{Body}
 use Rattle.term_core.specs.declared.operator.Operator.{Operator}
 use Rattle.term_core.specs.declared.operator.Operator.TheVariants.{Sum, Difference, Less, Equal, Joined}
 use Rattle.term_core.specs.Act.{Act, acts_of}
+use Rattle.term_core.specs.declared.scope.Scope.TheVariants.{Slot}
+use Rattle.term_core.specs.Arguments.{TakesAtMost, EffectTakesAtMost, ActTakesAtMost, ActsTakeAtMost}
 use Rattle.term_core.specs.Bodies as bodies
 use Rattle.term_core.specs.Effects.{signature_in, unless_null, optional, flag_in, mode_in, terms_in, set_in, emit_in, connect_in, disconnect_in, delete_in, delete_later_in, block_in, set_parent_in, effect_in}
 use Rattle.term_core.specs.Forms as forms
 use Rattle.term_core.specs.Json.{Read, ◌>>=◌, formed, provided, at_key, name_in, natural_in, constant_in, target_in}
 use Rattle.term_core.specs.Term.{Term, const, arg}
-use Rattle.term_evaluation.specs.Laws.{TakesAtMost, EffectTakesAtMost, ActTakesAtMost, ActsTakeAtMost}
 
 -- what holds of whatever is read in the end
 
@@ -199,8 +200,16 @@ mutual
   acts_read scope no_items = tt
   acts_read scope (item json rest) = kept (Act_ok scope) (Acts_ok scope) (bodies.act_in scope json) _ (act_read scope json) (λ x hx. kept (Acts_ok scope) (Acts_ok scope) (bodies.acts_in scope rest) _ (acts_read scope rest) (λ xs hxs. (hx, hxs)))
 
-abbrev pub Body_ok : ℕ → Body → Type 0
-Body_ok n body = ActsTakeAtMost n (acts_of body.actions)
+pub arguments_read : (n : ℕ) (json : Data) (actions : List Act) → bodies.actions_in (Slot n) json ≡ Ok actions → ActsTakeAtMost n (acts_of actions)
+arguments_read n json actions e = let P : Read (List Act) → Type 0 = λ r. IfOk r (Acts_ok (Slot n)) in subst P e (actions_read (Slot n) json)
 
-pub body_read : (n : ℕ) (json : Data) → IfOk (bodies.body_of n json) (Body_ok n)
-body_read n json = kept (λ actions. ActsTakeAtMost n (acts_of actions)) (Body_ok n) _ bodies.limited_body (actions_read _ json) (λ actions h. either (Body_ok n) (bodies.is_body_limited actions) (Ok (record { actions = actions })) (Err Limit) h tt)
+-- a body that was read for so many parameters
+abbrev pub IsReadFor : ℕ → Body → Type 0
+IsReadFor n body = (body.params ≡ n) × bodies.IsBody body
+
+kept_to : (n : ℕ) (actions : List Act) (b : Bool) → bodies.is_body_limited actions ≡ b → ActsTakeAtMost n (acts_of actions) → IfOk (if b then Ok (record { params = n; actions = actions }) else Err Limit) (IsReadFor n)
+kept_to n actions true e h = (refl, record { limited = e; arguments = h })
+kept_to n actions false e h = tt
+
+pub body_read : (n : ℕ) (json : Data) → IfOk (bodies.body_of n json) (IsReadFor n)
+body_read n json = kept (λ actions. ActsTakeAtMost n (acts_of actions)) (IsReadFor n) _ (bodies.limited_body n) (actions_read _ json) (λ actions h. kept_to n actions (bodies.is_body_limited actions) refl h)
