@@ -4,230 +4,138 @@ use program_start::DEMONSTRATION;
 use std::alloc::{AllocError, Global};
 use std::test::Fail;
 
-/// A line and what is answered to it.
-type Pair = (&'static str, &'static str);
+/// Lines and what is answered to them, line by line.
+type Session = (&'static str, &'static str);
 
-const LAMP: [Pair; 3] = [
-    (
-        r#"{"class":"QObject","do":"new","session":"a"}"#,
-        r#"{"reply":1,"session":"a"}"#,
-    ),
-    (
-        r#"{"do":"set","object":1,"property":"objectName","session":"a","value":"lamp"}"#,
-        r#"{"reply":true,"session":"a"}"#,
-    ),
-    (
-        r#"{"do":"get","object":1,"property":"objectName","session":"a"}"#,
-        r#"{"reply":"lamp","session":"a"}"#,
-    ),
-];
+const LAMP: Session = (
+    r#"{"class":"QObject","do":"new","session":"a"}
+{"do":"set","object":1,"property":"objectName","session":"a","value":"lamp"}
+{"do":"get","object":1,"property":"objectName","session":"a"}"#,
+    r#"{"reply":1,"session":"a"}
+{"reply":true,"session":"a"}
+{"reply":"lamp","session":"a"}"#,
+);
 
-const TWO_SESSIONS: [Pair; 3] = [
-    (
-        r#"{"class":"QObject","do":"new","session":"a"}"#,
-        r#"{"reply":1,"session":"a"}"#,
-    ),
-    (
-        r#"{"class":"QObject","do":"new","session":"b"}"#,
-        r#"{"reply":1,"session":"b"}"#,
-    ),
-    (
-        r#"{"class":"QObject","do":"new","session":"a"}"#,
-        r#"{"reply":2,"session":"a"}"#,
-    ),
-];
+const TWO_SESSIONS: Session = (
+    r#"{"class":"QObject","do":"new","session":"a"}
+{"class":"QObject","do":"new","session":"b"}
+{"class":"QObject","do":"new","session":"a"}"#,
+    r#"{"reply":1,"session":"a"}
+{"reply":1,"session":"b"}
+{"reply":2,"session":"a"}"#,
+);
 
 /// The same without the line of `b`.
-const ONE_SESSION: [Pair; 2] = [
-    (
-        r#"{"class":"QObject","do":"new","session":"a"}"#,
-        r#"{"reply":1,"session":"a"}"#,
-    ),
-    (
-        r#"{"class":"QObject","do":"new","session":"a"}"#,
-        r#"{"reply":2,"session":"a"}"#,
-    ),
-];
+const ONE_SESSION: Session = (
+    r#"{"class":"QObject","do":"new","session":"a"}
+{"class":"QObject","do":"new","session":"a"}"#,
+    r#"{"reply":1,"session":"a"}
+{"reply":2,"session":"a"}"#,
+);
 
-const NAMES: [Pair; 6] = [
-    (
-        r#"{"class":"QObject","do":"new","session":"a"}"#,
-        r#"{"reply":1,"session":"a"}"#,
-    ),
-    (
-        r#"{"do":"get","object":1,"property":"objectName","session":"a"}"#,
-        r#"{"reply":"","session":"a"}"#,
-    ),
-    (
-        r#"{"do":"set","object":1,"property":"objectName","session":"a","value":null}"#,
-        r#"{"reply":false,"session":"a"}"#,
-    ),
-    (
-        r#"{"do":"set","object":1,"property":"objectName","session":"a","value":5}"#,
-        r#"{"error":"E22","session":"a"}"#,
-    ),
-    (
-        r#"{"do":"set","object":2,"property":"objectName","session":"a","value":"x"}"#,
-        r#"{"error":"E04","session":"a"}"#,
-    ),
-    (
-        r#"{"class":"Nope","do":"new","session":"a"}"#,
-        r#"{"error":"E03","session":"a"}"#,
-    ),
-];
+const NAMES: Session = (
+    r#"{"class":"QObject","do":"new","session":"a"}
+{"do":"get","object":1,"property":"objectName","session":"a"}
+{"do":"set","object":1,"property":"objectName","session":"a","value":null}
+{"do":"set","object":1,"property":"objectName","session":"a","value":5}
+{"do":"set","object":2,"property":"objectName","session":"a","value":"x"}
+{"class":"Nope","do":"new","session":"a"}"#,
+    r#"{"reply":1,"session":"a"}
+{"reply":"","session":"a"}
+{"reply":false,"session":"a"}
+{"error":"E22","session":"a"}
+{"error":"E04","session":"a"}
+{"error":"E03","session":"a"}"#,
+);
 
-const NO_COMMANDS: [Pair; 6] = [
-    ("nonsense", r#"{"error":"E01","session":"-"}"#),
-    (
-        r#"{"do":"jump","session":"a"}"#,
-        r#"{"error":"E02","session":"a"}"#,
-    ),
-    (
-        r#"{"do":"status","session":"a b"}"#,
-        r#"{"error":"E02","session":"-"}"#,
-    ),
-    (
-        r#"{"do":"get","object":0,"property":"objectName","session":"a"}"#,
-        r#"{"error":"E02","session":"a"}"#,
-    ),
-    (
-        r#"{"do":"get","object":4294967296,"property":"objectName","session":"a"}"#,
-        r#"{"error":"E02","session":"a"}"#,
-    ),
-    (
-        r#"{"do":"get","object":1,"property":"objectName","session":"a","x":1}"#,
-        r#"{"error":"E02","session":"a"}"#,
-    ),
-];
+const NO_COMMANDS: Session = (
+    r#"nonsense
+{"do":"jump","session":"a"}
+{"do":"status","session":"a b"}
+{"do":"get","object":0,"property":"objectName","session":"a"}
+{"do":"get","object":4294967296,"property":"objectName","session":"a"}
+{"do":"get","object":1,"property":"objectName","session":"a","x":1}"#,
+    r#"{"error":"E01","session":"-"}
+{"error":"E02","session":"a"}
+{"error":"E02","session":"-"}
+{"error":"E02","session":"a"}
+{"error":"E02","session":"a"}
+{"error":"E02","session":"a"}"#,
+);
 
-const CLASSES: [Pair; 8] = [
-    (
-        r#"{"class":"Probe","do":"meta","session":"a"}"#,
-        r#"{"reply":{"class":"Probe","methodOffset":3,"methods":["destroyed()","objectNameChanged(QString)","deleteLater()","ping()","note()","late()","swap()","again()","kill()","rescue()","drop()"],"properties":["objectName"],"propertyOffset":1,"super":"QObject"},"session":"a"}"#,
-    ),
-    (
-        r#"{"class":"QObject","do":"meta","session":"a"}"#,
-        r#"{"reply":{"class":"QObject","methodOffset":0,"methods":["destroyed()","objectNameChanged(QString)","deleteLater()"],"properties":["objectName"],"propertyOffset":0,"super":null},"session":"a"}"#,
-    ),
-    (
-        r#"{"class":"Cell","do":"meta","session":"a"}"#,
-        r#"{"reply":{"class":"Cell","methodOffset":3,"methods":["destroyed()","objectNameChanged(QString)","deleteLater()","xChanged(int)","seen(int)","setX(int)"],"properties":["objectName","x","y","z","flag","big"],"propertyOffset":1,"super":"QObject"},"session":"a"}"#,
-    ),
-    (
-        r#"{"class":"Nope","do":"meta","session":"a"}"#,
-        r#"{"error":"E03","session":"a"}"#,
-    ),
-    (
-        r#"{"class":"Probe","do":"new","session":"a"}"#,
-        r#"{"reply":1,"session":"a"}"#,
-    ),
-    (
-        r#"{"class":"Cell","do":"new","session":"a"}"#,
-        r#"{"reply":2,"session":"a"}"#,
-    ),
-    (
-        r#"{"class":"probe","do":"new","session":"a"}"#,
-        r#"{"error":"E03","session":"a"}"#,
-    ),
-    (
-        r#"{"do":"get","object":2,"property":"objectName","session":"a"}"#,
-        r#"{"reply":"","session":"a"}"#,
-    ),
-];
+const CLASSES: Session = (
+    r#"{"class":"Probe","do":"meta","session":"a"}
+{"class":"QObject","do":"meta","session":"a"}
+{"class":"Cell","do":"meta","session":"a"}
+{"class":"Nope","do":"meta","session":"a"}
+{"class":"Probe","do":"new","session":"a"}
+{"class":"Cell","do":"new","session":"a"}
+{"class":"probe","do":"new","session":"a"}
+{"do":"get","object":2,"property":"objectName","session":"a"}"#,
+    r#"{"reply":{"class":"Probe","methodOffset":3,"methods":["destroyed()","objectNameChanged(QString)","deleteLater()","ping()","note()","late()","swap()","again()","kill()","rescue()","drop()"],"properties":["objectName"],"propertyOffset":1,"super":"QObject"},"session":"a"}
+{"reply":{"class":"QObject","methodOffset":0,"methods":["destroyed()","objectNameChanged(QString)","deleteLater()"],"properties":["objectName"],"propertyOffset":0,"super":null},"session":"a"}
+{"reply":{"class":"Cell","methodOffset":3,"methods":["destroyed()","objectNameChanged(QString)","deleteLater()","xChanged(int)","seen(int)","setX(int)"],"properties":["objectName","x","y","z","flag","big"],"propertyOffset":1,"super":"QObject"},"session":"a"}
+{"error":"E03","session":"a"}
+{"reply":1,"session":"a"}
+{"reply":2,"session":"a"}
+{"error":"E03","session":"a"}
+{"reply":"","session":"a"}"#,
+);
 
-const TREES: [Pair; 11] = [
-    (
-        r#"{"class":"Probe","do":"new","session":"a"}"#,
-        r#"{"reply":1,"session":"a"}"#,
-    ),
-    (
-        r#"{"class":"Probe","do":"new","parent":1,"session":"a"}"#,
-        r#"{"reply":2,"session":"a"}"#,
-    ),
-    (
-        r#"{"class":"Probe","do":"new","parent":2,"session":"a"}"#,
-        r#"{"reply":3,"session":"a"}"#,
-    ),
-    (
-        r#"{"class":"Probe","do":"new","parent":1,"session":"a"}"#,
-        r#"{"reply":4,"session":"a"}"#,
-    ),
-    (
-        r#"{"do":"set","object":3,"property":"objectName","session":"a","value":"k"}"#,
-        r#"{"reply":true,"session":"a"}"#,
-    ),
-    (
-        r#"{"do":"set","object":4,"property":"objectName","session":"a","value":"k"}"#,
-        r#"{"reply":true,"session":"a"}"#,
-    ),
-    (
-        r#"{"do":"find","name":"k","object":1,"session":"a"}"#,
-        r#"{"reply":4,"session":"a"}"#,
-    ),
-    (
-        r#"{"do":"children","object":1,"session":"a"}"#,
-        r#"{"reply":[2,4],"session":"a"}"#,
-    ),
-    (
-        r#"{"do":"setParent","object":2,"parent":null,"session":"a"}"#,
-        r#"{"reply":true,"session":"a"}"#,
-    ),
-    (
-        r#"{"do":"setParent","object":2,"parent":1,"session":"a"}"#,
-        r#"{"reply":true,"session":"a"}"#,
-    ),
-    (
-        r#"{"do":"children","object":1,"session":"a"}"#,
-        r#"{"reply":[4,2],"session":"a"}"#,
-    ),
-];
+const TREES: Session = (
+    r#"{"class":"Probe","do":"new","session":"a"}
+{"class":"Probe","do":"new","parent":1,"session":"a"}
+{"class":"Probe","do":"new","parent":2,"session":"a"}
+{"class":"Probe","do":"new","parent":1,"session":"a"}
+{"do":"set","object":3,"property":"objectName","session":"a","value":"k"}
+{"do":"set","object":4,"property":"objectName","session":"a","value":"k"}
+{"do":"find","name":"k","object":1,"session":"a"}
+{"do":"children","object":1,"session":"a"}
+{"do":"setParent","object":2,"parent":null,"session":"a"}
+{"do":"setParent","object":2,"parent":1,"session":"a"}
+{"do":"children","object":1,"session":"a"}"#,
+    r#"{"reply":1,"session":"a"}
+{"reply":2,"session":"a"}
+{"reply":3,"session":"a"}
+{"reply":4,"session":"a"}
+{"reply":true,"session":"a"}
+{"reply":true,"session":"a"}
+{"reply":4,"session":"a"}
+{"reply":[2,4],"session":"a"}
+{"reply":true,"session":"a"}
+{"reply":true,"session":"a"}
+{"reply":[4,2],"session":"a"}"#,
+);
 
-const DELETIONS: [Pair; 8] = [
-    (
-        r#"{"class":"QObject","do":"new","session":"a"}"#,
-        r#"{"reply":1,"session":"a"}"#,
-    ),
-    (
-        r#"{"class":"QObject","do":"new","parent":1,"session":"a"}"#,
-        r#"{"reply":2,"session":"a"}"#,
-    ),
-    (
-        r#"{"class":"QObject","do":"new","parent":2,"session":"a"}"#,
-        r#"{"reply":3,"session":"a"}"#,
-    ),
-    (
-        r#"{"do":"setParent","object":1,"parent":3,"session":"a"}"#,
-        r#"{"error":"E12","session":"a"}"#,
-    ),
-    (
-        r#"{"do":"delete","object":1,"session":"a"}"#,
-        r#"{"reply":true,"session":"a"}"#,
-    ),
-    (
-        r#"{"do":"children","session":"a"}"#,
-        r#"{"reply":[],"session":"a"}"#,
-    ),
-    (
-        r#"{"do":"get","object":3,"property":"objectName","session":"a"}"#,
-        r#"{"error":"E04","session":"a"}"#,
-    ),
-    (
-        r#"{"class":"QObject","do":"new","session":"a"}"#,
-        r#"{"reply":4,"session":"a"}"#,
-    ),
-];
+const DELETIONS: Session = (
+    r#"{"class":"QObject","do":"new","session":"a"}
+{"class":"QObject","do":"new","parent":1,"session":"a"}
+{"class":"QObject","do":"new","parent":2,"session":"a"}
+{"do":"setParent","object":1,"parent":3,"session":"a"}
+{"do":"delete","object":1,"session":"a"}
+{"do":"children","session":"a"}
+{"do":"get","object":3,"property":"objectName","session":"a"}
+{"class":"QObject","do":"new","session":"a"}"#,
+    r#"{"reply":1,"session":"a"}
+{"reply":2,"session":"a"}
+{"reply":3,"session":"a"}
+{"error":"E12","session":"a"}
+{"reply":true,"session":"a"}
+{"reply":[],"session":"a"}
+{"error":"E04","session":"a"}
+{"reply":4,"session":"a"}"#,
+);
 
 /// Each from a fresh server.
-const SESSIONS: [&[Pair]; 9] = [
-    &[],
-    &LAMP,
-    &TWO_SESSIONS,
-    &ONE_SESSION,
-    &NAMES,
-    &NO_COMMANDS,
-    &CLASSES,
-    &TREES,
-    &DELETIONS,
+const SESSIONS: [Session; 8] = [
+    LAMP,
+    TWO_SESSIONS,
+    ONE_SESSION,
+    NAMES,
+    NO_COMMANDS,
+    CLASSES,
+    TREES,
+    DELETIONS,
 ];
 
 /// What a fresh server with the demonstration classes writes for an input.
@@ -240,27 +148,22 @@ fn written(alloc: Global, input: &[u8]) -> Result<(Vec<u8>, Summary), Fail> {
     Ok((writer.into_inner(), summary))
 }
 
-/// The lines of a session and their answers, in which both end with a line feed.
-fn of_lines(alloc: Global, session: &[Pair]) -> Result<(Vec<u8>, Vec<u8>), AllocError> {
-    let (mut given, mut wanted) = (Vec::new(alloc), Vec::new(alloc));
-    for (line, answer) in session {
-        given.extend_from_slice(line.as_bytes())?;
-        given.push(b'\n')?;
-        wanted.extend_from_slice(answer.as_bytes())?;
-        wanted.push(b'\n')?;
-    }
-    Ok((given, wanted))
-}
-
 #[test]
 fn sessions_are_answered(rt: HostRuntime) -> Result<(), Fail> {
-    for session in SESSIONS {
-        let (given, wanted) = of_lines(rt.alloc(), session)?;
-        let (wrote, summary) = written(rt.alloc(), given.as_slice())?;
-        assert!(rt; !summary.memory_refused && wrote == wanted, "{session:?}");
+    for (given, wanted) in SESSIONS {
+        let (wrote, summary) = written(rt.alloc(), given.as_bytes())?;
+        let told = wrote.as_slice().trim_ascii_end();
+        assert!(rt;
+            !summary.memory_refused && told == wanted.as_bytes(),
+            "{given}"
+        );
     }
+    let (wrote, summary) = written(rt.alloc(), b"")?;
+    assert!(rt; wrote.is_empty() && summary.lines == 0);
     Ok(())
 }
+
+const NEW: &[u8] = b"{\"class\":\"QObject\",\"do\":\"new\",\"session\":\"a\"}\n";
 
 /// A line that sets a name of so many bytes.
 fn long_name(alloc: Global, bytes: usize) -> Result<Vec<u8>, AllocError> {
@@ -281,13 +184,11 @@ fn sessions_have_limits(rt: HostRuntime) -> Result<(), Fail> {
     let alloc = rt.alloc();
     let (mut input, mut wanted) = (Vec::new(alloc), Vec::new(alloc));
     for number in 1..4097u32 {
-        input.extend_from_slice(LAMP[0].0.as_bytes())?;
-        input.push(b'\n')?;
+        input.extend_from_slice(NEW)?;
         let answer = format!(in alloc; "{{\"reply\":{number},\"session\":\"a\"}}\n")?;
         wanted.extend_from_slice(answer.as_bytes())?;
     }
-    input.extend_from_slice(LAMP[0].0.as_bytes())?;
-    input.push(b'\n')?;
+    input.extend_from_slice(NEW)?;
     wanted.extend_from_slice(b"{\"error\":\"E14\",\"session\":\"a\"}\n")?;
     input.extend_from_slice(long_name(alloc, 4096)?.as_slice())?;
     wanted.extend_from_slice(b"{\"reply\":true,\"session\":\"a\"}\n")?;

@@ -15,3 +15,4 @@ pub mod ChangesLemmas
 pub mod TableLemmas
 pub mod NearestLemmas
 pub mod EntriesLemmas
+pub mod LawLemmas

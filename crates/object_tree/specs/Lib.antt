@@ -8,3 +8,4 @@ pub mod Finding
 pub mod Table
 pub mod Kin
 pub mod Entries
+pub mod Laws

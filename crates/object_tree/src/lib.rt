@@ -5,6 +5,7 @@
 mod children;
 mod forests;
 mod kin;
+mod laws;
 mod lines;
 mod objects;
 mod row;
@@ -12,4 +13,5 @@ mod rows;
 mod tree;
 
 pub use forests::Forests;
+pub use laws::changes_keep_forests_sound;
 pub use row::{DEPTH, OBJECTS, Row};

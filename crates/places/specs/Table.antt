@@ -1,5 +1,5 @@
 -- What contracts see of a table: the values by place, and how many places can be opened without memory.
-use Rattle.std.specs.Prelude.{ℕ, ◌+◌, ◌-◌, ◌<◌, List, [], ◌∷◌, ◌++◌, length, slice_set, refl}
+use Rattle.std.specs.Prelude.{◌≡◌, ℕ, ◌-◌, ◌<◌, List, [], ◌∷◌, ◌++◌, length, slice_index_or, slice_set, refl}
 use Rattle.std.specs.Coded.{Coded, code_by, coded×, coded_list, coded_ℕ}
 
 pub record Table (T : Type 0) : Type 0 where
@@ -22,3 +22,7 @@ opened table value = record { places = table.places ++ value ∷ []; room = tabl
 -- the table with another value at a place, and all else as before
 abbrev pub with_place : {T : Type 0} → Table T → ℕ → T → Table T
 with_place table place value = record { places = slice_set table.places place value; room = table.room }
+
+-- the table has another value at a place, and all else is as before
+abbrev pub ChangesAt : {T : Type 0} → T → ℕ → Table T → Table T → Type 0
+ChangesAt default place old new = new ≡ with_place old place (slice_index_or new.places place default)

@@ -1,4 +1,2 @@
-pub mod Known
-pub mod Refusing
-pub mod Running
-pub mod Headline
+pub mod ServerLemmas
+pub mod RunLemmas

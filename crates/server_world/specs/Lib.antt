@@ -1,3 +1,3 @@
-pub mod Stepping
+pub mod Names
 pub mod Server
 pub mod Runs

@@ -1,28 +1,36 @@
--- What a run answers: an entry for each command.
-use Rattle.std.specs.Prelude.{◌≡◌, ℕ, Bool, true, false, List, map, IsTrue, bytes_eq}
-use Rattle.std.specs.List.{list_any, list_all}
+-- What a run returns: an entry for each command.
+use Rattle.std.specs.Prelude.{◌≡◌, ◌⊎◌, ◌<◌, ℕ, Bool, true, false, List, Option, Some, None, length, map, IsTrue}
+use Rattle.std.specs.List.{list_any}
 use Rattle.isolation.specs.Machine.{Tagged}
-use Rattle.isolation.specs.World.{world_after, world_lines, at_session}
+use Rattle.isolation.specs.World.{only, world_after, world_lines, at_session}
+use Rattle.isolation.specs.Influence.{influences}
+use Rattle.isolation.specs.Slice.{kept, slice}
 use Rattle.isolation.specs.Alone.{items, alone_after, alone_lines}
 use Rattle.thread_model.specs.declared.command.Tagged.{Tagged as Given}
 use Rattle.thread_model.specs.State.{State}
 use Rattle.thread_model.specs.Asked.{Asked, tag}
 use Rattle.thread_model.specs.Thread.{Settings}
 use Rattle.thread_model.specs.Machine.{machine}
+use Rattle.thread_model.specs.declared.line.Line.{Line}
+use Rattle.session_engine.specs.Sessions.{AreSound}
 use Rattle.server_world.specs.declared.report.Entry.{Entry}
+use Rattle.server_world.specs.declared.server.Server.{Server}
+use Rattle.server_world.specs.Names.{with_names}
+use Rattle.server_world.specs.Server.{KnowsItsSessions, SomeFails, names, seen, settings, states, was_refused}
 use Rattle.server_world.specs.declared.report.Entry.TheVariants.{Lines, OutOfMemory}
 
 -- the commands of a list, as definitions see them
 abbrev pub tags : List Given → List (Tagged (List ℕ) Asked)
 tags list = map tag list
 
--- all commands are of one session
-abbrev pub IsOfOne : List ℕ → List (Tagged (List ℕ) Asked) → Type 0
-IsOfOne name ts = IsTrue (list_all (λ t. bytes_eq t.session name) ts)
-
 abbrev pub is_out_of_memory : Entry → Bool
 is_out_of_memory (Lines lines) = false
 is_out_of_memory OutOfMemory = true
+
+-- what an entry tells, unless memory was wanted
+abbrev pub entry_lines : Entry → Option (List Line)
+entry_lines (Lines lines) = Some lines
+entry_lines OutOfMemory = None
 
 -- some command found no memory
 abbrev pub IsShort : List Entry → Type 0
@@ -38,3 +46,30 @@ module _ (settings : Settings) (world : List ℕ → State) (ts : List (Tagged (
   pub record IsAsWith (s : List ℕ) (fewer : List (Tagged (List ℕ) Asked)) : Type 0 where
     pub lines : at_session (machine settings) s ts entries ≡ map Lines (at_session (machine settings) s fewer (world_lines (machine settings) world fewer))
     pub state : after s ≡ world_after (machine settings) world fewer s
+
+-- what a session is told of a run in which memory was found
+pub record IsIsolated (old new : Server) (ts : List (Tagged (List ℕ) Asked)) (entries : List Entry) (s : List ℕ) : Type 0 where
+  -- what it would be told alone,
+  pub alone : IsAsAlone (settings old) (states old) ts entries (states new) s
+  -- what it would be told without the commands of sessions from which no chain of joins leads to it,
+  pub influenced : IsAsWith (settings old) (states old) ts entries (states new) s (only (influences (machine (settings old)) (states old) (names old) ts s) ts)
+  -- and what it would be told with the commands alone that its slice keeps
+  pub sliced : IsAsWith (settings old) (states old) ts entries (states new) s (kept (slice (machine (settings old)) s (states old) ts).marks ts)
+
+-- a run in which memory was found is that of all sessions side by side
+pub record IsWorldRun (old new : Server) (ts : List (Tagged (List ℕ) Asked)) (entries : List Entry) : Type 0 where
+  pub lines : entries ≡ map Lines (world_lines (machine (settings old)) (states old) ts)
+  pub states : states new ≡ world_after (machine (settings old)) (states old) ts
+  -- and from then on the sessions of its commands are known
+  pub names : names new ≡ with_names (names old) ts
+
+-- what is so after every run
+pub record IsLater (old new : Server) : Type 0 where
+  pub settings : settings new ≡ settings old
+  pub kept : IsTrue (was_refused old) → IsTrue (was_refused new)
+  pub knows : KnowsItsSessions new
+  pub sound : AreSound (seen new)
+
+-- why memory was refused first in a run: no room for its list, a command that has found none, or a session that has failed for it
+abbrev pub IsBlamed : Server → Server → List Entry → ℕ → Type 0
+IsBlamed old new entries commands = (length entries < commands) ⊎ (IsShort entries ⊎ SomeFails old new)

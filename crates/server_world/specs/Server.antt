@@ -1,11 +1,15 @@
 -- What contracts see of a server: a state for each name, and whether memory was refused.
-use Rattle.std.specs.Prelude.{◌≡◌, ◌||◌, ℕ, Bool, List, [], IsTrue, IsFalse}
+use Rattle.std.specs.Prelude.{◌≡◌, ◌⊎◌, ◌||◌, ℕ, Bool, List, [], None, IsTrue, IsFalse}
+use Rattle.isolation.specs.Influence.{KnowsAll}
 use Rattle.thread_model.specs.State.{State}
 use Rattle.thread_model.specs.Thread.{Settings}
-use Rattle.session_engine.specs.Session.{Session}
+use Rattle.thread_model.specs.Machine.{machine}
+use Rattle.session_tables.specs.Session.{Session, gone}
 use Rattle.server_world.specs.declared.server.Server.{Server}
 use Rattle.session_engine.specs.Engine as engine
-use Rattle.server_world.specs.Stepping as stepping
+use Rattle.session_engine.specs.Engine.{Contents, place}
+use Rattle.session_engine.specs.Sessions.{Sessions}
+use Rattle.server_world.specs.Names.{with_name}
 
 -- what is fixed for the whole life of the server
 abbrev pub settings : Server → Settings
@@ -31,17 +35,33 @@ states server = engine.states server.engine
 abbrev pub failed : Server → List ℕ → Bool
 failed server = engine.failed server.engine
 
--- every session but this one is as before
-abbrev pub OthersStay : Server → Server → List ℕ → Type 0
-OthersStay old new name = engine.OthersStay old.engine new.engine name
+-- all that is seen by name
+abbrev pub seen : Server → Sessions
+seen server = record { settings = settings server; session = sessions server; memory_refused = was_refused server }
 
--- a session other than this one has failed now, and had not before
-abbrev pub AnotherFails : Server → Server → List ℕ → Type 0
-AnotherFails old new name = engine.AnotherFails old.engine new.engine name
+-- memory was wanted for a new name and not found: it is not there, and no session has changed
+pub record StaysOut (old new : Contents) (name : List ℕ) : Type 0 where
+  pub absent : place new name ≡ None
+  pub names : engine.names new ≡ engine.names old
+  pub sessions : engine.sessions new ≡ engine.sessions old
+  pub settings : engine.settings new ≡ engine.settings old
+  pub refused : IsTrue (engine.was_refused new)
 
 -- where memory was wanted and not found: the session of the name has failed, or could not be entered
 abbrev pub IsLost : Server → Server → List ℕ → Type 0
-IsLost old new name = stepping.IsLost old.engine new.engine name
+IsLost old new name = (sessions new name ≡ gone) ⊎ StaysOut old.engine new.engine name
+
+-- the names stay, or this one is known too
+abbrev pub KnowsAtMost : Server → Server → List ℕ → Type 0
+KnowsAtMost old new name = (names new ≡ names old) ⊎ (names new ≡ with_name (names old) name)
+
+-- some session has failed now, and had not before
+abbrev pub SomeFails : Server → Server → Type 0
+SomeFails old new = (name : List ℕ) × IsFalse (failed old name) × IsTrue (failed new name)
+
+-- the names are of all sessions that may have a join
+abbrev pub KnowsItsSessions : Server → Type 0
+KnowsItsSessions server = KnowsAll (machine (settings server)) (states server) (names server)
 
 -- a server that has had no command
 pub record IsNew (server : Server) : Type 0 where

@@ -4,9 +4,6 @@
 mod laws;
 mod report;
 mod server;
-mod stepping;
-#[cfg(test)]
-mod tests;
 
 pub use laws::{influence_is_least, leaving_out_keeps_sessions, slicing_keeps_a_session};
 pub use report::{Entry, Report};

@@ -1,4 +1,4 @@
-//! What a run answers.
+//! What a run returns.
 use plain_types::Items;
 use thread_model::Line;
 
@@ -12,7 +12,7 @@ pub enum Entry {
     OutOfMemory,
 }
 
-/// What a run answers.
+/// What a run returns.
 #[derive(Debug, Drop)]
 pub struct Report {
     /// One entry for each command, in their order; or none at all, where the room for the list

@@ -1,9 +1,6 @@
-pub mod ByName
-pub mod Deletion
-pub mod Doing
-pub mod Faults
-pub mod Joining
-pub mod Obeying
-pub mod Placing
-pub mod Seating
-pub mod Tabling
+pub mod EngineLemmas
+pub mod StepLemmas
+pub mod DeletingLemmas
+pub mod CommandsLemmas
+pub mod PropertiesLemmas
+pub mod ClassesLemmas

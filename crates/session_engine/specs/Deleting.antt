@@ -3,8 +3,8 @@ use Rattle.std.specs.Prelude.{◌≡◌, ◌≤◌, ◌++◌, ℕ, List, []}
 use Rattle.thread_model.specs.declared.line.Line.{Line}
 use Rattle.thread_model.specs.Agenda.{Doing, Item, living, run}
 use Rattle.thread_model.specs.State.{State}
-use Rattle.session_engine.specs.declared.rows.Rows.{Rows}
-use Rattle.session_engine.specs.Rows.{ChangesOnly, state_at}
+use Rattle.session_tables.specs.declared.tables.Tables.{Tables}
+use Rattle.session_tables.specs.Tables.{ChangesOnly, state_at}
 
 abbrev pub doing : State → List Line → Doing
 doing state lines = record { state = state; lines = lines }
@@ -14,10 +14,11 @@ pub record Does (items : List Item) (old new : State) : Type 0 where
   pub runs : (rest : List Item) (lines : List Line) → run (items ++ rest) (doing old lines) ≡ run rest (doing new lines)
 
 -- how many objects of a session are not dying
-abbrev pub living_at : Rows → ℕ → ℕ
-living_at rows ses = living (doing (state_at rows ses) [])
+abbrev pub living_at : Tables → ℕ → ℕ
+living_at tables place = living (doing (state_at tables place) [])
 
--- no other session has changed, and this one has no more objects that are not dying
-pub record Lessens (ses : ℕ) (old new : Rows) : Type 0 where
-  pub only : ChangesOnly ses old new
-  pub fewer : living_at new ses ≤ living_at old ses
+-- no other session has changed, and this one has no more objects that are not dying; none has failed or was mended
+pub record Lessens (place : ℕ) (old new : Tables) : Type 0 where
+  pub only : ChangesOnly place old new
+  pub failed : new.failed ≡ old.failed
+  pub fewer : living_at new place ≤ living_at old place

@@ -1,53 +1,88 @@
--- What contracts see of an engine: a session for each name.
-use Rattle.std.specs.Prelude.{◌≡◌, ℕ, Bool, List, Option, Some, IsTrue, IsFalse, bytes_eq}
-use Rattle.thread_model.specs.State.{State}
+-- What contracts see of an engine.
+use Rattle.std.specs.Prelude.{◌≡◌, ℕ, Bool, true, List, ◌∷◌, ◌++◌, [], Option, Some, IsFalse, bytes_eq, length, position}
+use Rattle.std.specs.Option.{option_map_or}
+use Rattle.thread_model.specs.State.{IsSound, State}
 use Rattle.thread_model.specs.Thread.{Settings}
-use Rattle.session_engine.specs.Session.{Session}
-use Rattle.session_engine.specs.declared.engine.Engine.{Engine}
+use Rattle.session_tables.specs.declared.tables.Tables.{Tables}
+use Rattle.session_tables.specs.Session.{Session, fresh, gone}
+use Rattle.session_tables.specs.Tables as tables
+use Rattle.session_tables.specs.Tables.{AreEven, session_at, with_session}
+use Rattle.session_engine.specs.declared.setup.Setup.{Setup}
+use Rattle.session_engine.specs.Sessions.{Sessions}
 use Rattle.session_engine.specs.Setup.{settings_of}
-use Rattle.session_engine.specs.Table.{place_of, session_of}
 
--- what is fixed for the whole life of the engine
-abbrev pub settings : Engine → Settings
-settings engine = settings_of engine.setup
+pub record Contents : Type 0 where
+  -- what is fixed for the whole life of the engine
+  pub settings : Settings
+  -- the name of each place
+  pub names : List (List ℕ)
+  -- the session of each place
+  pub tables : Tables
+  -- has memory ever been wanted and not found in a call of the engine
+  pub memory_refused : Bool
 
--- has memory ever been wanted and not found in a call of the engine
-abbrev pub was_refused : Engine → Bool
-was_refused engine = engine.table.memory_refused
+-- made of these
+abbrev pub contents : Setup → List (List ℕ) → Tables → Bool → Contents
+contents setup names tables memory_refused = record { settings = settings_of setup; names = names; tables = tables; memory_refused = memory_refused }
+
+abbrev pub settings : Contents → Settings
+settings engine = engine.settings
+
+abbrev pub was_refused : Contents → Bool
+was_refused engine = engine.memory_refused
 
 -- the names of the sessions, by place
-abbrev pub names : Engine → List (List ℕ)
-names engine = engine.table.names
+abbrev pub names : Contents → List (List ℕ)
+names engine = engine.names
 
-abbrev pub place : Engine → List ℕ → Option ℕ
-place engine name = place_of engine.table name
+abbrev pub place : Contents → List ℕ → Option ℕ
+place engine name = position (bytes_eq name) engine.names
 
 -- the session of each name, fresh where it has no place
-abbrev pub sessions : Engine → List ℕ → Session
-sessions engine name = session_of engine.table name
+abbrev pub sessions : Contents → List ℕ → Session
+sessions engine name = option_map_or (session_at engine.tables) (place engine name) fresh
 
-abbrev pub states : Engine → List ℕ → State
+abbrev pub states : Contents → List ℕ → State
 states engine name = (sessions engine name).state
 
-abbrev pub failed : Engine → List ℕ → Bool
+abbrev pub failed : Contents → List ℕ → Bool
 failed engine name = (sessions engine name).failed
 
+-- all that is seen by name
+abbrev pub seen : Contents → Sessions
+seen engine = record { settings = settings engine; session = sessions engine; memory_refused = was_refused engine }
+
 -- some session has this place
-abbrev pub IsPlace : Engine → ℕ → Type 0
-IsPlace engine ses = (name : List ℕ) × (place engine name ≡ Some ses)
+abbrev pub IsPlace : Contents → ℕ → Type 0
+IsPlace engine at = (name : List ℕ) × (place engine name ≡ Some at)
 
 -- a fact of the session at a place, by its name
-abbrev pub OfSession : Engine → ℕ → (List ℕ → Type 0) → Type 0
-OfSession engine ses P = (name : List ℕ) → place engine name ≡ Some ses → P name
+abbrev pub OfSession : Contents → ℕ → (List ℕ → Type 0) → Type 0
+OfSession engine at P = (name : List ℕ) → place engine name ≡ Some at → P name
 
--- every session but this one is as before
-abbrev pub OthersStay : Engine → Engine → List ℕ → Type 0
-OthersStay old new name = (other : List ℕ) → IsFalse (bytes_eq other name) → sessions new other ≡ sessions old other
+-- with one more session
+abbrev pub opened : Contents → List ℕ → Contents
+opened engine name = record { settings = engine.settings; names = engine.names ++ name ∷ []; tables = tables.opened engine.tables; memory_refused = engine.memory_refused }
 
--- a session other than this one has failed now, and had not before
-abbrev pub AnotherFails : Engine → Engine → List ℕ → Type 0
-AnotherFails old new name = (other : List ℕ) × IsFalse (bytes_eq other name) × IsFalse (failed old other) × IsTrue (failed new other)
+-- with another session at a place
+abbrev pub with_session_at : Contents → ℕ → Session → Contents
+with_session_at engine at session = record { settings = engine.settings; names = engine.names; tables = with_session engine.tables at session; memory_refused = engine.memory_refused }
 
--- no session has failed while memory was found
-abbrev pub IsWell : Engine → Type 0
-IsWell engine = IsFalse (was_refused engine) → (name : List ℕ) → IsFalse (failed engine name)
+-- after memory was wanted and not found
+abbrev pub refused_growth : Contents → Contents
+refused_growth engine = record { settings = engine.settings; names = engine.names; tables = engine.tables; memory_refused = true }
+
+-- after memory was wanted and not found for the session at a place, which has failed for it
+abbrev pub given_up : Contents → ℕ → Contents
+given_up engine at = refused_growth (with_session_at engine at gone)
+
+-- what holds of every session: it has failed only where memory was refused, and its state is sound
+pub record IsKept (memory_refused : Bool) (session : Session) : Type 0 where
+  pub well : IsFalse memory_refused → IsFalse session.failed
+  pub sound : IsSound session.state
+
+-- each name has its place in every table, and every session is as it must be
+pub record IsWhole (engine : Contents) : Type 0 where
+  pub even : AreEven engine.tables
+  pub paired : length engine.names ≡ length engine.tables.failed.places
+  pub kept : (at : ℕ) → IsKept engine.memory_refused (session_at engine.tables at)

@@ -1,8 +1,6 @@
 pub mod Setup
-pub mod Answering
-pub mod Rows
+pub mod Returning
+pub mod Sessions
 pub mod Deleting
-pub mod Session
-pub mod Seats
-pub mod Table
+pub mod Commands
 pub mod Engine

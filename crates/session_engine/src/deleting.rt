@@ -3,63 +3,66 @@
 //! dying before anything else, so that none is deleted twice and the calls come to an end.
 ghost use Rattle.std.specs.Prelude.{ℕ, ◌∷◌, [], OnOk};
 ghost use Rattle.thread_model.specs.Agenda.{Cut, Delete, Gone, Kin};
-ghost use Rattle.session_engine.specs.Rows.{IsSeat, state_at};
+ghost use Rattle.session_tables.specs.Tables.{IsPlaced, state_at};
 ghost use Rattle.session_engine.specs.Deleting.{Does, Lessens};
 
-use crate::rows::Rows;
+use session_tables::Tables;
 use std::alloc::AllocError;
 
 /// Deletes an object, unless it is gone or dying.
 #[cycle(deletion)]
-pub fn delete(rows: &mut Rows, ses: usize, target: u32, depth: u32) -> Result<(), AllocError>
-    requires { IsSeat rows.old ses }
-    ensures does { OnOk result (Does (Delete target depth ∷ []) (state_at rows.old ses) (state_at rows.new ses)) }
-    ensures lessens { Lessens ses rows.old rows.new }
+pub fn delete(tables: &mut Tables, place: usize, target: u32, depth: u32) -> Result<(), AllocError>
+    requires { IsPlaced tables.old place }
+    ensures does { OnOk result (Does (Delete target depth ∷ []) (state_at tables.old place) (state_at tables.new place)) }
+    ensures lessens { Lessens place tables.old tables.new }
 {
-    if !rows.lives(ses, target) {
+    if !tables.lives(place, target) {
         return Ok(());
     }
-    rows.mark_dying(ses, target);
-    cut(rows, ses, target, depth)?;
-    gone(rows, ses, target);
+    tables.mark_dying(place, target);
+    cut(tables, place, target, depth)?;
+    gone(tables, place, target);
     Ok(())
 }
 
 /// Deletes the children of a dying object.
 #[cycle(deletion)]
-fn cut(rows: &mut Rows, ses: usize, target: u32, depth: u32) -> Result<(), AllocError>
-    requires { IsSeat rows.old ses }
-    ensures does { OnOk result (Does (Cut target depth ∷ []) (state_at rows.old ses) (state_at rows.new ses)) }
-    ensures lessens { Lessens ses rows.old rows.new }
+fn cut(tables: &mut Tables, place: usize, target: u32, depth: u32) -> Result<(), AllocError>
+    requires { IsPlaced tables.old place }
+    ensures does { OnOk result (Does (Cut target depth ∷ []) (state_at tables.old place) (state_at tables.new place)) }
+    ensures lessens { Lessens place tables.old tables.new }
 {
-    let children = rows.children(ses, Some(target))?;
+    let children = tables.children(place, Some(target))?;
     'children: for child in children.as_slice() {
-        match kin(rows, ses, target, *child, depth) {
-            Ok(()) => {}
-            Err(error) => return Err(error),
-        }
+        kin(tables, place, target, *child, depth)?;
     }
     Ok(())
 }
 
 /// Deletes a child, unless it has gone, is dying or has another parent by now.
 #[cycle(deletion)]
-fn kin(rows: &mut Rows, ses: usize, parent: u32, child: u32, depth: u32) -> Result<(), AllocError>
-    requires { IsSeat rows.old ses }
-    ensures does { OnOk result (Does (Kin parent child depth ∷ []) (state_at rows.old ses) (state_at rows.new ses)) }
-    ensures lessens { Lessens ses rows.old rows.new }
+fn kin(
+    tables: &mut Tables,
+    place: usize,
+    parent: u32,
+    child: u32,
+    depth: u32,
+) -> Result<(), AllocError>
+    requires { IsPlaced tables.old place }
+    ensures does { OnOk result (Does (Kin parent child depth ∷ []) (state_at tables.old place) (state_at tables.new place)) }
+    ensures lessens { Lessens place tables.old tables.new }
 {
-    if !rows.lives_below(ses, parent, child) {
+    if !tables.lives_below(place, parent, child) {
         return Ok(());
     }
-    delete(rows, ses, child, depth)
+    delete(tables, place, child, depth)
 }
 
 /// Lets a dying object go.
-fn gone(rows: &mut Rows, ses: usize, target: u32)
-    requires { IsSeat rows.old ses }
-    ensures does { (depth : ℕ) → Does (Gone target depth ∷ []) (state_at rows.old ses) (state_at rows.new ses) }
-    ensures lessens { Lessens ses rows.old rows.new }
+fn gone(tables: &mut Tables, place: usize, target: u32)
+    requires { IsPlaced tables.old place }
+    ensures does { (depth : ℕ) → Does (Gone target depth ∷ []) (state_at tables.old place) (state_at tables.new place) }
+    ensures lessens { Lessens place tables.old tables.new }
 {
-    rows.remove(ses, target);
+    tables.remove(place, target);
 }

@@ -1,30 +1,50 @@
 //! The engine: the sessions of a server, and what a command of one of them does to all.
-ghost use Rattle.std.specs.Prelude.{◌≡◌, ◌⊎◌, List, ℕ, ◌++◌, ◌∷◌, [], Ok, Err, Some, None, true, false, IsTrue, IsFalse, IfOk, IsErr, OnOk, OnErr};
-ghost use Rattle.isolation.specs.World.{effect, after};
-ghost use Rattle.refusals.specs.Answers.{OnDone, OnMemory};
-ghost use Rattle.refusals.specs.declared.code.Code.TheVariants.{SessionFailed};
-ghost use Rattle.refusals.specs.declared.fault.Fault.TheVariants.{Refused};
-ghost use Rattle.thread_model.specs.Asked.{tagged};
+ghost use Rattle.std.specs.Prelude.{◌≡◌, List, ℕ, ◌++◌, ◌∷◌, [], Some, None, IsTrue, IsFalse, IfOk, OnOk, OnErr};
+ghost use Rattle.std.specs.Result.{result_ok};
+ghost use Rattle.refusals.specs.Answers.{OnMemory};
 ghost use Rattle.thread_model.specs.declared.line.Line.TheVariants.{Error};
-ghost use Rattle.thread_model.specs.Machine.{machine};
-ghost use Rattle.session_engine.specs.Answering.{Says, wants_memory};
-ghost use Rattle.session_engine.specs.Session.{fresh, gone};
-ghost use Rattle.session_engine.specs.Engine.{IsPlace, OfSession, OthersStay, AnotherFails, IsWell, settings, was_refused, names, place, sessions, states, failed};
+ghost use Rattle.thread_model.specs.Asked.{asked};
+ghost use Rattle.thread_model.specs.Thread.{performs};
+ghost use Rattle.session_tables.specs.Refused.{OnRefused};
+ghost use Rattle.session_tables.specs.Session.{fresh, gone};
+ghost use Rattle.session_engine.specs.Returning.{Returns, told};
+ghost use Rattle.session_engine.specs.Sessions.{AreSound, AreWell, Fails, IsStep, session_refusal};
+ghost use Rattle.session_engine.specs.Engine.{IsPlace, OfSession, failed, names, place, seen, sessions, settings, states, was_refused};
 
-use crate::commands::one_line;
+use crate::commands::{Caller, obey, one_line, wants_memory};
 use crate::setup::Setup;
-use crate::table::Table;
 use class_table::ClassTable;
+use indexmap::IndexSet;
 use plain_types::{Items, Text};
 use refusals::{Code, Fault};
+use session_tables::Tables;
 use std::alloc::{AllocError, Global};
+use std::marker::Model;
 use thread_model::{Command, Line};
 
-/// The sessions of a server. Each is named by a text, and has a place that calls use.
+/// The sessions of a server. Each is named by a text, and has a place that calls use; none is ever
+/// closed.
 #[derive(Drop)]
 pub struct Engine {
     setup: Setup,
-    table: Table,
+    names: IndexSet<Text>,
+    tables: Tables,
+    memory_refused: bool,
+}
+
+impl Model for Engine {
+    ghost use Rattle.std.specs.Coded.{codes};
+    ghost use Rattle.class_table.specs.contracts.class.Class as class;
+    ghost use Rattle.session_tables.specs.contracts.tables.Tables as held;
+    ghost use Rattle.session_engine.specs.Engine.{Contents, IsWhole, contents};
+
+    ghost Value = { Contents };
+
+    ghost coded = { Prim.hlevel (codes, class.the_row.coded, held.the_row.coded) };
+
+    ghost view = { λ e. contents e.setup e.names.keys e.tables e.memory_refused };
+
+    ghost invariant = { λ e. IsWhole (contents e.setup e.names.keys e.tables e.memory_refused) };
 }
 
 impl Engine {
@@ -37,7 +57,9 @@ impl Engine {
         ensures refused { IfOk result (λ engine. IsFalse (was_refused engine)) }
     {
         Ok(Engine {
-            table: Table::new(alloc),
+            names: IndexSet::new(alloc),
+            tables: Tables::new(alloc),
+            memory_refused: false,
             setup: Setup {
                 alloc,
                 classes,
@@ -48,134 +70,139 @@ impl Engine {
 
     /// The place of a session.
     pub fn find(&self, name: &Text) -> Option<usize>
-        ensures place { result ≡ place self.now name.now }
-        ensures well { IsWell self.now }
+        ensures { result ≡ place self.now name.now }
     {
-        self.table.find(name)
+        self.names.get_index_of(name)
     }
 
-    /// Opens a session for a name that has none, and answers its place.
+    /// What holds of every session. There is nothing to run: the clauses are for the proofs of
+    /// callers.
+    pub fn sound(&self)
+        ensures well { AreWell (seen self.now) }
+        ensures sound { AreSound (seen self.now) }
+    {
+        // The loan is for the proof, which then knows what holds of the engine.
+        let _names = &self.names;
+    }
+
+    /// Opens a session for a name that has none, and returns its place.
     pub fn open(&mut self, name: &Text) -> Result<usize, AllocError>
         requires { place self.old name.now ≡ None }
-        ensures place { IfOk result (λ ses. place self.new name.now ≡ Some ses) }
+        ensures place { IfOk result (λ at. place self.new name.now ≡ Some at) }
         ensures sessions { sessions self.new ≡ sessions self.old }
         ensures names { OnOk result (names self.new ≡ names self.old ++ name.now ∷ []) }
         ensures settings { settings self.new ≡ settings self.old }
         ensures ok { OnOk result (was_refused self.new ≡ was_refused self.old) }
         ensures err { OnErr result (IsTrue (was_refused self.new) × (names self.new ≡ names self.old)) }
     {
-        self.table.open(self.setup.alloc, name)
+        let entered = self.enter(name);
+        if entered.is_err() {
+            self.memory_refused = true;
+        }
+        entered
+    }
+
+    fn enter(&mut self, name: &Text) -> Result<usize, AllocError>
+        requires { place self.old name.now ≡ None }
+        ensures place { IfOk result (λ at. place self.new name.now ≡ Some at) }
+        ensures sessions { sessions self.new ≡ sessions self.old }
+        ensures names { OnOk result (names self.new ≡ names self.old ++ name.now ∷ []) }
+        ensures settings { settings self.new ≡ settings self.old }
+        ensures refused { was_refused self.new ≡ was_refused self.old }
+        ensures err { OnErr result (names self.new ≡ names self.old) }
+    {
+        self.tables.ready()?;
+        let name = name.copy(self.setup.alloc)?;
+        self.names.insert(name)?;
+        Ok(self.tables.open(self.setup.alloc))
     }
 
     /// Does a command of a session. A session that has failed for want of memory refuses every
     /// command; where memory is wanted now and not found, the session has failed.
-    pub fn command(&mut self, ses: usize, command: &Command) -> Result<Items<Line>, Fault>
-        requires { IsPlace self.old ses }
-        ensures lines { IsFalse (was_refused self.new) → OfSession self.old ses (λ name.
-            Says result (effect (machine (settings self.old)) (states self.old) (tagged name command.now)).lines) }
-        ensures states { IsFalse (was_refused self.new) → OfSession self.old ses (λ name.
-            states self.new ≡ after (machine (settings self.old)) (states self.old) (tagged name command.now)) }
+    pub fn command(&mut self, at: usize, command: &Command) -> Result<Items<Line>, Fault>
+        requires { IsPlace self.old at }
+        ensures step { OfSession self.old at (λ name. IsStep (seen self.old) (seen self.new) name (asked command.now) (told result)) }
+        // It is refused exactly by its refusal, and else returns what it tells,
+        ensures returns { OfSession self.old at (λ name.
+            Returns (session_refusal (settings self.old) name (sessions self.old name) (asked command.now))
+            (λ lines. lines ≡ (performs (settings self.old) name (states self.old name) (asked command.now)).lines) result) }
+        // and a refused command changes nothing.
+        ensures refused { OnRefused result (sessions self.new ≡ sessions self.old) }
+        ensures fails { OfSession self.old at (λ name. OnMemory result (sessions self.new name ≡ gone)) }
+        // A session that has failed wants no memory.
+        ensures fine { OfSession self.old at (λ name. OnMemory result (IsFalse (failed self.old name))) }
         ensures names { names self.new ≡ names self.old }
-        ensures settings { settings self.new ≡ settings self.old }
-        ensures there { IsPlace self.new ses }
-        ensures refuses { OfSession self.old ses (λ name. IsTrue (failed self.old name)
-            → (result ≡ Err (Refused SessionFailed)) × (sessions self.new ≡ sessions self.old)) }
-        ensures fails { OfSession self.old ses (λ name. OnMemory result (sessions self.new name ≡ gone)) }
-        ensures others { OfSession self.old ses (λ name. OthersStay self.old self.new name) }
-        ensures kept { IsTrue (was_refused self.old) → IsTrue (was_refused self.new) }
-        ensures memory { OnMemory result (IsTrue (was_refused self.new)) }
-        ensures blame { IsFalse (was_refused self.old) → IsTrue (was_refused self.new)
-            → OfSession self.old ses (λ name. IsTrue (wants_memory result) ⊎ AnotherFails self.old self.new name) }
-        // Also after memory was refused: what a session answers that has not failed, and what becomes of it.
-        ensures says { OfSession self.old ses (λ name. IsFalse (failed self.old name)
-            → Says result (effect (machine (settings self.old)) (states self.old) (tagged name command.now)).lines) }
-        ensures obeys { OfSession self.old ses (λ name. IsFalse (failed self.old name)
-            → OnDone result (sessions self.new name ≡ record {
-              state = (effect (machine (settings self.old)) (states self.old) (tagged name command.now)).state;
-              failed = false;
-            })) }
+        ensures there { IsPlace self.new at }
     {
-        self.table.obey(&self.setup, ses, command)
+        let Some(name) = self.names.get_index(at) else {
+            unreachable!()
+        };
+        let caller = Caller {
+            setup: &self.setup,
+            name,
+            place: at,
+        };
+        let done = obey(&caller, &mut self.tables, command);
+        if wants_memory(&done) {
+            self.memory_refused = true;
+        }
+        done
     }
 
     /// Does a command of a session, and tells a refusal by its line. Where that line finds no
     /// memory, the session has failed too.
-    pub fn told(&mut self, ses: usize, command: &Command) -> Result<Items<Line>, AllocError>
-        requires { IsPlace self.old ses }
-        ensures lines { IsFalse (was_refused self.new) → OfSession self.old ses (λ name.
-            result ≡ Ok (effect (machine (settings self.old)) (states self.old) (tagged name command.now)).lines) }
-        ensures states { IsFalse (was_refused self.new) → OfSession self.old ses (λ name.
-            states self.new ≡ after (machine (settings self.old)) (states self.old) (tagged name command.now)) }
+    pub fn told(&mut self, at: usize, command: &Command) -> Result<Items<Line>, AllocError>
+        requires { IsPlace self.old at }
+        ensures step { OfSession self.old at (λ name. IsStep (seen self.old) (seen self.new) name (asked command.now) (result_ok result)) }
+        ensures fails { OfSession self.old at (λ name. OnErr result (sessions self.new name ≡ gone)) }
         ensures names { names self.new ≡ names self.old }
-        ensures settings { settings self.new ≡ settings self.old }
-        ensures there { IsPlace self.new ses }
-        ensures refuses { OfSession self.old ses (λ name. IsTrue (failed self.old name)
-            → IfOk result (λ lines. (lines ≡ Error SessionFailed ∷ []) × (sessions self.new ≡ sessions self.old))) }
-        ensures fails { OfSession self.old ses (λ name. OnErr result (sessions self.new name ≡ gone)) }
-        ensures others { OfSession self.old ses (λ name. OthersStay self.old self.new name) }
-        ensures kept { IsTrue (was_refused self.old) → IsTrue (was_refused self.new) }
-        ensures memory { OnErr result (IsTrue (was_refused self.new)) }
-        ensures blame { IsFalse (was_refused self.old) → IsTrue (was_refused self.new)
-            → OfSession self.old ses (λ name. IsErr result ⊎ AnotherFails self.old self.new name) }
-        // Also after memory was refused: what a session answers that has not failed, and what becomes of it.
-        ensures says { OfSession self.old ses (λ name. IsFalse (failed self.old name)
-            → IfOk result (λ lines. lines ≡ (effect (machine (settings self.old)) (states self.old) (tagged name command.now)).lines)) }
-        ensures obeys { OfSession self.old ses (λ name. IsFalse (failed self.old name)
-            → OnOk result (sessions self.new name ≡ record {
-              state = (effect (machine (settings self.old)) (states self.old) (tagged name command.now)).state;
-              failed = false;
-            })) }
+        ensures there { IsPlace self.new at }
     {
-        match self.command(ses, command) {
+        match self.command(at, command) {
             Ok(lines) => Ok(lines),
-            Err(Fault::Refused(code)) => self.tell_refusal(ses, code),
+            Err(Fault::Refused(code)) => self.tell_refusal(at, code),
             Err(Fault::Memory) => Err(AllocError),
         }
     }
 
-    fn tell_refusal(&mut self, ses: usize, code: Code) -> Result<Items<Line>, AllocError>
-        requires { IsPlace self.old ses }
+    fn tell_refusal(&mut self, at: usize, code: Code) -> Result<Items<Line>, AllocError>
+        requires { IsPlace self.old at }
         ensures line { IfOk result (λ lines. lines ≡ Error code ∷ []) }
         ensures ok { OnOk result (self.new ≡ self.old) }
-        ensures fails { OfSession self.old ses (λ name. OnErr result (sessions self.new name ≡ gone)) }
-        ensures others { OfSession self.old ses (λ name. OthersStay self.old self.new name) }
+        ensures err { OfSession self.old at (λ name. OnErr result (Fails (seen self.old) (seen self.new) name)) }
         ensures names { names self.new ≡ names self.old }
-        ensures settings { settings self.new ≡ settings self.old }
-        ensures there { IsPlace self.new ses }
-        ensures memory { OnErr result (IsTrue (was_refused self.new)) }
+        ensures there { IsPlace self.new at }
     {
         let told = one_line(self.setup.alloc, Line::Error(code));
         if told.is_err() {
-            self.give_up(ses);
+            self.give_up(at);
         }
         told
     }
 
     /// Lets a session fail, as where memory is wanted for it elsewhere and not found.
-    pub fn give_up(&mut self, ses: usize)
-        requires { IsPlace self.old ses }
-        ensures fails { OfSession self.old ses (λ name. sessions self.new name ≡ gone) }
-        ensures others { OfSession self.old ses (λ name. OthersStay self.old self.new name) }
+    pub fn give_up(&mut self, at: usize)
+        requires { IsPlace self.old at }
+        ensures fails { OfSession self.old at (λ name. Fails (seen self.old) (seen self.new) name) }
         ensures names { names self.new ≡ names self.old }
-        ensures settings { settings self.new ≡ settings self.old }
-        ensures there { IsPlace self.new ses }
-        ensures memory { IsTrue (was_refused self.new) }
+        ensures there { IsPlace self.new at }
     {
-        self.table.give_up(ses);
+        self.tables.give_up(at);
+        self.memory_refused = true;
     }
 
     /// Whether a session has failed for want of memory.
-    pub fn failed(&self, ses: usize) -> bool
-        requires { IsPlace self.now ses }
-        ensures { OfSession self.now ses (λ name. result ≡ failed self.now name) }
+    pub fn failed(&self, at: usize) -> bool
+        requires { IsPlace self.now at }
+        ensures { OfSession self.now at (λ name. result ≡ failed self.now name) }
     {
-        self.table.failed(ses)
+        self.tables.failed(at)
     }
 
     /// Whether memory was wanted and not found in any call of the engine so far.
     pub fn memory_refused(&self) -> bool
         ensures { result ≡ was_refused self.now }
     {
-        self.table.memory_refused()
+        self.memory_refused
     }
 }

@@ -1,16 +1,12 @@
 //! The engine: the sessions of a server, and what a command of one of them does to all.
 #![tactic(auto)]
 
+mod classes;
 mod commands;
 mod deleting;
-mod describing;
 mod engine;
-mod names;
-mod rows;
-mod seats;
+mod properties;
 mod setup;
-mod table;
-#[cfg(test)]
-mod tests;
+mod trees;
 
 pub use engine::Engine;

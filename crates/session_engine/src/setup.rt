@@ -1,5 +1,12 @@
 //! What is fixed for the whole life of an engine.
+ghost use Rattle.std.specs.Prelude.{◌≡◌, IfOk, option_map};
+ghost use Rattle.std.specs.Result.{result_err};
+ghost use Rattle.thread_model.specs.Classes.{class_index};
+ghost use Rattle.thread_model.specs.Refusing.{class_refusal, named_class_refusal};
+
 use class_table::ClassTable;
+use plain_types::Text;
+use refusals::Code;
 use std::alloc::Global;
 
 /// What is fixed for the whole life of an engine, and the same for all of its sessions.
@@ -10,4 +17,28 @@ pub struct Setup {
     pub classes: ClassTable,
     /// How many turns each command has for the calls that it causes.
     pub turns: u32,
+}
+
+impl Setup {
+    /// The index of the class of this name.
+    pub fn class_index(&self, name: &Text) -> Result<u32, Code>
+        ensures refusal { result_err result ≡ class_refusal self.now.classes name.now }
+        ensures index { IfOk result (λ index. index ≡ class_index self.now.classes name.now) }
+    {
+        match self.classes.find(name.as_str()) {
+            Some(index) => Ok(index),
+            None => Err(Code::NoSuchClass),
+        }
+    }
+
+    /// The index of the class of this name, where one is given.
+    pub fn named_index(&self, name: &Option<Text>) -> Result<Option<u32>, Code>
+        ensures refusal { result_err result ≡ named_class_refusal self.now.classes name.now }
+        ensures index { IfOk result (λ index. index ≡ option_map (class_index self.now.classes) name.now) }
+    {
+        match name {
+            Some(name) => Ok(Some(self.class_index(name)?)),
+            None => Ok(None),
+        }
+    }
 }

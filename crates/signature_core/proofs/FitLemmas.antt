@@ -26,7 +26,7 @@ Decides-starts_with {E} decides s p =
 pub Decides-starts : (s p : List Kind) → Decides (starts_with eq-value.it s p) ((rest : List Kind) × (s ≡ p ++ rest))
 Decides-starts = Decides-starts_with Decides-eq
 
-Decides-is_same_kind : (j k : Kind) → Decides (is_same_kind j k) (j ≡ k)
+pub Decides-is_same_kind : (j k : Kind) → Decides (is_same_kind j k) (j ≡ k)
 Decides-is_same_kind j k =
     let names = bytes_eq-Decides (kind_name j) (kind_name k) in
     (λ e. kind_name_same j k (names.0 e), λ e. names.1 (ap kind_name e))

@@ -1,5 +1,6 @@
 -- What a session has still to do, and how it does it item by item.
-use Rattle.std.specs.Prelude.{◌≡◌, ℕ, zero, suc, ◌+◌, ◌*◌, ◌&&◌, Bool, false, not, List, [], ◌∷◌, ◌++◌, length, map, filter, Some, if◌then◌else◌}
+use Rattle.std.specs.Prelude.{◌≡◌, ℕ, zero, suc, ◌+◌, ◌*◌, ◌==◌, ◌&&◌, Bool, false, not, IsTrue, List, [], ◌∷◌, ◌++◌, length, map, filter, Some, if◌then◌else◌}
+use Rattle.std.specs.List.{All, list_any}
 use Rattle.std.specs.Option.{option_map_or}
 use Rattle.object_tree.specs.declared.row.Row.{Row}
 use Rattle.object_tree.specs.Rows.{children, row_of, is_same}
@@ -7,7 +8,7 @@ use Rattle.object_tree.specs.Changes.{marked}
 use Rattle.thread_model.specs.declared.line.Answer.{Answer}
 use Rattle.thread_model.specs.declared.line.Line.{Line}
 use Rattle.thread_model.specs.declared.line.Line.TheVariants as line
-use Rattle.thread_model.specs.State.{State, without_object}
+use Rattle.thread_model.specs.State.{IsWhole, State, without_object}
 
 -- what is to be done; the depth is that of the signals that it sends
 pub data Item : Type 0 where
@@ -108,3 +109,16 @@ run agenda doing = steps (enough agenda doing) agenda doing
 pub record RunsToItsEnd : Type 0 where
   pub at_end : (doing : Doing) → run [] doing ≡ doing
   pub at_item : (item : Item) (agenda : List Item) (doing : Doing) → run (item ∷ agenda) doing ≡ run ((step item doing).items ++ agenda) (step item doing).doing
+
+-- does an item let this object go
+abbrev pub lets_go : ℕ → Item → Bool
+lets_go number (Delete target depth) = false
+lets_go number (Cut target depth) = false
+lets_go number (Kin parent child depth) = false
+lets_go number (Gone target depth) = target == number
+lets_go number (Reply answer) = false
+
+-- what holds of a session that has this agenda still to do: each dying object has its Gone in it
+pub record IsUnderWay (agenda : List Item) (state : State) : Type 0 where
+  pub whole : IsWhole state
+  pub going : All (λ row. IsTrue row.dying → IsTrue (list_any (lets_go row.number) agenda)) state.forest.rows

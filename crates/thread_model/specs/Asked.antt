@@ -17,8 +17,8 @@ pub data Asked : Type 0 where
   SetParent : (target : ℕ) (parent : Option ℕ) → Asked
   -- the children of an object, or the roots
   Children : (target : Option ℕ) → Asked
-  -- the nearest object below another one, of this name and class where they are given
-  Find : (target : ℕ) (name class : Option (List ℕ)) → Asked
+  -- the nearest object below another one, of this title and class where they are given
+  Find : (target : ℕ) (title class : Option (List ℕ)) → Asked
   -- write `objectName` of this object
   Set : (target : ℕ) (value : Data) → Asked
   -- read `objectName` of this object
@@ -32,7 +32,7 @@ asked (c.New class parent) = New class parent
 asked (c.Delete target) = Delete target
 asked (c.SetParent target parent) = SetParent target parent
 asked (c.Children target) = Children target
-asked (c.Find target name class) = Find target name class
+asked (c.Find target title class) = Find target title class
 asked (c.Set target value) = Set target (view value)
 asked (c.Get target) = Get target
 asked (c.Meta class) = Meta class

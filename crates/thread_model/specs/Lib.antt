@@ -1,5 +1,12 @@
+pub mod Settings
 pub mod Asked
 pub mod State
 pub mod Agenda
+pub mod Effects
+pub mod Classes
+pub mod Trees
+pub mod Properties
+pub mod Refusing
 pub mod Thread
 pub mod Machine
+pub mod Laws

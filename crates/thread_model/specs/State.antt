@@ -1,48 +1,77 @@
 -- What a session holds.
-use Rattle.std.specs.Prelude.{ℕ, ◌+◌, Bool, List, [], Option}
+use Rattle.std.specs.Prelude.{◌≡◌, ◌+◌, ℕ, Bool, false, List, [], Option, IsFalse, bytes_eq}
 use Rattle.std.specs.BTreeMap.{insert_entry, is_at}
-use Rattle.std.specs.Map.{lookup, remove_entry}
+use Rattle.std.specs.List.{All}
+use Rattle.std.specs.Map.{keys_of, lookup, remove_entry, values_of}
 use Rattle.std.specs.Option.{unwrap_or}
 use Rattle.std.specs.Ordering.{nat_cmp}
+use Rattle.object_tree.specs.Forest as tree
 use Rattle.object_tree.specs.Forest.{Forest, empty_forest}
-use Rattle.object_tree.specs.Changes.{added, removed}
+use Rattle.object_tree.specs.Rows.{numbers}
+use Rattle.object_tree.specs.Changes.{added, reparented, removed}
+use Rattle.signature_core.specs.declared.kind.Kind.TheVariants as k
 use Rattle.variant_value.specs.declared.value.Value.{Value}
 use Rattle.variant_value.specs.declared.value.Value.TheVariants as v
+use Rattle.variant_value.specs.Values.{IsOfKind}
 
--- the names of objects, each behind its number, by rising number
-abbrev pub Names : Type 0
-Names = List (ℕ × Value)
+-- the titles of objects, each behind the object's number, by rising number; an object's title is its
+-- property `objectName`
+abbrev pub Titles : Type 0
+Titles = List (ℕ × Value)
 
 pub record State : Type 0 where
   -- the objects in their trees
   pub forest : Forest
-  -- the name of each
-  pub names : Names
+  -- the title of each
+  pub titles : Titles
 
 -- the state of a session that has had no command
 abbrev pub empty : State
-empty = record { forest = empty_forest; names = [] }
+empty = record { forest = empty_forest; titles = [] }
 
--- is a name that of this object
+-- is a title that of this object
 abbrev pub is_of : ℕ → ℕ → Bool
 is_of number = is_at (nat_cmp number)
 
--- the name of an object
-abbrev pub name_of : Names → ℕ → Value
-name_of names number = unwrap_or (lookup (is_of number) names) v.Invalid
+-- the title of an object
+abbrev pub title_of : Titles → ℕ → Value
+title_of titles number = unwrap_or (lookup (is_of number) titles) v.Invalid
 
--- the names, with this one for an object
-abbrev pub named : Names → ℕ → Value → Names
-named names number name = insert_entry nat_cmp names number name
+-- is a title this text
+abbrev pub is_text : List ℕ → Value → Bool
+is_text wanted (v.Text text) = bytes_eq text wanted
+is_text wanted _ = false
 
--- the state with one more object, whose name is the empty text
+-- the titles, with this one for an object
+abbrev pub titled : Titles → ℕ → Value → Titles
+titled titles number title = insert_entry nat_cmp titles number title
+
+-- the state with one more object, whose title is the empty text
 abbrev pub with_object : State → Option ℕ → ℕ → State
-with_object state parent class = record { forest = added state.forest parent class; names = named state.names (state.forest.last_number + 1) (v.Text []) }
+with_object state parent class = record { forest = added state.forest parent class; titles = titled state.titles (state.forest.last_number + 1) (v.Text []) }
 
--- the state with another name for an object
-abbrev pub with_name : State → ℕ → Value → State
-with_name state number name = record state { names = named state.names number name }
+-- the state with another parent of an object
+abbrev pub with_parent : State → ℕ → Option ℕ → State
+with_parent state number parent = record state { forest = reparented state.forest number parent }
+
+-- the state with another title of an object
+abbrev pub with_title : State → ℕ → Value → State
+with_title state number title = record state { titles = titled state.titles number title }
 
 -- the state without an object: its children have become roots
 abbrev pub without_object : State → ℕ → State
-without_object state number = record { forest = removed state.forest number; names = remove_entry (is_of number) state.names }
+without_object state number = record { forest = removed state.forest number; titles = remove_entry (is_of number) state.titles }
+
+-- what holds of every session, also while it does a command
+pub record IsWhole (state : State) : Type 0 where
+  pub forest : tree.IsSound state.forest
+  -- every object has a title, and nothing else has
+  pub titles : keys_of state.titles ≡ numbers state.forest.rows
+  -- a title is a text that is not too long
+  pub texts : All (IsOfKind k.Text) (values_of state.titles)
+
+-- what holds of every session between commands
+pub record IsSound (state : State) : Type 0 where
+  pub whole : IsWhole state
+  -- no object is dying
+  pub living : All (λ row. IsFalse row.dying) state.forest.rows

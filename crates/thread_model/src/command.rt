@@ -4,7 +4,7 @@ use plain_types::Text;
 /// A command of a session.
 #[derive(Drop)]
 pub enum Command {
-    /// Makes an object of a class, below a parent or as a root, and answers its number.
+    /// Makes an object of a class, below a parent or as a root, and replies its number.
     New {
         class: Text,
         parent: Option<u32>,
@@ -18,18 +18,18 @@ pub enum Command {
         object: u32,
         parent: Option<u32>,
     },
-    /// Answers the children of an object, or the roots.
+    /// Lists the children of an object, or the roots.
     Children {
         object: Option<u32>,
     },
-    /// Answers the nearest object below another one, of this name and of this class or one below it,
+    /// Finds the nearest object below another one, with this title and of this class or one below it,
     /// where these are given.
     Find {
         object: u32,
         name: Option<Text>,
         class: Option<Text>,
     },
-    /// Writes the property `objectName` of an object. The value is any JSON.
+    /// Writes the property `objectName` of an object, its title. The value is any JSON.
     Set {
         object: u32,
         value: serde_json::Value,

@@ -5,6 +5,7 @@
 
 ghost use Rattle.thread_model.specs.Machine.{IsMetadLawful};
 ghost use Rattle.thread_model.specs.Agenda.{RunsToItsEnd};
+ghost use Rattle.thread_model.specs.Laws.{KeepsSound, KeepsUnderWay};
 
 mod command;
 mod line;
@@ -26,4 +27,11 @@ pub fn machine_is_lawful()
 /// The run of an agenda does its items one after another, up to the last.
 pub fn agenda_runs_to_its_end()
     ensures { RunsToItsEnd }
+{}
+
+/// A session stays sound: between commands its objects stand in trees within the limits, each has a
+/// title, and none is being deleted.
+pub fn commands_keep_sessions_sound()
+    ensures commands { KeepsSound }
+    ensures items { KeepsUnderWay }
 {}

@@ -3,7 +3,7 @@ use Rattle.std.proofs.Common.{ℕ, List, sym}
 use Rattle.isolation.proofs.Piecewise.{told_alone}
 use Rattle.server_world.specs.declared.server.Server.{Server}
 use Rattle.server_world.specs.Server.{states, names, settings}
-use Rattle.server_world.proofs.Headline.{knows_all}
+use Rattle.server_world.proofs.ServerLemmas.{knows_all}
 use Rattle.thread_model.specs.Machine.{machine}
 use Rattle.thread_model.specs.Thread.{Settings}
 use Rattle.thread_model.proofs.Lawful.{lawful}
@@ -20,4 +20,4 @@ told_as_alone settings world input s = told_alone LineFault (machine settings) (
 -- and what it would be told without strangers
 pub told_as_without : (server : Server) (input s : List ℕ) → IsToldAsWithout (settings server) (states server) (names server) input s
 told_as_without server input s =
-    sym (leaving_out_strangers (settings server) (states server) (names server) input (knows_all (settings server) server.engine.table) s)
+    sym (leaving_out_strangers (settings server) (states server) (names server) input (knows_all (settings server) server.engine) s)

@@ -1,8 +1,9 @@
-use Rattle.std.proofs.Common.{◌≡◌, IsTrue, IsFalse, length, map, take, vec_len}
+use Rattle.std.proofs.Common.{◌≡◌, ◌⊎◌, ℕ, List, IsTrue, IsFalse, length, map, take, vec_len}
 use Rattle.std.specs.Vec.{vec_capacity}
 use Rattle.isolation.specs.World.{world_after, world_lines}
 use Rattle.thread_model.specs.Machine.{machine}
 use Rattle.server_world.specs.declared.report.Entry.TheVariants.{Lines}
+use Rattle.server_world.specs.Names.{with_names}
 use Rattle.server_world.specs.Server as server
 use Rattle.server_world.specs.Runs.{IsShort, tags}
 use Rattle.server_world.proofs.server.Server.run.Given as goal
@@ -15,5 +16,7 @@ invariant-loop-given l = record {
   kept : IsTrue (server.was_refused l.initial.self) → IsTrue (server.was_refused l.self);
   states : IsFalse (server.was_refused l.self) → server.states l.self ≡ world_after (machine (server.settings l.initial.self)) (server.states l.initial.self) (tags (take l.given-index l.list));
   lines : IsFalse (server.was_refused l.self) → l.entries.items ≡ map Lines (world_lines (machine (server.settings l.initial.self)) (server.states l.initial.self) (tags (take l.given-index l.list)));
-  blame : IsFalse (server.was_refused l.initial.self) → IsTrue (server.was_refused l.self) → IsShort l.entries.items;
+  names : IsFalse (server.was_refused l.self) → server.names l.self ≡ with_names (server.names l.initial.self) (tags (take l.given-index l.list));
+  failed : (name : List ℕ) → IsTrue (server.failed l.initial.self name) → IsTrue (server.failed l.self name);
+  blame : IsFalse (server.was_refused l.initial.self) → IsTrue (server.was_refused l.self) → IsShort l.entries.items ⊎ server.SomeFails l.initial.self l.self;
 }

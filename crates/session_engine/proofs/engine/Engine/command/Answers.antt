@@ -1,42 +1,21 @@
-use Rattle.std.proofs.Common.{ap, ◌∙◌, inl, position}
-use Rattle.std.specs.Prelude.{bytes_eq}
-use Rattle.session_engine.proofs.ByName.{IsOpen-place}
-use Rattle.session_engine.specs.Setup.{settings_of}
-use Rattle.session_engine.proofs.Obeying as step
+use Rattle.std.proofs.Common.{sym}
+use Rattle.session_engine.proofs.CommandsLemmas.{found_step, found_whole, returns_named, wanting_step, wanting_whole}
 use Rattle.session_engine.proofs.engine.Engine.command.Goals as goal
 
-told : (c : goal.After-obey) → step.Obeyed (settings_of c.args.self.now.setup) c.args.self.now.table c.obey.new.self c.args.ses c.args.command.now c.obey.result
-told c = record { sound = c.obey.ensures.sound; refuses = c.obey.ensures.refuses; lines = c.obey.ensures.lines; state = c.obey.ensures.state; fails = c.obey.ensures.fails }
+pub invariant_of-self : goal.invariant_of-self
+invariant_of-self c = wanting_whole _ _ _ c.obey-done.new.tables _ c.obey-done.ensures _ c.self.inside.memory_refused c.args.self.now c.self.invariant c.self.view_is c.in-Some.ensures.key c.requires.0 c.requires.1 (sym c.if-wants_memory.ensures)
 
-pub obey-requires : goal.obey-requires
-obey-requires c = IsOpen-place c.args.self.now.table c.requires.0 c.args.ses c.requires.1
+pub invariant_of-self-else-wants_memory : goal.invariant_of-self-else-wants_memory
+invariant_of-self-else-wants_memory c = found_whole _ _ _ c.obey-done.new.tables _ c.obey-done.ensures _ c.self.inside.memory_refused c.args.self.now c.self.invariant c.self.view_is c.in-Some.ensures.key c.requires.0 c.requires.1 (sym c.if-wants_memory.ensures)
 
-pub returns-clause-lines : goal.returns-clause-lines
-returns-clause-lines c = λ found name at. step.lines_of_step _ _ _ _ _ _ name at (told c) found
+pub returns-then-wants_memory-clause-step : goal.returns-then-wants_memory-clause-step
+returns-then-wants_memory-clause-step c = λ name there.
+    wanting_step _ _ _ c.obey-done.new.tables _ c.obey-done.ensures _ c.self.inside.memory_refused c.args.self.now c.self.invariant c.self.view_is c.in-Some.ensures.key name there (sym c.if-wants_memory.ensures)
 
-pub returns-clause-states : goal.returns-clause-states
-returns-clause-states c = λ found name at. step.world_of_step _ _ _ _ _ _ name at (told c) found
+pub returns-else-wants_memory-clause-step : goal.returns-else-wants_memory-clause-step
+returns-else-wants_memory-clause-step c = λ name there.
+    found_step _ _ _ c.obey-done.new.tables _ c.obey-done.ensures _ c.self.inside.memory_refused c.args.self.now c.self.invariant c.self.view_is c.in-Some.ensures.key name there (sym c.if-wants_memory.ensures)
 
-pub returns-clause-names : goal.returns-clause-names
-returns-clause-names c = step.names_stay _ _ _ _ _ _ (told c)
-
-pub returns-clause-there : goal.returns-clause-there
-returns-clause-there c = (c.requires.0, ap (λ names. position (bytes_eq c.requires.0) names) (step.names_stay _ _ _ _ _ _ (told c)) ∙ c.requires.1)
-
-pub returns-clause-fails : goal.returns-clause-fails
-returns-clause-fails c = λ name at. step.gives_up _ _ _ _ _ _ name at (told c)
-
-pub returns-clause-others : goal.returns-clause-others
-returns-clause-others c = λ name at. step.others_stay _ _ _ _ _ _ name at (told c)
-
-pub returns-clause-kept : goal.returns-clause-kept
-returns-clause-kept c = step.refusal_stays _ _ _ _ _ _ (told c)
-
-pub returns-clause-blame : goal.returns-clause-blame
-returns-clause-blame c = λ was now name at. inl (step.memory_blamed _ _ _ _ _ _ (told c) was now)
-
-pub returns-clause-says : goal.returns-clause-says
-returns-clause-says c = λ name at. step.says _ _ _ _ _ _ name at (told c)
-
-pub returns-clause-obeys : goal.returns-clause-obeys
-returns-clause-obeys c = λ name at. step.obeys _ _ _ _ _ _ name at (told c)
+pub returns-else-wants_memory-clause-returns : goal.returns-else-wants_memory-clause-returns
+returns-else-wants_memory-clause-returns c = λ name there.
+    returns_named _ _ _ c.obey-done.new.tables _ c.obey-done.ensures _ c.self.inside.memory_refused c.args.self.now c.self.invariant c.self.view_is c.in-Some.ensures.key name there

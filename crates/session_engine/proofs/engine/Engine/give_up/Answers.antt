@@ -1,9 +1,21 @@
-use Rattle.std.proofs.Common.{ap, ◌∙◌}
-use Rattle.session_engine.specs.Session.{gone}
-use Rattle.session_engine.specs.Table.{session_of}
-use Rattle.session_engine.proofs.ByName.{session_of-others}
+use Rattle.std.proofs.Common.{◌≡◌, Some, true, refl, sym, ap, subst, ◌∙◌}
+use Rattle.session_tables.specs.Session.{gone}
+use Rattle.session_engine.specs.Engine.{IsWhole, contents, place, sessions}
+use Rattle.session_engine.proofs.EngineLemmas.{kept_by_name, sessions-others, sessions-own, whole_given_up}
 use Rattle.session_engine.proofs.engine.Engine.give_up.Goals as goal
 
-pub returns-clause-others : goal.returns-clause-others
-returns-clause-others c = λ name at other elsewhere.
-    ap (λ table. session_of table other) c.give_up.ensures.given_up ∙ session_of-others c.args.self.now.table name other c.args.ses gone at elsewhere
+pub invariant_of-self : goal.invariant_of-self
+invariant_of-self c = subst (λ tables. IsWhole (contents c.self.inside.setup c.self.inside.names.keys tables true)) (sym c.give_up.ensures)
+    (whole_given_up _ c.self.invariant c.requires.0 c.args.at (ap (λ engine. place engine c.requires.0) c.self.view_is ∙ c.requires.1))
+
+pub returns-clause-fails : goal.returns-clause-fails
+returns-clause-fails c = λ name at.
+    let there = ap (λ engine. place engine name) c.self.view_is ∙ at in
+    let new = ap (λ tables. contents c.self.inside.setup c.self.inside.names.keys tables true) c.give_up.ensures in
+    record {
+      fails = ap (λ engine. sessions engine name) new ∙ sessions-own _ c.self.invariant name c.args.at gone there;
+      others = λ other elsewhere. ap (λ engine. sessions engine other) new ∙ sessions-others _ c.self.invariant name other c.args.at gone there elsewhere ∙ ap (λ engine. sessions engine other) c.self.view_is;
+      settings = ap (λ engine. engine.settings) c.self.view_is;
+      memory = refl;
+      sound = λ other. (kept_by_name _ other (invariant_of-self c)).sound;
+    }

@@ -1,7 +1,6 @@
-use Rattle.std.proofs.Common.{rules}
-use Rattle.session_engine.proofs.ByName.{place_of-opened}
+use Rattle.std.proofs.Common.{ap, ◌∙◌}
+use Rattle.session_engine.specs.Engine.{sessions}
 use Rattle.session_engine.proofs.engine.Engine.open.Goals as goal
 
-pub returns-clause-place : goal.returns-clause-place
-returns-clause-place c = let at = place_of-opened c.args.self.now.table c.args.name.now c.requires in
-    search (rules, at)
+pub returns-then-is_err-clause-sessions : goal.returns-then-is_err-clause-sessions
+returns-then-is_err-clause-sessions c = ap sessions c.self.view_is ∙ c.enter-entered.ensures.sessions

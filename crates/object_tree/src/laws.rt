@@ -1,0 +1,9 @@
+//! What is proved of forests beyond single calls.
+ghost use Rattle.object_tree.specs.Laws.{KeepsNumbers, KeepsSound};
+
+/// What changes leave of every forest. There is nothing to run: the clauses are laws over the
+/// definitions by which the calls of [`Forests`](crate::Forests) are described.
+pub fn changes_keep_forests_sound()
+    ensures sound { KeepsSound }
+    ensures numbers { KeepsNumbers }
+{}

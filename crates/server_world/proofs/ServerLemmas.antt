@@ -1,0 +1,126 @@
+-- A server over its engine: when it has found memory refused, which names it knows, and what a command makes of it.
+use Rattle.std.proofs.Common.{◌≡◌, ◌⊎◌, inl, inr, ℕ, Bool, true, false, List, [], ◌∷◌, ◌++◌, Option, Some, None, Result, Ok, Err, IfNone, IsErr, IsTrue, IsFalse, refl, sym, ap, subst, ◌∙◌, ⊎_elim}
+use Rattle.std.specs.Prelude.{bytes_eq}
+use Rattle.std.specs.List.{list_any}
+use Rattle.std.specs.Option.{option_map_or}
+use Rattle.std.specs.Result.{result_ok}
+use Rattle.std.proofs.lemmas.Bool.{cases_Bool, cond-true, cond-false, both_ways, or_left, or_right, or_cases, or_parts}
+use Rattle.std.proofs.lemmas.Slice.Eq.{bytes_eq-Decides}
+use Rattle.isolation.specs.Influence.{KnowsAll}
+use Rattle.thread_model.specs.declared.line.Line.{Line}
+use Rattle.thread_model.specs.Asked.{Asked}
+use Rattle.thread_model.specs.Machine.{machine}
+use Rattle.thread_model.specs.State.{empty}
+use Rattle.thread_model.specs.Thread.{Settings, joins_name}
+use Rattle.session_tables.specs.Session.{Session, fresh}
+use Rattle.session_tables.specs.Tables.{session_at}
+use Rattle.session_engine.specs.Engine as engine
+use Rattle.session_engine.specs.Engine.{Contents, place}
+use Rattle.session_engine.specs.Sessions.{AreSound, AreWell, IsStep}
+use Rattle.session_engine.proofs.EngineLemmas.{position-any, position-None}
+use Rattle.server_world.specs.declared.server.Server.{Server}
+use Rattle.server_world.specs.Names.{with_name}
+use Rattle.server_world.specs.Server.{IsLost, StaysOut, failed, seen, was_refused}
+
+pub refused_in_engine : (server : Server) → IsTrue (engine.was_refused server.engine) → IsTrue (was_refused server)
+unfolding was_refused
+refused_in_engine server h = or_left _ _ h
+
+refused_elsewhere : (server : Server) → IsTrue server.memory_refused → IsTrue (was_refused server)
+unfolding was_refused
+refused_elsewhere server h = or_right _ _ h
+
+found_in_engine : (server : Server) → IsFalse (was_refused server) → IsFalse (engine.was_refused server.engine)
+unfolding was_refused
+found_in_engine server h = (or_parts _ _ h).0
+
+found_elsewhere : (server : Server) → IsFalse (was_refused server) → IsFalse server.memory_refused
+unfolding was_refused
+found_elsewhere server h = (or_parts _ _ h).1
+
+module _ (old new : Server) (same : new.memory_refused ≡ old.memory_refused) where
+  -- a call that leaves the server's own mark keeps what was refused
+  refusal_kept : (IsTrue (engine.was_refused old.engine) → IsTrue (engine.was_refused new.engine)) → IsTrue (was_refused old) → IsTrue (was_refused new)
+  unfolding was_refused
+  refusal_kept keeps was = ⊎_elim (λ inside. refused_in_engine new (keeps inside)) (λ outside. refused_elsewhere new (same ∙ outside)) (or_cases _ _ was)
+
+  -- and where memory is refused first in it, the engine has met it
+  refused_first : IsFalse (was_refused old) → IsTrue (was_refused new) → IsTrue (engine.was_refused new.engine)
+  unfolding was_refused
+  refused_first was now = ⊎_elim (λ inside. inside) (λ outside. absurd (both_ways _ (found_elsewhere old was) (sym same ∙ outside))) (or_cases _ _ now)
+
+  -- so a step of the engine is one of the server
+  pub step_of_engine : (name : List ℕ) (asked : Asked) (told : Option (List Line)) → IsStep (engine.seen old.engine) (engine.seen new.engine) name asked told → IsStep (seen old) (seen new) name asked told
+  step_of_engine name asked told step = record {
+    lines = λ found. step.lines (found_in_engine new found);
+    states = λ found. step.states (found_in_engine new found);
+    tells = step.tells;
+    leaves = step.leaves;
+    refused = step.refused;
+    others = step.others;
+    settings = step.settings;
+    kept = refusal_kept step.kept;
+    memory = λ none. refused_in_engine new (step.memory none);
+    blame = λ was now. step.blame (found_in_engine old was) (refused_first was now);
+    well = λ found. step.well (found_in_engine old found);
+    sound = step.sound;
+  }
+
+-- nothing is done for a name that could not be entered
+pub step_out : (old new : Server) (name : List ℕ) (asked : Asked) → StaysOut old.engine new.engine name → AreWell (engine.seen old.engine) → AreSound (engine.seen old.engine) → IsStep (seen old) (seen new) name asked None
+step_out old new name asked out well sound =
+    let refused : IsTrue (was_refused new) = refused_in_engine new out.refused in
+    record {
+      lines = λ found. absurd (both_ways _ found refused);
+      states = λ found. absurd (both_ways _ found refused);
+      tells = tt;
+      leaves = tt;
+      refused = λ refused. tt;
+      others = λ other elsewhere. ap (λ sessions. sessions other) out.sessions;
+      settings = out.settings;
+      kept = λ was. refused;
+      memory = λ none. refused;
+      blame = λ was now. inl refl;
+      well = λ found. well (found_in_engine old found);
+      sound = λ other. subst (λ (sessions : List ℕ → Session). AreSound (record { settings = engine.settings old.engine; session = sessions; memory_refused = false })) (sym out.sessions) sound other;
+    }
+
+pub none_of_err : {T E : Type 0} (result : Result T E) → IsErr result → result_ok result ≡ None
+none_of_err (Ok value) h = absurd (cc)
+none_of_err (Err error) h = refl
+
+-- with a name that has a place the names stay, and one that has none goes last
+pub with_name-there : (sessions : Contents) (name : List ℕ) (at : ℕ) → place sessions name ≡ Some at → engine.names sessions ≡ with_name (engine.names sessions) name
+with_name-there sessions name at there = sym (cond-true (list_any (bytes_eq name) sessions.names) _ _ (position-any (bytes_eq name) sessions.names at there))
+
+pub with_name-new : (sessions : Contents) (name : List ℕ) → place sessions name ≡ None → engine.names sessions ++ name ∷ [] ≡ with_name (engine.names sessions) name
+with_name-new sessions name absent = sym (cond-false (list_any (bytes_eq name) sessions.names) _ _ (position-None (bytes_eq name) sessions.names absent))
+
+-- a session that has had no command joins none
+empty_joins_none : (name : List ℕ) → joins_name empty name ≡ false
+unfolding joins_name
+empty_joins_none name = refl
+
+-- so the names of an engine are all that may have a join
+pub knows_all : (settings : Settings) (sessions : Contents) → KnowsAll (machine settings) (engine.states sessions) (engine.names sessions)
+knows_all settings sessions name t joins = by (place sessions name) refl
+  where
+    by : (found : Option ℕ) → place sessions name ≡ found → list_any (bytes_eq name) sessions.names ≡ true
+    by (Some at) there = position-any (bytes_eq name) sessions.names at there
+    by None absent = absurd (both_ways _ (empty_joins_none t) (sym (ap (λ found. joins_name (option_map_or (session_at sessions.tables) found fresh).state t) absent) ∙ joins))
+
+-- a session that has failed stays so
+pub failed_stays : (old new : Server) (name : List ℕ) (asked : Asked) (told : Option (List Line)) → IsStep (seen old) (seen new) name asked told → IfNone told (IsLost old new name) → (other : List ℕ) → IsTrue (failed old other) → IsTrue (failed new other)
+failed_stays old new name asked told step lost other was = ⊎_elim
+    (λ here.
+    let same : other ≡ name = (bytes_eq-Decides other name).0 here in
+    subst (λ name. IsTrue (failed new name)) (sym same) (own told step lost (subst (λ name. IsTrue (failed old name)) same was)))
+    (λ elsewhere. ap (λ session. session.failed) (step.others other elsewhere) ∙ was)
+    (cases_Bool (bytes_eq other name))
+  where
+    own : (told : Option (List Line)) → IsStep (seen old) (seen new) name asked told → IfNone told (IsLost old new name) → IsTrue (failed old name) → IsTrue (failed new name)
+    own (Some lines) step lost was = ap (λ session. session.failed) step.leaves ∙ was
+    own None step lost was = ⊎_elim
+        (λ gone. ap (λ session. session.failed) gone)
+        (λ out. ap (λ sessions. (sessions name).failed) out.sessions ∙ was)
+        lost

@@ -1,0 +1,188 @@
+-- What changes of an engine by places change of its sessions by names.
+use Rattle.std.proofs.Common.{◌≡◌, ℕ, ◌+◌, ◌<◌, ◌≤◌, Bool, true, false, true≢false, not, cond, List, [], ◌∷◌, ◌++◌, Option, Some, None, length, position, get_or, slice_get, eqb, ltb, refl, sym, ap, subst, ◌∙◌, ⊎_elim, arith}
+use Rattle.std.specs.Prelude.{bytes_eq}
+use Rattle.std.specs.List.{list_any, position_or_len}
+use Rattle.std.specs.Option.{option_map_or}
+use Rattle.std.proofs.Math.Path.{fun_ext}
+use Rattle.std.proofs.lemmas.Bool.{cases_Bool, both_ways, cond-true, cond-false}
+use Rattle.std.proofs.lemmas.Grind.{common_steps}
+use Rattle.std.proofs.lemmas.List.{length-set}
+use Rattle.std.proofs.lemmas.List.Folds.{position_or_len_push}
+use Rattle.std.proofs.lemmas.List.Sums.{prefix_len-le-length}
+use Rattle.std.proofs.lemmas.List.Quantifiers.{position-Some}
+use Rattle.std.proofs.lemmas.Option.{slice_get-get_or}
+use Rattle.std.proofs.lemmas.Slice.Eq.{bytes_eq-Decides}
+use Rattle.indexmap.specs.IndexSet.{insert_key}
+use Rattle.thread_model.specs.Thread.{Settings}
+use Rattle.thread_model.proofs.LawLemmas.{keeps_sound}
+use Rattle.session_tables.specs.declared.tables.Tables.{Tables}
+use Rattle.session_tables.specs.Session.{Session, fresh, gone}
+use Rattle.session_tables.specs.Tables.{AreEven, AreSame, IsPlaced, session_at}
+use Rattle.session_tables.proofs.TablesLemmas.{even_opened, even_same, even_with, placed_by, session_each, session_elsewhere, session_opened, session_past, session_same, session_there}
+use Rattle.session_engine.specs.Engine.{Contents, IsKept, IsWhole, given_up, opened, place, refused_growth, sessions, with_session_at}
+
+-- where nothing has a place, nothing passes
+none_passes : {X : Type 0} (p : X → Bool) (xs : List X) → length xs ≤ position_or_len p xs → list_any p xs ≡ false
+none_passes p [] past = refl
+none_passes p (x ∷ xs) past =
+    ⊎_elim (λ e. absurd (grind (arith, e, past))) (λ e. grind (arith, e, none_passes p xs (grind (arith, e, past)))) (cases_Bool (p x))
+
+pub position-None : {X : Type 0} (p : X → Bool) (xs : List X) → position p xs ≡ None → list_any p xs ≡ false
+position-None p xs e = none_passes p xs (grind (arith, common_steps))
+
+some_passes : {X : Type 0} (p : X → Bool) (xs : List X) → position_or_len p xs < length xs → list_any p xs ≡ true
+some_passes p [] within = absurd (omega arith)
+some_passes p (x ∷ xs) within =
+    ⊎_elim (λ e. grind (arith, e)) (λ e. grind (arith, e, some_passes p xs (grind (arith, e, within)))) (cases_Bool (p x))
+
+-- and what has one passes
+pub position-any : {X : Type 0} (p : X → Bool) (xs : List X) (i : ℕ) → position p xs ≡ Some i → list_any p xs ≡ true
+position-any p xs i e = some_passes p xs (grind (arith, common_steps))
+
+-- a name that has no place goes last
+pub insert_key-new : (names : List (List ℕ)) (name copy : List ℕ) → copy ≡ name → position (bytes_eq name) names ≡ None → insert_key bytes_eq names copy ≡ names ++ name ∷ []
+insert_key-new names name copy equal absent =
+    ap (insert_key bytes_eq names) equal ∙ cond-false (list_any (bytes_eq name) names) _ _ (position-None (bytes_eq name) names absent)
+
+-- the first place that has a name, or the end
+first : Contents → List ℕ → ℕ
+first engine name = position_or_len (bytes_eq name) engine.names
+
+at_first : {X : Type 0} (f : ℕ → X) (found : Bool) (i : ℕ) (default : X) → (found ≡ false → default ≡ f i) → option_map_or f (cond found (Some i) None) default ≡ f i
+at_first f true i default past = refl
+at_first f false i default past = past refl
+
+sessions-first : (engine : Contents) (name : List ℕ) → IsWhole engine → sessions engine name ≡ session_at engine.tables (first engine name)
+unfolding first
+sessions-first engine name whole =
+    at_first (session_at engine.tables) _ (position_or_len (bytes_eq name) engine.names) fresh
+    (λ past. sym (session_past engine.tables _ whole.even (grind (arith, common_steps, whole.paired))))
+
+-- the session at a place of a name is the name's
+pub sessions-place : (engine : Contents) (name : List ℕ) (at : ℕ) → place engine name ≡ Some at → sessions engine name ≡ session_at engine.tables at
+sessions-place engine name at there = ap (λ found. option_map_or (session_at engine.tables) found fresh) there
+
+-- a name's place is open in every table
+pub placed : (engine : Contents) (name : List ℕ) (at : ℕ) → IsWhole engine → place engine name ≡ Some at → IsPlaced engine.tables at
+placed engine name at whole there =
+    let within : at < length engine.names = (position-Some (bytes_eq name) engine.names at [] there).0 in
+    placed_by engine.tables at whole.even (omega (arith, within, whole.paired))
+
+-- two names with one place are one
+one_name : (engine : Contents) (name other : List ℕ) (at : ℕ) → place engine name ≡ Some at → place engine other ≡ Some at → name ≡ other
+one_name engine name other at there there' =
+    let found = position-Some (bytes_eq name) engine.names at [] there in
+    let found' = position-Some (bytes_eq other) engine.names at [] there' in
+    (bytes_eq-Decides name _).0 found.1 ∙ sym ((bytes_eq-Decides other _).0 found'.1)
+
+-- so the name at its place is this one
+pub named_at : (engine : Contents) (name : List ℕ) (at : ℕ) (given : List ℕ) → place engine name ≡ Some at → Some given ≡ slice_get engine.names at → name ≡ given
+named_at engine name at given there is =
+    let found = position-Some (bytes_eq name) engine.names at [] there in
+    let same : Some given ≡ Some (get_or engine.names at []) = is ∙ slice_get-get_or engine.names at [] found.0 in
+    let own : name ≡ get_or engine.names at [] = (bytes_eq-Decides name _).0 found.1 in
+    cc
+
+-- what holds of each session holds of that of a name
+pub kept_by_name : (engine : Contents) (name : List ℕ) → IsWhole engine → IsKept engine.memory_refused (sessions engine name)
+kept_by_name engine name whole = subst (IsKept engine.memory_refused) (sym (sessions-first engine name whole)) (whole.kept (first engine name))
+
+module _ (engine : Contents) (whole : IsWhole engine) where
+  -- with another session at a place, its name has that session
+  pub sessions-own : (name : List ℕ) (at : ℕ) (session : Session) → place engine name ≡ Some at → sessions (with_session_at engine at session) name ≡ session
+  sessions-own name at session there =
+      sessions-place (with_session_at engine at session) name at there ∙ session_there engine.tables at session (placed engine name at whole there)
+
+  -- and every other name keeps its own
+  pub sessions-others : (name other : List ℕ) (at : ℕ) (session : Session) → place engine name ≡ Some at → bytes_eq other name ≡ false → sessions (with_session_at engine at session) other ≡ sessions engine other
+  sessions-others name other at session there differ = by (place engine other) refl
+    where
+      by : (found : Option ℕ) → place engine other ≡ found → sessions (with_session_at engine at session) other ≡ sessions engine other
+      by None e = ap (λ found. option_map_or (session_at (with_session_at engine at session).tables) found fresh) e ∙ sym (ap (λ found. option_map_or (session_at engine.tables) found fresh) e)
+      by (Some at') e =
+          sessions-place (with_session_at engine at session) other at' e
+          ∙ session_elsewhere engine.tables at at' session (λ same. both_ways _ differ ((bytes_eq-Decides other name).1 (sym (one_name engine name other at there (e ∙ ap Some same)))))
+          ∙ sym (sessions-place engine other at' e)
+
+  -- the engine stays whole, where that session is as it must be
+  pub whole_with : (name : List ℕ) (at : ℕ) (session : Session) → place engine name ≡ Some at → IsKept engine.memory_refused session → IsWhole (with_session_at engine at session)
+  whole_with name at session there fine = record {
+    even = even_with engine.tables at session whole.even;
+    paired = whole.paired ∙ sym (length-set engine.tables.failed.places at session.failed);
+    kept = session_each (IsKept engine.memory_refused) engine.tables at session (placed engine name at whole there) fine whole.kept;
+  }
+
+  -- and where memory was refused
+  pub whole_refused : IsWhole (refused_growth engine)
+  whole_refused = record { even = whole.even; paired = whole.paired; kept = λ at. record { well = λ found. absurd (true≢false found); sound = (whole.kept at).sound } }
+
+  -- so it does where a session has failed for it
+  pub whole_given_up : (name : List ℕ) (at : ℕ) → place engine name ≡ Some at → IsWhole (given_up engine at)
+  whole_given_up name at there = record {
+    even = even_with engine.tables at gone whole.even;
+    paired = whole.paired ∙ sym (length-set engine.tables.failed.places at true);
+    kept = session_each (IsKept true) engine.tables at gone (placed engine name at whole there)
+        (record { well = λ found. absurd (true≢false found); sound = keeps_sound.at_first }) whole_refused.kept;
+  }
+
+  -- a new place changes no session: the new one is fresh, and was so before
+  pub whole_opened : (name : List ℕ) → IsWhole (opened engine name)
+  whole_opened name = record {
+    even = even_opened engine.tables whole.even;
+    paired = grind (arith, common_steps, whole.paired);
+    kept = λ at. subst (IsKept engine.memory_refused) (sym (session_opened engine.tables at)) (whole.kept at);
+  }
+
+  pub sessions-opened : (name other : List ℕ) → sessions (opened engine name) other ≡ sessions engine other
+  unfolding first
+  sessions-opened name other =
+      let old = first engine other in
+      let new = first (opened engine name) other in
+      let more : new ≡ cond (eqb old (length engine.names)) (length engine.names + cond (bytes_eq other name) 0 1) old = position_or_len_push (bytes_eq other) engine.names name in
+      let same : session_at engine.tables new ≡ session_at engine.tables old =
+      ⊎_elim
+      (λ last. session_past engine.tables new whole.even (grind (arith, more, last, whole.paired)) ∙ sym (session_past engine.tables old whole.even (grind (arith, last, whole.paired))))
+      (λ inner. ap (session_at engine.tables) (more ∙ cond-false (eqb old (length engine.names)) _ _ inner))
+      (cases_Bool (eqb old (length engine.names)))
+      in
+      sessions-first (opened engine name) other (whole_opened name) ∙ session_opened engine.tables new ∙ same ∙ sym (sessions-first engine other whole)
+
+-- the engine with other tables
+abbrev pub with_tables : Contents → Tables → Contents
+with_tables engine tables = record { settings = engine.settings; names = engine.names; tables = tables; memory_refused = engine.memory_refused }
+
+-- more room changes no session
+pub whole_same : (engine : Contents) (ready : Tables) → AreSame engine.tables ready → IsWhole engine → IsWhole (with_tables engine ready)
+whole_same engine ready same whole = record {
+  even = even_same engine.tables ready same whole.even;
+  paired = whole.paired ∙ sym (ap length same.failed);
+  kept = λ at. subst (IsKept engine.memory_refused) (sym (session_same engine.tables ready at same)) (whole.kept at);
+}
+
+pub sessions-same : (engine : Contents) (ready : Tables) → AreSame engine.tables ready → sessions (with_tables engine ready) ≡ sessions engine
+sessions-same engine ready same =
+    ap (λ (session : ℕ → Session). λ name. option_map_or session (place engine name) fresh) (fun_ext (λ at. session_same engine.tables ready at same))
+
+-- with no place there is none to speak of
+pub whole_new : (settings : Settings) (names : List (List ℕ)) (tables : Tables) → names ≡ [] → tables.forests.places ≡ [] → tables.titles.places ≡ [] → tables.failed.places ≡ []
+    → IsWhole (record { settings = settings; names = names; tables = tables; memory_refused = false })
+whole_new settings names tables no_names forests titles failed =
+    let even : AreEven tables = record { forests = ap length forests ∙ sym (ap length failed); titles = ap length titles ∙ sym (ap length failed) } in
+    let none : length tables.failed.places ≡ 0 = ap length failed in
+    record {
+      even = even;
+      paired = ap length no_names ∙ sym none;
+      kept = λ at. subst (IsKept false) (sym (session_past tables at even (omega (arith, none)))) (record { well = λ found. refl; sound = keeps_sound.at_first });
+    }
+
+-- a new name has the new place
+pub place-opened : (engine : Contents) (name : List ℕ) → place engine name ≡ None → place (opened engine name) name ≡ Some (length engine.names)
+place-opened engine name absent =
+    let passes = bytes_eq name in
+    let more = position_or_len_push passes engine.names name in
+    let itself : bytes_eq name name ≡ true = (bytes_eq-Decides name name).1 refl in
+    let bound = prefix_len-le-length (λ other. not (passes other)) engine.names in
+    let last : position_or_len passes engine.names ≡ length engine.names = grind (arith, absent, bound) in
+    let found : position_or_len passes (opened engine name).names ≡ length engine.names = more ∙ grind (arith, itself, last) in
+    let within : ltb (position_or_len passes (opened engine name).names) (length (opened engine name).names) ≡ true = grind (arith, common_steps, found) in
+    cond-true _ _ _ within ∙ ap Some found

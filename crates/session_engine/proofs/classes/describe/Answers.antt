@@ -1,0 +1,31 @@
+use Rattle.std.proofs.Common.{None, sym, ap, refl, slice_get, ◌∙◌}
+use Rattle.std.specs.Option.{option_copied}
+use Rattle.thread_model.specs.declared.line.Answer.TheVariants as a
+use Rattle.thread_model.specs.Classes.{described}
+use Rattle.thread_model.specs.Effects.{replies}
+use Rattle.thread_model.proofs.ClassLemmas.{described_at, performs_meta, refusal_meta}
+use Rattle.session_tables.specs.Tables.{state_at}
+use Rattle.session_engine.proofs.ClassesLemmas.{class_index_there, described_is}
+use Rattle.session_engine.proofs.CommandsLemmas.{replied_by, stopped}
+use Rattle.session_engine.proofs.StepLemmas.{some_none}
+use Rattle.session_engine.proofs.classes.describe.Goals as goal
+
+pub returns-in_err-index : goal.returns-in_err-index
+returns-in_err-index c = stopped _ _ _ _ _ c.in_err-index.field-0.0 _ c.from_residual.ensures.1 (refusal_meta _ _ _ _ ∙ sym c.in_err-index.ensures.refusal) refl
+
+pub unreachable-requires : goal.unreachable-requires
+unreachable-requires c =
+    let classes = c.args.caller.now.setup.now.classes in
+    let there = class_index_there classes c.args.class.now c.in_ok-index.ensures.refusal in
+    some_none _ (sym (sym (ap option_copied c.in_default.is) ∙ c.class_row.ensures.value ∙ ap (slice_get classes) c.in_ok-index.ensures.index ∙ there.1))
+
+pub returns : goal.returns
+returns c =
+    let classes = c.args.caller.now.setup.now.classes in
+    let state = state_at c.args.tables.now c.args.caller.now.place in
+    replied_by _ _ _ _ (refusal_meta _ _ _ _ ∙ sym c.in_ok-index.ensures.refusal)
+    (performs_meta _ _ _ _
+    ∙ ap (λ index. replies state (a.Meta (described classes index))) (sym c.in_ok-index.ensures.index)
+    ∙ ap (λ meta. replies state (a.Meta meta)) (described_at classes c.in_ok-index.index c.in-Some.row.now (sym c.in-Some.ensures.value)
+    ∙ sym (described_is classes c.in_ok-index.index c.in-Some.row.now _ _ _ _ _ _ c.in_ok-copy.ensures c.in-Some.ensures.has.method_offset (c.in_ok-texts.ensures ∙ c.in_ok-methods.ensures)
+    (c.in_ok-texts-2.ensures ∙ c.in_ok-properties.ensures) c.in-Some.ensures.has.property_offset c.in_ok-superclass_name.ensures)))

@@ -1,0 +1,88 @@
+-- The sessions of an engine or a server, by name, and what a command of one of them makes of all.
+use Rattle.std.specs.Prelude.{◌≡◌, ◌⊎◌, ℕ, Bool, List, Option, Some, None, IfSome, OnSome, IsSome, IsTrue, IsFalse, bytes_eq, if◌then◌else◌}
+use Rattle.isolation.specs.Machine.{Effect, Tagged}
+use Rattle.isolation.specs.World.{effect, after}
+use Rattle.refusals.specs.declared.code.Code.{Code}
+use Rattle.refusals.specs.declared.code.Code.TheVariants.{SessionFailed}
+use Rattle.thread_model.specs.declared.line.Line.{Line}
+use Rattle.thread_model.specs.declared.post.Post.{Post}
+use Rattle.thread_model.specs.Asked.{Asked}
+use Rattle.thread_model.specs.Effects.{unless}
+use Rattle.thread_model.specs.Machine.{machine}
+use Rattle.thread_model.specs.Refusing.{refusal}
+use Rattle.thread_model.specs.State.{IsSound, State}
+use Rattle.thread_model.specs.Thread.{Settings, performs}
+use Rattle.session_tables.specs.Session.{Session, gone}
+
+-- what is seen of all sessions
+pub record Sessions : Type 0 where
+  -- what is fixed for their whole life
+  pub settings : Settings
+  -- the session of each name, fresh where it is not there
+  pub session : List ℕ → Session
+  -- has memory ever been wanted and not found
+  pub memory_refused : Bool
+
+-- the state of each name
+abbrev pub states_of : Sessions → List ℕ → State
+states_of sessions name = (sessions.session name).state
+
+-- why a session refuses a command: it has failed, or the command is refused
+abbrev pub session_refusal : Settings → List ℕ → Session → Asked → Option Code
+session_refusal settings name session asked = if session.failed then Some SessionFailed else refusal settings name session.state asked
+
+-- what a session does with a command
+abbrev pub session_does : Settings → List ℕ → Session → Asked → Effect State Line Post
+session_does settings name session asked = unless (session_refusal settings name session asked) session.state (performs settings name session.state asked)
+
+-- the session afterwards; a command neither fails nor mends it
+abbrev pub session_after : Settings → List ℕ → Session → Asked → Session
+session_after settings name session asked = record { state = (session_does settings name session asked).state; failed = session.failed }
+
+abbrev pub given_by : List ℕ → Asked → Tagged (List ℕ) Asked
+given_by name asked = record { session = name; command = asked }
+
+-- every session but this one is as before
+abbrev pub OthersStay : Sessions → Sessions → List ℕ → Type 0
+OthersStay old new name = (other : List ℕ) → IsFalse (bytes_eq other name) → new.session other ≡ old.session other
+
+-- a session other than this one has failed now, and had not before
+abbrev pub AnotherFails : Sessions → Sessions → List ℕ → Type 0
+AnotherFails old new name = (other : List ℕ) × IsFalse (bytes_eq other name) × IsFalse (old.session other).failed × IsTrue (new.session other).failed
+
+-- no session has failed while memory was found
+abbrev pub AreWell : Sessions → Type 0
+AreWell sessions = IsFalse sessions.memory_refused → (name : List ℕ) → IsFalse (sessions.session name).failed
+
+-- the state of every session is sound
+abbrev pub AreSound : Sessions → Type 0
+AreSound sessions = (name : List ℕ) → IsSound (sessions.session name).state
+
+-- the session of this name has failed for memory that was refused
+pub record Fails (old new : Sessions) (name : List ℕ) : Type 0 where
+  pub fails : new.session name ≡ gone
+  pub others : OthersStay old new name
+  pub settings : new.settings ≡ old.settings
+  pub memory : IsTrue new.memory_refused
+  pub sound : AreSound new
+
+-- a command of the session of this name: what it is told, unless memory was wanted, and what becomes of all sessions
+pub record IsStep (old new : Sessions) (name : List ℕ) (asked : Asked) (told : Option (List Line)) : Type 0 where
+  -- where memory was never refused it is the step of the theory: its lines, and the states of all sessions
+  pub lines : IsFalse new.memory_refused → told ≡ Some (effect (machine old.settings) (states_of old) (given_by name asked)).lines
+  pub states : IsFalse new.memory_refused → states_of new ≡ after (machine old.settings) (states_of old) (given_by name asked)
+  -- and always the session is told what it does with the command, and is then as that leaves it
+  pub tells : IfSome told (λ lines. lines ≡ (session_does old.settings name (old.session name) asked).lines)
+  pub leaves : OnSome told (new.session name ≡ session_after old.settings name (old.session name) asked)
+  -- a refused command changes nothing
+  pub refused : IsSome (session_refusal old.settings name (old.session name) asked) → OnSome told (new.session ≡ old.session)
+  pub others : OthersStay old new name
+  pub settings : new.settings ≡ old.settings
+  -- that memory was refused is remembered, from the first command that wanted it in vain
+  pub kept : IsTrue old.memory_refused → IsTrue new.memory_refused
+  pub memory : told ≡ None → IsTrue new.memory_refused
+  -- and only where this command has wanted it, or another session has failed by it
+  pub blame : IsFalse old.memory_refused → IsTrue new.memory_refused → (told ≡ None) ⊎ AnotherFails old new name
+  -- before it no session had failed without that, and after it every session is sound
+  pub well : AreWell old
+  pub sound : AreSound new

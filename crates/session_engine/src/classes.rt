@@ -1,0 +1,59 @@
+//! The commands for classes.
+ghost use Rattle.std.specs.Prelude.{◌≡◌, IfOk, map, option_and_then, string_bytes};
+ghost use Rattle.thread_model.specs.Asked.{Meta};
+ghost use Rattle.thread_model.specs.Classes.{class_name};
+ghost use Rattle.session_tables.specs.Tables.{IsPlaced};
+ghost use Rattle.session_engine.specs.Commands.{Performs, reply_lines};
+
+use crate::commands::Caller;
+use crate::setup::Setup;
+use class_table::Class;
+use plain_types::{Items, Text};
+use refusals::Fault;
+use session_tables::Tables;
+use std::alloc::{AllocError, Global};
+use thread_model::{Answer, MetaObject};
+
+/// What there is in the class of this name.
+pub fn describe(caller: &Caller, tables: &Tables, class: &Text) -> Result<Answer, Fault>
+    requires { IsPlaced tables.now caller.now.place }
+    ensures { Performs caller.now (Meta class.now) tables.now tables.now reply_lines result }
+{
+    let (alloc, classes) = (caller.setup.alloc, &caller.setup.classes);
+    let index = caller.setup.class_index(class)?;
+    let Some(row) = classes.class_row(index) else {
+        unreachable!()
+    };
+    Ok(Answer::Meta(MetaObject {
+        class: row.name.copy(alloc)?,
+        method_offset: row.method_offset,
+        methods: texts(alloc, classes.methods(index)?)?,
+        properties: texts(alloc, classes.properties(index)?)?,
+        property_offset: row.property_offset,
+        superclass: superclass_name(caller.setup, row)?,
+    }))
+}
+
+/// The name of the superclass, where there is one.
+fn superclass_name(setup: &Setup, class: &Class) -> Result<Option<Text>, AllocError>
+    ensures { IfOk result (λ name. name ≡ option_and_then (class_name setup.now.classes) class.now.superclass) }
+{
+    let Some(index) = class.superclass else {
+        return Ok(None);
+    };
+    match setup.classes.class_row(index) {
+        Some(base) => Ok(Some(base.name.copy(setup.alloc)?)),
+        None => Ok(None),
+    }
+}
+
+/// The texts as items.
+fn texts(alloc: Global, strings: Vec<String>) -> Result<Items<Text>, AllocError>
+    ensures { IfOk result (λ texts. texts ≡ map (λ text. string_bytes text) strings.items) }
+{
+    let mut texts = Items::new(alloc);
+    for text in strings {
+        texts.push(Text::from_string(text))?;
+    }
+    Ok(texts)
+}

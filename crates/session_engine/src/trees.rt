@@ -1,0 +1,75 @@
+//! The commands for objects and their trees.
+ghost use Rattle.thread_model.specs.Asked.{Children, Delete, Find, New, SetParent};
+ghost use Rattle.session_tables.specs.Tables.{IsPlaced};
+ghost use Rattle.session_engine.specs.Commands.{Performs, reply_lines};
+
+use crate::commands::Caller;
+use crate::deleting::delete;
+use plain_types::{Items, Text};
+use refusals::Fault;
+use session_tables::Tables;
+use thread_model::Answer;
+
+pub fn new_object(
+    caller: &Caller,
+    tables: &mut Tables,
+    class: &Text,
+    parent: Option<u32>,
+) -> Result<Answer, Fault>
+    requires { IsPlaced tables.old caller.now.place }
+    ensures { Performs caller.now (New class.now parent) tables.old tables.new reply_lines result }
+{
+    tables.check_parent(caller.place, parent)?;
+    let class = caller.setup.class_index(class)?;
+    let number = tables.make(caller.setup.alloc, caller.place, parent, class)?;
+    Ok(Answer::Number(number))
+}
+
+pub fn delete_object(caller: &Caller, tables: &mut Tables, object: u32) -> Result<Answer, Fault>
+    requires { IsPlaced tables.old caller.now.place }
+    ensures { Performs caller.now (Delete object) tables.old tables.new reply_lines result }
+{
+    tables.check_object(caller.place, object)?;
+    delete(tables, caller.place, object, 0)?;
+    Ok(Answer::Truth(true))
+}
+
+pub fn set_parent(
+    caller: &Caller,
+    tables: &mut Tables,
+    object: u32,
+    parent: Option<u32>,
+) -> Result<Answer, Fault>
+    requires { IsPlaced tables.old caller.now.place }
+    ensures { Performs caller.now (SetParent object parent) tables.old tables.new reply_lines result }
+{
+    tables.set_parent(caller.place, object, parent)?;
+    Ok(Answer::Truth(true))
+}
+
+/// The children of an object, or the roots.
+pub fn children(caller: &Caller, tables: &Tables, object: Option<u32>) -> Result<Answer, Fault>
+    requires { IsPlaced tables.now caller.now.place }
+    ensures { Performs caller.now (Children object) tables.now tables.now reply_lines result }
+{
+    tables.check_named(caller.place, object)?;
+    let found = tables.children(caller.place, object)?;
+    Ok(Answer::Numbers(Items::from_vec(found)))
+}
+
+/// The nearest object below another one, of a title and of a class where they are given.
+pub fn find(
+    caller: &Caller,
+    tables: &Tables,
+    object: u32,
+    title: &Option<Text>,
+    class: &Option<Text>,
+) -> Result<Answer, Fault>
+    requires { IsPlaced tables.now caller.now.place }
+    ensures { Performs caller.now (Find object title.now class.now) tables.now tables.now reply_lines result }
+{
+    tables.check_object(caller.place, object)?;
+    let base = caller.setup.named_index(class)?;
+    let found = tables.find(&caller.setup.classes, caller.place, object, title, base)?;
+    Ok(Answer::Found(found))
+}

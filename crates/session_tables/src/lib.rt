@@ -1,0 +1,11 @@
+//! The tables of a server's sessions, side by side: what each session holds, and whether it has
+//! failed for want of memory. A session has the same place in all of them, and no call touches
+//! another place than the one that it names.
+#![tactic(auto)]
+
+mod properties;
+mod tables;
+mod titles;
+mod trees;
+
+pub use tables::Tables;

@@ -1,0 +1,82 @@
+//! The tables, and the places in them.
+ghost use Rattle.std.specs.Prelude.{◌≡◌, [], IsTrue, OnOk, length};
+ghost use Rattle.session_tables.specs.Session.{gone};
+ghost use Rattle.session_tables.specs.Tables.{AreSame, HasRoom, IsPlaced, failed_at, opened, with_session, with_state};
+ghost use Rattle.thread_model.specs.State.{empty};
+
+use crate::titles::Titles;
+use object_tree::Forests;
+use places::Places;
+use std::alloc::{AllocError, Global};
+
+/// What a server keeps of each session.
+#[derive(Drop)]
+pub struct Tables {
+    pub(crate) forests: Forests,
+    pub(crate) titles: Places<Titles>,
+    /// Memory was wanted for the session and not found. Its objects are gone, and it refuses every
+    /// command.
+    pub(crate) failed: Places<bool>,
+}
+
+impl Tables {
+    /// Tables with no place, which take no memory yet.
+    pub fn new(alloc: Global) -> Tables
+        ensures forests { result.forests.places ≡ [] }
+        ensures titles { result.titles.places ≡ [] }
+        ensures failed { result.failed.places ≡ [] }
+    {
+        Tables {
+            forests: Forests::new(alloc),
+            titles: Places::new(alloc),
+            failed: Places::new(alloc),
+        }
+    }
+
+    /// Makes room for one more place at least.
+    pub fn ready(&mut self) -> Result<(), AllocError>
+        ensures same { AreSame self.old self.new }
+        ensures room { OnOk result (HasRoom self.new) }
+    {
+        self.forests.ready()?;
+        self.titles.ready()?;
+        self.failed.ready()
+    }
+
+    /// Opens the next place for a session that has had no command, and returns it.
+    pub fn open(&mut self, alloc: Global) -> usize
+        requires { HasRoom self.old }
+        ensures place { result ≡ length self.old.failed.places }
+        ensures opened { self.new ≡ opened self.old }
+    {
+        self.forests.open();
+        self.titles.open(Titles::new(alloc));
+        self.failed.open(false)
+    }
+
+    /// Takes all that a session holds out; the numbers of its objects are then given again.
+    pub fn clear(&mut self, place: usize)
+        requires { IsPlaced self.old place }
+        ensures { self.new ≡ with_state self.old place empty }
+    {
+        self.forests.clear(place);
+        self.titles.get_mut(place).clear();
+    }
+
+    /// Lets a session fail.
+    pub fn give_up(&mut self, place: usize)
+        requires { IsPlaced self.old place }
+        ensures { self.new ≡ with_session self.old place gone }
+    {
+        self.clear(place);
+        *self.failed.get_mut(place) = true;
+    }
+
+    /// Whether a session has failed.
+    pub fn failed(&self, place: usize) -> bool
+        requires { IsPlaced self.now place }
+        ensures { result ≡ failed_at self.now place }
+    {
+        *self.failed.get(place)
+    }
+}

@@ -1,0 +1,196 @@
+//! The trees of objects.
+ghost use Rattle.std.specs.Prelude.{◌≡◌, ◌+◌, ◌&&◌, IfOk, OnOk, OnErr, Some, false};
+ghost use Rattle.std.specs.Option.{option_map_or};
+ghost use Rattle.std.specs.Result.{result_err};
+ghost use Rattle.refusals.specs.Answers.{RefusedBy};
+ghost use Rattle.object_tree.specs.Rows.{children, is_same, row_of};
+ghost use Rattle.object_tree.specs.Changes.{marked};
+ghost use Rattle.object_tree.specs.Finding.{found_below};
+ghost use Rattle.object_tree.specs.Refusing.{add_refusal, parent_refusal, set_parent_refusal};
+ghost use Rattle.thread_model.specs.Agenda.{is_living};
+ghost use Rattle.thread_model.specs.State.{with_object, with_parent, without_object};
+ghost use Rattle.thread_model.specs.Refusing.{absence, named_absence};
+ghost use Rattle.thread_model.specs.Trees.{has_title, is_of_class};
+ghost use Rattle.session_tables.specs.Refused.{OnRefused};
+ghost use Rattle.session_tables.specs.Tables.{ChangesOnly, IsPlaced, state_at, with_state};
+
+use crate::tables::Tables;
+use class_table::ClassTable;
+use plain_types::Text;
+use refusals::{Code, Fault};
+use std::alloc::{AllocError, Global};
+use variant_value::Value;
+
+impl Tables {
+    /// Makes an object below a parent, or a root, whose title is the empty text, and returns its
+    /// number. The refusals are those of [`Forests::add`](object_tree::Forests::add).
+    #[tactic(auto, using(crate::proofs::TablesLemmas::changes_with))]
+    pub fn make(
+        &mut self,
+        alloc: Global,
+        place: usize,
+        parent: Option<u32>,
+        class: u32,
+    ) -> Result<u32, Fault>
+        requires { IsPlaced self.old place }
+        ensures refusal { RefusedBy (add_refusal (state_at self.old place).forest parent) result }
+        ensures number { IfOk result (λ number. number ≡ (state_at self.old place).forest.last_number + 1) }
+        ensures ok { OnOk result (self.new ≡ with_state self.old place
+            (with_object (state_at self.old place) parent class)) }
+        ensures refused { OnRefused result (self.new ≡ self.old) }
+        ensures only { ChangesOnly place self.old self.new }
+    {
+        let number = self.forests.add(place, parent, class)?;
+        let title = Value::Text(Text::from_string(String::new(alloc)));
+        self.titles.get_mut(place).put(number, title)?;
+        Ok(number)
+    }
+
+    /// Gives an object another parent, or makes it a root. The refusals are those of
+    /// [`Forests::set_parent`](object_tree::Forests::set_parent).
+    pub fn set_parent(&mut self, place: usize, object: u32, parent: Option<u32>) -> Result<(), Code>
+        requires { IsPlaced self.old place }
+        ensures refusal { result_err result ≡ set_parent_refusal (state_at self.old place).forest object parent }
+        ensures ok { OnOk result (self.new ≡ with_state self.old place (with_parent (state_at self.old place) object parent)) }
+        ensures err { OnErr result (self.new ≡ self.old) }
+    {
+        self.forests.set_parent(place, object, parent)
+    }
+
+    /// Marks an object as one that is being deleted.
+    pub fn mark_dying(&mut self, place: usize, object: u32)
+        requires { IsPlaced self.old place }
+        ensures { self.new ≡ with_state self.old place (record (state_at self.old place) {
+          forest = marked (state_at self.old place).forest object;
+        }) }
+    {
+        self.forests.mark_dying(place, object);
+    }
+
+    /// Takes an object out with its title; its children become roots.
+    pub fn remove(&mut self, place: usize, object: u32)
+        requires { IsPlaced self.old place }
+        ensures { self.new ≡ with_state self.old place (without_object (state_at self.old place) object) }
+    {
+        self.forests.remove(place, object);
+        self.titles.get_mut(place).remove(object);
+    }
+
+    /// The children of an object by age; of none, the roots.
+    pub fn children(&self, place: usize, object: Option<u32>) -> Result<Vec<u32>, AllocError>
+        requires { IsPlaced self.now place }
+        ensures { IfOk result (λ found. found.items ≡ children (state_at self.now place).forest.rows object) }
+    {
+        self.forests.children(place, object)
+    }
+
+    /// Refuses an object that is not there.
+    pub fn check_object(&self, place: usize, object: u32) -> Result<(), Code>
+        requires { IsPlaced self.now place }
+        ensures { result_err result ≡ absence (state_at self.now place) object }
+    {
+        match self.forests.row(place, object) {
+            Some(_) => Ok(()),
+            None => Err(Code::NoSuchObject),
+        }
+    }
+
+    /// Refuses an object that is not there, where one is named.
+    pub fn check_named(&self, place: usize, object: Option<u32>) -> Result<(), Code>
+        requires { IsPlaced self.now place }
+        ensures { result_err result ≡ named_absence (state_at self.now place) object }
+    {
+        match object {
+            Some(object) => self.check_object(place, object),
+            None => Ok(()),
+        }
+    }
+
+    /// Refuses a parent, where there is to be one, that is not there or is dying.
+    pub fn check_parent(&self, place: usize, parent: Option<u32>) -> Result<(), Code>
+        requires { IsPlaced self.now place }
+        ensures { result_err result ≡ parent_refusal (state_at self.now place).forest.rows parent }
+    {
+        match self.forests.parent_refusal(place, parent) {
+            Some(code) => Err(code),
+            None => Ok(()),
+        }
+    }
+
+    /// Whether an object stands and is not dying.
+    pub fn lives(&self, place: usize, object: u32) -> bool
+        requires { IsPlaced self.now place }
+        ensures { result ≡ option_map_or is_living (row_of (state_at self.now place).forest.rows object) false }
+    {
+        match self.forests.row(place, object) {
+            Some(row) => !row.dying,
+            None => false,
+        }
+    }
+
+    /// Whether an object stands below this parent and is not dying.
+    pub fn lives_below(&self, place: usize, parent: u32, object: u32) -> bool
+        requires { IsPlaced self.now place }
+        ensures { result ≡ option_map_or (λ row. is_living row && is_same row.parent (Some parent))
+            (row_of (state_at self.now place).forest.rows object) false }
+    {
+        match self.forests.row(place, object) {
+            Some(row) => !row.dying && row.parent == Some(parent),
+            None => false,
+        }
+    }
+
+    /// The nearest object below another one, of this title and of this class or one below it, where
+    /// these are given.
+    pub fn find(
+        &self,
+        classes: &ClassTable,
+        place: usize,
+        object: u32,
+        title: &Option<Text>,
+        class: Option<u32>,
+    ) -> Result<Option<u32>, AllocError>
+        requires { IsPlaced self.now place }
+        ensures { IfOk result (λ found. found ≡ found_below (state_at self.now place).forest.rows object
+            (λ number. has_title (state_at self.now place) title.now number
+            && is_of_class classes.now (state_at self.now place) class number)) }
+    {
+        self.forests.find_child(place, object, |number| {
+            Ok(
+                self.has_title(place, number, title)
+                    && self.is_of_class(classes, place, number, class),
+            )
+        })
+    }
+
+    /// Whether an object has this title, where one is wanted.
+    fn has_title(&self, place: usize, object: u32, title: &Option<Text>) -> bool
+        requires { IsPlaced self.now place }
+        ensures { result ≡ has_title (state_at self.now place) title.now object }
+    {
+        match title {
+            Some(wanted) => self.titles.get(place).is_titled(object, wanted.as_str()),
+            None => true,
+        }
+    }
+
+    /// Whether an object is of this class or one below it, where one is wanted.
+    fn is_of_class(
+        &self,
+        classes: &ClassTable,
+        place: usize,
+        object: u32,
+        class: Option<u32>,
+    ) -> bool
+        requires { IsPlaced self.now place }
+        ensures { result ≡ is_of_class classes.now (state_at self.now place) class object }
+    {
+        let Some(base) = class else {
+            return true;
+        };
+        match self.forests.row(place, object) {
+            Some(row) => classes.inherits(row.class, base),
+            None => false,
+        }
+    }
+}

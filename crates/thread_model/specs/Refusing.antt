@@ -1,0 +1,55 @@
+-- Why a command is refused: the first of these, by command.
+use Rattle.std.specs.Prelude.{ℕ, List, Option, Some, None, is_some, if◌then◌else◌}
+use Rattle.std.specs.Option.{option_map_or, option_or}
+use Rattle.std.specs.Result.{result_err}
+use Rattle.serde_json.specs.Data.{Data, null}
+use Rattle.refusals.specs.declared.code.Code.{Code}
+use Rattle.refusals.specs.declared.code.Code.TheVariants.{NoSuchClass, NoSuchObject}
+use Rattle.signature_core.specs.declared.kind.Kind.TheVariants as k
+use Rattle.variant_value.specs.Values.{value_of}
+use Rattle.class_table.specs.declared.class.Class.{Class}
+use Rattle.class_table.specs.Lookup.{index_of}
+use Rattle.object_tree.specs.Rows.{is_there}
+use Rattle.object_tree.specs.Refusing.{add_refusal, parent_refusal, set_parent_refusal}
+use Rattle.thread_model.specs.Asked.{Asked, New, Delete, SetParent, Children, Find, Set, Get, Meta}
+use Rattle.thread_model.specs.Settings.{Settings}
+use Rattle.thread_model.specs.State.{State}
+
+-- the object is not there
+abbrev pub absence : State → ℕ → Option Code
+absence state target = if is_there state.forest.rows target then None else Some NoSuchObject
+
+-- the same of an object that need not be named
+abbrev pub named_absence : State → Option ℕ → Option Code
+named_absence state target = option_map_or (absence state) target None
+
+-- no class has this name
+abbrev pub class_refusal : List Class → List ℕ → Option Code
+class_refusal classes class = if is_some (index_of class classes) then None else Some NoSuchClass
+
+-- the same of a class that need not be named
+abbrev pub named_class_refusal : List Class → Option (List ℕ) → Option Code
+named_class_refusal classes class = option_map_or (class_refusal classes) class None
+
+-- a value is no text, or too long a one; null is no text and is not refused
+abbrev pub title_refusal : Data → Option Code
+title_refusal null = None
+title_refusal value = result_err (value_of k.Text value)
+
+-- why a command is refused in a session of this name and state, if it is
+unfoldable pub refusal : Settings → List ℕ → State → Asked → Option Code
+refusal settings self state (New class parent) =
+    option_or (parent_refusal state.forest.rows parent) (
+    option_or (class_refusal settings.classes class)
+    (add_refusal state.forest parent))
+refusal settings self state (Delete target) = absence state target
+refusal settings self state (SetParent target parent) = set_parent_refusal state.forest target parent
+refusal settings self state (Children target) = named_absence state target
+refusal settings self state (Find target title class) =
+    option_or (absence state target)
+    (named_class_refusal settings.classes class)
+refusal settings self state (Set target value) =
+    option_or (absence state target)
+    (title_refusal value)
+refusal settings self state (Get target) = absence state target
+refusal settings self state (Meta class) = class_refusal settings.classes class

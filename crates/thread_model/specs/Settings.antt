@@ -1,0 +1,9 @@
+-- What is fixed for the whole life of a server.
+use Rattle.std.specs.Prelude.{ℕ, List}
+use Rattle.class_table.specs.declared.class.Class.{Class}
+
+pub record Settings : Type 0 where
+  -- how many turns each command has for the calls that it causes
+  pub turns : ℕ
+  -- the classes that objects may have, by index
+  pub classes : List Class

@@ -1,0 +1,47 @@
+-- What the commands for objects and their trees do, where they are not refused.
+use Rattle.std.specs.Prelude.{◌+◌, ◌&&◌, ℕ, Bool, true, false, List, [], ◌∷◌, Option, Some, None, option_map}
+use Rattle.std.specs.Option.{option_map_or}
+use Rattle.isolation.specs.Machine.{Effect}
+use Rattle.class_table.specs.declared.class.Class.{Class}
+use Rattle.class_table.specs.Lookup.{inherits}
+use Rattle.object_tree.specs.Rows.{children, row_of}
+use Rattle.object_tree.specs.Finding.{found_below}
+use Rattle.thread_model.specs.declared.line.Answer.TheVariants.{Number, Found, Numbers, Truth}
+use Rattle.thread_model.specs.declared.line.Line.{Line}
+use Rattle.thread_model.specs.declared.post.Post.{Post}
+use Rattle.thread_model.specs.Agenda.{Delete, Reply}
+use Rattle.thread_model.specs.Classes.{class_index}
+use Rattle.thread_model.specs.Effects.{does_items, replies}
+use Rattle.thread_model.specs.State.{State, is_text, title_of, with_object, with_parent}
+
+-- making an object of a class replies its number, which is the next one
+abbrev pub makes : List Class → State → List ℕ → Option ℕ → Effect State Line Post
+makes classes state class parent = replies (with_object state parent (class_index classes class)) (Number (state.forest.last_number + 1))
+
+-- deleting an object, and all below it, replies true at the end
+abbrev pub deletes : State → ℕ → Effect State Line Post
+deletes state target = does_items state (Delete target 0 ∷ Reply (Truth true) ∷ [])
+
+-- giving an object another parent, which may be none
+abbrev pub reparents : State → ℕ → Option ℕ → Effect State Line Post
+reparents state target parent = replies (with_parent state target parent) (Truth true)
+
+-- the children of an object, or the roots, by age
+abbrev pub lists : State → Option ℕ → Effect State Line Post
+lists state target = replies state (Numbers (children state.forest.rows target))
+
+-- has an object this title, where one is wanted
+abbrev pub has_title : State → Option (List ℕ) → ℕ → Bool
+has_title state None number = true
+has_title state (Some wanted) number = is_text wanted (title_of state.titles number)
+
+-- is an object of this class or one below it, where one is wanted
+abbrev pub is_of_class : List Class → State → Option ℕ → ℕ → Bool
+is_of_class classes state None number = true
+is_of_class classes state (Some base) number = option_map_or (λ row. inherits classes row.class base) (row_of state.forest.rows number) false
+
+-- looking for the nearest object below another one, of this title and of this class
+abbrev pub finds : List Class → State → ℕ → Option (List ℕ) → Option (List ℕ) → Effect State Line Post
+finds classes state target title class =
+    let base = option_map (class_index classes) class in
+    replies state (Found (found_below state.forest.rows target (λ number. has_title state title number && is_of_class classes state base number)))
