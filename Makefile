@@ -7,7 +7,7 @@ PROGRAM = meta_main
 CRATE = crates/$(PROGRAM)
 CC ?= cc
 
-.PHONY: all run test budget rows examples ends pipes trees refusals bench clean
+.PHONY: all run test budget rows examples ends pipes trees classes refusals bench clean
 
 all: bin/metad
 
@@ -25,7 +25,7 @@ test: budget
 	rt ci
 	mkdir -p bin
 	cp $(CRATE)/out/$(PROGRAM) bin/metad
-	$(MAKE) --no-print-directory rows examples ends pipes trees refusals
+	$(MAKE) --no-print-directory rows examples ends pipes trees classes refusals
 
 budget:
 	python3 tools/budget.py .
@@ -45,6 +45,9 @@ pipes:
 
 trees:
 	python3 tools/trees.py bin/metad
+
+classes:
+	python3 tools/class_files.py bin/metad
 
 refusals: bin/refuse_growth.so
 	python3 tools/outcomes.py

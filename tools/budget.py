@@ -6,7 +6,6 @@ its definitions, how many lines of proof there are for one of code, its public f
 its longest contract. It fails at a contract of more than 8 clauses, a crate of more than 1,500 or a file
 of more than 800 lines of code, more than two edits for each public function, and more than 250 edits in
 all. An edit that begins with a line `wrong body: WORDS` is counted in all, and not with its crate's.
-The contracts in STILL_LONG are to be restated; it also fails where one of them no longer is too long.
 Usage: budget.py REPOSITORY
 """
 
@@ -20,7 +19,6 @@ MOST_IN_CRATE = 1_500
 MOST_IN_FILE = 800
 MOST_FOR_FUNCTION = 2
 MOST_EDITS = 250
-STILL_LONG = {"session_engine": {"command", "told", "tell_refusal"}, "server_world": {"step", "run"}}
 
 EXPORT = re.compile(r"^pub use ([^;]+);", re.MULTILINE)
 BLOCK = re.compile(r"^(?:pub )?(?:unsafe )?(?P<kind>impl|trait)\b(?P<head>[^{]*)\{")
@@ -108,12 +106,9 @@ class Crate:
             yield f"{self.code:,} lines of code; at most {MOST_IN_CRATE:,}"
         if self.longest_file > MOST_IN_FILE:
             yield f"a file of {self.longest_file:,} lines of code; at most {MOST_IN_FILE:,}"
-        long = {it.name: it.clauses for it in self.functions if it.clauses > MOST_CLAUSES}
-        still_long = STILL_LONG.get(self.name, set())
-        for name in sorted(long.keys() - still_long):
-            yield f"{name} has {long[name]} clauses; at most {MOST_CLAUSES}"
-        for name in sorted(still_long - long.keys()):
-            yield f"{name} is not too long any more; STILL_LONG need not name it"
+        for function in self.functions:
+            if function.clauses > MOST_CLAUSES:
+                yield f"{function.name} has {function.clauses} clauses; at most {MOST_CLAUSES}"
         if self.edits > MOST_FOR_FUNCTION * self.public:
             yield f"{self.edits} edits for {self.public} public functions; at most {MOST_FOR_FUNCTION} for each"
 

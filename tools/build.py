@@ -4,10 +4,12 @@
 A crate is begun as soon as all that it stands on is built, those at the foot of the longest chains first.
 Of the processors that are free each gets a share, so that a crate that all others wait for is proved with
 several. What `rt` says goes to the crate's own `out/build.log`; of a crate that fails it is shown.
+One `rt` keeps others out of every crate that it reads, so each works on links to the sources and libraries.
 Usage: build.py REPOSITORY PROGRAM
 """
 
 import os
+import shutil
 import subprocess
 import sys
 import time
@@ -25,7 +27,7 @@ def crates_of(repository):
 
 
 def needed_by(program, crates):
-    """The crates below a program, at any depth."""
+    """The crates below a program or another crate, at any depth."""
     needed, found = set(), list(crates[program])
     while found:
         name = found.pop()
@@ -52,17 +54,36 @@ def lines_of(folder):
     return sum(path.read_bytes().count(b"\n") for ending in ("rt", "antt") for path in folder.rglob(f"*.{ending}"))
 
 
-def build(folder, words, jobs):
-    """Builds one crate, and tells whether that went well."""
+def link(folder, copy):
+    """Makes a crate's folder once more of links to its files: its sources, and its library where it is built."""
+    shutil.copytree(folder, copy, copy_function=os.link, ignore=shutil.ignore_patterns("incremental", "build.log"))
+
+
+def build(repository, name, below, words, jobs):
+    """Builds one crate beside others, and tells whether that went well."""
+    work = repository / "bin" / "build" / name
+    shutil.rmtree(work, ignore_errors=True)
+    (work / "crates").mkdir(parents=True)
+    shutil.copy(repository / "HANDLES", work)
+    named = (line for line in (repository / "crates.txt").read_text().splitlines() if line.partition(":")[0] in {name, *below})
+    (work / "crates.txt").write_text("".join(f"{line}\n" for line in named))
+    for it in below:
+        link(repository / "crates" / it, work / "crates" / it)
+    folder, own = repository / "crates" / name, work / "crates" / name
+    shutil.copytree(folder, own, copy_function=os.link, ignore=shutil.ignore_patterns("out"))
     (folder / "out").mkdir(exist_ok=True)
-    with open(folder / "out" / "build.log", "w") as log:
-        return subprocess.run(["rt", *words, "--jobs", str(jobs)], cwd=folder, stdin=subprocess.DEVNULL, stdout=log, stderr=log).returncode == 0
+    os.rename(folder / "out", own / "out")
+    try:
+        with open(own / "out" / "build.log", "w") as log:
+            return subprocess.run(["rt", *words, "--jobs", str(jobs)], cwd=own, stdin=subprocess.DEVNULL, stdout=log, stderr=log).returncode == 0
+    finally:
+        os.rename(own / "out", folder / "out")
+        shutil.rmtree(work, ignore_errors=True)
 
 
 def build_all(repository, crates):
     """Builds the crates, each after what it stands on; answers the first that fails, or None."""
-    folders = {name: repository / "crates" / name for name in crates}
-    heights = heights_of(crates, {name: lines_of(folder) for name, folder in folders.items()})
+    heights = heights_of(crates, {name: lines_of(repository / "crates" / name) for name in crates})
     waiting, built, running = set(crates), set(), {}
     start = time.monotonic()
     with ThreadPoolExecutor(AT_ONCE) as pool:
@@ -71,7 +92,7 @@ def build_all(repository, crates):
             jobs = max(1, (os.cpu_count() or 1) // max(1, len(running) + len(ready)))
             for name in ready:
                 waiting.remove(name)
-                running[pool.submit(build, folders[name], ["lib"], jobs)] = name
+                running[pool.submit(build, repository, name, needed_by(name, crates), ["lib"], jobs)] = name
             for done in wait(running, return_when=FIRST_COMPLETED).done:
                 name = running.pop(done)
                 if not done.result():
@@ -85,7 +106,7 @@ def main():
     repository, program = Path(sys.argv[1]).resolve(), sys.argv[2]
     crates = crates_of(repository)
     failed = build_all(repository, needed_by(program, crates))
-    if failed is None and not build(repository / "crates" / program, ["run"], os.cpu_count() or 1):
+    if failed is None and not build(repository, program, needed_by(program, crates), ["run"], os.cpu_count() or 1):
         failed = program
     if failed is not None:
         print((repository / "crates" / failed / "out" / "build.log").read_text()[-4_000:])

@@ -72,6 +72,7 @@ fn each_end_has_its_status_and_text(rt: HostRuntime) -> Result<(), Fail> {
     };
     let text = class_text(alloc, Some(&fault))?;
     assert!(rt; text.as_str() == "metad: class file refused: C04 at class 1");
+    let usage = "\n\nUsage: metad [CLASSES]\n\nFor more information, try '--help'.\n";
     let endings = [
         (
             Ending::of_class_file(alloc, &ClassFileError::Refused(fault)),
@@ -88,11 +89,7 @@ fn each_end_has_its_status_and_text(rt: HostRuntime) -> Result<(), Fail> {
             5,
             "metad: out of memory\n",
         ),
-        (
-            Ending::no_utf_8(),
-            2,
-            "\n\nUsage: metad [CLASSES]\n\nFor more information, try '--help'.\n",
-        ),
+        (Ending::no_utf_8(), 2, usage),
     ];
     for (ending, status, closing) in &endings {
         let mut output = Counted::new(Vec::new(alloc));
@@ -137,7 +134,7 @@ fn the_words_name_the_class_file(rt: HostRuntime) -> Result<(), Fail> {
         let Ok(classes) = start_with(&shelf, words) else {
             return Err("classes")?;
         };
-        assert!(rt; classes.find(class).is_some(), "of {class}");
+        assert!(rt; classes.find(class).is_some());
     }
     let ends: [(&[&str], u8, &str); 3] = [
         (&["desks.json"], 1, UNREADABLE),

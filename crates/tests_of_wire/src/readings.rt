@@ -38,27 +38,15 @@ fn parts(command: &Command) -> Parts<'_> {
 
 /// A line for each of the parts below.
 const LINES: &str = r#"{"class":"Cell","do":"new","parent":4294967295,"session":"a"}
-{"do":"delete","object":18446744073709551616,"object":7,"session":"a"}
-{"do":"setParent","object":2,"parent":1,"session":"a"}
-{"do":"setParent","object":2,"parent":null,"session":"a"}
-{"do":"children","session":"a"}
-{"do":"find","object":1,"session":"a"}
-{"class":"Cell","do":"find","name":"","object":1,"session":"a"}
+{"class":"Cell","do":"find","name":"","object":18446744073709551616,"object":7,"session":"a"}
 {"do":"set","object":1,"property":"objectName","session":"a","value":1,"value":"2"}
- {"do": "g\u0065t", "\u006fbject": 1, "property": "objectName", "session": "\u0061"}
-{"class":"Cell","do":"meta","session":"a"}"#;
+ {"do": "g\u0065t", "\u006fbject": 1, "property": "objectName", "session": "\u0061"}"#;
 
-const PARTS: [Parts<'static>; 10] = [
+const PARTS: [Parts<'static>; 4] = [
     ("new", None, Some(4_294_967_295), None, Some("Cell")),
-    ("delete", Some(7), None, None, None),
-    ("setParent", Some(2), Some(1), None, None),
-    ("setParent", Some(2), None, None, None),
-    ("children", None, None, None, None),
-    ("find", Some(1), None, None, None),
-    ("find", Some(1), None, Some(""), Some("Cell")),
+    ("find", Some(7), None, Some(""), Some("Cell")),
     ("set", Some(1), None, Some("2"), None),
     ("get", Some(1), None, None, None),
-    ("meta", None, None, None, Some("Cell")),
 ];
 
 #[test]
