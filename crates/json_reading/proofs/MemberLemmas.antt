@@ -1,0 +1,31 @@
+-- One member more, and what is found then.
+use Rattle.std.proofs.Common.{◌≡◌, ℕ, List, [], ◌∷◌, ◌++◌, Some, true, false, bytes_eq, true≢false, refl, sym, ap, ◌∙◌}
+use Rattle.std.proofs.lemmas.Slice.Eq.{bytes_eq-Decides}
+use Rattle.serde_json.specs.Data.{Data, null, boolean, number, string, array, object, Members, no_members, put}
+use Rattle.serde_json.specs.Find.{get_member, as_object}
+use Rattle.serde_json.proofs.Views.{get_member-put, get_member-put_other}
+use Rattle.json_reading.specs.declared.field.Member.{Member}
+use Rattle.json_reading.specs.Members.{data_of, members_from, members_in}
+
+-- data with members are an object
+pub object_of : (d : Data) (ms : Members) → Some ms ≡ as_object d → d ≡ object ms
+object_of null ms e = absurd (cc)
+object_of (boolean b) ms e = absurd (cc)
+object_of (number n) ms e = absurd (cc)
+object_of (string s) ms e = absurd (cc)
+object_of (array ds) ms e = absurd (cc)
+object_of (object found) ms e = let same : ms ≡ found = cc in ap object (sym same)
+
+pub members_from-push : (found : Members) (ms : List Member) (m : Member) → members_from found (ms ++ m ∷ []) ≡ put m.key.now (data_of m.value) (members_from found ms)
+members_from-push found [] m = refl
+members_from-push found (n ∷ ms) m = members_from-push (put n.key.now (data_of n.value) found) ms m
+
+pub found_at_last : (key : List ℕ) (ms : List Member) (m : Member) → bytes_eq m.key.now key ≡ true → get_member key (members_in (ms ++ m ∷ [])) ≡ Some (data_of m.value)
+found_at_last key ms m same =
+    let is : m.key.now ≡ key = (bytes_eq-Decides m.key.now key).0 same in
+    ap (get_member key) (members_from-push no_members ms m) ∙ ap (λ k. get_member key (put k (data_of m.value) (members_in ms))) is ∙ get_member-put key (data_of m.value) (members_in ms)
+
+pub found_before_last : (key : List ℕ) (ms : List Member) (m : Member) → bytes_eq m.key.now key ≡ false → get_member key (members_in (ms ++ m ∷ [])) ≡ get_member key (members_in ms)
+found_before_last key ms m other =
+    ap (get_member key) (members_from-push no_members ms m)
+    ∙ get_member-put_other key m.key.now (data_of m.value) (members_in ms) (λ (e : key ≡ m.key.now). true≢false (sym ((bytes_eq-Decides m.key.now key).1 (sym e)) ∙ other))

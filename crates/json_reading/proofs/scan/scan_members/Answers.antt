@@ -1,0 +1,40 @@
+use Rattle.std.proofs.Common.{◌≡◌, ◌+◌, length, [], ◌∷◌, ◌++◌, drop, get_or, sym, ap, ◌∙◌, arith}
+use Rattle.json_reading.proofs.Grammar.{reads_members}
+use Rattle.json_reading.proofs.Printing.{AreSpelled-push, grown_by_comma, grown_to_end, nothing_opened, tokens-closed}
+use Rattle.json_reading.proofs.Standing.{byte_stands}
+use Rattle.json_reading.proofs.scan.scan_members.Goals as goal
+
+pub members-init : goal.members-init
+members-init c =
+    let d = c.args.text.now in
+    let first : get_or d 0 0 ≡ 123 = cc in
+    let brace = byte_stands d 0 123 first (omega arith) in
+    rw c.new-found.ensures.items (record { text = brace.text ∙ ap (λ l. l ++ drop 1 d) (sym nothing_opened); spelled = tt; within = brace.within })
+
+pub members-preserved : goal.members-preserved
+members-preserved c =
+    let d = c.args.text.now in
+    let ms = c.members.found.items in
+    let m = c.in_ok-member.member in
+    let end = c.in_ok-member.end in
+    let found = c.in_ok-member.ensures in
+    let comma : get_or d end 0 ≡ 44 = cc in
+    rw c.in_ok-put.ensures
+    (record {
+      text = grown_by_comma d ms m c.members.at end c.members.invariant.text c.members.invariant.spelled found.0 comma;
+      spelled = AreSpelled-push ms m c.members.invariant.spelled found.1;
+      within = (byte_stands d end 44 comma (omega arith)).within;
+    })
+
+pub returns-in-125 : goal.returns-in-125
+returns-in-125 c =
+    let d = c.args.text.now in
+    let ms = c.members.found.items in
+    let m = c.in_ok-member.member in
+    let end = c.in_ok-member.end in
+    let found = c.in_ok-member.ensures in
+    let brace : get_or d end 0 ≡ 125 = cc in
+    let last : end + 1 ≡ length d = omega arith in
+    let spelled = AreSpelled-push ms m c.members.invariant.spelled found.1 in
+    let whole = grown_to_end d ms m c.members.at end c.members.invariant.text c.members.invariant.spelled found.0 brace last in
+    rw c.in_ok-put.ensures (reads_members d (ms ++ m ∷ []) spelled (tokens-closed d (ms ++ m ∷ []) spelled whole))

@@ -1,0 +1,32 @@
+-- What members and their values stand for, as `serde_json` sees them.
+use Rattle.std.specs.Prelude.{List, [], ◌∷◌}
+use Rattle.serde_json.specs.Data.{Data, null, boolean, number, string, array, unsigned, Items, no_items, item, Members, no_members, put}
+use Rattle.serde_json.specs.View.{view}
+use Rattle.json_reading.specs.declared.field.Scalar.{Scalar}
+use Rattle.json_reading.specs.declared.field.Scalar.TheVariants.{Null, Truth, Number, Text}
+use Rattle.json_reading.specs.declared.field.Field.{Field}
+use Rattle.json_reading.specs.declared.field.Field.TheVariants as field
+use Rattle.json_reading.specs.declared.field.Member.{Member}
+
+abbrev pub scalar_data : Scalar → Data
+scalar_data Null = null
+scalar_data (Truth t) = boolean t
+scalar_data (Number n) = number (unsigned n)
+scalar_data (Text t) = string t.now
+
+abbrev pub items_in : List Scalar → Items
+items_in [] = no_items
+items_in (s ∷ ss) = item (scalar_data s) (items_in ss)
+
+abbrev pub data_of : Field → Data
+data_of (field.Plain s) = scalar_data s
+data_of (field.List ss) = array (items_in ss.items)
+data_of (field.Tree v) = view v.now
+
+-- the members, put one after another to those that were found before
+abbrev pub members_from : Members → List Member → Members
+members_from found [] = found
+members_from found (m ∷ ms) = members_from (put m.key.now (data_of m.value) found) ms
+
+abbrev pub members_in : List Member → Members
+members_in ms = members_from no_members ms

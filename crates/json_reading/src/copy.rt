@@ -1,0 +1,44 @@
+//! Values that own what they have.
+ghost use Rattle.std.specs.Prelude.{◌≡◌, IfOk};
+ghost use Rattle.serde_json.specs.Data.{array};
+ghost use Rattle.serde_json.specs.View.{view};
+ghost use Rattle.json_reading.specs.Members.{data_of, items_in, scalar_data};
+
+use crate::field::{Field, Scalar};
+use serde_json::Value;
+use std::alloc::{AllocError, Global};
+
+impl Field<'_> {
+    /// A copy of the value.
+    pub fn to_json(&self, alloc: Global) -> Result<Value, AllocError>
+        ensures { IfOk result (λ json. view json ≡ data_of self.now) }
+    {
+        match self {
+            Field::Plain(scalar) => scalar_json(alloc, scalar),
+            Field::List(scalars) => list_json(alloc, scalars),
+            Field::Tree(value) => Value::clone(value),
+        }
+    }
+}
+
+fn scalar_json(alloc: Global, scalar: &Scalar<'_>) -> Result<Value, AllocError>
+    ensures { IfOk result (λ json. view json ≡ scalar_data scalar.now) }
+{
+    Ok(match *scalar {
+        Scalar::Null => Value::Null,
+        Scalar::Truth(truth) => Value::Bool(truth),
+        Scalar::Number(number) => Value::from(number),
+        Scalar::Text(text) => Value::String(String::from_str(alloc, text)?),
+    })
+}
+
+#[tactic(auto, using(crate::proofs::CopyLemmas::items_in_map, crate::proofs::CopyLemmas::views_snoc, crate::proofs::CopyLemmas::array_view))]
+fn list_json(alloc: Global, scalars: &[Scalar<'_>]) -> Result<Value, AllocError>
+    ensures { IfOk result (λ json. view json ≡ array (items_in scalars.now)) }
+{
+    let mut items = Vec::with_capacity(alloc, scalars.len())?;
+    for scalar in scalars {
+        items.push(scalar_json(alloc, scalar)?)?;
+    }
+    Ok(Value::Array(items))
+}

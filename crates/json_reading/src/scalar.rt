@@ -1,0 +1,107 @@
+//! Reading one value without parts, byte by byte.
+ghost use Rattle.std.specs.Prelude.{◌≡◌, ◌+◌, ◌≤◌, ◌<◌, ◌^◌, length, drop, get_or, codes, decimal, true, IfOk, IfSome};
+ghost use Rattle.std.specs.List.{prefix_len};
+ghost use Rattle.json.specs.Run.{is_plain};
+ghost use Rattle.json.specs.Print.{quoted, token_text};
+ghost use Rattle.json_reading.specs.Spelling.{scalar_token, Fits, StandsAt};
+
+use crate::field::Scalar;
+use crate::stop::Stop;
+
+/// The byte at a place, or 0 behind the end.
+pub(crate) fn byte_at(bytes: &[u8], at: usize) -> u8
+    ensures { result ≡ get_or bytes.now at 0 }
+{
+    if at < bytes.len() { bytes[at] } else { 0 }
+}
+
+/// Where the first quote, backslash or control byte is from a place on, or the end.
+fn plain_end(bytes: &[u8], from: usize) -> usize
+    requires { from ≤ length bytes.now }
+    ensures value { result ≡ from + prefix_len is_plain (drop from bytes.now) }
+    ensures bounds { (from ≤ result) × (result ≤ length bytes.now) }
+{
+    let mut end = from;
+    'plain: while end < bytes.len()
+        && bytes[end] != b'"'
+        && bytes[end] != b'\\'
+        && bytes[end] >= 0x20
+    {
+        end += 1;
+    }
+    end
+}
+
+/// The text in quotes that begins at a place and has no escapes, and where it ends.
+pub(crate) fn scan_text<'a>(text: &'a str, at: usize) -> Result<(&'a str, usize), Stop>
+    ensures { IfOk result (λ found. StandsAt text.now at (quoted found.0.now) found.1) }
+{
+    let bytes = text.as_bytes();
+    if byte_at(bytes, at) != b'"' {
+        return Err(Stop::Form);
+    }
+    let end = plain_end(bytes, at + 1);
+    if byte_at(bytes, end) != b'"' {
+        return Err(Stop::Form);
+    }
+    Ok((&text[at + 1..end], end + 1))
+}
+
+/// The number that the bytes begin with, as `decimal` writes it, and where it ends.
+pub(crate) fn scan_number(bytes: &[u8]) -> Option<(u64, usize)>
+    ensures { IfSome result
+        (λ found. StandsAt bytes.now 0 (decimal found.0) found.1 × (found.0 < 2 ^ 64)) }
+{
+    let mut number: u64 = 0;
+    let mut end = 0;
+    'digits: while end < bytes.len() && bytes[end].is_ascii_digit() {
+        let digit = (bytes[end] - b'0') as u64;
+        number = number.checked_mul(10)?.checked_add(digit)?;
+        end += 1;
+    }
+    if end == 0 || (bytes[0] == b'0' && end > 1) {
+        return None;
+    }
+    Some((number, end))
+}
+
+/// A word that the bytes begin with, and where it ends.
+fn scan_word<'a>(bytes: &[u8]) -> Option<(Scalar<'a>, usize)>
+    ensures { IfSome result
+        (λ found. StandsAt bytes.now 0 (token_text (scalar_token found.0)) found.1 × Fits found.0) }
+{
+    if bytes.starts_with(b"true") {
+        Some((Scalar::Truth(true), 4))
+    } else if bytes.starts_with(b"false") {
+        Some((Scalar::Truth(false), 5))
+    } else if bytes.starts_with(b"null") {
+        Some((Scalar::Null, 4))
+    } else {
+        None
+    }
+}
+
+/// The value without parts that begins at a place, and where it ends.
+pub(crate) fn scan_scalar<'a>(text: &'a str, at: usize) -> Result<(Scalar<'a>, usize), Stop>
+    ensures { IfOk result
+        (λ found. StandsAt text.now at (token_text (scalar_token found.0)) found.1
+        × Fits found.0) }
+{
+    let bytes = text.as_bytes();
+    match byte_at(bytes, at) {
+        b'"' => {
+            let (found, end) = scan_text(text, at)?;
+            Ok((Scalar::Text(found), end))
+        }
+        b'0'..=b'9' => {
+            let (number, len) = scan_number(&bytes[at..]).ok_or(Stop::Form)?;
+            Ok((Scalar::Number(number), at + len))
+        }
+        b't' | b'f' | b'n' => {
+            let (word, len) = scan_word(&bytes[at..]).ok_or(Stop::Form)?;
+            Ok((word, at + len))
+        }
+        b'{' | b'[' => Err(Stop::Nested),
+        _ => Err(Stop::Form),
+    }
+}
