@@ -3,12 +3,11 @@ ghost use Rattle.std.specs.Prelude.{◌≡◌, Some, IfOk};
 ghost use Rattle.session_engine.specs.Engine.{place};
 
 use crate::lines::{given, is_told, lamps};
-use plain_types::Items;
 use refusals::{Code, Fault};
 use session_engine::Engine;
 use std::alloc::{AllocError, Global};
 use std::test::Fail;
-use thread_model::{Line, Tagged};
+use thread_model::Tagged;
 
 fn fresh(alloc: Global) -> Result<Engine, AllocError> {
     Engine::new(alloc, lamps(alloc)?, 1000)
@@ -24,10 +23,17 @@ fn place_of(engine: &mut Engine, given: &Tagged) -> Result<usize, AllocError>
     }
 }
 
-/// What the session is told that gives a command.
-fn told(engine: &mut Engine, given: &Tagged) -> Result<Items<Line>, AllocError> {
-    let place = place_of(engine, given)?;
-    engine.told(place, &given.command)
+/// Whether the session that gives a line is told another one.
+fn is_answered(
+    alloc: Global,
+    engine: &mut Engine,
+    line: &str,
+    wanted: &str,
+) -> Result<bool, AllocError> {
+    let given = given(alloc, line)?;
+    let place = place_of(engine, &given)?;
+    let lines = engine.told(place, &given.command)?;
+    is_told(alloc, &given.session, &lines, wanted)
 }
 
 /// What a session asks. Two trees are made: 1 above 2 and 3, 2 above 4, 3 above 5 and 6; and 7.
@@ -107,20 +113,39 @@ fn tells_what_is_asked(rt: HostRuntime) -> Result<(), Fail> {
     let alloc = rt.alloc();
     let mut engine = fresh(alloc)?;
     for (line, wanted) in GIVEN.lines().zip(TOLD.lines()) {
-        let given = given(alloc, line)?;
-        let lines = told(&mut engine, &given)?;
-        assert!(rt; is_told(alloc, &given.session, &lines, wanted)?, "{line}");
+        assert!(rt; is_answered(alloc, &mut engine, line, wanted)?, "{line}");
     }
     assert!(rt; GIVEN.lines().count() == TOLD.lines().count());
     assert!(rt; !engine.memory_refused());
     Ok(())
 }
 
-const SESSIONS: [(&str, bool); 3] = [
+/// Lines of sessions, and whether the session fails before its line is done.
+const SESSIONS: [(&str, bool); 4] = [
     (r#"{"class":"Lamp","do":"new","session":"a"}"#, false),
     (r#"{"class":"Lamp","do":"new","session":"b"}"#, true),
     (r#"{"class":"Lamp","do":"new","session":"c"}"#, false),
+    (r#"{"class":"Lamp","do":"new","session":"a"}"#, false),
 ];
+
+/// Whether a session refuses a command since it has failed.
+fn is_refused(
+    alloc: Global,
+    engine: &mut Engine,
+    line: &str,
+    fails: bool,
+) -> Result<bool, AllocError> {
+    let given = given(alloc, line)?;
+    let place = place_of(engine, &given)?;
+    if fails {
+        engine.give_up(place);
+    }
+    let has_failed = engine.failed(place);
+    match engine.command(place, &given.command) {
+        Err(Fault::Refused(Code::SessionFailed)) => Ok(has_failed),
+        _ => Ok(false),
+    }
+}
 
 #[test]
 fn a_failed_session_refuses_and_no_other(rt: HostRuntime) -> Result<(), Fail> {
@@ -128,17 +153,10 @@ fn a_failed_session_refuses_and_no_other(rt: HostRuntime) -> Result<(), Fail> {
     let mut engine = fresh(alloc)?;
     engine.sound();
     for (line, fails) in SESSIONS {
-        let place = place_of(&mut engine, &given(alloc, line)?)?;
-        if fails {
-            engine.give_up(place);
-        }
-    }
-    for (line, fails) in SESSIONS {
-        let given = given(alloc, line)?;
-        let place = place_of(&mut engine, &given)?;
-        assert!(rt; engine.failed(place) == fails);
-        let done = engine.command(place, &given.command);
-        assert!(rt; matches!(done, Err(Fault::Refused(Code::SessionFailed))) == fails);
+        assert!(rt;
+            is_refused(alloc, &mut engine, line, fails)? == fails,
+            "{line}"
+        );
     }
     assert!(rt; engine.memory_refused());
     Ok(())

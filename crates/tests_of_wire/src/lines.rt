@@ -3,7 +3,7 @@ use class_table::ClassTable;
 use plain_types::{Items, Text};
 use std::alloc::{AllocError, Global};
 use thread_model::{Line, Tagged};
-use wire_format::{line_text, read_line};
+use wire_format::{Scratch, line_text, read_line};
 
 /// A class with two slots and a property, and one below it.
 const LAMPS: &str =
@@ -20,7 +20,8 @@ pub fn lamps(alloc: Global) -> Result<ClassTable, AllocError> {
 
 /// The command that a line is.
 pub fn given(alloc: Global, line: &str) -> Result<Tagged, AllocError> {
-    match read_line(alloc, line.as_bytes()) {
+    let mut scratch = Scratch::new(alloc);
+    match read_line(alloc, &mut scratch, line.as_bytes()) {
         Ok(given) => Ok(given),
         Err(_) => Err(AllocError),
     }

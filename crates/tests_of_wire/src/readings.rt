@@ -1,7 +1,7 @@
 //! Lines that are read.
 use std::test::Fail;
 use thread_model::Command;
-use wire_format::{LINE_BYTES, ReadError, fault_text, is_blank, read_line};
+use wire_format::{LINE_BYTES, ReadError, Scratch, fault_text, is_blank, read_line};
 
 /// What a command says, whichever it is: its word, its object, the other number, its text and its
 /// class.
@@ -40,19 +40,24 @@ fn parts(command: &Command) -> Parts<'_> {
 const LINES: &str = r#"{"class":"Cell","do":"new","parent":4294967295,"session":"a"}
 {"class":"Cell","do":"find","name":"","object":18446744073709551616,"object":7,"session":"a"}
 {"do":"set","object":1,"property":"objectName","session":"a","value":1,"value":"2"}
+{"do":"set","object":1,"property":"objectName","session":"a","value":[1,"2",null]}
+{"do":"set","object":1,"property":"objectName","session":"a","value":{"a":[-1]}}
  {"do": "g\u0065t", "\u006fbject": 1, "property": "objectName", "session": "\u0061"}"#;
 
-const PARTS: [Parts<'static>; 4] = [
+const PARTS: [Parts<'static>; 6] = [
     ("new", None, Some(4_294_967_295), None, Some("Cell")),
     ("find", Some(7), None, Some(""), Some("Cell")),
     ("set", Some(1), None, Some("2"), None),
+    ("set", Some(1), None, None, None),
+    ("set", Some(1), None, None, None),
     ("get", Some(1), None, None, None),
 ];
 
 #[test]
 fn commands_are_read(rt: HostRuntime) -> Result<(), Fail> {
+    let mut scratch = Scratch::new(rt.alloc());
     for (line, wanted) in LINES.lines().zip(PARTS) {
-        let Ok(given) = read_line(rt.alloc(), line.as_bytes()) else {
+        let Ok(given) = read_line(rt.alloc(), &mut scratch, line.as_bytes()) else {
             return Err("a command")?;
         };
         assert!(rt;
@@ -96,10 +101,12 @@ E02 a {"class":"a b","do":"meta","session":"a"}"#;
 
 #[test]
 fn other_lines_are_refused(rt: HostRuntime) -> Result<(), Fail> {
+    let mut scratch = Scratch::new(rt.alloc());
     for row in REFUSED.lines() {
         let (code, behind) = row.split_once(' ').ok_or("a code")?;
         let (session, line) = behind.split_once(' ').ok_or("a session")?;
-        let Err(ReadError::Fault(fault)) = read_line(rt.alloc(), line.as_bytes()) else {
+        let Err(ReadError::Fault(fault)) = read_line(rt.alloc(), &mut scratch, line.as_bytes())
+        else {
             return Err("a fault")?;
         };
         assert!(rt;
@@ -124,9 +131,10 @@ fn blank_lines_are_known(rt: HostRuntime) -> Result<(), Fail> {
         (&spaces.as_slice()[..LINE_BYTES], true),
         (spaces.as_slice(), false),
     ];
+    let mut scratch = Scratch::new(rt.alloc());
     for (line, wanted) in cases {
         assert!(rt; is_blank(line) == wanted);
-        let Err(ReadError::Fault(fault)) = read_line(rt.alloc(), line) else {
+        let Err(ReadError::Fault(fault)) = read_line(rt.alloc(), &mut scratch, line) else {
             return Err("a fault")?;
         };
         assert!(rt; fault.code.text() == "E01" && fault.session.is_none());

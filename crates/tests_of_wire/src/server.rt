@@ -30,6 +30,36 @@ fn tells(
     }
 }
 
+/// Whether a server reports what it must of these lines.
+fn is_run(alloc: Global, server: &mut Server, run: &[(&str, &str)]) -> Result<bool, AllocError> {
+    let mut list = Vec::new(alloc);
+    for (line, _) in run {
+        list.push(given(alloc, line)?)?;
+    }
+    let report = report_of(server, list.as_slice());
+    if report.memory_refused || report.lines.len() != run.len() {
+        return Ok(false);
+    }
+    for (at, (given, (_, wanted))) in list.iter().zip(run).enumerate() {
+        if !tells(alloc, &report, at, given, wanted)? {
+            return Ok(false);
+        }
+    }
+    Ok(true)
+}
+
+/// Whether the session that gives a line is told another one.
+fn is_stepped(
+    alloc: Global,
+    server: &mut Server,
+    line: &str,
+    wanted: &str,
+) -> Result<bool, AllocError> {
+    let given = given(alloc, line)?;
+    let lines = server.step(&given)?;
+    is_told(alloc, &given.session, &lines, wanted)
+}
+
 /// Two runs, one after the other on one server.
 const RUNS: [[(&str, &str); 3]; 2] = [
     [
@@ -66,16 +96,8 @@ const RUNS: [[(&str, &str); 3]; 2] = [
 fn runs_on_one_server_go_on(rt: HostRuntime) -> Result<(), Fail> {
     let alloc = rt.alloc();
     let mut server = fresh(alloc)?;
-    for run in RUNS {
-        let mut list = Vec::new(alloc);
-        for (line, _) in run {
-            list.push(given(alloc, line)?)?;
-        }
-        let report = report_of(&mut server, list.as_slice());
-        assert!(rt; !report.memory_refused && report.lines.len() == run.len());
-        for (at, (given, (line, wanted))) in list.iter().zip(run).enumerate() {
-            assert!(rt; tells(alloc, &report, at, given, wanted)?, "{line}");
-        }
+    for run in &RUNS {
+        assert!(rt; is_run(alloc, &mut server, run)?);
     }
     Ok(())
 }
@@ -85,9 +107,7 @@ fn steps_go_on_after_each_other(rt: HostRuntime) -> Result<(), Fail> {
     let alloc = rt.alloc();
     let mut server = fresh(alloc)?;
     for (line, wanted) in RUNS[0] {
-        let given = given(alloc, line)?;
-        let lines = server.step(&given)?;
-        assert!(rt; is_told(alloc, &given.session, &lines, wanted)?, "{line}");
+        assert!(rt; is_stepped(alloc, &mut server, line, wanted)?, "{line}");
     }
     assert!(rt; !server.memory_refused());
     server.note_memory_refused();

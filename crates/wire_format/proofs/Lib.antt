@@ -1,4 +1,5 @@
-pub mod Keys
+pub mod CommandLemmas
+pub mod HeldLemmas
 pub mod Plain
 pub mod Cutting
 pub mod Outputs

@@ -8,8 +8,8 @@ use Rattle.plain_types.specs.Names.{is_name}
 use Rattle.thread_model.specs.Asked.{Asked}
 use Rattle.wire_format.specs.declared.fault.LineFault.{LineFault}
 use Rattle.wire_format.specs.declared.line.TheConstants.{LINE_BYTES}
-use Rattle.wire_format.specs.Members.{◌>>=◌, when, text_at, name_at}
-use Rattle.wire_format.specs.Command.{asked_of, asked_by, command_in, command_by, json_of_line, json_in, command_of, not_a_command, unreadable}
+use Rattle.json_reading.specs.Fields.{◌>>=◌, when, text_at, name_at}
+use Rattle.wire_format.specs.Command.{asked_of, given_by, command_in, command_by, json_of_line, json_in, command_of, not_a_command, unreadable}
 use Rattle.wire_format.specs.Text.{blamed, is_session_text}
 
 -- what a line's answer says of the session that it names
@@ -38,7 +38,7 @@ unfolding IsNamed
 IsNamed-asked session None named = or_left _ _ named
 IsNamed-asked session (Some command) named = named
 
-IsNamed-session : (json : Data) (session : Option (List ℕ)) → ((name : List ℕ) → session ≡ Some name → is_name name ≡ true) → IsNamed (option_map_or (λ name. asked_by name json) session (Err (not_a_command None)))
+IsNamed-session : (json : Data) (session : Option (List ℕ)) → ((name : List ℕ) → session ≡ Some name → is_name name ≡ true) → IsNamed (option_map_or (λ name. given_by name json) session (Err (not_a_command None)))
 unfolding IsNamed
 IsNamed-session json None named = refl
 IsNamed-session json (Some name) named = IsNamed-asked name (asked_of json) (named name refl)

@@ -1,11 +1,9 @@
--- The command that describes a class.
-use Rattle.std.specs.Prelude.{List, [], ◌∷◌, codes, Option}
-use Rattle.serde_json.specs.Data.{Data}
+-- The command that describes a class, by what a line holds at its key.
+use Rattle.std.specs.Prelude.{List, [], ◌∷◌, Option, None, option_map}
 use Rattle.thread_model.specs.Asked.{Asked, Meta}
-use Rattle.wire_format.specs.Members.{◌>>=◌, when, name_at, has_only}
+use Rattle.wire_format.specs.Held.{Held, text_of}
 
 -- `meta` describes a class
-unfoldable pub meta_of : Data → Option Asked
-meta_of json = do
-  class ← name_at (codes "class") json
-  when (has_only (codes "class" ∷ []) json) (Meta class)
+abbrev pub meta_of : List Held → Option Asked
+meta_of (class ∷ []) = option_map Meta (text_of class)
+meta_of held = None

@@ -12,28 +12,34 @@ use Rattle.wire_format.specs.declared.fault.LineFault.{LineFault}
 use Rattle.wire_format.specs.declared.fault.ReadError.{ReadError}
 use Rattle.wire_format.specs.declared.fault.ReadError.TheVariants.{Fault, Memory}
 use Rattle.wire_format.specs.declared.line.TheConstants.{LINE_BYTES}
-use Rattle.wire_format.specs.Members.{◌>>=◌, text_at, name_at}
+use Rattle.json_reading.specs.Fields.{◌>>=◌, text_at, name_at}
+use Rattle.wire_format.specs.declared.word.Word.{Word}
+use Rattle.wire_format.specs.declared.word.Word.TheVariants as w
+use Rattle.wire_format.specs.Held.{Held, held_by}
+use Rattle.wire_format.specs.Keys.{keys_of}
+use Rattle.wire_format.specs.Words.{word_named}
 use Rattle.wire_format.specs.Trees.{new_of, delete_of, set_parent_of, children_of, find_of}
 use Rattle.wire_format.specs.Properties.{set_of, get_of}
 use Rattle.wire_format.specs.Classes.{meta_of}
 
--- what is asked by this word
-unfoldable pub asked_as : List ℕ → Data → Option Asked
-asked_as word json =
-    if bytes_eq word (codes "new") then new_of json else (
-    if bytes_eq word (codes "delete") then delete_of json else (
-    if bytes_eq word (codes "setParent") then set_parent_of json else (
-    if bytes_eq word (codes "children") then children_of json else (
-    if bytes_eq word (codes "find") then find_of json else (
-    if bytes_eq word (codes "set") then set_of json else (
-    if bytes_eq word (codes "get") then get_of json else (
-    if bytes_eq word (codes "meta") then meta_of json else None)))))))
+-- what is asked by this word, with what is held at its keys
+unfoldable pub asked_by : Word → List Held → Option Asked
+asked_by w.New held = new_of held
+asked_by w.Delete held = delete_of held
+asked_by w.SetParent held = set_parent_of held
+asked_by w.Children held = children_of held
+asked_by w.Find held = find_of held
+asked_by w.Set held = set_of held
+asked_by w.Get held = get_of held
+asked_by w.Meta held = meta_of held
 
 -- what a command in JSON asks, beside the session that gives it
 unfoldable pub asked_of : Data → Option Asked
 asked_of json = do
-  word ← text_at (codes "do") json
-  asked_as word json
+  name ← text_at (codes "do") json
+  word ← word_named name
+  held ← held_by json (keys_of word)
+  asked_by word held
 
 -- the JSON that a line is
 abbrev pub json_of_line : List ℕ → Option Data
@@ -51,12 +57,12 @@ unfoldable pub json_in : List ℕ → Result Data LineFault
 json_in line = if nat_le (length line) LINE_BYTES then ok_or (json_of_line line) unreadable else Err unreadable
 
 -- the command that a piece of JSON is, where it names a session
-abbrev pub asked_by : List ℕ → Data → Result (Tagged (List ℕ) Asked) LineFault
-asked_by session json = option_map_or (λ command. Ok (record { session = session; command = command })) (asked_of json) (Err (not_a_command (Some session)))
+abbrev pub given_by : List ℕ → Data → Result (Tagged (List ℕ) Asked) LineFault
+given_by session json = option_map_or (λ command. Ok (record { session = session; command = command })) (asked_of json) (Err (not_a_command (Some session)))
 
 -- the command that a piece of JSON is
 unfoldable pub command_in : Data → Result (Tagged (List ℕ) Asked) LineFault
-command_in json = option_map_or (λ session. asked_by session json) (name_at (codes "session") json) (Err (not_a_command None))
+command_in json = option_map_or (λ session. given_by session json) (name_at (codes "session") json) (Err (not_a_command None))
 
 -- the command that a readable line is
 abbrev pub command_by : Result Data LineFault → Result (Tagged (List ℕ) Asked) LineFault

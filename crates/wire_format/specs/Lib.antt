@@ -1,4 +1,6 @@
-pub mod Members
+pub mod Words
+pub mod Keys
+pub mod Held
 pub mod Trees
 pub mod Properties
 pub mod Classes

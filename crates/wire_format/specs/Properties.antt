@@ -1,30 +1,14 @@
--- The commands of properties.
-use Rattle.std.specs.Prelude.{◌&&◌, ℕ, Bool, false, List, [], ◌∷◌, codes, bytes_eq, Option, Some}
-use Rattle.std.specs.Option.{option_map_or}
-use Rattle.serde_json.specs.Data.{Data}
-use Rattle.serde_json.specs.Find.{get}
+-- The commands of properties, by what a line holds at their keys.
+use Rattle.std.specs.Prelude.{List, [], ◌∷◌, Option, Some, None, option_and_then, option_map}
 use Rattle.thread_model.specs.Asked.{Asked, Set, Get}
-use Rattle.wire_format.specs.Members.{◌>>=◌, when, text_at, number_at, has_only}
-
--- is the member at this key the name of the only property that there is
-unfoldable pub is_object_name : List ℕ → Data → Bool
-is_object_name key json = option_map_or (λ text. bytes_eq text (codes "objectName")) (text_at key json) false
-
--- the number of an object, where the JSON names its only property and has no keys but these
-unfoldable pub target_of : List (List ℕ) → Data → Option ℕ
-target_of keys json = do
-  target ← number_at (codes "object") json
-  when (is_object_name (codes "property") json && has_only keys json) target
+use Rattle.wire_format.specs.Held.{Held, json_of, number_of}
 
 -- `set` writes a property; the value may be any JSON
-unfoldable pub set_of : Data → Option Asked
-set_of json = do
-  target ← target_of (codes "object" ∷ codes "property" ∷ codes "value" ∷ []) json
-  value ← get (codes "value") json
-  Some (Set target value)
+abbrev pub set_of : List Held → Option Asked
+set_of (target ∷ property ∷ value ∷ []) = option_and_then (λ number. option_map (Set number) (json_of value)) (number_of target)
+set_of held = None
 
 -- `get` reads a property
-unfoldable pub get_of : Data → Option Asked
-get_of json = do
-  target ← target_of (codes "object" ∷ codes "property" ∷ []) json
-  Some (Get target)
+abbrev pub get_of : List Held → Option Asked
+get_of (target ∷ property ∷ []) = option_map Get (number_of target)
+get_of held = None

@@ -1,39 +1,29 @@
--- The commands of trees of objects.
-use Rattle.std.specs.Prelude.{List, [], ◌∷◌, codes, Option}
-use Rattle.serde_json.specs.Data.{Data}
+-- The commands of trees of objects, by what a line holds at their keys.
+use Rattle.std.specs.Prelude.{List, [], ◌∷◌, Option, Some, None, option_map}
 use Rattle.thread_model.specs.Asked.{Asked, New, Delete, SetParent, Children, Find}
-use Rattle.wire_format.specs.Members.{◌>>=◌, when, name_at, number_at, some_number_at, some_text_at, some_name_at, number_or_null_at, has_only}
+use Rattle.wire_format.specs.Held.{Held, number_of, text_of}
 
 -- `new` makes an object of a class, below a parent where one is named
-unfoldable pub new_of : Data → Option Asked
-new_of json = do
-  class ← name_at (codes "class") json
-  parent ← some_number_at (codes "parent") json
-  when (has_only (codes "class" ∷ codes "parent" ∷ []) json) (New class parent)
+abbrev pub new_of : List Held → Option Asked
+new_of (class ∷ parent ∷ []) = option_map (λ name. New name (number_of parent)) (text_of class)
+new_of held = None
 
 -- `delete` deletes an object
-unfoldable pub delete_of : Data → Option Asked
-delete_of json = do
-  target ← number_at (codes "object") json
-  when (has_only (codes "object" ∷ []) json) (Delete target)
+abbrev pub delete_of : List Held → Option Asked
+delete_of (target ∷ []) = option_map Delete (number_of target)
+delete_of held = None
 
 -- `setParent` gives an object another parent; null makes it a root
-unfoldable pub set_parent_of : Data → Option Asked
-set_parent_of json = do
-  target ← number_at (codes "object") json
-  parent ← number_or_null_at (codes "parent") json
-  when (has_only (codes "object" ∷ codes "parent" ∷ []) json) (SetParent target parent)
+abbrev pub set_parent_of : List Held → Option Asked
+set_parent_of (target ∷ parent ∷ []) = option_map (λ number. SetParent number (number_of parent)) (number_of target)
+set_parent_of held = None
 
 -- `children` tells the children of an object, or the roots
-unfoldable pub children_of : Data → Option Asked
-children_of json = do
-  target ← some_number_at (codes "object") json
-  when (has_only (codes "object" ∷ []) json) (Children target)
+abbrev pub children_of : List Held → Option Asked
+children_of (target ∷ []) = Some (Children (number_of target))
+children_of held = None
 
 -- `find` looks for an object below another one
-unfoldable pub find_of : Data → Option Asked
-find_of json = do
-  target ← number_at (codes "object") json
-  name ← some_text_at (codes "name") json
-  class ← some_name_at (codes "class") json
-  when (has_only (codes "object" ∷ codes "name" ∷ codes "class" ∷ []) json) (Find target name class)
+abbrev pub find_of : List Held → Option Asked
+find_of (target ∷ name ∷ class ∷ []) = option_map (λ number. Find number (text_of name) (text_of class)) (number_of target)
+find_of held = None

@@ -1,24 +1,22 @@
-//! Reading the commands of classes.
-ghost use Rattle.std.specs.Prelude.{◌≡◌, IfOk, option_map};
-ghost use Rattle.serde_json.specs.View.{view};
+//! The command of classes.
+ghost use Rattle.std.specs.Prelude.{◌≡◌, IfOk, map, option_map};
 ghost use Rattle.thread_model.specs.Asked.{asked};
+ghost use Rattle.wire_format.specs.Held.{held_seen};
 ghost use Rattle.wire_format.specs.Classes.{meta_of};
 
-use crate::members::{has_only, name_at};
-use plain_types::Text;
-use serde_json::Value;
+use crate::held::Held;
 use std::alloc::{AllocError, Global};
 use thread_model::Command;
 
 /// `meta`: a class.
-#[tactic(auto, unfolding(crate::specs::Classes::meta_of))]
-pub(crate) fn meta_of(alloc: Global, json: &Value) -> Result<Option<Command>, AllocError>
-    ensures { IfOk result (λ command. option_map asked command ≡ meta_of (view json.now)) }
+pub(crate) fn meta_of(alloc: Global, held: &[Held<'_, '_>]) -> Result<Option<Command>, AllocError>
+    ensures { IfOk result (λ command. option_map asked command ≡ meta_of (map held_seen held.now)) }
 {
-    match name_at(json, "class") {
-        Some(class) if has_only(json, &["class"]) => Ok(Some(Command::Meta {
-            class: Text::from_str(alloc, class)?,
-        })),
-        _ => Ok(None),
+    let [class] = held else {
+        return Ok(None);
+    };
+    match class.text(alloc)? {
+        Some(class) => Ok(Some(Command::Meta { class })),
+        None => Ok(None),
     }
 }

@@ -5,14 +5,17 @@ ghost use Rattle.wire_format.specs.Output.{LeavingOutLines, LeavingOutStrangers}
 
 mod classes;
 mod fault;
+mod held;
+mod keys;
 mod line;
-mod members;
 mod properties;
 mod reading;
 mod trees;
+mod word;
 mod writing;
 
 pub use fault::{LineFault, ReadError};
+pub use json::Scratch;
 pub use line::{LINE_BYTES, is_blank};
 pub use reading::read_line;
 pub use writing::{error_parts, fault_text, line_text, write_line};

@@ -1,16 +1,23 @@
 //! Reading a line.
-ghost use Rattle.std.specs.Prelude.{◌≡◌, IfOk, option_map, codes};
-ghost use Rattle.serde_json.specs.View.{view};
+ghost use Rattle.std.specs.Prelude.{◌≡◌, Err, IfErr, IfOk, option_map, codes};
+ghost use Rattle.serde_json.specs.Data.{object};
+ghost use Rattle.serde_json.specs.Read.{read};
+ghost use Rattle.std.specs.Option.{ok_or};
+ghost use Rattle.json_reading.specs.Fields.{name_at};
+ghost use Rattle.json_reading.specs.Members.{members_in};
 ghost use Rattle.thread_model.specs.Asked.{asked, tag};
-ghost use Rattle.wire_format.specs.Members.{name_at};
-ghost use Rattle.wire_format.specs.Command.{Gives, json_in, asked_of, unreadable, not_a_command, command_of};
+ghost use Rattle.wire_format.specs.Command.{Gives, asked_of, command_by, command_in, command_of, json_in, not_a_command, unreadable};
 
 use crate::classes::meta_of;
 use crate::fault::{LineFault, ReadError};
+use crate::held::held_by;
+use crate::keys::keys_of;
 use crate::line::LINE_BYTES;
-use crate::members::{name_at, text_at};
 use crate::properties::{get_of, set_of};
 use crate::trees::{children_of, delete_of, find_of, new_of, set_parent_of};
+use crate::word::{Word, word_named};
+use json::Scratch;
+use json_reading::{Member, name_at, plain_members, text_at, tree_members};
 use plain_types::Text;
 use refusals::Code;
 use serde_json::Value;
@@ -19,16 +26,58 @@ use thread_model::{Command, Tagged};
 
 /// The command that the line is. A line that is too long, is no UTF-8 or is no JSON is
 /// `UnreadableLine` for no session; any other line that is no command is `NotACommand` for the
-/// session that it names.
-#[tactic(auto, unfolding(crate::specs::Command::command_of, crate::specs::Command::command_in))]
-pub fn read_line(alloc: Global, line: &[u8]) -> Result<Tagged, ReadError>
+/// session that it names. One scratch serves for many lines.
+#[tactic(auto, unfolding(crate::specs::Command::command_of))]
+pub fn read_line(alloc: Global, scratch: &mut Scratch, line: &[u8]) -> Result<Tagged, ReadError>
     ensures { Gives tag result (command_of line.now) }
 {
-    let mut json = read_json(alloc, line)?;
-    let Some(session) = session_of(alloc, &json)? else {
+    let text = text_in(line)?;
+    match plain_members(alloc, text, scratch)? {
+        Some(members) => tagged_in(alloc, &members),
+        None => read_tree(alloc, text),
+    }
+}
+
+/// The text that the line is.
+#[tactic(auto, unfolding(crate::specs::Command::json_in))]
+fn text_in(line: &[u8]) -> Result<&str, ReadError>
+    ensures ok { IfOk result (λ text. json_in line.now ≡ ok_or (read text.now) unreadable) }
+    ensures err { IfErr result (λ error. (error ≡ ReadError.Fault unreadable) × (json_in line.now ≡ Err unreadable)) }
+{
+    if line.len() > LINE_BYTES {
+        return Err(unreadable());
+    }
+    match str::from_utf8(line) {
+        Ok(text) => Ok(text),
+        Err(_) => Err(unreadable()),
+    }
+}
+
+/// The command that a text is that is read as a tree.
+#[tactic(auto, using(crate::proofs::CommandLemmas::no_object, crate::proofs::CommandLemmas::an_object))]
+fn read_tree(alloc: Global, text: &str) -> Result<Tagged, ReadError>
+    ensures { Gives tag result (command_by (ok_or (read text.now) unreadable)) }
+{
+    let tree = match Value::from_str(alloc, text) {
+        Ok(tree) => tree,
+        Err(error) if error.is_memory() => return Err(ReadError::Memory),
+        Err(_) => return Err(unreadable()),
+    };
+    match tree_members(alloc, &tree)? {
+        Some(members) => tagged_in(alloc, &members),
+        None => Err(not_a_command(None)),
+    }
+}
+
+/// The command that the members are.
+#[tactic(auto, unfolding(crate::specs::Command::command_in))]
+fn tagged_in(alloc: Global, members: &[Member<'_>]) -> Result<Tagged, ReadError>
+    ensures { Gives tag result (command_in (object (members_in members.now))) }
+{
+    let Some(session) = session_of(alloc, members)? else {
         return Err(not_a_command(None));
     };
-    match command_in(alloc, &mut json)? {
+    match command_in(alloc, members)? {
         Some(command) => Ok(Tagged { session, command }),
         None => Err(not_a_command(Some(session))),
     }
@@ -52,48 +101,38 @@ fn not_a_command(session: Option<Text>) -> ReadError
     })
 }
 
-/// The JSON that the line is.
-#[tactic(auto, unfolding(crate::specs::Command::json_in))]
-fn read_json(alloc: Global, line: &[u8]) -> Result<Value, ReadError>
-    ensures { Gives view result (json_in line.now) }
+/// The session that the members name.
+fn session_of(alloc: Global, members: &[Member<'_>]) -> Result<Option<Text>, AllocError>
+    ensures { IfOk result (λ session. session ≡ name_at (codes "session") (object (members_in members.now))) }
 {
-    if line.len() > LINE_BYTES {
-        return Err(unreadable());
-    }
-    let Ok(text) = str::from_utf8(line) else {
-        return Err(unreadable());
-    };
-    match Value::from_str(alloc, text) {
-        Ok(json) => Ok(json),
-        Err(error) if error.is_memory() => Err(ReadError::Memory),
-        Err(_) => Err(unreadable()),
-    }
-}
-
-/// The session that the JSON names.
-fn session_of(alloc: Global, json: &Value) -> Result<Option<Text>, AllocError>
-    ensures { IfOk result (λ session. session ≡ name_at (codes "session") (view json.now)) }
-{
-    match name_at(json, "session") {
+    match name_at(members, "session") {
         Some(name) => Ok(Some(Text::from_str(alloc, name)?)),
         None => Ok(None),
     }
 }
 
-/// The command that the JSON is.
-#[tactic(auto, unfolding(crate::specs::Command::asked_of, crate::specs::Command::asked_as))]
-fn command_in(alloc: Global, json: &mut Value) -> Result<Option<Command>, AllocError>
-    ensures { IfOk result (λ command. option_map asked command ≡ asked_of (view json.old)) }
+/// What the members ask.
+#[tactic(auto, unfolding(crate::specs::Command::asked_of, crate::specs::Command::asked_by))]
+fn command_in(alloc: Global, members: &[Member<'_>]) -> Result<Option<Command>, AllocError>
+    ensures { IfOk result (λ command. option_map asked command ≡ asked_of (object (members_in members.now))) }
 {
-    match text_at(json, "do") {
-        Some("new") => new_of(alloc, json),
-        Some("delete") => Ok(delete_of(json)),
-        Some("setParent") => Ok(set_parent_of(json)),
-        Some("children") => Ok(children_of(json)),
-        Some("find") => find_of(alloc, json),
-        Some("set") => Ok(set_of(json)),
-        Some("get") => Ok(get_of(json)),
-        Some("meta") => meta_of(alloc, json),
-        _ => Ok(None),
+    let Some(name) = text_at(members, "do") else {
+        return Ok(None);
+    };
+    let Some(word) = word_named(name) else {
+        return Ok(None);
+    };
+    let Some(held) = held_by(alloc, members, keys_of(word))? else {
+        return Ok(None);
+    };
+    match word {
+        Word::New => new_of(alloc, &held),
+        Word::Delete => Ok(delete_of(&held)),
+        Word::SetParent => Ok(set_parent_of(&held)),
+        Word::Children => Ok(children_of(&held)),
+        Word::Find => find_of(alloc, &held),
+        Word::Set => set_of(alloc, &held),
+        Word::Get => Ok(get_of(&held)),
+        Word::Meta => meta_of(alloc, &held),
     }
 }

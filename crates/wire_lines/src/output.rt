@@ -23,7 +23,7 @@ use server_world::Server;
 use std::alloc::{AllocError, Global};
 use thread_model::{Line, Tagged};
 use wire_devices::{Failed, Sink};
-use wire_format::{ReadError, error_parts, read_line, write_line};
+use wire_format::{ReadError, Scratch, error_parts, read_line, write_line};
 
 /// The text that is gathered for a sink.
 #[derive(Drop)]
@@ -33,6 +33,8 @@ pub struct Output {
     /// The text of one line, in memory that serves for all of them. A line of more than
     /// [`BUFFER_BYTES`] makes it grow.
     text: String,
+    /// What the reading of a line writes to, kept for all of them.
+    scratch: Scratch,
 }
 
 impl Output {
@@ -43,6 +45,7 @@ impl Output {
             alloc,
             gathered: Buffer::new(alloc)?,
             text: String::with_capacity(alloc, BUFFER_BYTES)?,
+            scratch: Scratch::new(alloc),
         })
     }
 
@@ -70,7 +73,7 @@ impl Output {
             → states server.new ≡ world_after_piece (settings server.old) (states server.old) (Some (piece_from (command_of line.now))) }
         ensures failed { SendFails (W.failures writer.old) (W.failures writer.new) result }
     {
-        match read_line(self.alloc, line) {
+        match read_line(self.alloc, &mut self.scratch, line) {
             Ok(given) => self.obey(&given, server, writer),
             Err(ReadError::Fault(fault)) => self.say_error(fault.code, fault.blamed(), writer),
             Err(ReadError::Memory) => {

@@ -9,6 +9,7 @@ ghost use Rattle.wire_lines.specs.Feeding.{at};
 use crate::buffer::Buffer;
 use crate::fault::RunFault;
 use crate::lines::Lines;
+use memchr::memchr;
 use server_world::Server;
 use std::alloc::{AllocError, Global};
 use wire_devices::{Failed, Sink, Source};
@@ -183,7 +184,7 @@ fn split_line(bytes: &[u8]) -> Option<(&[u8], &[u8])>
     ensures whole { IfSome result (λ parts. bytes.now ≡ parts.0.now ++ 10 ∷ parts.1.now) }
     ensures line { IfSome result (λ parts. NoEnd parts.0.now) }
 {
-    let end = bytes.iter().position(|byte| *byte == b'\n')?;
+    let end = memchr(b'\n', bytes)?;
     let (line, ended) = bytes.split_at(end);
     Some((line, &ended[1..]))
 }

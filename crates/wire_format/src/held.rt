@@ -1,0 +1,161 @@
+//! What a line holds at the keys of its command.
+ghost use Rattle.std.specs.Prelude.{◌≡◌, IfOk, bytes_eq, map, option_map};
+ghost use Rattle.std.specs.List.{list_all, list_any};
+ghost use Rattle.serde_json.specs.Data.{object};
+ghost use Rattle.serde_json.specs.View.{view};
+ghost use Rattle.json_reading.specs.Members.{data_of, members_in};
+ghost use Rattle.wire_format.specs.Keys.{Key, key_seen, key_word};
+ghost use Rattle.wire_format.specs.Held.{all_held, held_at, held_by, held_seen, has_only, is_known, json_of, number_of, object_in, reads, text_of};
+
+use crate::keys::{Holds, Key};
+use json_reading::{Field, Member, value_at};
+use plain_types::{Text, is_name};
+use serde_json::Value;
+use std::alloc::{AllocError, Global};
+
+/// What a key holds.
+#[derive(Clone, Copy)]
+pub enum Held<'m, 'a> {
+    Absent,
+    Null,
+    Object(u32),
+    Text(&'a str),
+    Any(&'m Field<'a>),
+}
+
+impl Held<'_, '_> {
+    /// The number of an object, where one is held.
+    pub(crate) fn number(&self) -> Option<u32>
+        ensures { result ≡ number_of (held_seen self.now) }
+    {
+        match self {
+            Held::Object(number) => Some(*number),
+            _ => None,
+        }
+    }
+
+    /// A copy of the text, where one is held.
+    pub(crate) fn text(&self, alloc: Global) -> Result<Option<Text>, AllocError>
+        ensures { IfOk result (λ text. text ≡ text_of (held_seen self.now)) }
+    {
+        match self {
+            Held::Text(text) => Ok(Some(Text::from_str(alloc, text)?)),
+            _ => Ok(None),
+        }
+    }
+
+    /// A copy of the JSON, where some is held.
+    pub(crate) fn json(&self, alloc: Global) -> Result<Option<Value>, AllocError>
+        ensures { IfOk result (λ json. option_map view json ≡ json_of (held_seen self.now)) }
+    {
+        match self {
+            Held::Any(field) => Ok(Some(field.to_json(alloc)?)),
+            _ => Ok(None),
+        }
+    }
+}
+
+impl Key {
+    fn word(&self) -> &'static str
+        ensures { result.now ≡ key_word (key_seen self.now) }
+    {
+        match self {
+            Key::Needed(word, _) => word,
+            Key::Optional(word, _) => word,
+        }
+    }
+}
+
+/// What the members hold at each of the keys. None, where one is not held as it must be, or where
+/// there are further keys.
+pub(crate) fn held_by<'m, 'a>(
+    alloc: Global,
+    members: &'m [Member<'a>],
+    keys: &[Key],
+) -> Result<Option<Vec<Held<'m, 'a>>>, AllocError>
+    ensures { IfOk result (λ found. option_map (λ held. map held_seen held.items) found
+        ≡ held_by (object (members_in members.now)) (map key_seen keys.now)) }
+{
+    if !has_only(members, keys) {
+        return Ok(None);
+    }
+    let mut all = Vec::with_capacity(alloc, keys.len())?;
+    for key in keys {
+        let Some(held) = held_at(members, key) else {
+            return Ok(None);
+        };
+        all.push(held)?;
+    }
+    Ok(Some(all))
+}
+
+/// What the members hold at a key. None, where it is not held as it must be.
+fn held_at<'m, 'a>(members: &'m [Member<'a>], key: &Key) -> Option<Held<'m, 'a>>
+    ensures { option_map held_seen result
+        ≡ held_at (object (members_in members.now)) (key_seen key.now) }
+{
+    match key {
+        Key::Needed(word, holds) => read(*holds, value_at(members, word)?),
+        Key::Optional(word, holds) => match value_at(members, word) {
+            Some(field) => read(*holds, field),
+            None => Some(Held::Absent),
+        },
+    }
+}
+
+/// The value, as a key holds it.
+fn read<'m, 'a>(holds: Holds, field: &'m Field<'a>) -> Option<Held<'m, 'a>>
+    ensures { option_map held_seen result ≡ reads holds (data_of field.now) }
+{
+    match holds {
+        Holds::Name => field.as_text().filter(|text| is_name(text)).map(Held::Text),
+        Holds::Text => field.as_text().map(Held::Text),
+        Holds::Object => Some(Held::Object(object_in(field)?)),
+        Holds::ObjectOrNull if field.is_null() => Some(Held::Null),
+        Holds::ObjectOrNull => Some(Held::Object(object_in(field)?)),
+        Holds::ObjectName => field
+            .as_text()
+            .filter(|text| *text == "objectName")
+            .map(Held::Text),
+        Holds::Any => Some(Held::Any(field)),
+    }
+}
+
+/// The number of an object that the value is.
+fn object_in(field: &Field<'_>) -> Option<u32>
+    ensures { result ≡ object_in (data_of field.now) }
+{
+    match field.as_number()? {
+        0 => None,
+        number => u32::try_from(number).ok(),
+    }
+}
+
+/// Whether there are no keys but these and those that every command has.
+#[tactic(auto, using(crate::proofs::HeldLemmas::only_known))]
+fn has_only(members: &[Member<'_>], keys: &[Key]) -> bool
+    ensures { result ≡ has_only (map key_word (map key_seen keys.now)) (object (members_in members.now)) }
+{
+    all_are_known(members, keys)
+}
+
+fn all_are_known(members: &[Member<'_>], keys: &[Key]) -> bool
+    ensures { result ≡ list_all
+        (λ member. is_known (map key_word (map key_seen keys.now)) member.key.now)
+        members.now }
+{
+    members.iter().all(|member| is_known(member.key, keys))
+}
+
+#[tactic(auto, using(crate::proofs::HeldLemmas::any_word))]
+fn is_known(word: &str, keys: &[Key]) -> bool
+    ensures { result ≡ is_known (map key_word (map key_seen keys.now)) word.now }
+{
+    word == "do" || word == "session" || is_among(word, keys)
+}
+
+fn is_among(word: &str, keys: &[Key]) -> bool
+    ensures { result ≡ list_any (λ key. bytes_eq word.now (key_word (key_seen key))) keys.now }
+{
+    keys.iter().any(|key| word == key.word())
+}
