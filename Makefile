@@ -1,13 +1,13 @@
 # make        builds the program, proved, as bin/metad
 # make run    answers the sample session
 # make test   proves everything from nothing, and runs every test
-# make bench  measures the program
+# make bench  measures the program; with BEFORE=PROGRAM also beside an earlier one
 
 PROGRAM = meta_main
 CRATE = crates/$(PROGRAM)
 CC ?= cc
 
-.PHONY: all run test budget rows examples ends pipes trees classes refusals bench clean
+.PHONY: all run test budget rows examples ends pipes trees classes respelled refusals bench clean
 
 all: bin/metad
 
@@ -25,7 +25,7 @@ test: budget
 	rt ci
 	mkdir -p bin
 	cp $(CRATE)/out/$(PROGRAM) bin/metad
-	$(MAKE) --no-print-directory rows examples ends pipes trees classes refusals
+	$(MAKE) --no-print-directory rows respelled examples ends pipes trees classes refusals
 
 budget:
 	python3 tools/budget.py .
@@ -33,6 +33,9 @@ budget:
 # these take bin/metad as it is
 rows:
 	python3 tools/rows.py bin/metad tests/rows
+
+respelled:
+	python3 tools/respelled.py bin/metad tests/rows
 
 examples:
 	python3 tools/examples.py bin/metad README.md docs/PROTOCOL.md
@@ -58,7 +61,7 @@ bin/refuse_growth.so: tools/refuse_growth.c
 	$(CC) -O2 -Wall -Wextra -shared -fPIC -o $@ $< -ldl
 
 bench: bin/metad
-	python3 bench/bench.py bin/metad
+	python3 bench/bench.py bin/metad $(BEFORE)
 
 clean:
 	rm -rf bin crates/*/out

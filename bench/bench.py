@@ -1,12 +1,13 @@
 #!/usr/bin/env python3
 """Measures the built program on generated inputs, from file to file.
 
-Usage: bench.py PROGRAM. It prints, for each input, the lines a second (the best of three runs) and the
+Usage: bench.py PROGRAM [BEFORE]. It prints, for each input, the lines a second (the best of three runs) and the
 peak of resident memory; for the first, a single line, only the peak. Then it prints how long `children`
 and `find` take for each object that they visit, among few and among many, and how much longer the
 program takes to start with a class file as large as one may be than with a tiny one (each the best of
 ten runs). Inputs and class files are the same in every run, and every reply is compared with what it
-must be. It ends with 1 where a mark is missed.
+must be. With BEFORE, an earlier program, it also prints how many times as fast as that one the program
+is, in runs that take turns. It ends with 1 where a mark is missed.
 """
 
 import json
@@ -35,6 +36,10 @@ LEAST_WRITES = 500_000
 LEAST_METAS = 20_000
 LEAST_ROUNDS = 300_000
 MOST_READING = 100
+
+# How many times as fast as before, and in how many runs of each.
+TIMES = {"plain": 2.5, "many sessions": 2, "spaces and escapes": 1.8, "lists": 2, "trees": 1}
+TURNS = 10
 
 # A visit among many may take so many times as long as one among few.
 MOST_GROWTH = 2
@@ -140,6 +145,20 @@ def in_turn(sessions, lines):
         yield read(name, f"lamp {number}")
 
 
+def spelled(lines):
+    """The lines with white space and escapes."""
+    for line, wanted in lines:
+        yield line.replace(",", ", ").replace(":", ": ").replace("lamp", "l\\u0061mp").replace("objectName", "object\\u004eame"), wanted
+
+
+def with_lists(lines):
+    """Lines that would write a list, and are refused."""
+    yield new("s0", 1)
+    for number in range(lines):
+        line, _ = write("s0", "#")
+        yield line.replace('"#"', f'[{number},"lamp",true]'), '{"error":"E22","session":"s0"}\n'
+
+
 def once_each(sessions):
     """An object, a write and a read in each session."""
     for number in range(sessions):
@@ -212,6 +231,31 @@ def seconds_of_lines(name, command, lines, room):
     return min(seconds)
 
 
+def measure_beside(name, lines, program, before, room):
+    """Prints how many times as fast as before a run is; answers whether that reaches the mark."""
+    given, wrote, lines = f"{room}/stdin", f"{room}/stdout", list(lines)
+    Path(given).write_text("".join(line for line, _ in lines))
+    wanted, seconds = "".join(it for _, it in lines), {program: [], before: []}
+    for _ in range(TURNS):
+        for it in (before, program):
+            seconds[it].append(seconds_of([it], given, wrote))
+            if Path(wrote).read_text() != wanted:
+                sys.exit(f"{name}: {it} gives other replies")
+    times = min(seconds[before]) / min(seconds[program])
+    missed = f"; under its mark of {TIMES[name]} times" if times < TIMES[name] else ""
+    print(f"{name}: {len(lines) / min(seconds[program]):,.0f} lines a second, {times:.2f} times as fast as before{missed}")
+    return not missed
+
+
+def all_beside(program, before, room):
+    """The measures beside an earlier program, one after the other."""
+    yield measure_beside("plain", in_turn(1, LINES), program, before, room)
+    yield measure_beside("many sessions", in_turn(10_000, LINES), program, before, room)
+    yield measure_beside("spaces and escapes", spelled(in_turn(1, LINES)), program, before, room)
+    yield measure_beside("lists", with_lists(LINES), program, before, room)
+    yield measure_beside("trees", in_trees(ROUNDS, OBJECTS), program, before, room)
+
+
 def nanoseconds_of_visit(name, visit, number, command, room):
     """How long a line that visits all children of an object takes for each of them."""
     alone, visits = family(number), [visit(number)] * (VISITS // number)
@@ -255,7 +299,7 @@ def measure_reading(program, room):
 
 
 def main():
-    program = str(Path(sys.argv[1]).resolve())
+    program, *before = (str(Path(it).resolve()) for it in sys.argv[1:3])
     with tempfile.TemporaryDirectory(prefix="metad-bench-") as room:
         declared, described = panel()
         with_panel = [program, class_file(f"{room}/panel.json", [declared])]
@@ -272,6 +316,7 @@ def main():
             measure_visits("find", lambda number: find_none("a", 1), [program], room),
             measure(f"{METAS} meta lines of {METHODS} methods", [meta("a", described)] * METAS, with_panel, room, LEAST_METAS),
             measure_reading(program, room),
+            *(it for earlier in before for it in all_beside(program, earlier, room)),
         ]
     return 0 if all(reached) else 1
 
