@@ -1,9 +1,9 @@
 #!/usr/bin/env python3
 """Proves the crates that a program stands on, side by side where they do not need each other.
 
-A crate is begun as soon as all that it stands on is built, those at the foot of the longest chains first.
-Of the processors that are free each gets a share, so that a crate that all others wait for is proved with
-several. What `rt` says goes to the crate's own `out/build.log`; of a crate that fails it is shown.
+A crate is begun as soon as all that it stands on is built, those at the foot of the longest chains first; of
+those that are under way the one at the foot of the longest chain is proved with as many jobs as there are
+processors. What `rt` says goes to the crate's own `out/build.log`; of a crate that fails it is shown.
 One `rt` keeps others out of every crate that it reads, so each works on links to the sources and libraries.
 Usage: build.py REPOSITORY PROGRAM
 """
@@ -17,6 +17,7 @@ from concurrent.futures import FIRST_COMPLETED, ThreadPoolExecutor, wait
 from pathlib import Path
 
 AT_ONCE = 3
+JOBS = os.cpu_count() or 1
 
 
 def crates_of(repository):
@@ -89,9 +90,10 @@ def build_all(repository, crates):
     with ThreadPoolExecutor(AT_ONCE) as pool:
         while waiting or running:
             ready = sorted((it for it in waiting if built.issuperset(crates[it])), key=heights.get, reverse=True)[: AT_ONCE - len(running)]
-            jobs = max(1, (os.cpu_count() or 1) // max(1, len(running) + len(ready)))
+            tallest = max([*running.values(), *ready], key=heights.get)
             for name in ready:
                 waiting.remove(name)
+                jobs = JOBS if name == tallest else 1
                 running[pool.submit(build, repository, name, needed_by(name, crates), ["lib"], jobs)] = name
             for done in wait(running, return_when=FIRST_COMPLETED).done:
                 name = running.pop(done)
@@ -106,7 +108,7 @@ def main():
     repository, program = Path(sys.argv[1]).resolve(), sys.argv[2]
     crates = crates_of(repository)
     failed = build_all(repository, needed_by(program, crates))
-    if failed is None and not build(repository, program, needed_by(program, crates), ["run"], os.cpu_count() or 1):
+    if failed is None and not build(repository, program, needed_by(program, crates), ["run"], JOBS):
         failed = program
     if failed is not None:
         print((repository / "crates" / failed / "out" / "build.log").read_text()[-4_000:])
