@@ -16,7 +16,7 @@ import time
 from concurrent.futures import FIRST_COMPLETED, ThreadPoolExecutor, wait
 from pathlib import Path
 
-AT_ONCE = 3
+AT_ONCE = 2
 JOBS = os.cpu_count() or 1
 
 
