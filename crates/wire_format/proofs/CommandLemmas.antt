@@ -1,5 +1,5 @@
 -- JSON that is no object is no command.
-use Rattle.std.proofs.Common.{◌≡◌, Option, Some, None, Err, refl}
+use Rattle.std.proofs.Common.{◌≡◌, Some, None, Err, refl}
 use Rattle.serde_json.specs.Data.{Data, Members, null, boolean, number, string, array, object}
 use Rattle.serde_json.specs.Find.{as_object}
 use Rattle.json_reading.specs.Fields.{name_at, text_at}

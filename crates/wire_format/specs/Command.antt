@@ -1,5 +1,5 @@
 -- What a line is: a command of a session, or a fault.
-use Rattle.std.specs.Prelude.{◌≡◌, ◌==◌, ◌&&◌, ◌||◌, ℕ, Bool, List, length, codes, bytes_eq, nat_le, if◌then◌else◌, Option, Some, None, Result, Ok, Err}
+use Rattle.std.specs.Prelude.{◌≡◌, ◌==◌, ◌&&◌, ◌||◌, ℕ, Bool, List, length, codes, nat_le, if◌then◌else◌, Option, Some, None, Result, Ok, Err}
 use Rattle.std.specs.List.{list_all}
 use Rattle.std.specs.Option.{option_map_or, ok_or}
 use Rattle.std.specs.Str.{is_utf8}
@@ -12,34 +12,8 @@ use Rattle.wire_format.specs.declared.fault.LineFault.{LineFault}
 use Rattle.wire_format.specs.declared.fault.ReadError.{ReadError}
 use Rattle.wire_format.specs.declared.fault.ReadError.TheVariants.{Fault, Memory}
 use Rattle.wire_format.specs.declared.line.TheConstants.{LINE_BYTES}
-use Rattle.json_reading.specs.Fields.{◌>>=◌, text_at, name_at}
-use Rattle.wire_format.specs.declared.word.Word.{Word}
-use Rattle.wire_format.specs.declared.word.Word.TheVariants as w
-use Rattle.wire_format.specs.Held.{Held, held_by}
-use Rattle.wire_format.specs.Keys.{keys_of}
-use Rattle.wire_format.specs.Words.{word_named}
-use Rattle.wire_format.specs.Trees.{new_of, delete_of, set_parent_of, children_of, find_of}
-use Rattle.wire_format.specs.Properties.{set_of, get_of}
-use Rattle.wire_format.specs.Classes.{meta_of}
-
--- what is asked by this word, with what is held at its keys
-unfoldable pub asked_by : Word → List Held → Option Asked
-asked_by w.New held = new_of held
-asked_by w.Delete held = delete_of held
-asked_by w.SetParent held = set_parent_of held
-asked_by w.Children held = children_of held
-asked_by w.Find held = find_of held
-asked_by w.Set held = set_of held
-asked_by w.Get held = get_of held
-asked_by w.Meta held = meta_of held
-
--- what a command in JSON asks, beside the session that gives it
-unfoldable pub asked_of : Data → Option Asked
-asked_of json = do
-  name ← text_at (codes "do") json
-  word ← word_named name
-  held ← held_by json (keys_of word)
-  asked_by word held
+use Rattle.json_reading.specs.Fields.{name_at}
+use Rattle.wire_format.specs.Commands.{asked_of}
 
 -- the JSON that a line is
 abbrev pub json_of_line : List ℕ → Option Data

@@ -1,10 +1,13 @@
-pub mod Words
 pub mod Keys
 pub mod Held
+pub mod Form
 pub mod Trees
 pub mod Properties
 pub mod Classes
+pub mod Commands
 pub mod Command
 pub mod Input
 pub mod Text
+pub mod Shown
+pub mod Parts
 pub mod Output

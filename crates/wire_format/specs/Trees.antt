@@ -1,29 +1,47 @@
--- The commands of trees of objects, by what a line holds at their keys.
-use Rattle.std.specs.Prelude.{List, [], ◌∷◌, Option, Some, None, option_map}
+-- The commands of trees of objects.
+use Rattle.std.specs.Prelude.{List, [], ◌∷◌, Option, Some, None, codes, option_map}
 use Rattle.thread_model.specs.Asked.{Asked, New, Delete, SetParent, Children, Find}
+use Rattle.wire_format.specs.declared.keys.Holds.TheVariants.{Name, Text, Object, ObjectOrNull}
+use Rattle.wire_format.specs.Form.{Form}
 use Rattle.wire_format.specs.Held.{Held, number_of, text_of}
+use Rattle.wire_format.specs.Keys.{needed, optional}
 
 -- `new` makes an object of a class, below a parent where one is named
 abbrev pub new_of : List Held → Option Asked
 new_of (class ∷ parent ∷ []) = option_map (λ name. New name (number_of parent)) (text_of class)
 new_of held = None
 
+abbrev pub new : Form
+new = record { word = codes "new"; keys = needed (codes "class") Name ∷ optional (codes "parent") Object ∷ []; asks = new_of }
+
 -- `delete` deletes an object
 abbrev pub delete_of : List Held → Option Asked
 delete_of (target ∷ []) = option_map Delete (number_of target)
 delete_of held = None
+
+abbrev pub delete : Form
+delete = record { word = codes "delete"; keys = needed (codes "object") Object ∷ []; asks = delete_of }
 
 -- `setParent` gives an object another parent; null makes it a root
 abbrev pub set_parent_of : List Held → Option Asked
 set_parent_of (target ∷ parent ∷ []) = option_map (λ number. SetParent number (number_of parent)) (number_of target)
 set_parent_of held = None
 
+abbrev pub set_parent : Form
+set_parent = record { word = codes "setParent"; keys = needed (codes "object") Object ∷ needed (codes "parent") ObjectOrNull ∷ []; asks = set_parent_of }
+
 -- `children` tells the children of an object, or the roots
 abbrev pub children_of : List Held → Option Asked
 children_of (target ∷ []) = Some (Children (number_of target))
 children_of held = None
 
+abbrev pub children : Form
+children = record { word = codes "children"; keys = optional (codes "object") Object ∷ []; asks = children_of }
+
 -- `find` looks for an object below another one
 abbrev pub find_of : List Held → Option Asked
 find_of (target ∷ name ∷ class ∷ []) = option_map (λ number. Find number (text_of name) (text_of class)) (number_of target)
 find_of held = None
+
+abbrev pub find : Form
+find = record { word = codes "find"; keys = needed (codes "object") Object ∷ optional (codes "name") Text ∷ optional (codes "class") Name ∷ []; asks = find_of }

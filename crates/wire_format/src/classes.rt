@@ -5,8 +5,11 @@ ghost use Rattle.wire_format.specs.Held.{held_seen};
 ghost use Rattle.wire_format.specs.Classes.{meta_of};
 
 use crate::held::Held;
+use crate::keys::{Holds, Key};
 use std::alloc::{AllocError, Global};
 use thread_model::Command;
+
+pub(crate) const META: [Key; 1] = [Key::Needed("class", Holds::Name)];
 
 /// `meta`: a class.
 pub(crate) fn meta_of(alloc: Global, held: &[Held<'_, '_>]) -> Result<Option<Command>, AllocError>

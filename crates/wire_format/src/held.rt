@@ -1,5 +1,5 @@
 //! What a line holds at the keys of its command.
-ghost use Rattle.std.specs.Prelude.{◌≡◌, IfOk, bytes_eq, map, option_map};
+ghost use Rattle.std.specs.Prelude.{◌≡◌, ◌∷◌, ◌++◌, [], IfOk, OnOk, bytes_eq, map, option_map};
 ghost use Rattle.std.specs.List.{list_all, list_any};
 ghost use Rattle.serde_json.specs.Data.{object};
 ghost use Rattle.serde_json.specs.View.{view};
@@ -7,15 +7,17 @@ ghost use Rattle.json_reading.specs.Members.{data_of, members_in};
 ghost use Rattle.wire_format.specs.Keys.{Key, key_seen, key_word};
 ghost use Rattle.wire_format.specs.Held.{all_held, held_at, held_by, held_seen, has_only, is_known, json_of, number_of, object_in, reads, text_of};
 
-use crate::keys::{Holds, Key};
+use crate::keys::{Holds, Key, MOST_KEYS};
 use json_reading::{Field, Member, value_at};
 use plain_types::{Text, is_name};
 use serde_json::Value;
+use smallvec::SmallVec;
 use std::alloc::{AllocError, Global};
 
 /// What a key holds.
-#[derive(Clone, Copy)]
+#[derive(Clone, Copy, Default)]
 pub enum Held<'m, 'a> {
+    #[default]
     Absent,
     Null,
     Object(u32),
@@ -55,38 +57,38 @@ impl Held<'_, '_> {
     }
 }
 
-impl Key {
-    fn word(&self) -> &'static str
-        ensures { result.now ≡ key_word (key_seen self.now) }
-    {
-        match self {
-            Key::Needed(word, _) => word,
-            Key::Optional(word, _) => word,
-        }
-    }
-}
-
 /// What the members hold at each of the keys. None, where one is not held as it must be, or where
 /// there are further keys.
 pub(crate) fn held_by<'m, 'a>(
     alloc: Global,
     members: &'m [Member<'a>],
     keys: &[Key],
-) -> Result<Option<Vec<Held<'m, 'a>>>, AllocError>
+) -> Result<Option<SmallVec<Held<'m, 'a>, MOST_KEYS>>, AllocError>
     ensures { IfOk result (λ found. option_map (λ held. map held_seen held.items) found
         ≡ held_by (object (members_in members.now)) (map key_seen keys.now)) }
 {
     if !has_only(members, keys) {
         return Ok(None);
     }
-    let mut all = Vec::with_capacity(alloc, keys.len())?;
+    let mut all = SmallVec::new(alloc);
     for key in keys {
         let Some(held) = held_at(members, key) else {
             return Ok(None);
         };
-        all.push(held)?;
+        put(&mut all, held)?;
     }
     Ok(Some(all))
+}
+
+/// Puts what is held at one key behind the rest.
+fn put<'m, 'a>(
+    all: &mut SmallVec<Held<'m, 'a>, MOST_KEYS>,
+    held: Held<'m, 'a>,
+) -> Result<(), AllocError>
+    ensures { OnOk result (all.new.items ≡ all.old.items ++ held.entry ∷ []) }
+{
+    all.push(held)?;
+    Ok(())
 }
 
 /// What the members hold at a key. None, where it is not held as it must be.

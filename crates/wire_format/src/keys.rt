@@ -1,8 +1,8 @@
-//! The keys of each command, and what they hold.
-ghost use Rattle.std.specs.Prelude.{◌≡◌, map};
-ghost use Rattle.wire_format.specs.Keys.{key_seen, keys_of};
+//! Keys of commands, and what they hold.
 
-use crate::word::Word;
+/// As many keys as a command has, beside those that every command has, are held without taking
+/// memory.
+pub(crate) const MOST_KEYS: usize = 8;
 
 /// What a key holds.
 #[derive(Clone, Copy)]
@@ -28,51 +28,16 @@ pub enum Key {
     Optional(&'static str, Holds),
 }
 
-const NEW: [Key; 2] = [
-    Key::Needed("class", Holds::Name),
-    Key::Optional("parent", Holds::Object),
-];
+impl Key {
+    ghost use Rattle.std.specs.Prelude.{◌≡◌};
+    ghost use Rattle.wire_format.specs.Keys.{key_seen, key_word};
 
-const DELETE: [Key; 1] = [Key::Needed("object", Holds::Object)];
-
-const SET_PARENT: [Key; 2] = [
-    Key::Needed("object", Holds::Object),
-    Key::Needed("parent", Holds::ObjectOrNull),
-];
-
-const CHILDREN: [Key; 1] = [Key::Optional("object", Holds::Object)];
-
-const FIND: [Key; 3] = [
-    Key::Needed("object", Holds::Object),
-    Key::Optional("name", Holds::Text),
-    Key::Optional("class", Holds::Name),
-];
-
-const SET: [Key; 3] = [
-    Key::Needed("object", Holds::Object),
-    Key::Needed("property", Holds::ObjectName),
-    Key::Needed("value", Holds::Any),
-];
-
-const GET: [Key; 2] = [
-    Key::Needed("object", Holds::Object),
-    Key::Needed("property", Holds::ObjectName),
-];
-
-const META: [Key; 1] = [Key::Needed("class", Holds::Name)];
-
-/// The keys of a command beside those that every command has.
-pub(crate) fn keys_of(word: Word) -> &'static [Key]
-    ensures { map key_seen result.now ≡ keys_of word }
-{
-    match word {
-        Word::New => &NEW,
-        Word::Delete => &DELETE,
-        Word::SetParent => &SET_PARENT,
-        Word::Children => &CHILDREN,
-        Word::Find => &FIND,
-        Word::Set => &SET,
-        Word::Get => &GET,
-        Word::Meta => &META,
+    pub(crate) fn word(&self) -> &'static str
+        ensures { result.now ≡ key_word (key_seen self.now) }
+    {
+        match self {
+            Key::Needed(word, _) => word,
+            Key::Optional(word, _) => word,
+        }
     }
 }

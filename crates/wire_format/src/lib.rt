@@ -4,21 +4,25 @@
 ghost use Rattle.wire_format.specs.Output.{LeavingOutLines, LeavingOutStrangers};
 
 mod classes;
+mod commands;
 mod fault;
 mod held;
 mod keys;
 mod line;
+mod parts;
 mod properties;
 mod reading;
+mod shown;
 mod trees;
-mod word;
 mod writing;
 
 pub use fault::{LineFault, ReadError};
+pub use itoa::Buffer as Digits;
 pub use json::Scratch;
 pub use line::{LINE_BYTES, is_blank};
+pub use parts::{Parts, error_parts, line_parts};
 pub use reading::read_line;
-pub use writing::{error_parts, fault_text, line_text, write_line};
+pub use writing::{fault_text, line_text, write_line};
 
 /// What holds of inputs and what is written for them: where the lines of sessions are left out that
 /// no kept session joins, each kept session is told the same, byte for byte.

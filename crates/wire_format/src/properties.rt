@@ -5,8 +5,15 @@ ghost use Rattle.wire_format.specs.Held.{held_seen};
 ghost use Rattle.wire_format.specs.Properties.{set_of, get_of};
 
 use crate::held::Held;
+use crate::keys::{Holds, Key};
 use std::alloc::{AllocError, Global};
 use thread_model::Command;
+
+pub(crate) const SET: [Key; 3] = [
+    Key::Needed("object", Holds::Object),
+    Key::Needed("property", Holds::ObjectName),
+    Key::Needed("value", Holds::Any),
+];
 
 /// `set`: an object and a value, which may be any JSON.
 pub(crate) fn set_of(alloc: Global, held: &[Held<'_, '_>]) -> Result<Option<Command>, AllocError>
@@ -20,6 +27,11 @@ pub(crate) fn set_of(alloc: Global, held: &[Held<'_, '_>]) -> Result<Option<Comm
         _ => Ok(None),
     }
 }
+
+pub(crate) const GET: [Key; 2] = [
+    Key::Needed("object", Holds::Object),
+    Key::Needed("property", Holds::ObjectName),
+];
 
 /// `get`: an object.
 pub(crate) fn get_of(held: &[Held<'_, '_>]) -> Option<Command>

@@ -6,16 +6,11 @@ ghost use Rattle.std.specs.Option.{ok_or};
 ghost use Rattle.json_reading.specs.Fields.{name_at};
 ghost use Rattle.json_reading.specs.Members.{members_in};
 ghost use Rattle.thread_model.specs.Asked.{asked, tag};
-ghost use Rattle.wire_format.specs.Command.{Gives, asked_of, command_by, command_in, command_of, json_in, not_a_command, unreadable};
+ghost use Rattle.wire_format.specs.Command.{Gives, command_by, command_in, command_of, json_in, not_a_command, unreadable};
 
-use crate::classes::meta_of;
+use crate::commands::command_in;
 use crate::fault::{LineFault, ReadError};
-use crate::held::held_by;
-use crate::keys::keys_of;
 use crate::line::LINE_BYTES;
-use crate::properties::{get_of, set_of};
-use crate::trees::{children_of, delete_of, find_of, new_of, set_parent_of};
-use crate::word::{Word, word_named};
 use json::Scratch;
 use json_reading::{Member, name_at, plain_members, text_at, tree_members};
 use plain_types::Text;
@@ -108,31 +103,5 @@ fn session_of(alloc: Global, members: &[Member<'_>]) -> Result<Option<Text>, All
     match name_at(members, "session") {
         Some(name) => Ok(Some(Text::from_str(alloc, name)?)),
         None => Ok(None),
-    }
-}
-
-/// What the members ask.
-#[tactic(auto, unfolding(crate::specs::Command::asked_of, crate::specs::Command::asked_by))]
-fn command_in(alloc: Global, members: &[Member<'_>]) -> Result<Option<Command>, AllocError>
-    ensures { IfOk result (λ command. option_map asked command ≡ asked_of (object (members_in members.now))) }
-{
-    let Some(name) = text_at(members, "do") else {
-        return Ok(None);
-    };
-    let Some(word) = word_named(name) else {
-        return Ok(None);
-    };
-    let Some(held) = held_by(alloc, members, keys_of(word))? else {
-        return Ok(None);
-    };
-    match word {
-        Word::New => new_of(alloc, &held),
-        Word::Delete => Ok(delete_of(&held)),
-        Word::SetParent => Ok(set_parent_of(&held)),
-        Word::Children => Ok(children_of(&held)),
-        Word::Find => find_of(alloc, &held),
-        Word::Set => set_of(alloc, &held),
-        Word::Get => Ok(get_of(&held)),
-        Word::Meta => meta_of(alloc, &held),
     }
 }

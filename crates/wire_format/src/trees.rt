@@ -5,8 +5,14 @@ ghost use Rattle.wire_format.specs.Held.{held_seen};
 ghost use Rattle.wire_format.specs.Trees.{new_of, delete_of, set_parent_of, children_of, find_of};
 
 use crate::held::Held;
+use crate::keys::{Holds, Key};
 use std::alloc::{AllocError, Global};
 use thread_model::Command;
+
+pub(crate) const NEW: [Key; 2] = [
+    Key::Needed("class", Holds::Name),
+    Key::Optional("parent", Holds::Object),
+];
 
 /// `new`: a class, and a parent where one is named.
 pub(crate) fn new_of(alloc: Global, held: &[Held<'_, '_>]) -> Result<Option<Command>, AllocError>
@@ -22,6 +28,8 @@ pub(crate) fn new_of(alloc: Global, held: &[Held<'_, '_>]) -> Result<Option<Comm
     Ok(Some(Command::New { class, parent }))
 }
 
+pub(crate) const DELETE: [Key; 1] = [Key::Needed("object", Holds::Object)];
+
 /// `delete`: an object.
 pub(crate) fn delete_of(held: &[Held<'_, '_>]) -> Option<Command>
     ensures { option_map asked result ≡ delete_of (map held_seen held.now) }
@@ -32,6 +40,11 @@ pub(crate) fn delete_of(held: &[Held<'_, '_>]) -> Option<Command>
     let object = object.number()?;
     Some(Command::Delete { object })
 }
+
+pub(crate) const SET_PARENT: [Key; 2] = [
+    Key::Needed("object", Holds::Object),
+    Key::Needed("parent", Holds::ObjectOrNull),
+];
 
 /// `setParent`: an object, and its parent or null.
 pub(crate) fn set_parent_of(held: &[Held<'_, '_>]) -> Option<Command>
@@ -45,6 +58,8 @@ pub(crate) fn set_parent_of(held: &[Held<'_, '_>]) -> Option<Command>
     Some(Command::SetParent { object, parent })
 }
 
+pub(crate) const CHILDREN: [Key; 1] = [Key::Optional("object", Holds::Object)];
+
 /// `children`: an object, or none for the roots.
 pub(crate) fn children_of(held: &[Held<'_, '_>]) -> Option<Command>
     ensures { option_map asked result ≡ children_of (map held_seen held.now) }
@@ -55,6 +70,12 @@ pub(crate) fn children_of(held: &[Held<'_, '_>]) -> Option<Command>
     let object = object.number();
     Some(Command::Children { object })
 }
+
+pub(crate) const FIND: [Key; 3] = [
+    Key::Needed("object", Holds::Object),
+    Key::Optional("name", Holds::Text),
+    Key::Optional("class", Holds::Name),
+];
 
 /// `find`: an object, and a name and a class where these are given.
 pub(crate) fn find_of(alloc: Global, held: &[Held<'_, '_>]) -> Result<Option<Command>, AllocError>

@@ -1,19 +1,18 @@
 //! The text of a line.
-ghost use Rattle.std.specs.Prelude.{◌≡◌, ◌∷◌, ◌++◌, [], IsTrue, IfOk, OnOk, OnErr, codes, string_bytes};
-ghost use Rattle.std.specs.List.{flat_map, list_all};
+ghost use Rattle.std.specs.Prelude.{◌≡◌, ◌∷◌, ◌++◌, [], IfOk, OnOk, OnErr, string_bytes};
+ghost use Rattle.std.specs.List.{list_all};
 ghost use Rattle.serde_json.specs.Data.{array, number, string, unsigned};
 ghost use Rattle.serde_json.specs.Written.{compact_text};
-ghost use Rattle.variant_value.specs.Values.{json_of};
-ghost use Rattle.wire_format.specs.Text.{elements, number_elements, json_of_answer, json_of_found, json_of_meta, json_of_name, told_of, text_of_line, text_of_fault, is_session_text, is_plain_byte};
+ghost use Rattle.wire_format.specs.Text.{elements, number_elements, json_of_answer, json_of_meta, json_of_name, told_of, text_of_line, text_of_fault, is_plain_byte};
 
 use crate::fault::LineFault;
+use crate::shown::{Shown, shown_as};
+use itoa::Buffer as Digits;
 use json::Writer;
 use plain_types::Text;
-use refusals::Code;
 use std::alloc::{AllocError, Global};
 use std::mem;
 use thread_model::{Answer, Line, MetaObject};
-use variant_value::Value;
 
 /// The text of a line that a session is told, with its line feed: compact JSON, its keys in byte
 /// order.
@@ -51,19 +50,6 @@ pub fn write_line(
             Err(error)
         }
     }
-}
-
-/// The text of a refusal's line in five parts, one behind the other, for where no memory is to be
-/// had.
-pub fn error_parts<'a>(code: Code, session: &'a str) -> [&'a str; 5]
-    requires { IsTrue (is_session_text session.now) }
-    ensures { flat_map (λ part. part.now) result ≡ text_of_line session.now (Line.Error code) }
-{
-    let opening: &'a str = "{\"error\":\"";
-    let code: &'a str = code.text();
-    let between: &'a str = "\",\"session\":\"";
-    let closing: &'a str = "\"}\n";
-    [opening, code, between, session, closing]
 }
 
 fn push_line(
@@ -105,13 +91,11 @@ fn push_answer(alloc: Global, buffer: &mut String, answer: &Answer) -> Result<()
     ensures { OnOk result
         (string_bytes buffer.new ≡ string_bytes buffer.old ++ compact_text (json_of_answer answer.now)) }
 {
-    match answer {
-        Answer::Number(number) => write!(buffer, "{number}"),
-        Answer::Found(found) => push_found(buffer, *found),
-        Answer::Numbers(numbers) => push_numbers(buffer, numbers.as_slice()),
-        Answer::Truth(truth) => write!(buffer, "{truth}"),
-        Answer::Value(value) => push_value(alloc, buffer, value),
-        Answer::Meta(meta) => push_meta(alloc, buffer, meta),
+    match shown_as(answer, &mut Digits::new()) {
+        Shown::Word(word) => buffer.push_str(word),
+        Shown::Text(text) => push_text(alloc, buffer, text),
+        Shown::Numbers(numbers) => push_numbers(buffer, numbers),
+        Shown::Meta(meta) => push_meta(alloc, buffer, meta),
     }
 }
 
@@ -140,18 +124,7 @@ fn push_count(buffer: &mut String, count: u32) -> Result<(), AllocError>
     ensures { OnOk result
         (string_bytes buffer.new ≡ string_bytes buffer.old ++ compact_text (number (unsigned count))) }
 {
-    write!(buffer, "{count}")
-}
-
-/// Appends a number, or `null` where there is none.
-fn push_found(buffer: &mut String, found: Option<u32>) -> Result<(), AllocError>
-    ensures { OnOk result
-        (string_bytes buffer.new ≡ string_bytes buffer.old ++ compact_text (json_of_found found)) }
-{
-    match found {
-        Some(number) => push_count(buffer, number),
-        None => buffer.push_str("null"),
-    }
+    buffer.push_str(Digits::new().format(count))
 }
 
 /// Appends numbers as an array.
@@ -195,21 +168,6 @@ fn push_texts(alloc: Global, buffer: &mut String, texts: &[Text]) -> Result<(), 
     buffer.push_str("]")
 }
 
-fn push_value(alloc: Global, buffer: &mut String, value: &Value) -> Result<(), AllocError>
-    ensures { OnOk result
-        (string_bytes buffer.new ≡ string_bytes buffer.old ++ compact_text (json_of value.now)) }
-{
-    match value {
-        Value::Invalid => buffer.push_str("null"),
-        Value::Bool(truth) => write!(buffer, "{truth}"),
-        Value::Int(number) => write!(buffer, "{number}"),
-        Value::Uint(number) => write!(buffer, "{number}"),
-        Value::Longlong(number) => write!(buffer, "{number}"),
-        Value::Ulonglong(number) => write!(buffer, "{number}"),
-        Value::Text(text) => push_text(alloc, buffer, text.as_str()),
-    }
-}
-
 /// Appends a text between quotes, with what JSON escapes in it.
 fn push_text(alloc: Global, buffer: &mut String, text: &str) -> Result<(), AllocError>
     ensures { OnOk result
@@ -241,7 +199,7 @@ fn push_escaped(alloc: Global, buffer: &mut String, text: &str) -> Result<(), Al
 }
 
 /// Whether JSON escapes nothing in the text.
-fn is_plain(text: &str) -> bool
+pub(crate) fn is_plain(text: &str) -> bool
     ensures { result ≡ list_all is_plain_byte text.now }
 {
     text.as_bytes().iter().all(|byte| is_plain_byte(*byte))

@@ -115,10 +115,6 @@ module _ {X : Type 0} (f : X → List ℕ) (xs : List X) (i : ℕ) where
       ap (flat_map f) (sym (take-append-drop (i + 1) xs)) ∙ flat_map-append f (take (i + 1) xs) (drop (i + 1) xs) in
       subst (SentFront a c) (sym whole) (SentFront-more a c _ _ so_far)
 
-  -- it has no text
-  pub SentFront-stopped : (a b : Out) → Sent a b (flat_map f (take i xs)) → SentFront a b (flat_map f xs)
-  SentFront-stopped a b before = subst (SentFront a b) (sym whole-flat_map) (SentFront-more a b _ _ (SentFront-whole a b _ before))
-
 -- the text of a list of one element
 pub SentAll-one : {X T E : Type 0} (f : X → List ℕ) (x : X) (a b : Out) (r : Result T E) → SentAll a b r (f x) → SentAll a b r (flat_map f (x ∷ []))
 SentAll-one f x a b r sent = subst (SentAll a b r) (sym (append-nil (f x))) sent

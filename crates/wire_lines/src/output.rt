@@ -12,6 +12,7 @@ ghost use Rattle.wire_devices.specs.Counts.{CountsErrors};
 ghost use Rattle.wire_format.specs.Command.{command_of};
 ghost use Rattle.wire_format.specs.Input.{piece_from};
 ghost use Rattle.wire_format.specs.Output.{text_of_piece, world_after_piece};
+ghost use Rattle.wire_format.specs.Parts.{text_of_parts};
 ghost use Rattle.wire_format.specs.Text.{text_of_line, is_session_text};
 ghost use Rattle.wire_lines.specs.Sending.{SentAll, out};
 ghost use Rattle.wire_lines.specs.Stream.{Later, SendFails};
@@ -23,15 +24,17 @@ use server_world::Server;
 use std::alloc::{AllocError, Global};
 use thread_model::{Line, Tagged};
 use wire_devices::{Failed, Sink};
-use wire_format::{ReadError, Scratch, error_parts, read_line, write_line};
+use wire_format::{
+    Digits, Parts, ReadError, Scratch, error_parts, line_parts, read_line, write_line,
+};
 
 /// The text that is gathered for a sink.
 #[derive(Drop)]
 pub struct Output {
     alloc: Global,
     gathered: Buffer,
-    /// The text of one line, in memory that serves for all of them. A line of more than
-    /// [`BUFFER_BYTES`] makes it grow.
+    /// The text of a line that is not said in parts, in memory that serves for all of them. A line
+    /// of more than [`BUFFER_BYTES`] makes it grow.
     text: String,
     /// What the reading of a line writes to, kept for all of them.
     scratch: Scratch,
@@ -114,14 +117,35 @@ impl Output {
         lines: &[Line],
         writer: &mut W,
     ) -> Result<(), RunFault>
+        requires { IsTrue (is_session_text session.now) }
         ensures said { SentAll (out (W.held writer.old) self.old.gathered) (out (W.held writer.new) self.new.gathered) result
             (flat_map (text_of_line session.now) lines.now) }
         ensures failed { SendFails (W.failures writer.old) (W.failures writer.new) result }
     {
         for line in lines {
-            write_line(self.alloc, &mut self.text, session, line)?;
-            self.gathered.send(writer, self.text.as_bytes())?;
+            self.say_line(session, line, writer)?;
         }
+        Ok(())
+    }
+
+    /// Says one line: in parts where it has them, and else as a text that is made first.
+    fn say_line<W: Sink>(
+        &mut self,
+        session: &str,
+        line: &Line,
+        writer: &mut W,
+    ) -> Result<(), RunFault>
+        requires { IsTrue (is_session_text session.now) }
+        ensures said { SentAll (out (W.held writer.old) self.old.gathered) (out (W.held writer.new) self.new.gathered) result
+            (text_of_line session.now line.now) }
+        ensures failed { SendFails (W.failures writer.old) (W.failures writer.new) result }
+    {
+        let mut digits = Digits::new();
+        if let Some(parts) = line_parts(session, line, &mut digits) {
+            return self.say_parts(&parts, writer);
+        }
+        write_line(self.alloc, &mut self.text, session, line)?;
+        self.gathered.send(writer, self.text.as_bytes())?;
         Ok(())
     }
 
@@ -137,7 +161,15 @@ impl Output {
             (text_of_line session.now (Error code)) }
         ensures failed { SendFails (W.failures writer.old) (W.failures writer.new) result }
     {
-        let parts = error_parts(code, session);
+        self.say_parts(&error_parts(code, session), writer)
+    }
+
+    fn say_parts<W: Sink>(&mut self, parts: &Parts<'_>, writer: &mut W) -> Result<(), RunFault>
+        ensures said { SentAll (out (W.held writer.old) self.old.gathered) (out (W.held writer.new) self.new.gathered) result
+            (text_of_parts parts.now) }
+        ensures failed { SendFails (W.failures writer.old) (W.failures writer.new) result }
+    {
+        let parts = parts.in_order();
         for part in &parts {
             self.gathered.send(writer, part.as_bytes())?;
         }

@@ -1,6 +1,0 @@
-use Rattle.std.proofs.Common.{sym}
-use Rattle.wire_format.proofs.Plain.{text_of_error}
-use Rattle.wire_format.proofs.writing.error_parts.Goals as goal
-
-pub returns : goal.returns
-returns c = rw c.text-code.ensures (sym (text_of_error c.args.code c.args.session.now c.requires))

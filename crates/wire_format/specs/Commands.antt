@@ -1,0 +1,38 @@
+-- The commands.
+use Rattle.std.specs.Prelude.{ℕ, List, [], ◌∷◌, Option, codes, bytes_eq}
+use Rattle.std.specs.List.{find}
+use Rattle.serde_json.specs.Data.{Data}
+use Rattle.json_reading.specs.Fields.{◌>>=◌, text_at}
+use Rattle.thread_model.specs.Asked.{Asked}
+use Rattle.wire_format.specs.declared.commands.Word.{Word}
+use Rattle.wire_format.specs.declared.commands.Word.TheVariants.{New, Delete, SetParent, Children, Find, Set, Get, Meta}
+use Rattle.wire_format.specs.Form.{Form}
+use Rattle.wire_format.specs.Held.{held_by}
+use Rattle.wire_format.specs.Trees as trees
+use Rattle.wire_format.specs.Properties as properties
+use Rattle.wire_format.specs.Classes as classes
+
+abbrev pub form_of : Word → Form
+form_of New = trees.new
+form_of Delete = trees.delete
+form_of SetParent = trees.set_parent
+form_of Children = trees.children
+form_of Find = trees.find
+form_of Set = properties.set
+form_of Get = properties.get
+form_of Meta = classes.meta
+
+abbrev pub all_words : List Word
+all_words = New ∷ Delete ∷ SetParent ∷ Children ∷ Find ∷ Set ∷ Get ∷ Meta ∷ []
+
+-- the command of this name
+abbrev pub word_named : List ℕ → Option Word
+word_named name = find (λ word. bytes_eq name (form_of word).word) all_words
+
+-- what a command in JSON asks, beside the session that gives it
+unfoldable pub asked_of : Data → Option Asked
+asked_of json = do
+  name ← text_at (codes "do") json
+  word ← word_named name
+  held ← held_by json (form_of word).keys
+  (form_of word).asks held

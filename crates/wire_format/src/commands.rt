@@ -1,0 +1,102 @@
+//! The commands.
+ghost use Rattle.std.specs.Prelude.{◌≡◌, IfOk, map, option_map};
+ghost use Rattle.std.specs.List.{find};
+ghost use Rattle.serde_json.specs.Data.{object};
+ghost use Rattle.json_reading.specs.Members.{members_in};
+ghost use Rattle.thread_model.specs.Asked.{asked};
+ghost use Rattle.wire_format.specs.Commands.{asked_of, form_of, word_named};
+ghost use Rattle.wire_format.specs.Held.{held_seen};
+ghost use Rattle.wire_format.specs.Keys.{key_seen};
+
+use crate::classes::{META, meta_of};
+use crate::held::{Held, held_by};
+use crate::keys::Key;
+use crate::properties::{GET, SET, get_of, set_of};
+use crate::trees::{
+    CHILDREN, DELETE, FIND, NEW, SET_PARENT, children_of, delete_of, find_of, new_of, set_parent_of,
+};
+use json_reading::{Member, text_at};
+use std::alloc::{AllocError, Global};
+use thread_model::Command;
+
+/// What a line asks, by the word at its key `do`.
+#[derive(Clone, Copy)]
+pub enum Word {
+    New,
+    Delete,
+    SetParent,
+    Children,
+    Find,
+    Set,
+    Get,
+    Meta,
+}
+
+fn word_named(name: &str) -> Option<Word>
+    ensures { result ≡ word_named name.now }
+{
+    match name {
+        "new" => Some(Word::New),
+        "delete" => Some(Word::Delete),
+        "setParent" => Some(Word::SetParent),
+        "children" => Some(Word::Children),
+        "find" => Some(Word::Find),
+        "set" => Some(Word::Set),
+        "get" => Some(Word::Get),
+        "meta" => Some(Word::Meta),
+        _ => None,
+    }
+}
+
+/// The keys of a command beside those that every command has.
+fn keys_of(word: Word) -> &'static [Key]
+    ensures { map key_seen result.now ≡ (form_of word).keys }
+{
+    match word {
+        Word::New => &NEW,
+        Word::Delete => &DELETE,
+        Word::SetParent => &SET_PARENT,
+        Word::Children => &CHILDREN,
+        Word::Find => &FIND,
+        Word::Set => &SET,
+        Word::Get => &GET,
+        Word::Meta => &META,
+    }
+}
+
+/// What is asked by a word, with what is held at its keys.
+fn asked_with(
+    alloc: Global,
+    word: Word,
+    held: &[Held<'_, '_>],
+) -> Result<Option<Command>, AllocError>
+    ensures { IfOk result (λ command. option_map asked command ≡ (form_of word).asks (map held_seen held.now)) }
+{
+    match word {
+        Word::New => new_of(alloc, held),
+        Word::Delete => Ok(delete_of(held)),
+        Word::SetParent => Ok(set_parent_of(held)),
+        Word::Children => Ok(children_of(held)),
+        Word::Find => find_of(alloc, held),
+        Word::Set => set_of(alloc, held),
+        Word::Get => Ok(get_of(held)),
+        Word::Meta => meta_of(alloc, held),
+    }
+}
+
+/// What the members ask.
+#[tactic(auto, unfolding(crate::specs::Commands::asked_of))]
+pub(crate) fn command_in(alloc: Global, members: &[Member<'_>]) -> Result<Option<Command>, AllocError>
+    ensures { IfOk result (λ command. option_map asked command ≡ asked_of (object (members_in members.now))) }
+{
+    let Some(name) = text_at(members, "do") else {
+        return Ok(None);
+    };
+    let Some(word) = word_named(name) else {
+        return Ok(None);
+    };
+    match held_by(alloc, members, keys_of(word))? {
+        Some(held) => asked_with(alloc, word, held.as_slice()),
+        None => Ok(None),
+    }
+}

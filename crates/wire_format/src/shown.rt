@@ -1,0 +1,66 @@
+//! What an answer is written as.
+ghost use Rattle.std.specs.Prelude.{◌≡◌};
+ghost use Rattle.serde_json.specs.Data.{boolean};
+ghost use Rattle.serde_json.specs.Written.{compact_text};
+ghost use Rattle.variant_value.specs.Values.{json_of};
+ghost use Rattle.wire_format.specs.Shown.{text_of_shown};
+ghost use Rattle.wire_format.specs.Text.{json_of_answer, json_of_found};
+
+use itoa::Buffer as Digits;
+use thread_model::{Answer, MetaObject};
+use variant_value::Value;
+
+/// What an answer is written as.
+#[derive(Clone, Copy)]
+pub(crate) enum Shown<'a> {
+    /// As it stands here.
+    Word(&'a str),
+    /// Between quotes, with what JSON escapes.
+    Text(&'a str),
+    Numbers(&'a [u32]),
+    Meta(&'a MetaObject),
+}
+
+/// What an answer is written as. The digits of a number are lent.
+pub(crate) fn shown_as<'a>(answer: &'a Answer, digits: &'a mut Digits) -> Shown<'a>
+    ensures { text_of_shown result ≡ compact_text (json_of_answer answer.now) }
+{
+    match answer {
+        Answer::Number(number) => Shown::Word(digits.format(*number)),
+        Answer::Found(found) => Shown::Word(found_word(*found, digits)),
+        Answer::Numbers(numbers) => Shown::Numbers(numbers.as_slice()),
+        Answer::Truth(truth) => Shown::Word(truth_word(*truth)),
+        Answer::Value(value) => shown_value(value, digits),
+        Answer::Meta(meta) => Shown::Meta(meta),
+    }
+}
+
+fn shown_value<'a>(value: &'a Value, digits: &'a mut Digits) -> Shown<'a>
+    ensures { text_of_shown result ≡ compact_text (json_of value.now) }
+{
+    match value {
+        Value::Invalid => Shown::Word("null"),
+        Value::Bool(truth) => Shown::Word(truth_word(*truth)),
+        Value::Int(number) => Shown::Word(digits.format(*number)),
+        Value::Uint(number) => Shown::Word(digits.format(*number)),
+        Value::Longlong(number) => Shown::Word(digits.format(*number)),
+        Value::Ulonglong(number) => Shown::Word(digits.format(*number)),
+        Value::Text(text) => Shown::Text(text.as_str()),
+    }
+}
+
+fn truth_word(truth: bool) -> &'static str
+    ensures { result.now ≡ compact_text (boolean truth) }
+{
+    if truth { "true" } else { "false" }
+}
+
+/// A number, or `null` where there is none.
+fn found_word<'a>(found: Option<u32>, digits: &'a mut Digits) -> &'a str
+    ensures { result.now ≡ compact_text (json_of_found found) }
+{
+    match found {
+        Some(number) => digits.format(number),
+        None => "null",
+    }
+}
