@@ -56,12 +56,12 @@ refusals: bin/refuse_growth.so
 	python3 tools/outcomes.py
 	python3 tools/refusals.py bin/metad bin/refuse_growth.so tests/rows
 
-bin/refuse_growth.so: tools/refuse_growth.c
+bin/%.so: tools/%.c
 	mkdir -p bin
 	$(CC) -O2 -Wall -Wextra -shared -fPIC -o $@ $< -ldl
 
-bench: bin/metad
-	python3 bench/bench.py bin/metad $(BEFORE)
+bench: bin/metad bin/count_growth.so
+	python3 bench/bench.py bin/metad bin/count_growth.so $(BEFORE)
 
 clean:
 	rm -rf bin crates/*/out

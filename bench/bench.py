@@ -1,8 +1,9 @@
 #!/usr/bin/env python3
 """Measures the built program on generated inputs, from file to file.
 
-Usage: bench.py PROGRAM [BEFORE]. It prints, for each input, the lines a second (the best of three runs) and the
-peak of resident memory; for the first, a single line, only the peak. Then it prints how long `children`
+Usage: bench.py PROGRAM COUNTER [BEFORE]. It prints, for each input, the lines a second (the best of three runs) and
+the peak of resident memory; for the first, a single line, only the peak. Then it prints how often the program asks
+for memory in a line that writes or reads, which COUNTER, preloaded, counts; how long `children`
 and `find` take for each object that they visit, among few and among many, and how much longer the
 program takes to start with a class file as large as one may be than with a tiny one (each the best of
 ten runs). Inputs and class files are the same in every run, and every reply is compared with what it
@@ -36,6 +37,9 @@ LEAST_WRITES = 500_000
 LEAST_METAS = 20_000
 LEAST_ROUNDS = 300_000
 MOST_READING = 100
+
+# How often memory may be asked for in a line.
+MOST_ALLOCATIONS = 4
 
 # How many times as fast as before, and in how many runs of each.
 TIMES = {"plain": 2.5, "many sessions": 2, "spaces and escapes": 1.8, "lists": 2, "trees": 1}
@@ -283,6 +287,25 @@ def measure(name, lines, command, room, least=0):
     return not missed
 
 
+def allocations_of(program, counter, lines, room):
+    """How often the program asks for memory in a run with these lines."""
+    given, counted = f"{room}/stdin", f"{room}/counted"
+    Path(given).write_text("".join(line for line, _ in lines))
+    with open(given, "rb") as source, open(counted, "wb") as count:
+        env = {**os.environ, "LD_PRELOAD": counter, "COUNT_NOTE": str(count.fileno())}
+        subprocess.run([program], stdin=source, stdout=subprocess.DEVNULL, env=env, pass_fds=[count.fileno()], check=True)
+    return int(Path(counted).read_text())
+
+
+def measure_allocations(program, counter, room):
+    """Prints how often memory is asked for in a line; answers whether that is within the mark."""
+    few, many = (allocations_of(program, counter, in_turn(1, lines), room) for lines in (0, LINES))
+    each = (many - few) / LINES
+    missed = f"; over its mark of {MOST_ALLOCATIONS}" if each > MOST_ALLOCATIONS else ""
+    print(f"allocations in a set or get line: {each:.2f}{missed}")
+    return not missed
+
+
 def seconds_of_start(program, classes):
     """How long a run with a class file and an empty input takes."""
     return min(seconds_of([program, classes], os.devnull, os.devnull) for _ in range(STARTS))
@@ -299,7 +322,7 @@ def measure_reading(program, room):
 
 
 def main():
-    program, *before = (str(Path(it).resolve()) for it in sys.argv[1:3])
+    program, counter, *before = (str(Path(it).resolve()) for it in sys.argv[1:4])
     with tempfile.TemporaryDirectory(prefix="metad-bench-") as room:
         declared, described = panel()
         with_panel = [program, class_file(f"{room}/panel.json", [declared])]
@@ -312,6 +335,7 @@ def main():
             measure(f"{ROUNDS} rounds of {OBJECTS} objects in a tree", in_trees(ROUNDS, OBJECTS), [program], room, LEAST_ROUNDS),
             measure(f"{LINES} lines that make and delete an object beside 1", come_and_go(0, LINES), [program], room, LEAST_ROUNDS),
             measure(f"the same beside {OBJECTS}", come_and_go(OBJECTS, LINES), [program], room, LEAST_ROUNDS),
+            measure_allocations(program, counter, room),
             measure_visits("children", lambda number: children("a", 1, list(range(2, number + 2))), [program], room),
             measure_visits("find", lambda number: find_none("a", 1), [program], room),
             measure(f"{METAS} meta lines of {METHODS} methods", [meta("a", described)] * METAS, with_panel, room, LEAST_METAS),

@@ -1,61 +1,79 @@
 //! Texts.
 ghost use Rattle.std.specs.Prelude.{◌≡◌, ◌↔◌, [], IsTrue, IfOk, length, string_bytes};
 
+use arrayvec::ArrayString;
 use std::alloc::{AllocError, Global};
 use std::hash::{Hash, Hasher};
 use std::marker::Model;
 
-/// A `String` that contracts see as the list of its bytes.
+/// A text of so many bytes, or fewer, is kept in the value itself and takes no memory.
+const INLINE: usize = 22;
+
+#[derive(Debug, Drop)]
+enum Kept {
+    Inline(ArrayString<INLINE>),
+    Heap(String),
+}
+
+/// A string that contracts see as the list of its bytes.
 #[derive(Debug, Drop)]
 pub struct Text {
-    inner: String,
+    kept: Kept,
 }
 
 impl Model for Text {
-    ghost use Rattle.std.specs.Prelude.{ℕ, List, string_bytes};
+    ghost use Rattle.std.specs.Prelude.{ℕ, List};
+    ghost use Rattle.plain_types.specs.Texts.{bytes_kept};
 
     ghost Value = { List ℕ };
 
-    ghost view = { λ t. string_bytes t.inner };
+    ghost view = { λ t. bytes_kept t.kept };
 }
 
 impl Text {
-    /// The same text in memory of its own.
+    /// The same text in a value of its own.
     pub fn from_str(alloc: Global, text: &str) -> Result<Text, AllocError>
         ensures { IfOk result (λ t. t ≡ text.now) }
     {
-        Ok(Text {
-            inner: String::from_str(alloc, text)?,
-        })
+        let kept = match ArrayString::from(text) {
+            Ok(inline) => Kept::Inline(inline),
+            Err(_) => Kept::Heap(String::from_str(alloc, text)?),
+        };
+        Ok(Text { kept })
     }
 
     /// The text that the string holds; this takes no memory.
     pub fn from_string(text: String) -> Text
         ensures { result ≡ string_bytes text }
     {
-        Text { inner: text }
+        Text {
+            kept: Kept::Heap(text),
+        }
     }
 
     pub fn as_str(&self) -> &str
         ensures { result.now ≡ self.now }
     {
-        self.inner.as_str()
+        match &self.kept {
+            Kept::Inline(text) => text.as_str(),
+            Kept::Heap(text) => text.as_str(),
+        }
     }
 
     /// The number of bytes of the text in UTF-8.
     pub fn len(&self) -> usize
         ensures { result ≡ length self.now }
     {
-        self.inner.len()
+        self.as_str().len()
     }
 
     pub fn is_empty(&self) -> bool
         ensures { IsTrue result ↔ (self.now ≡ []) }
     {
-        self.inner.is_empty()
+        self.as_str().is_empty()
     }
 
-    /// An equal text in memory of its own.
+    /// An equal text in a value of its own.
     pub fn copy(&self, alloc: Global) -> Result<Text, AllocError>
         ensures { IfOk result (λ t. t ≡ self.now) }
     {
