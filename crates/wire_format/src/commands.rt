@@ -86,7 +86,10 @@ fn asked_with(
 
 /// What the members ask.
 #[tactic(auto, unfolding(crate::specs::Commands::asked_of))]
-pub(crate) fn command_in(alloc: Global, members: &[Member<'_>]) -> Result<Option<Command>, AllocError>
+pub(crate) fn command_in(
+    alloc: Global,
+    members: &[Member<'_>],
+) -> Result<Option<Command>, AllocError>
     ensures { IfOk result (λ command. option_map asked command ≡ asked_of (object (members_in members.now))) }
 {
     let Some(name) = text_at(members, "do") else {
