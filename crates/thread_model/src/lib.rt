@@ -4,14 +4,16 @@
 #![tactic(auto)]
 
 ghost use Rattle.thread_model.specs.Machine.{IsMetadLawful};
-ghost use Rattle.thread_model.specs.Agenda.{RunsToItsEnd};
+ghost use Rattle.thread_model.specs.Run.{RunsToItsEnd};
 ghost use Rattle.thread_model.specs.Laws.{KeepsSound, KeepsUnderWay};
 
+mod call;
 mod command;
 mod line;
 mod meta;
 mod post;
 
+pub use call::{Call, NESTED_SIGNALS};
 pub use command::{Command, Tagged};
 pub use line::{Answer, Line};
 pub use meta::MetaObject;
@@ -30,7 +32,7 @@ pub fn agenda_runs_to_its_end()
 {}
 
 /// A session stays sound: between commands its objects stand in trees within the limits, each has a
-/// title, and none is being deleted.
+/// title, none is being deleted, and both ends of every connection stand.
 pub fn commands_keep_sessions_sound()
     ensures commands { KeepsSound }
     ensures items { KeepsUnderWay }
