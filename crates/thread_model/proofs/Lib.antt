@@ -1,2 +1,11 @@
+pub mod LivingLemmas
+pub mod WeightLemmas
+pub mod ConnectionLemmas
+pub mod ActLemmas
+pub mod FallLemmas
+pub mod RunLemmas
 pub mod Lawful
 pub mod ThreadLemmas
+pub mod TreeLemmas
+pub mod PropertyLemmas
+pub mod ClassLemmas

@@ -1,0 +1,60 @@
+-- The rule of each command for classes: why it is refused, what it does where it is not, and both
+-- together; and what is said of a class that is there.
+use Rattle.std.proofs.Common.{◌≡◌, ℕ, List, [], ◌∷◌, length, map, get_or, Option, Some, slice_get, bytes_eq, refl, ap}
+use Rattle.std.specs.Option.{option_and_then, option_map, unwrap_or}
+use Rattle.std.proofs.lemmas.List.Quantifiers.{position-Some}
+use Rattle.std.proofs.lemmas.Option.{slice_get-get_or}
+use Rattle.class_table.specs.declared.class.Class.{Class}
+use Rattle.class_table.specs.Lookup.{inherited, method_text, methods, names, index_of, properties}
+use Rattle.thread_model.specs.declared.meta.MetaObject.{MetaObject}
+use Rattle.thread_model.specs.Asked.{Meta}
+use Rattle.thread_model.specs.Classes.{class_name, described, describes}
+use Rattle.thread_model.specs.Effects.{unless}
+use Rattle.thread_model.specs.Refusing.{class_refusal, refusal}
+use Rattle.thread_model.specs.State.{State}
+use Rattle.thread_model.specs.Thread.{Settings, does, performs}
+
+module _ (settings : Settings) (self : List ℕ) (state : State) where
+  pub refusal_meta : (class : List ℕ) → refusal settings self state (Meta class) ≡ class_refusal settings.classes class
+  unfolding refusal
+  refusal_meta class = refl
+
+  pub performs_meta : (class : List ℕ) → performs settings self state (Meta class) ≡ describes settings.classes state class
+  unfolding performs
+  performs_meta class = refl
+
+  pub does_meta : (class : List ℕ) → does settings self state (Meta class) ≡ unless (class_refusal settings.classes class) state (describes settings.classes state class)
+  unfolding does refusal performs
+  does_meta class = refl
+
+-- what is told of a class, by its row
+unfoldable pub described_by : List Class → ℕ → Class → MetaObject
+described_by classes index class = record {
+  class = class.name;
+  method_offset = length (inherited (methods classes) class.superclass);
+  methods = map method_text (methods classes index);
+  properties = names (properties classes index);
+  property_offset = length (inherited (properties classes) class.superclass);
+  superclass = option_and_then (class_name classes) class.superclass;
+}
+
+pub described_at : (classes : List Class) (index : ℕ) (class : Class) → slice_get classes index ≡ Some class → described classes index ≡ described_by classes index class
+unfolding described_by
+described_at classes index class there = ap by there
+  where
+    by : Option Class → MetaObject
+    by row = let base = option_and_then (λ (class : Class). class.superclass) row in record {
+      class = unwrap_or (option_map (λ (class : Class). class.name) row) [];
+      method_offset = length (inherited (methods classes) base);
+      methods = map method_text (methods classes index);
+      properties = names (properties classes index);
+      property_offset = length (inherited (properties classes) base);
+      superclass = option_and_then (class_name classes) base;
+    }
+
+-- a class that has an index is there
+pub class_there : (classes : List Class) (name : List ℕ) (index : ℕ) → index_of name classes ≡ Some index → (class : Class) × (slice_get classes index ≡ Some class)
+class_there [] name index found = absurd (cc)
+class_there (first ∷ rest) name index found =
+    let classes = first ∷ rest in
+    (get_or classes index first, slice_get-get_or classes index first (position-Some (λ (class : Class). bytes_eq name class.name) classes index first found).0)

@@ -1,0 +1,73 @@
+-- The rule of each command for objects and their trees: why it is refused, what it does where it is
+-- not, and both together.
+use Rattle.std.proofs.Common.{◌≡◌, ℕ, List, Option, refl}
+use Rattle.std.specs.Option.{option_or}
+use Rattle.object_tree.specs.Refusing.{add_refusal, parent_refusal, set_parent_refusal}
+use Rattle.thread_model.specs.Asked.{New, Delete, SetParent, Children, Find}
+use Rattle.thread_model.specs.Effects.{unless}
+use Rattle.thread_model.specs.Refusing.{class_refusal, named_class_refusal, refusal}
+use Rattle.thread_model.specs.Absence.{absence, named_absence}
+use Rattle.thread_model.specs.State.{State}
+use Rattle.thread_model.specs.Thread.{Settings, does, performs}
+use Rattle.thread_model.specs.Trees.{deletes, finds, lists, makes, reparents}
+
+module _ (settings : Settings) (self : List ℕ) (state : State) where
+  pub refusal_new : (class : List ℕ) (parent : Option ℕ) → refusal settings self state (New class parent) ≡ option_or (parent_refusal state.forest.rows parent) (option_or (class_refusal settings.classes class) (add_refusal state.forest parent))
+  unfolding refusal
+  refusal_new class parent = refl
+
+  pub performs_new : (class : List ℕ) (parent : Option ℕ) → performs settings self state (New class parent) ≡ makes settings.classes state class parent
+  unfolding performs
+  performs_new class parent = refl
+
+  pub does_new : (class : List ℕ) (parent : Option ℕ) → does settings self state (New class parent) ≡ unless (option_or (parent_refusal state.forest.rows parent) (option_or (class_refusal settings.classes class) (add_refusal state.forest parent))) state (makes settings.classes state class parent)
+  unfolding does refusal performs
+  does_new class parent = refl
+
+  pub refusal_delete : (target : ℕ) → refusal settings self state (Delete target) ≡ absence state target
+  unfolding refusal
+  refusal_delete target = refl
+
+  pub performs_delete : (target : ℕ) → performs settings self state (Delete target) ≡ deletes settings state target
+  unfolding performs
+  performs_delete target = refl
+
+  pub does_delete : (target : ℕ) → does settings self state (Delete target) ≡ unless (absence state target) state (deletes settings state target)
+  unfolding does refusal performs
+  does_delete target = refl
+
+  pub refusal_set_parent : (target : ℕ) (parent : Option ℕ) → refusal settings self state (SetParent target parent) ≡ set_parent_refusal state.forest target parent
+  unfolding refusal
+  refusal_set_parent target parent = refl
+
+  pub performs_set_parent : (target : ℕ) (parent : Option ℕ) → performs settings self state (SetParent target parent) ≡ reparents state target parent
+  unfolding performs
+  performs_set_parent target parent = refl
+
+  pub does_set_parent : (target : ℕ) (parent : Option ℕ) → does settings self state (SetParent target parent) ≡ unless (set_parent_refusal state.forest target parent) state (reparents state target parent)
+  unfolding does refusal performs
+  does_set_parent target parent = refl
+
+  pub refusal_children : (target : Option ℕ) → refusal settings self state (Children target) ≡ named_absence state target
+  unfolding refusal
+  refusal_children target = refl
+
+  pub performs_children : (target : Option ℕ) → performs settings self state (Children target) ≡ lists state target
+  unfolding performs
+  performs_children target = refl
+
+  pub does_children : (target : Option ℕ) → does settings self state (Children target) ≡ unless (named_absence state target) state (lists state target)
+  unfolding does refusal performs
+  does_children target = refl
+
+  pub refusal_find : (target : ℕ) (title class : Option (List ℕ)) → refusal settings self state (Find target title class) ≡ option_or (absence state target) (named_class_refusal settings.classes class)
+  unfolding refusal
+  refusal_find target title class = refl
+
+  pub performs_find : (target : ℕ) (title class : Option (List ℕ)) → performs settings self state (Find target title class) ≡ finds settings.classes state target title class
+  unfolding performs
+  performs_find target title class = refl
+
+  pub does_find : (target : ℕ) (title class : Option (List ℕ)) → does settings self state (Find target title class) ≡ unless (option_or (absence state target) (named_class_refusal settings.classes class)) state (finds settings.classes state target title class)
+  unfolding does refusal performs
+  does_find target title class = refl
