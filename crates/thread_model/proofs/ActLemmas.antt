@@ -2,14 +2,11 @@
 use Rattle.std.proofs.Common.{◌≡◌, ◌≤◌, ℕ, Bool, true, false, cond, List, [], ◌∷◌, Option, Some, None, Result, Ok, Err, length, nat_le, refl, sym, ap, subst}
 use Rattle.std.specs.Option.{option_map_or, option_or}
 use Rattle.std.specs.Result.{result_err}
-use Rattle.std.proofs.lemmas.Bool.{leb-true}
 use Rattle.refusals.specs.declared.code.Code.{Code}
-use Rattle.refusals.specs.declared.code.Code.TheVariants.{BadValue, DoesNotFit, Limit, NoSuchObject}
+use Rattle.refusals.specs.declared.code.Code.TheVariants.{BadValue, DoesNotFit, NoSuchObject}
 use Rattle.signature_core.specs.declared.kind.Kind.TheVariants as k
 use Rattle.variant_value.specs.declared.value.Value.{Value}
-use Rattle.variant_value.specs.declared.value.Value.TheVariants as v
-use Rattle.variant_value.specs.declared.value.TheConstants.{TEXT_BYTES}
-use Rattle.variant_value.specs.Values.{IsOfKind, text_in, text_of}
+use Rattle.variant_value.specs.Values.{IsOfKind}
 use Rattle.term_core.specs.declared.action.Effect.{Effect}
 use Rattle.term_core.specs.declared.action.Effect.TheVariants as e
 use Rattle.connection_types.specs.declared.callee.Callee.TheVariants.{Method}
@@ -24,27 +21,12 @@ use Rattle.thread_model.specs.Connecting.{connection_refusal, fits_at, new_conne
 use Rattle.thread_model.specs.Absence.{named_absence}
 use Rattle.thread_model.specs.Doing.{Doing, connected, disconnected, reparented, retitled}
 use Rattle.thread_model.specs.Items.{Delete, Emit, Next, Warn, puts}
-use Rattle.thread_model.specs.Methods.{Found, ◌>>=◌}
+use Rattle.thread_model.specs.Methods.{Found}
 use Rattle.thread_model.specs.Settings.{Settings}
 use Rattle.thread_model.specs.State.{State}
 use Rattle.thread_model.specs.Targets.{evaluated, is_title, object_of, title_evaluated}
 use Rattle.thread_model.proofs.ConnectionLemmas.{IsAllowed, allowed}
-
--- a text that is not too long is a title
-short_text : (text : List ℕ) (title : Value) → text_of text ≡ Ok title → IsOfKind k.Text title
-short_text text title e = by (nat_le (length text) TEXT_BYTES) refl e
-  where
-    by : (fits : Bool) → nat_le (length text) TEXT_BYTES ≡ fits → cond fits (Ok (v.Text text)) (Err Limit) ≡ Ok title → IsOfKind k.Text title
-    by true is e = let same : v.Text text ≡ title = cc in subst (IsOfKind k.Text) same (refl, leb-true (length text) TEXT_BYTES is)
-    by false is e = absurd (cc)
-
-pub title_text : (found : Found Value) (title : Value) → (found >>= λ value. option_map_or text_of (text_in value) (Err BadValue)) ≡ Ok title → IsOfKind k.Text title
-title_text (Err code) title e = absurd (cc)
-title_text (Ok value) title e = by (text_in value) e
-  where
-    by : (text : Option (List ℕ)) → option_map_or text_of text (Err BadValue) ≡ Ok title → IsOfKind k.Text title
-    by None e = absurd (cc)
-    by (Some text) e = short_text text title e
+use Rattle.thread_model.proofs.TitleLemmas.{title_text}
 
 -- a connection that is made has the sender and the receiver that were asked for
 pub record Joins (one other : ℕ) (new : NewConnection) : Type 0 where

@@ -16,11 +16,20 @@ use Rattle.connection_list.specs.declared.connection.Connection.{Connection}
 use Rattle.connection_list.specs.declared.connection.NewConnection.{NewConnection}
 use Rattle.connection_list.specs.declared.list.TheConstants.{CONNECTIONS}
 use Rattle.connection_list.specs.Ends.{same_ends, touches}
-use Rattle.connection_list.specs.Rows.{IsRising, IsSound, Rows, connect_refusal, connected, numbered}
+use Rattle.connection_list.specs.Rows.{IsRising, IsSound, Rows, connect_refusal, connected, no_rows, numbered}
 use Rattle.connection_list.proofs.RowsLemmas.{rising_head, rising_tail}
 use Rattle.thread_model.specs.State.{IsTied, State}
 
--- why a connection is not refused
+pub sound_empty : IsSound no_rows
+sound_empty = record {
+  rising = λ i j default below within. absurd (omega arith);
+  from_one = λ index default within. absurd (omega arith);
+  given = λ index default within. absurd (omega arith);
+  fits = omega arith;
+  few = omega arith;
+}
+
+-- there is room for one more connection, and a number for it
 pub record IsAllowed (place : Rows) : Type 0 where
   pub room : length place.rows < CONNECTIONS
   pub number : place.last_number < 2 ^ 32 - 1
@@ -67,10 +76,6 @@ pub record OfEnds (P : ℕ → Type 0) (row : Connection) : Type 0 where
 
 abbrev pub Ends : (ℕ → Type 0) → List Connection → Type 0
 Ends P rows = All (OfEnds P) rows
-
--- an object that a connection does not touch is neither end of it
-touched : (object end : ℕ) → (end == object) ≡ false → end ≡ object → ⊥
-touched object end e same = absurd (let is = eq-eqb end object same in cc)
 
 -- both ends of a connection stand still, where what stands at its ends does
 pub tied_to : (old new : State) (P : ℕ → Type 0) → ((number : ℕ) → P number → is_there old.forest.rows number ≡ true → is_there new.forest.rows number ≡ true)

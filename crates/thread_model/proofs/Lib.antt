@@ -1,9 +1,13 @@
 pub mod LivingLemmas
+pub mod DyingLemmas
+pub mod TitleLemmas
 pub mod WeightLemmas
 pub mod ConnectionLemmas
 pub mod ActLemmas
 pub mod FallLemmas
 pub mod RunLemmas
+pub mod StateLemmas
+pub mod UnderWayLemmas
 pub mod Lawful
 pub mod ThreadLemmas
 pub mod TreeLemmas
