@@ -8,6 +8,8 @@ pub mod FallLemmas
 pub mod RunLemmas
 pub mod StateLemmas
 pub mod UnderWayLemmas
+pub mod ItemLemmas
+pub mod LawLemmas
 pub mod Lawful
 pub mod ThreadLemmas
 pub mod TreeLemmas

@@ -1,0 +1,8 @@
+use Rattle.thread_model.proofs.LawLemmas.{keeps_sound, keeps_under_way}
+use Rattle.thread_model.proofs.commands_keep_sessions_sound.Goals as goal
+
+pub returns-clause-commands : goal.returns-clause-commands
+returns-clause-commands c = keeps_sound
+
+pub returns-clause-items : goal.returns-clause-items
+returns-clause-items c = keeps_under_way
