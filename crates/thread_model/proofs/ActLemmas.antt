@@ -102,13 +102,13 @@ module _ (settings : Settings) (doing : Doing) (self sender : ℕ) (args : List 
   acted_cases (e.Set of property value) =
       titled_by (object_of doing.state self sender of) (is_title property) (is_there doing.state.forest.rows (object_of doing.state self sender of)) (title_evaluated doing.state self sender args value) refl
       (title_text (evaluated doing.state self sender args value))
-  acted_cases (e.Emit of signal sent) = sent_by (object_of doing.state self sender of) (is_there doing.state.forest.rows (object_of doing.state self sender of)) (emission settings doing.state self sender args of signal sent)
+  acted_cases (e.Emit of signal sent) = sent_by (object_of doing.state self sender of) (is_there doing.state.forest.rows (object_of doing.state self sender of)) (emission settings doing.state self sender args (object_of doing.state self sender of) signal sent)
   acted_cases (e.Connect of signal to method mode unique single) =
-      connected_by (is_queued mode) unique _ _ (connection settings doing.state self sender args of signal to method mode single)
+      connected_by (is_queued mode) unique _ _ (connection settings doing.state (object_of doing.state self sender of) signal (object_of doing.state self sender to) method mode single)
       (λ new found. let its = joins settings doing.state _ _ _ _ mode single new found in
       (ap (object_refusal doing.state.forest.rows) (sym its.sender), ap (object_refusal doing.state.forest.rows) (sym its.receiver)))
   acted_cases (e.Disconnect of signal to method) =
-      broken_by (is_there doing.state.forest.rows (object_of doing.state self sender of)) _ (pattern settings doing.state self sender args of signal to method)
+      broken_by (is_there doing.state.forest.rows (object_of doing.state self sender of)) _ (pattern settings doing.state (object_of doing.state self sender of) signal _ method)
   acted_cases (e.Delete target) = deleted_by (object_of doing.state self sender target) (object_refusal doing.state.forest.rows (object_of doing.state self sender target))
   acted_cases (e.DeleteLater target) = warns BadValue
   acted_cases (e.Block of on) = warns BadValue

@@ -11,6 +11,8 @@ pub mod UnderWayLemmas
 pub mod ItemLemmas
 pub mod LawLemmas
 pub mod Lawful
+pub mod EmissionLemmas
+pub mod DeletionLemmas
 pub mod ThreadLemmas
 pub mod TreeLemmas
 pub mod PropertyLemmas

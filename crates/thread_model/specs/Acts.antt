@@ -23,7 +23,7 @@ use Rattle.thread_model.specs.Items.{Act, Delete, Emit, Item, Next, Warn, puts}
 use Rattle.thread_model.specs.Methods.{Found, ◌>>=◌, kinds_at, method_with, methods_of, signal_with}
 use Rattle.thread_model.specs.Settings.{Settings}
 use Rattle.thread_model.specs.State.{State}
-use Rattle.thread_model.specs.Targets.{all_converted, all_evaluated, evaluated, is_title, object_of, title_evaluated, truth_evaluated}
+use Rattle.thread_model.specs.Targets.{all_converted, all_evaluated, evaluated, is_title, named_object_of, object_of, title_evaluated, truth_evaluated}
 
 -- the actions of a body or of a branch, each to be done
 abbrev pub acts : Acts → List Value → ℕ → ℕ → ℕ → List Item
@@ -36,40 +36,34 @@ is_queued Auto = false
 is_queued Direct = false
 is_queued Queued = true
 
--- what the slot of `self` that has these arguments makes of the parts of an action
+-- the index of a signal of an object, and what it is sent with: values of the kinds of its parameters
+abbrev pub emission : Settings → State → ℕ → ℕ → List Value → ℕ → Signature → List Term → Found (ℕ × List Value)
+emission settings state self sender args object signal sent =
+    signal_with (methods_of settings state object) signal >>= λ index.
+    all_evaluated state self sender args sent >>= λ values.
+    all_converted (kinds_at (methods_of settings state object) index) values >>= λ converted. Ok (index, converted)
+
+-- the connection of a signal of an object to a method of another
+abbrev pub connection : Settings → State → ℕ → Signature → ℕ → Signature → ConnectionType → Bool → Found NewConnection
+connection settings state object signal receiver method mode single =
+    new_connection settings state
+    object (signal_with (methods_of settings state object) signal)
+    receiver (method_with (methods_of settings state receiver) method)
+    mode single
+
+-- the connections of an object that match
+abbrev pub pattern : Settings → State → ℕ → Option Signature → Option ℕ → Option Signature → Found Pattern
+pattern settings state object signal receiver method =
+    pattern_with
+    object (option_map (signal_with (methods_of settings state object)) signal)
+    receiver (λ receiver. option_map (method_with (methods_of settings state receiver)) method)
+
+-- why an action of the slot of `self` is refused: the first of these. What this server does not do yet is
+-- refused at once: queued calls, deferred deletion, blocked signals, and properties other than the title
 module _ (settings : Settings) (state : State) (self sender : ℕ) (args : List Value) where
-  -- the number of the object that a target is; 0 where there is none
-  abbrev pub object : Target → ℕ
+  abbrev object : Target → ℕ
   object target = object_of state self sender target
 
-  -- the same of a target that need not be named
-  abbrev pub named_object : Option Target → Option ℕ
-  named_object target = option_map object target
-
-  -- the index of the signal that is sent, and its arguments as values of the kinds of its parameters
-  abbrev pub emission : Target → Signature → List Term → Found (ℕ × List Value)
-  emission of signal sent =
-      signal_with (methods_of settings state (object of)) signal >>= λ index.
-      all_evaluated state self sender args sent >>= λ values.
-      all_converted (kinds_at (methods_of settings state (object of)) index) values >>= λ converted. Ok (index, converted)
-
-  -- the connection that is made
-  abbrev pub connection : Target → Signature → Target → Signature → ConnectionType → Bool → Found NewConnection
-  connection of signal to method mode single =
-      new_connection settings state
-      (object of) (signal_with (methods_of settings state (object of)) signal)
-      (object to) (method_with (methods_of settings state (object to)) method)
-      mode single
-
-  -- the connections that are broken
-  abbrev pub pattern : Target → Option Signature → Option Target → Option Signature → Found Pattern
-  pattern of signal to method =
-      pattern_with
-      (object of) (option_map (signal_with (methods_of settings state (object of))) signal)
-      (named_object to) (λ receiver. option_map (method_with (methods_of settings state receiver)) method)
-
-  -- why an action is refused: the first of these. What this server does not do yet is refused at
-  -- once: queued calls, deferred deletion, blocked signals, and properties other than the title
   abbrev pub act_refusal : Effect → Option Code
   act_refusal (e.Set of property value) =
       if is_title property
@@ -77,21 +71,21 @@ module _ (settings : Settings) (state : State) (self sender : ℕ) (args : List 
       else Some BadValue
   act_refusal (e.Emit of signal sent) =
       option_or (absence state (object of))
-      (result_err (emission of signal sent))
+      (result_err (emission settings state self sender args (object of) signal sent))
   act_refusal (e.Connect of signal to method mode unique single) =
       if is_queued mode then Some BadValue
       else (
       option_or (object_refusal state.forest.rows (object of)) (
       option_or (object_refusal state.forest.rows (object to))
-      (connection_refusal state.connections (connection of signal to method mode single) unique)))
+      (connection_refusal state.connections (connection settings state (object of) signal (object to) method mode single) unique)))
   act_refusal (e.Disconnect of signal to method) =
       option_or (absence state (object of)) (
-      option_or (named_absence state (named_object to))
-      (result_err (pattern of signal to method)))
+      option_or (named_absence state (named_object_of state self sender to))
+      (result_err (pattern settings state (object of) signal (named_object_of state self sender to) method)))
   act_refusal (e.Delete target) = object_refusal state.forest.rows (object target)
   act_refusal (e.DeleteLater target) = Some BadValue
   act_refusal (e.Block of on) = Some BadValue
-  act_refusal (e.SetParent of parent) = set_parent_refusal state.forest (object of) (named_object parent)
+  act_refusal (e.SetParent of parent) = set_parent_refusal state.forest (object of) (named_object_of state self sender parent)
 
 -- what was looked for, and is there
 abbrev pub with_found : {A : Type 0} → Found A → (A → Next) → Doing → Next
@@ -99,24 +93,27 @@ with_found (Ok found) next doing = next found
 with_found (Err code) next doing = puts [] doing
 
 -- what an action comes to that is not refused
-abbrev pub acted : Settings → Doing → ℕ → ℕ → List Value → ℕ → Effect → Next
-acted settings doing self sender args depth (e.Set of property value) =
-    with_found (title_evaluated doing.state self sender args value)
-    (λ title. puts [] (retitled doing (object_of doing.state self sender of) title)) doing
-acted settings doing self sender args depth (e.Emit of signal sent) =
-    with_found (emission settings doing.state self sender args of signal sent)
-    (λ emitted. puts (Emit (object_of doing.state self sender of) emitted.0 emitted.1 depth ∷ []) doing) doing
-acted settings doing self sender args depth (e.Connect of signal to method mode unique single) =
-    with_found (connection settings doing.state self sender args of signal to method mode single)
-    (λ new. puts [] (connected doing new)) doing
-acted settings doing self sender args depth (e.Disconnect of signal to method) =
-    with_found (pattern settings doing.state self sender args of signal to method)
-    (λ broken. puts [] (disconnected doing broken)) doing
-acted settings doing self sender args depth (e.Delete target) = puts (Delete (object_of doing.state self sender target) depth ∷ []) doing
-acted settings doing self sender args depth (e.DeleteLater target) = puts [] doing
-acted settings doing self sender args depth (e.Block of on) = puts [] doing
-acted settings doing self sender args depth (e.SetParent of parent) =
-    puts [] (reparented doing (object_of doing.state self sender of) (named_object settings doing.state self sender args parent))
+module _ (settings : Settings) (doing : Doing) (self sender : ℕ) (args : List Value) (depth : ℕ) where
+  abbrev acted_object : Target → ℕ
+  acted_object target = object_of doing.state self sender target
+
+  abbrev pub acted : Effect → Next
+  acted (e.Set of property value) =
+      with_found (title_evaluated doing.state self sender args value)
+      (λ title. puts [] (retitled doing (acted_object of) title)) doing
+  acted (e.Emit of signal sent) =
+      with_found (emission settings doing.state self sender args (acted_object of) signal sent)
+      (λ emitted. puts (Emit (acted_object of) emitted.0 emitted.1 depth ∷ []) doing) doing
+  acted (e.Connect of signal to method mode unique single) =
+      with_found (connection settings doing.state (acted_object of) signal (acted_object to) method mode single)
+      (λ new. puts [] (connected doing new)) doing
+  acted (e.Disconnect of signal to method) =
+      with_found (pattern settings doing.state (acted_object of) signal (named_object_of doing.state self sender to) method)
+      (λ broken. puts [] (disconnected doing broken)) doing
+  acted (e.Delete target) = puts (Delete (acted_object target) depth ∷ []) doing
+  acted (e.DeleteLater target) = puts [] doing
+  acted (e.Block of on) = puts [] doing
+  acted (e.SetParent of parent) = puts [] (reparented doing (acted_object of) (named_object_of doing.state self sender parent))
 
 -- a refused action warns of its code for the object whose slot is run, and does nothing
 abbrev pub warns_or : Option Code → ℕ → Doing → Next → Next

@@ -1,6 +1,6 @@
 -- The objects that an action names, and the values of its expressions.
 use Rattle.std.specs.Prelude.{ℕ, Bool, List, [], ◌∷◌, Option, Result, Ok, Err, codes, bytes_eq, if◌then◌else◌}
-use Rattle.std.specs.Option.{ok_or, option_map_or, unwrap_or}
+use Rattle.std.specs.Option.{ok_or, option_map, option_map_or, unwrap_or}
 use Rattle.refusals.specs.declared.code.Code.{Code}
 use Rattle.refusals.specs.declared.code.Code.TheVariants.{BadValue, NoSuchObject, NoSuchProperty}
 use Rattle.signature_core.specs.declared.kind.Kind.{Kind}
@@ -23,6 +23,10 @@ object_of state self sender Itself = self
 object_of state self sender Sender = sender
 object_of state self sender (Child title) = unwrap_or (found_below state.forest.rows self (λ number. is_text title (title_of state.titles number))) 0
 object_of state self sender (Object number) = number
+
+-- the same of a target that need not be named
+abbrev pub named_object_of : State → ℕ → ℕ → Option Target → Option ℕ
+named_object_of state self sender target = option_map (object_of state self sender) target
 
 -- the name of an object's title as a property
 abbrev pub is_title : List ℕ → Bool
