@@ -13,7 +13,9 @@ pub mod LawLemmas
 pub mod Lawful
 pub mod EmissionLemmas
 pub mod DeletionLemmas
+pub mod ActionLemmas
 pub mod ThreadLemmas
 pub mod TreeLemmas
 pub mod PropertyLemmas
 pub mod ClassLemmas
+pub mod SignalLemmas
