@@ -10,6 +10,7 @@ pub mod StateLemmas
 pub mod UnderWayLemmas
 pub mod ItemLemmas
 pub mod LawLemmas
+pub mod InPlaceLemmas
 pub mod Lawful
 pub mod EmissionLemmas
 pub mod DeletionLemmas

@@ -1,5 +1,5 @@
 -- The run of an agenda comes to its end.
-use Rattle.std.proofs.Common.{◌≡◌, ◌<◌, ◌≤◌, ◌+◌, ◌*◌, ℕ, zero, suc, List, [], ◌∷◌, ◌++◌, refl, sym, ap, ◌∙◌, length, max, arith}
+use Rattle.std.proofs.Common.{◌≡◌, ◌<◌, ◌≤◌, ◌+◌, ◌*◌, ℕ, zero, suc, List, [], ◌∷◌, ◌++◌, refl, sym, ap, ◌∙◌, append_assoc, length, max, arith}
 use Rattle.std.proofs.Math.Nat.{mul-le-mul_left}
 use Rattle.connection_list.specs.declared.list.TheConstants.{CONNECTIONS}
 use Rattle.thread_model.specs.Agenda.{step}
@@ -97,5 +97,20 @@ module _ (settings : Settings) where
     unfolding run
     run_keeps agenda doing holds = steps_keep (enough settings agenda doing) agenda doing (omega arith) holds
 
+  -- two agendas are done one after the other
+  parts_within : (fuel : ℕ) (one other : List Item) (doing : Doing) → enough settings one doing ≤ fuel → run settings (one ++ other) doing ≡ run settings other (run settings one doing)
+  parts_within fuel [] other doing is_enough = ap (run settings other) (sym (at_end doing))
+  parts_within zero (item ∷ one) other doing is_enough = absurd (let some = enough-some settings item one doing in omega (arith, some))
+  parts_within (suc fuel) (item ∷ one) other doing is_enough =
+      let next = step settings item doing in
+      let less = enough-falls settings item one doing in
+      at_item item (one ++ other) doing
+      ∙ ap (λ agenda. run settings agenda next.doing) (sym (append_assoc next.items one other))
+      ∙ parts_within fuel (next.items ++ one) other next.doing (omega (arith, less))
+      ∙ ap (run settings other) (sym (at_item item one doing))
+
+  pub in_parts : (one other : List Item) (doing : Doing) → run settings (one ++ other) doing ≡ run settings other (run settings one doing)
+  in_parts one other doing = parts_within (enough settings one doing) one other doing (omega arith)
+
 pub runs_to_its_end : RunsToItsEnd
-runs_to_its_end = record { at_end = at_end; at_item = at_item }
+runs_to_its_end = record { at_end = at_end; at_item = at_item; in_parts = in_parts }

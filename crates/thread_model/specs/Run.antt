@@ -69,7 +69,9 @@ enough settings agenda doing = doing.turns * turn_weight (most settings doing) +
 unfoldable pub run : Settings → List Item → Doing → Doing
 run settings agenda doing = steps settings (enough settings agenda doing) agenda doing
 
--- the run of an agenda is that of its first item, and then of what that comes to and of the others
+-- the run of an agenda is that of its first item, and then of what that comes to and of the others; two
+-- agendas are done one after the other
 pub record RunsToItsEnd : Type 0 where
   pub at_end : (settings : Settings) (doing : Doing) → run settings [] doing ≡ doing
   pub at_item : (settings : Settings) (item : Item) (agenda : List Item) (doing : Doing) → run settings (item ∷ agenda) doing ≡ run settings ((step settings item doing).items ++ agenda) (step settings item doing).doing
+  pub in_parts : (settings : Settings) (one other : List Item) (doing : Doing) → run settings (one ++ other) doing ≡ run settings other (run settings one doing)

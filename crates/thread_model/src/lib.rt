@@ -5,7 +5,7 @@
 
 ghost use Rattle.thread_model.specs.Machine.{IsMetadLawful};
 ghost use Rattle.thread_model.specs.Run.{RunsToItsEnd};
-ghost use Rattle.thread_model.specs.Laws.{KeepsSound, KeepsUnderWay};
+ghost use Rattle.thread_model.specs.Laws.{ActsInPlace, KeepsSound, KeepsUnderWay};
 
 mod call;
 mod command;
@@ -26,7 +26,8 @@ pub fn machine_is_lawful()
     ensures { IsMetadLawful }
 {}
 
-/// The run of an agenda does its items one after another, up to the last.
+/// The run of an agenda does its items one after another, up to the last, and an agenda behind another
+/// one after it.
 pub fn agenda_runs_to_its_end()
     ensures { RunsToItsEnd }
 {}
@@ -36,4 +37,10 @@ pub fn agenda_runs_to_its_end()
 pub fn commands_keep_sessions_sound()
     ensures commands { KeepsSound }
     ensures items { KeepsUnderWay }
+{}
+
+/// An action does over the arguments of its slot what it does with them put in, over none. So a body is
+/// run where it stands, and no copy of it is needed.
+pub fn actions_run_in_place()
+    ensures { ActsInPlace }
 {}
