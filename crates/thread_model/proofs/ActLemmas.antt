@@ -1,6 +1,6 @@
 -- What an action may come to, by the effect that it has.
-use Rattle.std.proofs.Common.{◌≡◌, ◌≤◌, ℕ, Bool, true, false, cond, List, [], ◌∷◌, Option, Some, None, Result, Ok, Err, length, nat_le, refl, sym, ap, subst}
-use Rattle.std.specs.Option.{option_map_or, option_or}
+use Rattle.std.proofs.Common.{◌≡◌, ℕ, Bool, true, false, cond, List, [], ◌∷◌, Option, Some, None, Ok, Err, refl, sym, ap}
+use Rattle.std.specs.Option.{option_or}
 use Rattle.std.specs.Result.{result_err}
 use Rattle.refusals.specs.declared.code.Code.{Code}
 use Rattle.refusals.specs.declared.code.Code.TheVariants.{BadValue, DoesNotFit, NoSuchObject}
@@ -18,7 +18,6 @@ use Rattle.object_tree.specs.Refusing.{object_refusal, set_parent_refusal}
 use Rattle.object_tree.specs.Rows.{is_there}
 use Rattle.thread_model.specs.Acts.{act_refusal, acted, connection, emission, is_queued, pattern, warns_or, with_found}
 use Rattle.thread_model.specs.Connecting.{connection_refusal, fits_at, new_connection}
-use Rattle.thread_model.specs.Absence.{named_absence}
 use Rattle.thread_model.specs.Doing.{Doing, connected, disconnected, reparented, retitled}
 use Rattle.thread_model.specs.Items.{Delete, Emit, Next, Warn, puts}
 use Rattle.thread_model.specs.Methods.{Found}

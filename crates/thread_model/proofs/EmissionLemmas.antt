@@ -1,5 +1,5 @@
 -- The rules by which a signal is sent, a connection called and a slot run: one for each way that it goes.
-use Rattle.std.proofs.Common.{◌≡◌, ◌<◌, ◌≤◌, ◌+◌, ◌==◌, ℕ, Bool, true, false, cond, List, [], ◌∷◌, ◌++◌, Option, Some, None, length, nat_le, take, refl, ap, ◌∙◌, arith}
+use Rattle.std.proofs.Common.{◌≡◌, ◌<◌, ◌≤◌, ◌+◌, ◌==◌, ℕ, true, false, List, [], ◌∷◌, ◌++◌, Option, Some, None, length, nat_le, take, refl, ap, ◌∙◌, arith}
 use Rattle.std.specs.Option.{option_map_or}
 use Rattle.std.proofs.lemmas.Bool.{cond-false, cond-true}
 use Rattle.std.proofs.lemmas.Bool.Decides.{nat_tests}
@@ -8,7 +8,6 @@ use Rattle.refusals.specs.declared.code.Code.TheVariants.{Limit, TurnsUsedUp}
 use Rattle.variant_value.specs.declared.value.Value.{Value}
 use Rattle.term_core.specs.Act.{acts_of}
 use Rattle.class_table.specs.declared.class.Method.{Method}
-use Rattle.connection_types.specs.declared.callee.Callee.{Callee}
 use Rattle.connection_types.specs.declared.callee.Callee.TheVariants as callee
 use Rattle.connection_list.specs.declared.connection.Connection.{Connection}
 use Rattle.connection_list.specs.Rows.{has_number}
@@ -20,10 +19,10 @@ use Rattle.thread_model.specs.declared.line.Line.TheVariants.{Warning}
 use Rattle.thread_model.specs.Acts.{acts}
 use Rattle.thread_model.specs.Agenda.{call_line, called, callee_items, calls_of, emitted, method_items, ran, stands, step, with_turn}
 use Rattle.thread_model.specs.Doing.{Doing, in_state, shot, told, turn_taken, used_up}
-use Rattle.thread_model.specs.Items.{Call, Emit, Item, Next, Reply, Run, Warn, puts}
+use Rattle.thread_model.specs.Items.{Call, Emit, Reply, Run, Warn, puts}
 use Rattle.thread_model.specs.Methods.{method_at}
 use Rattle.thread_model.specs.Settings.{Settings}
-use Rattle.thread_model.specs.State.{State, without_connections}
+use Rattle.thread_model.specs.State.{without_connections}
 
 module _ (settings : Settings) (target signal : ℕ) (args : List Value) (depth : ℕ) (doing : Doing) where
   -- an object that has gone sends nothing

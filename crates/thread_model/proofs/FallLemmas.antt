@@ -1,12 +1,12 @@
 -- With each item that is done a measure falls.
-use Rattle.std.proofs.Common.{◌≡◌, ◌<◌, ◌≤◌, ◌+◌, ◌-◌, ◌*◌, ◌==◌, ℕ, suc, Bool, true, false, not, cond, List, [], ◌∷◌, ◌++◌, length, take, map, filter, max, Option, Some, None, Ok, Err, refl, sym, subst, ap, ◌∙◌, nat_le, arith}
+use Rattle.std.proofs.Common.{◌≡◌, ◌<◌, ◌≤◌, ◌+◌, ◌*◌, ◌==◌, ℕ, suc, Bool, true, false, not, cond, List, [], ◌∷◌, ◌++◌, length, take, filter, max, Option, Some, None, Ok, Err, refl, ap, nat_le, arith}
 use Rattle.std.specs.Option.{option_map_or}
 use Rattle.std.proofs.Math.Nat.{mul-le-mul_right, suc-mul}
 use Rattle.std.proofs.lemmas.List.{length-append, length-map}
-use Rattle.std.proofs.lemmas.Bool.{cond_both, ne_eqb, eqb-false}
+use Rattle.std.proofs.lemmas.Bool.{cond_both, eqb-false}
 use Rattle.refusals.specs.declared.code.Code.TheVariants.{Limit, TurnsUsedUp}
 use Rattle.variant_value.specs.declared.value.Value.{Value}
-use Rattle.term_core.specs.Act.{Acts, acts_of, counts, effect, when}
+use Rattle.term_core.specs.Act.{Acts, acts_of, effect, when}
 use Rattle.class_table.specs.declared.class.Method.{Method}
 use Rattle.connection_types.specs.declared.callee.Callee.{Callee}
 use Rattle.connection_types.specs.declared.callee.Callee.TheVariants as callee
@@ -16,14 +16,13 @@ use Rattle.connection_list.specs.declared.list.TheConstants.{CONNECTIONS}
 use Rattle.connection_list.specs.declared.pattern.Pattern.{Pattern}
 use Rattle.connection_list.specs.Ends.{calls, matches, touches}
 use Rattle.connection_list.specs.Rows.{has_number, numbered}
-use Rattle.object_tree.specs.declared.row.Row.{Row}
 use Rattle.object_tree.specs.Rows.{children, has_number as has_object, is_there}
-use Rattle.object_tree.specs.Changes.{changed, marked, orphaned, removed}
+use Rattle.object_tree.specs.Changes.{marked, orphaned, removed}
 use Rattle.thread_model.specs.declared.call.TheConstants.{NESTED_SIGNALS}
 use Rattle.thread_model.specs.declared.line.Line.{Line}
 use Rattle.thread_model.specs.declared.line.Line.TheVariants as line
 use Rattle.thread_model.specs.declared.line.Line.TheVariants.{Warning}
-use Rattle.thread_model.specs.Acts.{acts, branch, chosen}
+use Rattle.thread_model.specs.Acts.{acts, chosen}
 use Rattle.thread_model.specs.Agenda.{call_line, called, callee_items, calls_of, emitted, kins, lives, lives_below, method_items, ran, stands, step, with_turn}
 use Rattle.thread_model.specs.Doing.{Doing, connected, disconnected, dying, gone, in_state, reparented, retitled, shot, told, turn_taken, untied, used_up}
 use Rattle.thread_model.specs.Items.{Act, Call, Cut, Delete, Emit, Gone, Item, Kin, Next, Reply, Run, Warn, puts}
@@ -34,7 +33,7 @@ use Rattle.thread_model.specs.State.{State, without_connections}
 use Rattle.thread_model.specs.Targets.{truth_evaluated}
 use Rattle.thread_model.proofs.ActLemmas.{acted_cases}
 use Rattle.thread_model.proofs.ConnectionLemmas.{IsAllowed}
-use Rattle.thread_model.proofs.LivingLemmas.{AreAsMany, all_orphaned-living, few_children, filter-fewer, filter-living, living_rows, marked-one, reparented-as_many}
+use Rattle.thread_model.proofs.LivingLemmas.{all_orphaned-living, few_children, filter-fewer, filter-living, living_rows, marked-one, reparented-as_many}
 use Rattle.thread_model.proofs.WeightLemmas.{act-some, acts-weight, body-size, calls-weight, choice-weight, kins-weight, weight-some}
 
 -- nothing that bounds the run has grown

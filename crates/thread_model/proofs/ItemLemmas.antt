@@ -1,5 +1,5 @@
 -- Each item keeps a session under way.
-use Rattle.std.proofs.Common.{◌≡◌, ◌==◌, ◌||◌, ℕ, Bool, true, false, cond, List, [], ◌∷◌, ◌++◌, Option, Some, None, Ok, Err, filter, map, length, nat_le, take, refl, ◌+◌}
+use Rattle.std.proofs.Common.{◌≡◌, ◌==◌, ℕ, Bool, true, false, List, [], ◌∷◌, ◌++◌, Option, Some, None, Ok, Err, filter, map, length, nat_le, take, refl, ◌+◌}
 use Rattle.std.specs.List.{list_any}
 use Rattle.std.specs.Option.{option_map_or}
 use Rattle.std.proofs.lemmas.Bool.{cond_both}
@@ -14,9 +14,9 @@ use Rattle.connection_list.specs.Ends.{calls}
 use Rattle.object_tree.specs.Rows.{children, is_there}
 use Rattle.thread_model.specs.declared.call.TheConstants.{NESTED_SIGNALS}
 use Rattle.thread_model.specs.declared.line.Line.TheVariants as line
-use Rattle.thread_model.specs.Acts.{acts, branch, chosen}
+use Rattle.thread_model.specs.Acts.{acts, chosen}
 use Rattle.thread_model.specs.Agenda.{call_line, called, callee_items, calls_of, emitted, kins, lives, lives_below, method_items, ran, stands, step, with_turn}
-use Rattle.thread_model.specs.Doing.{Doing, connected, disconnected, dying, gone, reparented, retitled, shot, told, turn_taken, untied, used_up}
+use Rattle.thread_model.specs.Doing.{Doing, dying, shot, told, turn_taken, untied, used_up}
 use Rattle.thread_model.specs.Items.{Act, Call, Cut, Delete, Emit, Gone, Item, Kin, Next, Reply, Run, Warn, puts}
 use Rattle.thread_model.specs.Methods.{Found, method_at}
 use Rattle.thread_model.specs.Settings.{Settings}

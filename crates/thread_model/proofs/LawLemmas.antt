@@ -37,11 +37,11 @@ use Rattle.thread_model.specs.Properties.{stores}
 use Rattle.thread_model.specs.Refusing.{class_refusal, refusal}
 use Rattle.thread_model.specs.Run.{run}
 use Rattle.thread_model.specs.Signals.{asked_connection, asked_method, asked_pattern, connects, disconnects, invoked, invokes}
-use Rattle.thread_model.specs.State.{IsSound, IsWhole, State, with_title, without_connections}
+use Rattle.thread_model.specs.State.{IsSound, IsWhole, State, with_title}
 use Rattle.thread_model.specs.Thread.{Settings, arrives, does, performs}
-use Rattle.thread_model.specs.UnderWay.{IsBrokenInTime, IsUnderWay, is_gone}
+use Rattle.thread_model.specs.UnderWay.{IsUnderWay, is_gone}
 use Rattle.thread_model.proofs.ActLemmas.{Joins, joins}
-use Rattle.thread_model.proofs.ConnectionLemmas.{IsAllowed, allowed}
+use Rattle.thread_model.proofs.ConnectionLemmas.{allowed}
 use Rattle.thread_model.proofs.DyingLemmas.{each_added, each_reparented}
 use Rattle.thread_model.proofs.ItemLemmas.{item_under_way}
 use Rattle.thread_model.proofs.RunLemmas.{run_keeps}

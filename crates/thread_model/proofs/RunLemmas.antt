@@ -1,11 +1,10 @@
 -- The run of an agenda comes to its end.
-use Rattle.std.proofs.Common.{◌≡◌, ◌<◌, ◌≤◌, ◌+◌, ◌*◌, ℕ, zero, suc, List, [], ◌∷◌, ◌++◌, refl, sym, ap, ◌∙◌, append_assoc, length, max, arith}
+use Rattle.std.proofs.Common.{◌≡◌, ◌<◌, ◌≤◌, ◌+◌, ◌*◌, ℕ, zero, suc, List, [], ◌∷◌, ◌++◌, refl, sym, ap, ◌∙◌, append_assoc, arith}
 use Rattle.std.proofs.Math.Nat.{mul-le-mul_left}
-use Rattle.connection_list.specs.declared.list.TheConstants.{CONNECTIONS}
 use Rattle.thread_model.specs.Agenda.{step}
 use Rattle.thread_model.specs.Doing.{Doing}
 use Rattle.thread_model.specs.Items.{Item}
-use Rattle.thread_model.specs.Run.{Most, RunsToItsEnd, deletion_weight, enough, living, longest_body, most, run, steps, turn_weight, weight, weights}
+use Rattle.thread_model.specs.Run.{Most, RunsToItsEnd, deletion_weight, enough, living, most, run, steps, turn_weight, weights}
 use Rattle.thread_model.specs.Settings.{Settings}
 use Rattle.thread_model.proofs.FallLemmas.{FallsTo, Shrinks, falls, total}
 use Rattle.thread_model.proofs.LivingLemmas.{living_rows}

@@ -1,6 +1,6 @@
 -- The rule of each command for signals and slots: why it is refused, what it does where it is not, and
 -- both together; and each way that it goes.
-use Rattle.std.proofs.Common.{◌≡◌, ◌<◌, ◌+◌, ◌==◌, ◌++◌, ℕ, Bool, true, false, List, [], ◌∷◌, Option, Some, None, Ok, Err, count_by, refl, ap, ◌∙◌, arith}
+use Rattle.std.proofs.Common.{◌≡◌, ◌<◌, ◌+◌, ◌==◌, ℕ, Bool, true, false, List, [], ◌∷◌, Option, Some, None, Ok, count_by, refl, ap, ◌∙◌, arith}
 use Rattle.std.specs.Option.{option_or}
 use Rattle.std.specs.Result.{result_err, result_unwrap_or}
 use Rattle.std.proofs.lemmas.Bool.{cond-false, cond-true}
@@ -19,7 +19,7 @@ use Rattle.thread_model.specs.Connecting.{connection_refusal}
 use Rattle.thread_model.specs.Doing.{begun, turn_taken, used_up}
 use Rattle.thread_model.specs.Effects.{does_next, replies, unless}
 use Rattle.thread_model.specs.Items.{Emit, Next, Run, puts}
-use Rattle.thread_model.specs.Methods.{Found, is_signal_at, methods_of, signature_in}
+use Rattle.thread_model.specs.Methods.{is_signal_at, methods_of, signature_in}
 use Rattle.thread_model.specs.Refusing.{refusal, values_refusal}
 use Rattle.thread_model.specs.Signals.{asked_connection, asked_method, asked_pattern, asked_values, connects, disconnects, disconnects_one, invoked, invokes}
 use Rattle.thread_model.specs.State.{State, with_connection, without_connections}

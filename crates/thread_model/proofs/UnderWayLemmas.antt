@@ -1,12 +1,11 @@
 -- What each item leaves of a session under way.
-use Rattle.std.proofs.Common.{◌≡◌, ◌==◌, ◌||◌, ◌&&◌, ◌+◌, ℕ, Bool, true, false, not, cond, List, [], ◌∷◌, ◌++◌, Option, Some, None, filter, map, refl, sym, ap, ◌∙◌, subst, nat_le, ⊎_elim}
+use Rattle.std.proofs.Common.{◌≡◌, ◌==◌, ◌||◌, ◌&&◌, ◌+◌, ℕ, Bool, true, false, not, cond, List, [], ◌∷◌, ◌++◌, Option, None, filter, refl, sym, ap, ◌∙◌}
 use Rattle.std.specs.Cmp.{nat_eq_equiv}
 use Rattle.std.specs.List.{All, AllByRecursion, list_any}
-use Rattle.std.specs.Option.{option_map_or}
-use Rattle.std.proofs.lemmas.Bool.{cases_Bool, cond_both, eqb-true, or_cases, or_left, or_right}
+use Rattle.std.proofs.lemmas.Bool.{cond_both, or_left, or_right}
 use Rattle.std.proofs.lemmas.List.Elements.{All-filter, All-from_recursion, All-push, All-weaker, recursion_from_All}
 use Rattle.std.proofs.lemmas.List.Folds.{list_any-append}
-use Rattle.refusals.specs.declared.code.Code.TheVariants.{Limit, TurnsUsedUp}
+use Rattle.refusals.specs.declared.code.Code.TheVariants.{TurnsUsedUp}
 use Rattle.signature_core.specs.declared.kind.Kind.TheVariants as k
 use Rattle.variant_value.specs.declared.value.Value.{Value}
 use Rattle.variant_value.specs.Values.{IsOfKind}
@@ -20,11 +19,11 @@ use Rattle.object_tree.specs.Rows.{is_there}
 use Rattle.thread_model.specs.declared.line.Line.{Line}
 use Rattle.thread_model.specs.declared.line.Line.TheVariants.{Warning}
 use Rattle.thread_model.specs.Doing.{Doing, connected, disconnected, dying, gone, in_state, reparented, retitled, shot, told, turn_taken, untied, used_up}
-use Rattle.thread_model.specs.Items.{Act, Call, Cut, Delete, Emit, Gone, Item, Kin, Next, Reply, Run, Warn, puts}
-use Rattle.thread_model.specs.State.{IsSound, IsWhole, State, with_connection, without_connections}
+use Rattle.thread_model.specs.Items.{Cut, Gone, Item}
+use Rattle.thread_model.specs.State.{State, without_connections}
 use Rattle.thread_model.specs.UnderWay.{IsBrokenInTime, IsUnderWay, is_gone, is_untied_first, lets_go, unties}
-use Rattle.thread_model.proofs.ConnectionLemmas.{Ends, IsAllowed, OfEnds}
-use Rattle.thread_model.proofs.DyingLemmas.{OfEach, Stands, each_marked, each_removed, each_reparented, of_row, stands_living}
+use Rattle.thread_model.proofs.ConnectionLemmas.{IsAllowed, OfEnds}
+use Rattle.thread_model.proofs.DyingLemmas.{Stands, each_marked, each_removed, each_reparented, of_row, stands_living}
 use Rattle.thread_model.proofs.StateLemmas.{whole_with_connection, whole_with_dying, whole_with_parent, whole_with_title, whole_without_connections, whole_without_object}
 
 -- an object is dying exactly where an agenda is to let it go

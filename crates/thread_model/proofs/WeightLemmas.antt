@@ -1,5 +1,5 @@
 -- How many items an agenda weighs.
-use Rattle.std.proofs.Common.{◌≡◌, ◌<◌, ◌≤◌, ◌+◌, ◌*◌, ◌==◌, ℕ, Bool, true, false, cond, List, [], ◌∷◌, ◌++◌, length, map, max, reverse, Option, Some, None, slice_get, refl, sym, subst, ap, ◌∙◌, arith}
+use Rattle.std.proofs.Common.{◌≡◌, ◌<◌, ◌≤◌, ◌+◌, ◌*◌, ◌==◌, ℕ, Bool, true, false, cond, List, [], ◌∷◌, ◌++◌, length, map, max, reverse, Option, Some, None, slice_get, refl, subst, ap, arith}
 use Rattle.std.specs.List.{All}
 use Rattle.std.specs.Option.{option_map_or}
 use Rattle.std.proofs.Math.Nat.{add-mul, mul-le-mul_left, mul-le-mul_right}
@@ -19,7 +19,7 @@ use Rattle.object_tree.specs.Rows.{row_of}
 use Rattle.thread_model.specs.Acts.{acts}
 use Rattle.thread_model.specs.Items.{Act, Call, Cut, Delete, Emit, Gone, Item, Kin, Reply, Run, Warn}
 use Rattle.thread_model.specs.Methods.{method_at, methods_of}
-use Rattle.thread_model.specs.Run.{Most, longest_body, turn_weight, weight, weights}
+use Rattle.thread_model.specs.Run.{Most, longest_body, weight, weights}
 use Rattle.thread_model.specs.Settings.{Settings}
 use Rattle.thread_model.specs.State.{State}
 

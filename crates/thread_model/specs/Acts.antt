@@ -1,6 +1,6 @@
 -- What an action of a slot's body does, and why it is refused.
-use Rattle.std.specs.Prelude.{ℕ, Bool, true, false, List, [], ◌∷◌, Option, Some, None, Result, Ok, Err, if◌then◌else◌}
-use Rattle.std.specs.Option.{option_map, option_map_or, option_or}
+use Rattle.std.specs.Prelude.{ℕ, Bool, true, false, List, [], ◌∷◌, Option, Some, None, Ok, Err, if◌then◌else◌}
+use Rattle.std.specs.Option.{option_map, option_or}
 use Rattle.std.specs.Result.{result_err}
 use Rattle.refusals.specs.declared.code.Code.{Code}
 use Rattle.refusals.specs.declared.code.Code.TheVariants.{BadValue}
@@ -23,7 +23,7 @@ use Rattle.thread_model.specs.Items.{Act, Delete, Emit, Item, Next, Warn, puts}
 use Rattle.thread_model.specs.Methods.{Found, ◌>>=◌, kinds_at, method_with, methods_of, signal_with}
 use Rattle.thread_model.specs.Settings.{Settings}
 use Rattle.thread_model.specs.State.{State}
-use Rattle.thread_model.specs.Targets.{all_converted, all_evaluated, evaluated, is_title, named_object_of, object_of, title_evaluated, truth_evaluated}
+use Rattle.thread_model.specs.Targets.{all_converted, all_evaluated, is_title, named_object_of, object_of, title_evaluated}
 
 -- the actions of a body or of a branch, each to be done
 abbrev pub acts : Acts → List Value → ℕ → ℕ → ℕ → List Item

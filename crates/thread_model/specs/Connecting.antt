@@ -1,5 +1,5 @@
 -- Which connection is to be made, and which are to be broken.
-use Rattle.std.specs.Prelude.{ℕ, Bool, Option, Some, None, Result, Ok, Err, if◌then◌else◌}
+use Rattle.std.specs.Prelude.{ℕ, Bool, Option, Some, None, Ok, Err, if◌then◌else◌}
 use Rattle.std.specs.Option.{option_map_or, option_transpose}
 use Rattle.refusals.specs.declared.code.Code.{Code}
 use Rattle.refusals.specs.declared.code.Code.TheVariants.{DoesNotFit}

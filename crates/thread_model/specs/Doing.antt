@@ -1,6 +1,5 @@
 -- A session while it does a command, and what becomes of it.
-use Rattle.std.specs.Prelude.{◌+◌, ◌-◌, ◌==◌, ℕ, Bool, true, false, List, [], ◌∷◌, ◌++◌, Option, None, if◌then◌else◌}
-use Rattle.refusals.specs.declared.code.Code.{Code}
+use Rattle.std.specs.Prelude.{◌-◌, ℕ, Bool, true, false, List, [], ◌∷◌, ◌++◌, Option, None, if◌then◌else◌}
 use Rattle.refusals.specs.declared.code.Code.TheVariants.{TurnsUsedUp}
 use Rattle.variant_value.specs.declared.value.Value.{Value}
 use Rattle.object_tree.specs.Changes.{marked}

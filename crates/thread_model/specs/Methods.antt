@@ -1,6 +1,6 @@
 -- The methods of objects, by signature and by text.
 use Rattle.std.specs.Prelude.{ℕ, Bool, false, List, [], Option, Result, Ok, Err, slice_get, if◌then◌else◌}
-use Rattle.std.specs.Option.{ok_or, option_and_then, option_map_or}
+use Rattle.std.specs.Option.{ok_or, option_map_or}
 use Rattle.refusals.specs.declared.code.Code.{Code}
 use Rattle.refusals.specs.declared.code.Code.TheVariants.{BadSignature, NoSuchMethod}
 use Rattle.signature_core.specs.declared.kind.Kind.{Kind}

@@ -1,10 +1,9 @@
 -- What the commands for signals and slots do, where they are not refused.
-use Rattle.std.specs.Prelude.{◌+◌, ℕ, Bool, true, false, List, [], ◌∷◌, ◌++◌, Option, Some, None, Result, Ok, Err, count_by, if◌then◌else◌}
+use Rattle.std.specs.Prelude.{◌+◌, ℕ, Bool, true, false, List, [], ◌∷◌, Option, Some, None, Ok, Err, count_by, if◌then◌else◌}
 use Rattle.std.specs.List.{list_any}
-use Rattle.std.specs.Option.{option_and_then, option_map, option_map_or}
+use Rattle.std.specs.Option.{option_and_then, option_map}
 use Rattle.std.specs.Result.{result_unwrap_or}
 use Rattle.isolation.specs.Machine.{Effect}
-use Rattle.refusals.specs.declared.code.Code.{Code}
 use Rattle.refusals.specs.declared.code.Code.TheVariants.{BadValue, Limit}
 use Rattle.serde_json.specs.Data.{Data}
 use Rattle.signature_core.specs.declared.kind.Kind.{Kind}
@@ -22,9 +21,9 @@ use Rattle.thread_model.specs.declared.line.Line.{Line}
 use Rattle.thread_model.specs.declared.post.Post.{Post}
 use Rattle.thread_model.specs.Agenda.{with_turn}
 use Rattle.thread_model.specs.Connecting.{new_connection, pattern_with}
-use Rattle.thread_model.specs.Doing.{Doing, begun}
+use Rattle.thread_model.specs.Doing.{begun}
 use Rattle.thread_model.specs.Effects.{does_next, refuses, replies}
-use Rattle.thread_model.specs.Items.{Emit, Item, Next, Reply, Run, puts}
+use Rattle.thread_model.specs.Items.{Emit, Next, Run, puts}
 use Rattle.thread_model.specs.Methods.{Found, is_signal_at, kinds_at, method_named, methods_of, signal_named}
 use Rattle.thread_model.specs.Settings.{Settings}
 use Rattle.thread_model.specs.State.{State, with_connection, without_connections}

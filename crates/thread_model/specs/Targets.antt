@@ -1,7 +1,6 @@
 -- The objects that an action names, and the values of its expressions.
-use Rattle.std.specs.Prelude.{ℕ, Bool, List, [], ◌∷◌, Option, Result, Ok, Err, codes, bytes_eq, if◌then◌else◌}
+use Rattle.std.specs.Prelude.{ℕ, Bool, List, [], ◌∷◌, Option, Ok, Err, codes, bytes_eq, if◌then◌else◌}
 use Rattle.std.specs.Option.{ok_or, option_map, option_map_or, unwrap_or}
-use Rattle.refusals.specs.declared.code.Code.{Code}
 use Rattle.refusals.specs.declared.code.Code.TheVariants.{BadValue, NoSuchObject, NoSuchProperty}
 use Rattle.signature_core.specs.declared.kind.Kind.{Kind}
 use Rattle.variant_value.specs.declared.value.Value.{Value}
@@ -10,7 +9,7 @@ use Rattle.term_core.specs.declared.target.Target.{Target}
 use Rattle.term_core.specs.declared.target.Target.TheVariants.{Itself, Sender, Child, Object}
 use Rattle.term_core.specs.Term.{Term}
 use Rattle.term_evaluation.specs.Evaluation.{eval_by}
-use Rattle.term_evaluation.specs.Outcomes.{Answer, Cause, own, refused}
+use Rattle.term_evaluation.specs.Outcomes.{Answer, own, refused}
 use Rattle.object_tree.specs.Finding.{found_below}
 use Rattle.object_tree.specs.Rows.{is_there}
 use Rattle.thread_model.specs.Methods.{Found, ◌>>=◌}
