@@ -1,47 +1,34 @@
 -- With each item that is done a measure falls.
-use Rattle.std.proofs.Common.{◌≡◌, ◌<◌, ◌≤◌, ◌+◌, ◌*◌, ◌==◌, ℕ, suc, Bool, true, false, not, cond, List, [], ◌∷◌, ◌++◌, length, take, filter, max, Option, Some, None, Ok, Err, refl, ap, nat_le, arith}
+use Rattle.std.proofs.Common.{◌≡◌, ◌<◌, ◌≤◌, ◌+◌, ◌*◌, ◌==◌, ℕ, suc, Bool, true, false, List, [], ◌∷◌, length, take, filter, Option, Some, None, Ok, Err, refl, ap, nat_le, arith}
 use Rattle.std.specs.Option.{option_map_or}
 use Rattle.std.proofs.Math.Nat.{mul-le-mul_right, suc-mul}
-use Rattle.std.proofs.lemmas.List.{length-append, length-map}
-use Rattle.std.proofs.lemmas.Bool.{cond_both, eqb-false}
-use Rattle.refusals.specs.declared.code.Code.TheVariants.{Limit, TurnsUsedUp}
+use Rattle.std.proofs.lemmas.Bool.{cond_both}
+use Rattle.refusals.specs.declared.code.Code.TheVariants.{Limit}
 use Rattle.variant_value.specs.declared.value.Value.{Value}
 use Rattle.term_core.specs.Act.{Acts, acts_of, effect, when}
 use Rattle.class_table.specs.declared.class.Method.{Method}
 use Rattle.connection_types.specs.declared.callee.Callee.{Callee}
 use Rattle.connection_types.specs.declared.callee.Callee.TheVariants as callee
 use Rattle.connection_list.specs.declared.connection.Connection.{Connection}
-use Rattle.connection_list.specs.declared.connection.NewConnection.{NewConnection}
-use Rattle.connection_list.specs.declared.list.TheConstants.{CONNECTIONS}
-use Rattle.connection_list.specs.declared.pattern.Pattern.{Pattern}
-use Rattle.connection_list.specs.Ends.{calls, matches, touches}
-use Rattle.connection_list.specs.Rows.{has_number, numbered}
-use Rattle.object_tree.specs.Rows.{children, has_number as has_object, is_there}
-use Rattle.object_tree.specs.Changes.{marked, orphaned, removed}
+use Rattle.connection_list.specs.Ends.{calls}
+use Rattle.object_tree.specs.Rows.{children, is_there}
+use Rattle.object_tree.specs.Changes.{marked}
 use Rattle.thread_model.specs.declared.call.TheConstants.{NESTED_SIGNALS}
-use Rattle.thread_model.specs.declared.line.Line.{Line}
 use Rattle.thread_model.specs.declared.line.Line.TheVariants as line
 use Rattle.thread_model.specs.declared.line.Line.TheVariants.{Warning}
 use Rattle.thread_model.specs.Acts.{acts, chosen}
 use Rattle.thread_model.specs.Agenda.{call_line, called, callee_items, calls_of, emitted, kins, lives, lives_below, method_items, ran, stands, step, with_turn}
-use Rattle.thread_model.specs.Doing.{Doing, connected, disconnected, dying, gone, in_state, reparented, retitled, shot, told, turn_taken, untied, used_up}
+use Rattle.thread_model.specs.Doing.{Doing, connected, disconnected, dying, gone, reparented, retitled, shot, told, turn_taken, untied, used_up}
 use Rattle.thread_model.specs.Items.{Act, Call, Cut, Delete, Emit, Gone, Item, Kin, Next, Reply, Run, Warn, puts}
 use Rattle.thread_model.specs.Methods.{Found, method_at}
 use Rattle.thread_model.specs.Run.{Most, deletion_weight, most, turn_weight, weight, weights}
 use Rattle.thread_model.specs.Settings.{Settings}
-use Rattle.thread_model.specs.State.{State, without_connections}
+use Rattle.thread_model.specs.State.{State}
 use Rattle.thread_model.specs.Targets.{truth_evaluated}
 use Rattle.thread_model.proofs.ActLemmas.{acted_cases}
-use Rattle.thread_model.proofs.ConnectionLemmas.{IsAllowed}
-use Rattle.thread_model.proofs.LivingLemmas.{all_orphaned-living, few_children, filter-fewer, filter-living, living_rows, marked-one, reparented-as_many}
+use Rattle.thread_model.proofs.LivingLemmas.{few_children, filter-fewer, living_rows}
 use Rattle.thread_model.proofs.WeightLemmas.{act-some, acts-weight, body-size, calls-weight, choice-weight, kins-weight, weight-some}
-
--- nothing that bounds the run has grown
-pub record Shrinks (old new : Doing) : Type 0 where
-  pub turns : new.turns ≤ old.turns
-  pub living : living_rows new.state.forest.rows ≤ living_rows old.state.forest.rows
-  pub objects : length new.state.forest.rows ≤ length old.state.forest.rows
-  pub connections : max CONNECTIONS (length new.state.connections.rows) ≤ max CONNECTIONS (length old.state.connections.rows)
+use Rattle.thread_model.proofs.ShrinkLemmas.{Shrinks, both, connected_shrinks, disconnected_shrinks, dying_less, dying_shrinks, gone_shrinks, reparented_shrinks, retitled_shrinks, same, shot_shrinks, told_shrinks, turn_shrinks, turn_taken-less, untied_shrinks, used_up_shrinks}
 
 abbrev pub total : Most → Doing → ℕ → ℕ
 total n doing items = doing.turns * turn_weight n + living_rows doing.state.forest.rows * deletion_weight n + items
@@ -50,100 +37,6 @@ total n doing items = doing.turns * turn_weight n + living_rows doing.state.fore
 pub record FallsTo (settings : Settings) (item : Item) (doing : Doing) (next : Next) : Type 0 where
   pub shrinks : Shrinks doing next.doing
   pub lower : total (most settings doing) next.doing (weights (most settings doing) next.items) < total (most settings doing) doing (weight (most settings doing) item)
-
-same : (doing : Doing) → Shrinks doing doing
-same doing = record { turns = omega arith; living = omega arith; objects = omega arith; connections = omega arith }
-
-both : (one two three : Doing) → Shrinks one two → Shrinks two three → Shrinks one three
-both one two three first second = record {
-  turns = omega (arith, first.turns, second.turns);
-  living = omega (arith, first.living, second.living);
-  objects = omega (arith, first.objects, second.objects);
-  connections = omega (arith, first.connections, second.connections);
-}
-
--- fewer rows are no more of them
-kept : (n : ℕ) (test : Connection → Bool) (rows : List Connection) → max n (length (filter test rows)) ≤ max n (length rows)
-kept n test rows = let fewer = filter-fewer test rows in omega (arith, fewer)
-
-told_shrinks : (doing : Doing) (said : Line) → Shrinks doing (told doing said)
-unfolding told
-told_shrinks doing said = record { turns = omega arith; living = omega arith; objects = omega arith; connections = omega arith }
-
-used_up_shrinks : (doing : Doing) → Shrinks doing (used_up doing)
-unfolding used_up
-used_up_shrinks doing =
-    cond_both doing.spent doing (record doing { spent = true; lines = doing.lines ++ Warning TurnsUsedUp None ∷ [] }) (Shrinks doing)
-    (λ spent. same doing)
-    (λ fresh. record { turns = omega arith; living = omega arith; objects = omega arith; connections = omega arith })
-
-turn_shrinks : (doing : Doing) → Shrinks doing (turn_taken doing)
-unfolding turn_taken
-turn_shrinks doing = record { turns = omega arith; living = omega arith; objects = omega arith; connections = omega arith }
-
-turn_taken-less : (doing : Doing) → (doing.turns == 0) ≡ false → (turn_taken doing).turns + 1 ≤ doing.turns
-unfolding turn_taken
-turn_taken-less doing some = let more = eqb-false doing.turns 0 some in omega (arith, more)
-
-shot_shrinks : (doing : Doing) (row : Connection) → Shrinks doing (shot doing row)
-unfolding shot
-shot_shrinks doing row =
-    cond_both row.single (in_state doing (without_connections doing.state (has_number row.number))) doing (Shrinks doing)
-    (λ single. record { turns = omega arith; living = omega arith; objects = omega arith; connections = kept CONNECTIONS (λ other. not (has_number row.number other)) doing.state.connections.rows })
-    (λ lasting. same doing)
-
-untied_shrinks : (doing : Doing) (target : ℕ) → Shrinks doing (untied doing target)
-unfolding untied
-untied_shrinks doing target = record { turns = omega arith; living = omega arith; objects = omega arith; connections = kept CONNECTIONS (λ row. not (touches target row)) doing.state.connections.rows }
-
-disconnected_shrinks : (doing : Doing) (pattern : Pattern) → Shrinks doing (disconnected doing pattern)
-unfolding disconnected
-disconnected_shrinks doing pattern = record { turns = omega arith; living = omega arith; objects = omega arith; connections = kept CONNECTIONS (λ row. not (matches pattern row)) doing.state.connections.rows }
-
-connected_shrinks : (doing : Doing) (new : NewConnection) → IsAllowed doing.state.connections → Shrinks doing (connected doing new)
-unfolding connected
-connected_shrinks doing new allowed = record {
-  turns = omega arith;
-  living = omega arith;
-  objects = omega arith;
-  connections = omega (arith, allowed.room, length-append doing.state.connections.rows (numbered (doing.state.connections.last_number + 1) new ∷ []));
-}
-
-retitled_shrinks : (doing : Doing) (target : ℕ) (title : Value) → Shrinks doing (retitled doing target title)
-unfolding retitled
-retitled_shrinks doing target title = record { turns = omega arith; living = omega arith; objects = omega arith; connections = omega arith }
-
-reparented_shrinks : (doing : Doing) (target : ℕ) (parent : Option ℕ) → Shrinks doing (reparented doing target parent)
-unfolding reparented
-reparented_shrinks doing target parent =
-    let many = reparented-as_many doing.state.forest target parent in
-    record { turns = omega arith; living = omega (arith, many.living); objects = omega (arith, many.objects); connections = omega arith }
-
-gone_shrinks : (doing : Doing) (target : ℕ) → Shrinks doing (gone doing target)
-unfolding gone removed
-gone_shrinks doing target =
-    let rows = doing.state.forest.rows in
-    let left = filter (λ row. not (has_object target row)) rows in
-    let fewer = filter-fewer (λ row. not (has_object target row)) rows in
-    let mapped = length-map left (orphaned target) in
-    record {
-      turns = omega arith;
-      living = omega (arith, all_orphaned-living target left, filter-living (λ row. not (has_object target row)) rows);
-      objects = omega (arith, fewer, mapped);
-      connections = omega arith;
-    }
-
--- marking a living object as dying leaves fewer living ones
-dying_less : (doing : Doing) (target : ℕ) → lives doing target ≡ true → living_rows (dying doing target).state.forest.rows + 1 ≤ living_rows doing.state.forest.rows
-unfolding dying marked
-dying_less doing target lives = let less = marked-one target doing.state.forest.rows lives in omega (arith, less)
-
-dying_shrinks : (doing : Doing) (target : ℕ) → lives doing target ≡ true → Shrinks doing (dying doing target)
-unfolding dying marked
-dying_shrinks doing target lives =
-    let less = marked-one target doing.state.forest.rows lives in
-    let mapped = length-map doing.state.forest.rows (λ row. cond (has_object target row) (record row { dying = true }) row) in
-    record { turns = omega arith; living = omega (arith, less); objects = omega (arith, mapped); connections = omega arith }
 
 module _ (settings : Settings) (item : Item) (doing : Doing) where
   -- an item falls to lighter ones

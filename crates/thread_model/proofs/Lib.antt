@@ -4,6 +4,7 @@ pub mod TitleLemmas
 pub mod WeightLemmas
 pub mod ConnectionLemmas
 pub mod ActLemmas
+pub mod ShrinkLemmas
 pub mod FallLemmas
 pub mod RunLemmas
 pub mod StateLemmas

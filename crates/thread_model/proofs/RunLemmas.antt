@@ -6,7 +6,8 @@ use Rattle.thread_model.specs.Doing.{Doing}
 use Rattle.thread_model.specs.Items.{Item}
 use Rattle.thread_model.specs.Run.{Most, RunsToItsEnd, deletion_weight, enough, living, most, run, steps, turn_weight, weights}
 use Rattle.thread_model.specs.Settings.{Settings}
-use Rattle.thread_model.proofs.FallLemmas.{FallsTo, Shrinks, falls, total}
+use Rattle.thread_model.proofs.FallLemmas.{FallsTo, falls, total}
+use Rattle.thread_model.proofs.ShrinkLemmas.{Shrinks, both, same}
 use Rattle.thread_model.proofs.LivingLemmas.{living_rows}
 use Rattle.thread_model.proofs.WeightLemmas.{IsAtMost, weight-some, weights-append, weights-more}
 
@@ -110,6 +111,10 @@ module _ (settings : Settings) where
 
   pub in_parts : (one other : List Item) (doing : Doing) → run settings (one ++ other) doing ≡ run settings other (run settings one doing)
   in_parts one other doing = parts_within (enough settings one doing) one other doing (omega arith)
+
+  -- a run leaves no more turns, living objects and connections than there were
+  pub run_shrinks : (agenda : List Item) (doing : Doing) → Shrinks doing (run settings agenda doing)
+  run_shrinks agenda doing = run_keeps (λ items new. Shrinks doing new) (λ item rest new before. both doing new (step settings item new).doing before (falls settings item new).shrinks) agenda doing (same doing)
 
 pub runs_to_its_end : RunsToItsEnd
 runs_to_its_end = record { at_end = at_end; at_item = at_item; in_parts = in_parts }
