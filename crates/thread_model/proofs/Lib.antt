@@ -12,6 +12,7 @@ pub mod UnderWayLemmas
 pub mod ItemLemmas
 pub mod LawLemmas
 pub mod InPlaceLemmas
+pub mod LaterLemmas
 pub mod Lawful
 pub mod EmissionLemmas
 pub mod DeletionLemmas
