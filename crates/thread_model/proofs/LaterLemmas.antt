@@ -4,6 +4,8 @@ use Rattle.std.proofs.Common.{◌≡◌, ◌<◌, ◌≤◌, ◌+◌, ◌==◌, 
 use Rattle.std.specs.List.{list_any}
 use Rattle.std.specs.Option.{option_map_or}
 use Rattle.std.proofs.lemmas.Bool.{cases_Bool, cond_both}
+use Rattle.std.proofs.lemmas.List.{append-nil}
+use Rattle.std.proofs.lemmas.List.Elements.{filter-append}
 use Rattle.std.proofs.lemmas.List.Elements.{All-append, All-cons, All-filter, All-nil, All-weaker}
 use Rattle.refusals.specs.declared.code.Code.TheVariants.{Limit, TurnsUsedUp}
 use Rattle.variant_value.specs.declared.value.Value.{Value}
@@ -30,6 +32,7 @@ use Rattle.thread_model.specs.Settings.{Settings}
 use Rattle.thread_model.specs.State.{without_connections}
 use Rattle.thread_model.specs.Targets.{truth_evaluated}
 use Rattle.thread_model.proofs.ActLemmas.{acted_cases}
+use Rattle.thread_model.proofs.FilterLemmas.{filter-all, filter-both}
 use Rattle.thread_model.proofs.RunLemmas.{run_keeps}
 
 -- of the connections some are left, and those that were made since have greater numbers
@@ -40,35 +43,14 @@ pub record IsLater (old new : Rows) : Type 0 where
   pub above : All (λ row. old.last_number < row.number) added
   pub last : old.last_number ≤ new.last_number
 
-filter-both : {X : Type 0} (p q : X → Bool) (xs : List X) → filter q (filter p xs) ≡ filter (λ x. p x && q x) xs
-filter-both p q [] = refl
-filter-both p q (x ∷ xs) = let rest = filter-both p q xs in
-    ⊎_elim
-    (λ e. ⊎_elim (λ f. grind (arith, e, f, rest)) (λ f. grind (arith, e, f, rest)) (cases_Bool (q x)))
-    (λ e. grind (arith, e, rest))
-    (cases_Bool (p x))
-
-filter-append : {X : Type 0} (q : X → Bool) (xs ys : List X) → filter q (xs ++ ys) ≡ filter q xs ++ filter q ys
-filter-append q [] ys = refl
-filter-append q (x ∷ xs) ys = let rest = filter-append q xs ys in
-    ⊎_elim (λ e. grind (arith, e, rest)) (λ e. grind (arith, e, rest)) (cases_Bool (q x))
-
-filter-all : {X : Type 0} (xs : List X) → filter (λ x. true) xs ≡ xs
-filter-all [] = refl
-filter-all (x ∷ xs) = ap (λ rest. x ∷ rest) (filter-all xs)
-
-append-nothing : {X : Type 0} (xs : List X) → xs ≡ xs ++ []
-append-nothing [] = refl
-append-nothing (x ∷ xs) = ap (λ rest. x ∷ rest) (append-nothing xs)
-
 above-nothing : (last : ℕ) → All (λ (row : Connection). last < row.number) []
 above-nothing last = All-nil (λ (row : Connection). last < row.number)
 
 pub later_same : (place : Rows) → IsLater place place
-later_same place = record { left = λ row. true; added = []; rows = sym (filter-all place.rows) ∙ append-nothing (filter (λ row. true) place.rows); above = above-nothing place.last_number; last = omega arith }
+later_same place = record { left = λ row. true; added = []; rows = sym (filter-all place.rows) ∙ sym (append-nil (filter (λ row. true) place.rows)); above = above-nothing place.last_number; last = omega arith }
 
 later_without : (test : Connection → Bool) (place : Rows) → IsLater place (record { rows = filter (λ row. not (test row)) place.rows; last_number = place.last_number })
-later_without test place = record { left = λ row. not (test row); added = []; rows = append-nothing (filter (λ row. not (test row)) place.rows); above = above-nothing place.last_number; last = omega arith }
+later_without test place = record { left = λ row. not (test row); added = []; rows = sym (append-nil (filter (λ row. not (test row)) place.rows)); above = above-nothing place.last_number; last = omega arith }
 
 later_connected : (place : Rows) (new : NewConnection) → IsLater place (record { rows = place.rows ++ numbered (place.last_number + 1) new ∷ []; last_number = place.last_number + 1 })
 later_connected place new = record {

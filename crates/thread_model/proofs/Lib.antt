@@ -12,7 +12,10 @@ pub mod UnderWayLemmas
 pub mod ItemLemmas
 pub mod LawLemmas
 pub mod InPlaceLemmas
+pub mod FilterLemmas
 pub mod LaterLemmas
+pub mod RemainingLemmas
+pub mod NextCallLemmas
 pub mod Lawful
 pub mod EmissionLemmas
 pub mod DeletionLemmas
