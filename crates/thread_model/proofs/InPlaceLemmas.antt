@@ -16,14 +16,14 @@ use Rattle.thread_model.specs.Absence.{absence}
 use Rattle.thread_model.specs.Acts.{acts, chosen, warns_or, with_found}
 use Rattle.thread_model.specs.Agenda.{step}
 use Rattle.thread_model.specs.Doing.{Doing, retitled}
-use Rattle.thread_model.specs.Items.{Act, Emit, Item, Next, puts}
+use Rattle.thread_model.specs.Items.{Act, Emit, Next, puts}
 use Rattle.thread_model.specs.Laws.{ActsInPlace}
 use Rattle.thread_model.specs.Methods.{Found, ◌>>=◌, kinds_at, methods_of, signal_with}
 use Rattle.thread_model.specs.Run.{run}
 use Rattle.thread_model.specs.Settings.{Settings}
 use Rattle.thread_model.specs.State.{State}
 use Rattle.thread_model.specs.Targets.{all_converted, all_evaluated, evaluated, is_title, object_of, outcome, reads, truth_evaluated}
-use Rattle.thread_model.proofs.RunLemmas.{at_end, at_item, in_parts}
+use Rattle.thread_model.proofs.RunLemmas.{at_item, behind_nothing, in_parts}
 
 module _ (settings : Settings) (self sender : ℕ) (args : List Value) where
   evaluated-put_in : (state : State) (term : Term) → evaluated state self sender args term ≡ evaluated state self sender [] (unfolded_term args term)
@@ -56,10 +56,6 @@ module _ (settings : Settings) (self sender : ℕ) (args : List Value) where
   effect-put_in depth doing (e.Block of on) = refl
   effect-put_in depth doing (e.SetParent of parent) = refl
 
-  -- nothing is done after the last item
-  behind_nothing : (items : List Item) (doing : Doing) → run settings (items ++ []) doing ≡ run settings items doing
-  behind_nothing items doing = in_parts settings items [] doing ∙ at_end settings (run settings items doing)
-
   -- a choice, by its test and what its branches come to
   choice-put_in : (test : Term) (held failed : Acts) (depth : ℕ) (doing : Doing)
       → run settings (acts held args self sender depth) doing ≡ run settings (acts (unfolded_acts args held) [] self sender depth) doing
@@ -75,8 +71,8 @@ module _ (settings : Settings) (self sender : ℕ) (args : List Value) where
       after truth = let next = chosen truth (unfolded_acts args held) (unfolded_acts args failed) [] self sender depth doing in run settings (next.items ++ []) next.doing
 
       by : (truth : Found Bool) → (let next = chosen truth held failed args self sender depth doing in run settings (next.items ++ []) next.doing ≡ after truth)
-      by (Ok true) = behind_nothing (acts held args self sender depth) doing ∙ one ∙ sym (behind_nothing (acts (unfolded_acts args held) [] self sender depth) doing)
-      by (Ok false) = behind_nothing (acts failed args self sender depth) doing ∙ other ∙ sym (behind_nothing (acts (unfolded_acts args failed) [] self sender depth) doing)
+      by (Ok true) = behind_nothing settings (acts held args self sender depth) doing ∙ one ∙ sym (behind_nothing settings (acts (unfolded_acts args held) [] self sender depth) doing)
+      by (Ok false) = behind_nothing settings (acts failed args self sender depth) doing ∙ other ∙ sym (behind_nothing settings (acts (unfolded_acts args failed) [] self sender depth) doing)
       by (Err code) = refl
 
   mutual

@@ -1,9 +1,8 @@
 -- What becomes of connections while an agenda is done: some are broken, and those that are made have
 -- greater numbers.
-use Rattle.std.proofs.Common.{◌≡◌, ◌<◌, ◌≤◌, ◌+◌, ◌==◌, ◌||◌, ◌&&◌, ℕ, suc, Bool, true, false, not, cond, List, [], ◌∷◌, ◌++◌, All, Option, Some, None, Ok, Err, filter, nat_le, refl, sym, ap, ◌∙◌, append_assoc, arith, ⊎_elim}
-use Rattle.std.specs.List.{list_any}
+use Rattle.std.proofs.Common.{◌≡◌, ◌<◌, ◌≤◌, ◌+◌, ◌==◌, ◌&&◌, ℕ, Bool, true, not, List, [], ◌∷◌, ◌++◌, All, Option, Some, None, Ok, Err, filter, nat_le, sym, ap, ◌∙◌, append_assoc, arith}
 use Rattle.std.specs.Option.{option_map_or}
-use Rattle.std.proofs.lemmas.Bool.{cases_Bool, cond_both}
+use Rattle.std.proofs.lemmas.Bool.{cond_both}
 use Rattle.std.proofs.lemmas.List.{append-nil}
 use Rattle.std.proofs.lemmas.List.Elements.{filter-append}
 use Rattle.std.proofs.lemmas.List.Elements.{All-append, All-cons, All-filter, All-nil, All-weaker}
@@ -23,7 +22,7 @@ use Rattle.thread_model.specs.declared.line.Line.{Line}
 use Rattle.thread_model.specs.declared.line.Line.TheVariants as line
 use Rattle.thread_model.specs.declared.line.Line.TheVariants.{Warning}
 use Rattle.thread_model.specs.Acts.{chosen}
-use Rattle.thread_model.specs.Agenda.{call_line, called, calls_of, emitted, kins, lives, lives_below, ran, stands, step, with_turn}
+use Rattle.thread_model.specs.Agenda.{call_line, called, calls_of, emitted, lives, lives_below, ran, stands, step, with_turn}
 use Rattle.thread_model.specs.Doing.{Doing, connected, disconnected, dying, gone, in_state, reparented, retitled, shot, told, turn_taken, untied, used_up}
 use Rattle.thread_model.specs.Items.{Act, Call, Cut, Delete, Emit, Gone, Item, Kin, Next, Reply, Run, Warn, puts}
 use Rattle.thread_model.specs.Methods.{Found, method_at}

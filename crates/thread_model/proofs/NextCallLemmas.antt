@@ -1,26 +1,24 @@
 -- An emission calls one connection after another: the next one of greater number, up to the number that was
 -- the last when it began.
-use Rattle.std.proofs.Common.{◌≡◌, ◌<◌, ◌≤◌, ◌+◌, ◌==◌, ◌||◌, ◌&&◌, ℕ, Bool, true, false, cond, List, [], ◌∷◌, ◌++◌, Option, Some, None, filter, find, map, nat_le, nat_lt, refl, sym, ap, ◌∙◌, subst, arith, ⊎_elim}
-use Rattle.std.specs.List.{All, AllByRecursion, list_any}
-use Rattle.std.proofs.lemmas.Bool.{and_left, and_right, cases_Bool, ne_eqb}
+use Rattle.std.proofs.Common.{◌≡◌, ◌<◌, ◌≤◌, ◌||◌, ◌&&◌, ℕ, Bool, true, false, cond, List, [], ◌∷◌, ◌++◌, Some, None, filter, find, map, nat_le, nat_lt, refl, sym, ap, ◌∙◌, arith}
+use Rattle.std.specs.List.{AllByRecursion, list_any}
 use Rattle.std.proofs.lemmas.Bool.Decides.{nat_tests}
 use Rattle.std.proofs.lemmas.List.{append-nil}
 use Rattle.std.proofs.lemmas.List.Elements.{filter-append}
-use Rattle.std.proofs.lemmas.List.Elements.{All-tail, All-head, recursion_from_All}
+use Rattle.std.proofs.lemmas.List.Elements.{recursion_from_All}
 use Rattle.std.proofs.lemmas.List.Folds.{list_any-append}
 use Rattle.variant_value.specs.declared.value.Value.{Value}
 use Rattle.connection_list.specs.declared.connection.Connection.{Connection}
 use Rattle.connection_list.specs.Ends.{calls}
-use Rattle.connection_list.specs.Rows.{IsRising, IsSound, Rows, has_number, is_next}
-use Rattle.connection_list.proofs.RowsLemmas.{rising_head, rising_tail}
-use Rattle.thread_model.specs.Agenda.{calls_of, stands, step}
+use Rattle.connection_list.specs.Rows.{IsSound, Rows, has_number, is_next}
+use Rattle.thread_model.specs.Agenda.{calls_of}
 use Rattle.thread_model.specs.Doing.{Doing}
-use Rattle.thread_model.specs.Items.{Call, Item, puts}
+use Rattle.thread_model.specs.Items.{Call, Item}
 use Rattle.thread_model.specs.Run.{run}
 use Rattle.thread_model.specs.Settings.{Settings}
 use Rattle.thread_model.proofs.EmissionLemmas.{call_broken}
 use Rattle.thread_model.proofs.LaterLemmas.{IsLater, Later, run_later}
-use Rattle.thread_model.proofs.RunLemmas.{at_item, in_parts}
+use Rattle.thread_model.proofs.RunLemmas.{after_first, at_end, by_change}
 use Rattle.thread_model.proofs.RemainingLemmas.{made_since, next_first, none_at, none_left, out_of, remaining}
 use Rattle.thread_model.proofs.FilterLemmas.{each_left, filter-alike, filter-none, filter-swap, find-none, find-passes}
 
@@ -50,28 +48,28 @@ module _ (settings : Settings) (args : List Value) (depth : ℕ) where
   calls_to rows = map (λ row. Call row args depth) rows
 
   -- calls of dead connections may be left out
-  dead_out : (test : Connection → Bool) (rows : List Connection) (rest : List Item) (doing : Doing) → AllByRecursion (λ row. test row ≡ false → IsDead doing.state.connections row.number) rows
-      → run settings (calls_to rows ++ rest) doing ≡ run settings (calls_to (filter test rows) ++ rest) doing
-  dead_out test [] rest doing dead = refl
-  dead_out test (row ∷ rows) rest doing dead =
+  dead_out : (test : Connection → Bool) (rows : List Connection) (doing : Doing) → AllByRecursion (λ row. test row ≡ false → IsDead doing.state.connections row.number) rows
+      → run settings (calls_to rows) doing ≡ run settings (calls_to (filter test rows)) doing
+  dead_out test [] doing dead = refl
+  dead_out test (row ∷ rows) doing dead =
       by (test row) refl
-      (λ out. dead_out test rows rest doing dead.1)
+      (λ out. dead_out test rows doing dead.1)
       (let new = run settings (Call row args depth ∷ []) doing in
-      dead_out test rows rest new (still rows new (run_later settings (Call row args depth ∷ []) doing) dead.1))
+      dead_out test rows new (still rows new (run_later settings (Call row args depth ∷ []) doing) dead.1))
     where
       still : (rows : List Connection) (new : Doing) → Later doing new → AllByRecursion (λ row. test row ≡ false → IsDead doing.state.connections row.number) rows → AllByRecursion (λ row. test row ≡ false → IsDead new.state.connections row.number) rows
       still [] new later dead = tt
       still (row ∷ rows) new later dead = ((λ out. dead_later doing.state.connections new.state.connections row.number later (dead.0 out)), still rows new later dead.1)
 
       by : (kept : Bool) → test row ≡ kept
-          → (test row ≡ false → run settings (calls_to rows ++ rest) doing ≡ run settings (calls_to (filter test rows) ++ rest) doing)
-          → run settings (calls_to rows ++ rest) (run settings (Call row args depth ∷ []) doing) ≡ run settings (calls_to (filter test rows) ++ rest) (run settings (Call row args depth ∷ []) doing)
-          → run settings (Call row args depth ∷ (calls_to rows ++ rest)) doing ≡ run settings (calls_to (cond kept (row ∷ filter test rows) (filter test rows)) ++ rest) doing
+          → (test row ≡ false → run settings (calls_to rows) doing ≡ run settings (calls_to (filter test rows)) doing)
+          → run settings (calls_to rows) (run settings (Call row args depth ∷ []) doing) ≡ run settings (calls_to (filter test rows)) (run settings (Call row args depth ∷ []) doing)
+          → run settings (Call row args depth ∷ calls_to rows) doing ≡ run settings (calls_to (cond kept (row ∷ filter test rows) (filter test rows))) doing
       by true is out after =
-          in_parts settings (Call row args depth ∷ []) (calls_to rows ++ rest) doing ∙ after ∙ sym (in_parts settings (Call row args depth ∷ []) (calls_to (filter test rows) ++ rest) doing)
+          after_first settings (Call row args depth) (calls_to rows) doing ∙ after ∙ sym (after_first settings (Call row args depth) (calls_to (filter test rows)) doing)
       by false is out after =
-          at_item settings (Call row args depth) (calls_to rows ++ rest) doing
-          ∙ ap (λ next. run settings (next.items ++ (calls_to rows ++ rest)) next.doing) (call_broken settings row args depth doing (dead.0 is).broken)
+          after_first settings (Call row args depth) (calls_to rows) doing
+          ∙ ap (run settings (calls_to rows)) (by_change settings (Call row args depth) doing doing (call_broken settings row args depth doing (dead.0 is).broken))
           ∙ out is
 
 first_true : (a b : Bool) → (a && b) ≡ true → a ≡ true
@@ -94,17 +92,17 @@ module _ (settings : Settings) (target signal : ℕ) (args : List Value) (depth 
           let other : nat_le row.number doing.state.connections.last_number ≡ true = grind (arith, nat_tests, given.0) in
           (rw (one, other), both rows from.1 given.1)
 
-  module _ (up_to after : ℕ) (rest : List Item) (doing : Doing) where
+  module _ (up_to after : ℕ) (doing : Doing) where
     -- the next one is called, and then those that remain after it, of the connections as they stand by then
     pub emission_next : (next : Connection) → IsSound doing.state.connections → up_to ≤ doing.state.connections.last_number
         → find (is_next target signal after up_to) doing.state.connections.rows ≡ Some next
-        → run settings (calls_to settings args depth (remaining target signal up_to after doing.state.connections.rows) ++ rest) doing
-        ≡ run settings (calls_to settings args depth (remaining target signal up_to next.number (run settings (Call next args depth ∷ []) doing).state.connections.rows) ++ rest) (run settings (Call next args depth ∷ []) doing)
+        → run settings (calls_to settings args depth (remaining target signal up_to after doing.state.connections.rows)) doing
+        ≡ run settings (calls_to settings args depth (remaining target signal up_to next.number (run settings (Call next args depth ∷ []) doing).state.connections.rows)) (run settings (Call next args depth ∷ []) doing)
     emission_next next sound most found =
-        ap (λ rows. run settings (calls_to settings args depth rows ++ rest) doing) (next_first target signal up_to after next place.rows sound.rising below found)
-        ∙ in_parts settings (Call next args depth ∷ []) (calls_to settings args depth (remaining target signal up_to next.number place.rows) ++ rest) doing
-        ∙ dead_out settings args depth later.left (remaining target signal up_to next.number place.rows) rest then dead
-        ∙ ap (λ rows. run settings (calls_to settings args depth rows ++ rest) then) (sym left)
+        ap (λ rows. run settings (calls_to settings args depth rows) doing) (next_first target signal up_to after next place.rows sound.rising below found)
+        ∙ after_first settings (Call next args depth) (calls_to settings args depth (remaining target signal up_to next.number place.rows)) doing
+        ∙ dead_out settings args depth later.left (remaining target signal up_to next.number place.rows) then dead
+        ∙ ap (λ rows. run settings (calls_to settings args depth rows) then) (sym left)
       where
         place : Rows
         place = doing.state.connections
@@ -138,7 +136,7 @@ module _ (settings : Settings) (target signal : ℕ) (args : List Value) (depth 
             those [] given out = tt
             those (row ∷ rows) given out = ((λ gone. dead_after place then.state.connections row.number later given.0 (out.0 gone)), those rows given.1 out.1)
 
-    -- where there is none, what is to be done afterwards is done
+    -- where there is none, all is done
     pub emission_end : find (is_next target signal after up_to) doing.state.connections.rows ≡ None
-        → run settings (calls_to settings args depth (remaining target signal up_to after doing.state.connections.rows) ++ rest) doing ≡ run settings rest doing
-    emission_end none = ap (λ rows. run settings (calls_to settings args depth rows ++ rest) doing) (find-none (is_next target signal after up_to) doing.state.connections.rows none)
+        → run settings (calls_to settings args depth (remaining target signal up_to after doing.state.connections.rows)) doing ≡ doing
+    emission_end none = ap (λ rows. run settings (calls_to settings args depth rows) doing) (find-none (is_next target signal after up_to) doing.state.connections.rows none) ∙ at_end settings doing

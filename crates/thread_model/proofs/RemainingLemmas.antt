@@ -1,14 +1,12 @@
 -- The connections that an emission is still to call.
-use Rattle.std.proofs.Common.{◌≡◌, ◌<◌, ◌≤◌, ◌+◌, ◌==◌, ◌||◌, ◌&&◌, ℕ, Bool, true, false, cond, List, [], ◌∷◌, ◌++◌, Option, Some, None, filter, find, map, nat_le, nat_lt, refl, sym, ap, ◌∙◌, subst, arith, ⊎_elim}
-use Rattle.std.specs.List.{All, AllByRecursion, list_any}
+use Rattle.std.proofs.Common.{◌≡◌, ◌<◌, ◌≤◌, ◌==◌, ℕ, Bool, true, false, cond, List, [], ◌∷◌, Some, filter, find, nat_le, nat_lt, refl, sym, ap, ◌∙◌, subst, arith, ⊎_elim}
+use Rattle.std.specs.List.{AllByRecursion, list_any}
 use Rattle.std.proofs.lemmas.Bool.{and_left, and_right, cases_Bool, ne_eqb}
 use Rattle.std.proofs.lemmas.Bool.Decides.{nat_tests}
-use Rattle.std.proofs.lemmas.List.Elements.{All-tail, All-head, recursion_from_All}
-use Rattle.std.proofs.lemmas.List.Folds.{list_any-append}
-use Rattle.variant_value.specs.declared.value.Value.{Value}
+use Rattle.std.proofs.lemmas.List.Elements.{recursion_from_All}
 use Rattle.connection_list.specs.declared.connection.Connection.{Connection}
 use Rattle.connection_list.specs.Ends.{calls}
-use Rattle.connection_list.specs.Rows.{IsRising, IsSound, Rows, has_number, is_next}
+use Rattle.connection_list.specs.Rows.{IsRising, has_number, is_next}
 use Rattle.connection_list.proofs.RowsLemmas.{rising_head, rising_tail}
 use Rattle.thread_model.proofs.FilterLemmas.{filter-alike}
 

@@ -1,9 +1,10 @@
 -- The run of an agenda comes to its end.
 use Rattle.std.proofs.Common.{◌≡◌, ◌<◌, ◌≤◌, ◌+◌, ◌*◌, ℕ, zero, suc, List, [], ◌∷◌, ◌++◌, refl, sym, ap, ◌∙◌, append_assoc, arith}
 use Rattle.std.proofs.Math.Nat.{mul-le-mul_left}
+use Rattle.std.proofs.lemmas.List.{append-nil}
 use Rattle.thread_model.specs.Agenda.{step}
 use Rattle.thread_model.specs.Doing.{Doing}
-use Rattle.thread_model.specs.Items.{Item}
+use Rattle.thread_model.specs.Items.{Item, Next, puts}
 use Rattle.thread_model.specs.Run.{Most, RunsToItsEnd, deletion_weight, enough, living, most, run, steps, turn_weight, weights}
 use Rattle.thread_model.specs.Settings.{Settings}
 use Rattle.thread_model.proofs.FallLemmas.{FallsTo, falls, total}
@@ -83,6 +84,18 @@ module _ (settings : Settings) where
       by (suc fuel) e = let less = enough-falls settings item agenda doing in
           same_end fuel (enough settings ((step settings item doing).items ++ agenda) (step settings item doing).doing) ((step settings item doing).items ++ agenda) (step settings item doing).doing (omega (arith, less, e)) (omega arith)
 
+  -- nothing is done after the last item
+  pub behind_nothing : (items : List Item) (doing : Doing) → run settings (items ++ []) doing ≡ run settings items doing
+  behind_nothing items doing = ap (λ items. run settings items doing) (append-nil items)
+
+  -- an item is done by what it comes to
+  pub by_step : (item : Item) (doing : Doing) (next : Next) → step settings item doing ≡ next → run settings (item ∷ []) doing ≡ run settings next.items next.doing
+  by_step item doing next e = at_item item [] doing ∙ behind_nothing (step settings item doing).items (step settings item doing).doing ∙ ap (λ (next : Next). run settings next.items next.doing) e
+
+  -- where it comes to nothing more, that is all
+  pub by_change : (item : Item) (doing new : Doing) → step settings item doing ≡ puts [] new → run settings (item ∷ []) doing ≡ new
+  by_change item doing new e = by_step item doing (puts [] new) e ∙ at_end new
+
   -- what stays with each item, from any agenda and session, holds when all is done
   module _ (P : List Item → Doing → Type 0) (keeps : (item : Item) (agenda : List Item) (doing : Doing) → P (item ∷ agenda) doing → P ((step settings item doing).items ++ agenda) (step settings item doing).doing) where
     steps_keep : (fuel : ℕ) (agenda : List Item) (doing : Doing) → enough settings agenda doing ≤ fuel → P agenda doing → P [] (steps settings fuel agenda doing)
@@ -109,8 +122,12 @@ module _ (settings : Settings) where
       ∙ parts_within fuel (next.items ++ one) other next.doing (omega (arith, less))
       ∙ ap (run settings other) (sym (at_item item one doing))
 
+  -- so an agenda is done item after item
   pub in_parts : (one other : List Item) (doing : Doing) → run settings (one ++ other) doing ≡ run settings other (run settings one doing)
   in_parts one other doing = parts_within (enough settings one doing) one other doing (omega arith)
+
+  pub after_first : (item : Item) (agenda : List Item) (doing : Doing) → run settings (item ∷ agenda) doing ≡ run settings agenda (run settings (item ∷ []) doing)
+  after_first item agenda doing = in_parts (item ∷ []) agenda doing
 
   -- a run leaves no more turns, living objects and connections than there were
   pub run_shrinks : (agenda : List Item) (doing : Doing) → Shrinks doing (run settings agenda doing)
