@@ -54,61 +54,60 @@ module _ (settings : Settings) (doing : Doing) (self sender : ℕ) (args : List 
     (connects : (new : NewConnection) → IsAllowed doing.state.connections → object_refusal doing.state.forest.rows new.sender ≡ None → object_refusal doing.state.forest.rows new.receiver ≡ None → P (puts [] (connected doing new)))
     (breaks : (pattern : Pattern) → P (puts [] (disconnected doing pattern)))
   where
+    titled_by : (of : ℕ) (declared there : Bool) (found : Found Value) → is_there doing.state.forest.rows of ≡ there → ((title : Value) → found ≡ Ok title → IsOfKind k.Text title)
+        → P (warns_or (cond declared (option_or (cond there None (Some NoSuchObject)) (result_err found)) (Some BadValue)) self doing (with_found found (λ title. puts [] (retitled doing of title)) doing))
+    titled_by of false there found is texts = warns BadValue
+    titled_by of true false found is texts = warns NoSuchObject
+    titled_by of true true (Ok title) is texts = titles of title is (texts title refl)
+    titled_by of true true (Err code) is texts = warns code
 
-  titled_by : (of : ℕ) (declared there : Bool) (found : Found Value) → is_there doing.state.forest.rows of ≡ there → ((title : Value) → found ≡ Ok title → IsOfKind k.Text title)
-      → P (warns_or (cond declared (option_or (cond there None (Some NoSuchObject)) (result_err found)) (Some BadValue)) self doing (with_found found (λ title. puts [] (retitled doing of title)) doing))
-  titled_by of false there found is texts = warns BadValue
-  titled_by of true false found is texts = warns NoSuchObject
-  titled_by of true true (Ok title) is texts = titles of title is (texts title refl)
-  titled_by of true true (Err code) is texts = warns code
+    sent_by : (of : ℕ) (there : Bool) (found : Found (ℕ × List Value))
+        → P (warns_or (option_or (cond there None (Some NoSuchObject)) (result_err found)) self doing (with_found found (λ emitted. puts (Emit of emitted.0 emitted.1 depth ∷ []) doing) doing))
+    sent_by of false found = warns NoSuchObject
+    sent_by of true (Ok emitted) = sends of emitted.0 emitted.1
+    sent_by of true (Err code) = warns code
 
-  sent_by : (of : ℕ) (there : Bool) (found : Found (ℕ × List Value))
-      → P (warns_or (option_or (cond there None (Some NoSuchObject)) (result_err found)) self doing (with_found found (λ emitted. puts (Emit of emitted.0 emitted.1 depth ∷ []) doing) doing))
-  sent_by of false found = warns NoSuchObject
-  sent_by of true (Ok emitted) = sends of emitted.0 emitted.1
-  sent_by of true (Err code) = warns code
+    connected_by : (queued unique : Bool) (a b : Option Code) (found : Found NewConnection)
+        → ((new : NewConnection) → found ≡ Ok new → (a ≡ object_refusal doing.state.forest.rows new.sender) × (b ≡ object_refusal doing.state.forest.rows new.receiver))
+        → P (warns_or (cond queued (Some BadValue) (option_or a (option_or b (connection_refusal doing.state.connections found unique)))) self doing (with_found found (λ new. puts [] (connected doing new)) doing))
+    connected_by true unique a b found ends = warns BadValue
+    connected_by false unique (Some code) b found ends = warns code
+    connected_by false unique None (Some code) found ends = warns code
+    connected_by false unique None None (Err code) ends = warns code
+    connected_by false unique None None (Ok new) ends = by (connect_refusal doing.state.connections new unique) refl
+      where
+        by : (refusal : Option Code) → connect_refusal doing.state.connections new unique ≡ refusal → P (warns_or refusal self doing (puts [] (connected doing new)))
+        by (Some code) e = warns code
+        by None e = connects new (allowed doing.state.connections new unique e) (sym (ends new refl).0) (sym (ends new refl).1)
 
-  connected_by : (queued unique : Bool) (a b : Option Code) (found : Found NewConnection)
-      → ((new : NewConnection) → found ≡ Ok new → (a ≡ object_refusal doing.state.forest.rows new.sender) × (b ≡ object_refusal doing.state.forest.rows new.receiver))
-      → P (warns_or (cond queued (Some BadValue) (option_or a (option_or b (connection_refusal doing.state.connections found unique)))) self doing (with_found found (λ new. puts [] (connected doing new)) doing))
-  connected_by true unique a b found ends = warns BadValue
-  connected_by false unique (Some code) b found ends = warns code
-  connected_by false unique None (Some code) found ends = warns code
-  connected_by false unique None None (Err code) ends = warns code
-  connected_by false unique None None (Ok new) ends = by (connect_refusal doing.state.connections new unique) refl
-    where
-      by : (refusal : Option Code) → connect_refusal doing.state.connections new unique ≡ refusal → P (warns_or refusal self doing (puts [] (connected doing new)))
-      by (Some code) e = warns code
-      by None e = connects new (allowed doing.state.connections new unique e) (sym (ends new refl).0) (sym (ends new refl).1)
+    broken_by : (there : Bool) (named : Option Code) (found : Found Pattern)
+        → P (warns_or (option_or (cond there None (Some NoSuchObject)) (option_or named (result_err found))) self doing (with_found found (λ broken. puts [] (disconnected doing broken)) doing))
+    broken_by false named found = warns NoSuchObject
+    broken_by true (Some code) found = warns code
+    broken_by true None (Ok broken) = breaks broken
+    broken_by true None (Err code) = warns code
 
-  broken_by : (there : Bool) (named : Option Code) (found : Found Pattern)
-      → P (warns_or (option_or (cond there None (Some NoSuchObject)) (option_or named (result_err found))) self doing (with_found found (λ broken. puts [] (disconnected doing broken)) doing))
-  broken_by false named found = warns NoSuchObject
-  broken_by true (Some code) found = warns code
-  broken_by true None (Ok broken) = breaks broken
-  broken_by true None (Err code) = warns code
+    deleted_by : (target : ℕ) (refusal : Option Code) → P (warns_or refusal self doing (puts (Delete target depth ∷ []) doing))
+    deleted_by target (Some code) = warns code
+    deleted_by target None = deletes target
 
-  deleted_by : (target : ℕ) (refusal : Option Code) → P (warns_or refusal self doing (puts (Delete target depth ∷ []) doing))
-  deleted_by target (Some code) = warns code
-  deleted_by target None = deletes target
+    moved_by : (target : ℕ) (parent : Option ℕ) (refusal : Option Code) → set_parent_refusal doing.state.forest target parent ≡ refusal → P (warns_or refusal self doing (puts [] (reparented doing target parent)))
+    moved_by target parent (Some code) e = warns code
+    moved_by target parent None e = moves target parent e
 
-  moved_by : (target : ℕ) (parent : Option ℕ) (refusal : Option Code) → set_parent_refusal doing.state.forest target parent ≡ refusal → P (warns_or refusal self doing (puts [] (reparented doing target parent)))
-  moved_by target parent (Some code) e = warns code
-  moved_by target parent None e = moves target parent e
-
-  -- an action is refused, or has one of these effects
-  pub acted_cases : (plain : Effect) → P (warns_or (act_refusal settings doing.state self sender args plain) self doing (acted settings doing self sender args depth plain))
-  acted_cases (e.Set of property value) =
-      titled_by (object_of doing.state self sender of) (is_title property) (is_there doing.state.forest.rows (object_of doing.state self sender of)) (title_evaluated doing.state self sender args value) refl
-      (title_text (evaluated doing.state self sender args value))
-  acted_cases (e.Emit of signal sent) = sent_by (object_of doing.state self sender of) (is_there doing.state.forest.rows (object_of doing.state self sender of)) (emission settings doing.state self sender args (object_of doing.state self sender of) signal sent)
-  acted_cases (e.Connect of signal to method mode unique single) =
-      connected_by (is_queued mode) unique _ _ (connection settings doing.state (object_of doing.state self sender of) signal (object_of doing.state self sender to) method mode single)
-      (λ new found. let its = joins settings doing.state _ _ _ _ mode single new found in
-      (ap (object_refusal doing.state.forest.rows) (sym its.sender), ap (object_refusal doing.state.forest.rows) (sym its.receiver)))
-  acted_cases (e.Disconnect of signal to method) =
-      broken_by (is_there doing.state.forest.rows (object_of doing.state self sender of)) _ (pattern settings doing.state (object_of doing.state self sender of) signal _ method)
-  acted_cases (e.Delete target) = deleted_by (object_of doing.state self sender target) (object_refusal doing.state.forest.rows (object_of doing.state self sender target))
-  acted_cases (e.DeleteLater target) = warns BadValue
-  acted_cases (e.Block of on) = warns BadValue
-  acted_cases (e.SetParent of parent) = moved_by _ _ _ refl
+    -- an action is refused, or has one of these effects
+    pub acted_cases : (plain : Effect) → P (warns_or (act_refusal settings doing.state self sender args plain) self doing (acted settings doing self sender args depth plain))
+    acted_cases (e.Set of property value) =
+        titled_by (object_of doing.state self sender of) (is_title property) (is_there doing.state.forest.rows (object_of doing.state self sender of)) (title_evaluated doing.state self sender args value) refl
+        (title_text (evaluated doing.state self sender args value))
+    acted_cases (e.Emit of signal sent) = sent_by (object_of doing.state self sender of) (is_there doing.state.forest.rows (object_of doing.state self sender of)) (emission settings doing.state self sender args (object_of doing.state self sender of) signal sent)
+    acted_cases (e.Connect of signal to method mode unique single) =
+        connected_by (is_queued mode) unique _ _ (connection settings doing.state (object_of doing.state self sender of) signal (object_of doing.state self sender to) method mode single)
+        (λ new found. let its = joins settings doing.state _ _ _ _ mode single new found in
+        (ap (object_refusal doing.state.forest.rows) (sym its.sender), ap (object_refusal doing.state.forest.rows) (sym its.receiver)))
+    acted_cases (e.Disconnect of signal to method) =
+        broken_by (is_there doing.state.forest.rows (object_of doing.state self sender of)) _ (pattern settings doing.state (object_of doing.state self sender of) signal _ method)
+    acted_cases (e.Delete target) = deleted_by (object_of doing.state self sender target) (object_refusal doing.state.forest.rows (object_of doing.state self sender target))
+    acted_cases (e.DeleteLater target) = warns BadValue
+    acted_cases (e.Block of on) = warns BadValue
+    acted_cases (e.SetParent of parent) = moved_by _ _ _ refl

@@ -28,11 +28,11 @@ use Rattle.thread_model.specs.Settings.{Settings}
 use Rattle.thread_model.specs.Targets.{is_title, named_object_of, object_of, title_evaluated, truth_evaluated}
 
 module _ (settings : Settings) (self sender : ℕ) (args : List Value) (depth : ℕ) (doing : Doing) where
-  -- what an action with an effect comes to
+  -- what an action comes to that has one effect
   abbrev pub comes_to : Effect → Next
   comes_to plain = step settings (Act (effect plain) args self sender depth) doing
 
-  -- it warns of a code for the object whose slot is run
+  -- what warns of a code for the object whose slot is run
   abbrev pub warned : Code → Next
   warned code = puts (Warn code (Some self) ∷ []) doing
 
@@ -43,10 +43,11 @@ module _ (settings : Settings) (self sender : ℕ) (args : List Value) (depth : 
   abbrev pub named_object : Option Target → Option ℕ
   named_object target = named_object_of doing.state self sender target
 
-  -- an action that is refused warns, and another one is done
+  -- an action that is refused warns
   pub act_refused : (plain : Effect) (code : Code) → act_refusal settings doing.state self sender args plain ≡ Some code → comes_to plain ≡ warned code
   act_refused plain code refused = ap (λ refusal. warns_or refusal self doing (acted settings doing self sender args depth plain)) refused
 
+  -- an action that is not refused is done
   pub act_done : (plain : Effect) → act_refusal settings doing.state self sender args plain ≡ None → comes_to plain ≡ acted settings doing self sender args depth plain
   act_done plain passed = ap (λ refusal. warns_or refusal self doing (acted settings doing self sender args depth plain)) passed
 

@@ -95,7 +95,7 @@ pub tied_more : (old new : State) (number : ℕ) → numbers new.forest.rows ≡
 tied_more old new number more rows =
     tied_to old new (λ number. Unit {0})
     (λ end any there. there_among new.forest.rows end ∙ ap (list_any (λ key. end == key)) more ∙ list_any-append (λ key. end == key) (numbers old.forest.rows) (number ∷ [])
-        ∙ or_left (list_any (λ key. end == key) (numbers old.forest.rows)) _ (sym (there_among old.forest.rows end) ∙ there))
+    ∙ or_left (list_any (λ key. end == key) (numbers old.forest.rows)) _ (sym (there_among old.forest.rows end) ∙ there))
     rows (λ index default within. record { sender = tt; receiver = tt })
 
 -- another number is there as before where one is taken out

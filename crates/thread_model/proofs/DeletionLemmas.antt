@@ -11,15 +11,15 @@ module _ (settings : Settings) (target depth : ℕ) (doing : Doing) where
   pub delete_none : lives doing target ≡ false → step settings (Delete target depth) doing ≡ puts [] doing
   delete_none absent = cond-false (lives doing target) _ _ absent
 
-  -- another one is dying from now on
+  -- an object that lives is dying from now on
   pub delete_some : lives doing target ≡ true → step settings (Delete target depth) doing ≡ puts (Cut target depth ∷ Gone target depth ∷ []) (dying doing target)
   delete_some living = cond-true (lives doing target) _ _ living
 
-  -- its connections are broken, and then its children are deleted
+  -- the connections of a dying object are broken, and then its children are deleted
   pub cut_kins : step settings (Cut target depth) doing ≡ puts (kins doing target depth) (untied doing target)
   cut_kins = refl
 
-  -- at last it goes
+  -- a dying object goes at last
   pub gone_now : step settings (Gone target depth) doing ≡ puts [] (gone doing target)
   gone_now = refl
 
@@ -28,6 +28,6 @@ module _ (settings : Settings) (parent child depth : ℕ) (doing : Doing) where
   pub kin_none : lives_below doing parent child ≡ false → step settings (Kin parent child depth) doing ≡ puts [] doing
   kin_none other = cond-false (lives_below doing parent child) _ _ other
 
-  -- another one is deleted
+  -- a child that lives below its parent is deleted
   pub kin_some : lives_below doing parent child ≡ true → step settings (Kin parent child depth) doing ≡ puts (Delete child depth ∷ []) doing
   kin_some living = cond-true (lives_below doing parent child) _ _ living

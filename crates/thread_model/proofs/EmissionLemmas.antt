@@ -35,7 +35,7 @@ module _ (settings : Settings) (target signal : ℕ) (args : List Value) (depth 
       let is : nat_le NESTED_SIGNALS depth ≡ true = grind (arith, nat_tests, deep) in
       cond-true (is_there doing.state.forest.rows target) (emitted doing target signal args depth) _ there ∙ cond-true (nat_le NESTED_SIGNALS depth) _ _ is
 
-  -- another one calls what is connected to it
+  -- a signal that is not nested too deep calls what is connected to it
   pub emit_calls : is_there doing.state.forest.rows target ≡ true → depth < NESTED_SIGNALS → step settings (Emit target signal args depth) doing ≡ puts (calls_of doing target signal args depth) doing
   emit_calls there shallow =
       let is : nat_le NESTED_SIGNALS depth ≡ false = grind (arith, nat_tests, shallow) in
@@ -74,17 +74,17 @@ module _ (settings : Settings) (connection : Connection) (args : List Value) (de
     is_called : step settings (Call connection args depth) doing ≡ with_turn doing (called settings connection args depth)
     is_called = cond-true (stands doing connection.number) (with_turn doing (called settings connection args depth)) _ standing
 
-    -- nor one that finds no turn left
+    -- a connection that finds no turn left is not called
     pub call_spent : doing.turns ≡ 0 → step settings (Call connection args depth) doing ≡ puts [] (used_up doing)
     call_spent none = let is : (doing.turns == 0) ≡ true = grind (arith, nat_tests, none) in is_called ∙ cond-true (doing.turns == 0) _ _ is
 
-    -- another one takes a turn
+    -- a connection that stands takes a turn where one is left
     pub call_taken : 0 < doing.turns → step settings (Call connection args depth) doing ≡ puts (callee_items settings doing.state connection args depth connection.callee) (shot (turn_taken doing) connection)
     unfolding turn_taken
     call_taken some = let is : (doing.turns == 0) ≡ false = grind (arith, nat_tests, some) in is_called ∙ cond-false (doing.turns == 0) _ (called settings connection args depth (turn_taken doing)) is
 
     module _ (some : 0 < doing.turns) where
-      -- there are no functors yet
+      -- a functor does nothing, since there are none yet
       pub call_functor : (index : ℕ) → connection.callee ≡ callee.Functor index → step settings (Call connection args depth) doing ≡ puts [] (shot (turn_taken doing) connection)
       call_functor index is = call_taken some ∙ ap (λ c. puts (callee_items settings doing.state connection args depth c) (shot (turn_taken doing) connection)) is
 
@@ -101,12 +101,12 @@ module _ (settings : Settings) (connection : Connection) (args : List Value) (de
         call_absent has = comes_to None has
 
         module _ (method : Method) (has : method_at settings doing.state connection.receiver index ≡ Some method) where
-          -- a signal is sent again, one level deeper
+          -- a signal that is connected to is sent, one level deeper
           pub call_signal : method.is_signal ≡ true → step settings (Call connection args depth) doing
               ≡ puts (Emit connection.receiver index (take (length method.signature.kinds) args) (depth + 1) ∷ []) (shot (turn_taken doing) connection)
           call_signal signal = comes_to (Some method) has ∙ ap (λ items. puts items (shot (turn_taken doing) connection)) (cond-true method.is_signal _ _ signal)
 
-          -- and a slot is run
+          -- a slot that is connected to is run
           pub call_slot : method.is_signal ≡ false → step settings (Call connection args depth) doing
               ≡ puts (Run connection.receiver index connection.sender (take (length method.signature.kinds) args) depth ∷ []) (shot (turn_taken doing) connection)
           call_slot slot = comes_to (Some method) has ∙ ap (λ items. puts items (shot (turn_taken doing) connection)) (cond-false method.is_signal _ _ slot)
@@ -116,7 +116,7 @@ module _ (settings : Settings) (target index sender : ℕ) (args : List Value) (
   pub run_absent : method_at settings doing.state target index ≡ None → step settings (Run target index sender args depth) doing ≡ puts [] doing
   run_absent absent = ap (λ found. option_map_or (ran doing target sender args depth) found (puts [] doing)) absent
 
-  -- another one is told of, and does what its body says, one level deeper
+  -- a slot that is there is told of, and does what its body says, one level deeper
   pub run_slot : (method : Method) → method_at settings doing.state target index ≡ Some method → step settings (Run target index sender args depth) doing
       ≡ puts (acts (acts_of method.body.actions) args target sender (depth + 1)) (told doing (call_line method target sender args))
   run_slot method has = ap (λ found. option_map_or (ran doing target sender args depth) found (puts [] doing)) has

@@ -138,7 +138,7 @@ falls settings (Call connection args depth) doing =
     (λ there. cond_both (doing.turns == 0) (puts [] (used_up doing)) (called settings connection args depth taken) (FallsTo settings item doing)
     (λ none. idle settings item doing (used_up doing) (used_up_shrinks doing))
     (λ some. by_turn settings item doing (called settings connection args depth taken) (both doing taken (shot taken connection) (turn_shrinks doing) (shot_shrinks taken connection))
-        (let less = turn_taken-less doing some in let shot' = (shot_shrinks taken connection).turns in omega (arith, less, shot')) (omega (arith, few))))
+    (let less = turn_taken-less doing some in let shot' = (shot_shrinks taken connection).turns in omega (arith, less, shot')) (omega (arith, few))))
     (λ broken. idle settings item doing doing (same doing))
 falls settings (Run target index sender args depth) doing = ran_falls settings target index sender args depth doing (method_at settings doing.state target index) refl
 falls settings (Act (effect plain) args self sender depth) doing =

@@ -122,7 +122,7 @@ module _ (settings : Settings) (target signal : ℕ) (args : List Value) (depth 
             ap (remaining target signal up_to next.number) later.rows
             ∙ filter-append (is_next target signal next.number up_to) (filter later.left place.rows) later.added
             ∙ ap (λ rows. remaining target signal up_to next.number (filter later.left place.rows) ++ rows)
-                (filter-none (is_next target signal next.number up_to) later.added (made_since target signal up_to next.number place.last_number later.added most (recursion_from_All (λ row. place.last_number < row.number) later.added later.above)))
+            (filter-none (is_next target signal next.number up_to) later.added (made_since target signal up_to next.number place.last_number later.added most (recursion_from_All (λ row. place.last_number < row.number) later.added later.above)))
             ∙ append-nil (remaining target signal up_to next.number (filter later.left place.rows))
             ∙ filter-swap (is_next target signal next.number up_to) later.left place.rows
 

@@ -92,7 +92,7 @@ module _ (settings : Settings) where
   pub by_step : (item : Item) (doing : Doing) (next : Next) → step settings item doing ≡ next → run settings (item ∷ []) doing ≡ run settings next.items next.doing
   by_step item doing next e = at_item item [] doing ∙ behind_nothing (step settings item doing).items (step settings item doing).doing ∙ ap (λ (next : Next). run settings next.items next.doing) e
 
-  -- where it comes to nothing more, that is all
+  -- an item that puts nothing in front only changes the session
   pub by_change : (item : Item) (doing new : Doing) → step settings item doing ≡ puts [] new → run settings (item ∷ []) doing ≡ new
   by_change item doing new e = by_step item doing (puts [] new) e ∙ at_end new
 
@@ -122,7 +122,7 @@ module _ (settings : Settings) where
       ∙ parts_within fuel (next.items ++ one) other next.doing (omega (arith, less))
       ∙ ap (run settings other) (sym (at_item item one doing))
 
-  -- so an agenda is done item after item
+  -- two agendas are done one after the other
   pub in_parts : (one other : List Item) (doing : Doing) → run settings (one ++ other) doing ≡ run settings other (run settings one doing)
   in_parts one other doing = parts_within (enough settings one doing) one other doing (omega arith)
 

@@ -38,7 +38,7 @@ module _ (settings : Settings) (self : List ℕ) (state : State) where
 
     pub does_connect : does settings self state (Connect sender signal receiver method mode unique single)
         ≡ unless (option_or (absence state sender) (option_or (absence state receiver) (connection_refusal state.connections (asked_connection settings state sender signal receiver method mode single) unique))) state
-            (connects state (asked_connection settings state sender signal receiver method mode single))
+        (connects state (asked_connection settings state sender signal receiver method mode single))
     unfolding does refusal performs
     does_connect = refl
 
@@ -71,7 +71,7 @@ module _ (settings : Settings) (self : List ℕ) (state : State) where
 
     pub does_disconnect : does settings self state (Disconnect sender signal receiver method)
         ≡ unless (option_or (absence state sender) (option_or (named_absence state receiver) (result_err (asked_pattern settings state sender signal receiver method)))) state
-            (disconnects state (asked_pattern settings state sender signal receiver method))
+        (disconnects state (asked_pattern settings state sender signal receiver method))
     unfolding does refusal performs
     does_disconnect = refl
 
@@ -92,7 +92,7 @@ module _ (settings : Settings) (self : List ℕ) (state : State) where
 
     pub does_invoke : does settings self state (Invoke target method args)
         ≡ unless (option_or (absence state target) (option_or (result_err (signature_in method)) (values_refusal settings state target args (asked_method settings state target method)))) state
-            (invokes settings state target args (asked_method settings state target method))
+        (invokes settings state target args (asked_method settings state target method))
     unfolding does refusal performs
     does_invoke = refl
 
@@ -120,6 +120,6 @@ module _ (settings : Settings) (self : List ℕ) (state : State) where
         pub invoke_slot : 0 < settings.turns → performs settings self state (Invoke target method args) ≡ does_next settings (puts (Run target index 0 values 0 ∷ []) (turn_taken (begun settings state))) (a.Truth true)
         invoke_slot some = let is : (settings.turns == 0) ≡ false = grind (arith, nat_tests, some) in comes_to _ (is_slot ∙ cond-false (settings.turns == 0) _ _ is)
 
-        -- or is not run where there are no turns
+        -- a slot is not run where there are no turns
         pub invoke_spent : settings.turns ≡ 0 → performs settings self state (Invoke target method args) ≡ does_next settings (puts [] (used_up (begun settings state))) (a.Truth true)
         invoke_spent none = let is : (settings.turns == 0) ≡ true = grind (arith, nat_tests, none) in comes_to _ (is_slot ∙ cond-true (settings.turns == 0) _ _ is)

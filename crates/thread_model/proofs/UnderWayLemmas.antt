@@ -44,7 +44,7 @@ none_second : (a b : Bool) → (a || b) ≡ false → b ≡ false
 none_second true b e = absurd (cc)
 none_second false b e = e
 
--- nor does an agenda of such items
+-- an agenda that lets no object go does not let this one go
 pub none_goes : (number : ℕ) (agenda : List Item) → list_any is_gone agenda ≡ false → list_any (lets_go number) agenda ≡ false
 none_goes number [] e = refl
 none_goes number (item ∷ agenda) e =
@@ -57,14 +57,14 @@ untied_staying number (item ∷ agenda) e =
     or_right (unties number item) _
     (ap (λ b. not b && is_untied_first agenda number) (none_first (lets_go number item) _ e) ∙ untied_staying number agenda (none_second (lets_go number item) _ e))
 
--- more may be put in front that lets nothing go
+-- what is put in front lets nothing go
 untied_behind : (number : ℕ) (items agenda : List Item) → list_any is_gone items ≡ false → is_untied_first agenda number ≡ true → is_untied_first (items ++ agenda) number ≡ true
 untied_behind number [] agenda e untied = untied
 untied_behind number (item ∷ items) agenda e untied =
     or_right (unties number item) _
     (ap (λ b. not b && is_untied_first (items ++ agenda) number) (goes_gone number item (none_first (is_gone item) _ e)) ∙ untied_behind number items agenda (none_second (is_gone item) _ e) untied)
 
--- both ends are broken in time also by another agenda
+-- a connection that is broken in time in one agenda is so in another
 in_time : (one other : List Item) → ((number : ℕ) → is_untied_first one number ≡ true → is_untied_first other number ≡ true) → (rows : List Connection) → All (IsBrokenInTime one) rows → All (IsBrokenInTime other) rows
 in_time one other so rows all index default within =
     let was : IsBrokenInTime one _ = all index default within in

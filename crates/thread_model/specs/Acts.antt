@@ -51,19 +51,21 @@ connection settings state object signal receiver method mode single =
     receiver (method_with (methods_of settings state receiver) method)
     mode single
 
--- the connections of an object that match
+-- which connections of an object are broken, by signal, receiver and method where they are given
 abbrev pub pattern : Settings → State → ℕ → Option Signature → Option ℕ → Option Signature → Found Pattern
 pattern settings state object signal receiver method =
     pattern_with
     object (option_map (signal_with (methods_of settings state object)) signal)
     receiver (λ receiver. option_map (method_with (methods_of settings state receiver)) method)
 
--- why an action of the slot of `self` is refused: the first of these. What this server does not do yet is
--- refused at once: queued calls, deferred deletion, blocked signals, and properties other than the title
 module _ (settings : Settings) (state : State) (self sender : ℕ) (args : List Value) where
+  -- the number of the object that a target is; 0 where there is none
   abbrev object : Target → ℕ
   object target = object_of state self sender target
 
+  -- why an action of the slot of `self` is refused: the first of these. What this server does not do yet
+  -- is refused at once: queued calls, deferred deletion, blocked signals, and properties other than the
+  -- title
   abbrev pub act_refusal : Effect → Option Code
   act_refusal (e.Set of property value) =
       if is_title property
@@ -87,16 +89,17 @@ module _ (settings : Settings) (state : State) (self sender : ℕ) (args : List 
   act_refusal (e.Block of on) = Some BadValue
   act_refusal (e.SetParent of parent) = set_parent_refusal state.forest (object of) (named_object_of state self sender parent)
 
--- what was looked for, and is there
+-- what comes of something that was looked for; nothing where it was not found
 abbrev pub with_found : {A : Type 0} → Found A → (A → Next) → Doing → Next
 with_found (Ok found) next doing = next found
 with_found (Err code) next doing = puts [] doing
 
--- what an action comes to that is not refused
 module _ (settings : Settings) (doing : Doing) (self sender : ℕ) (args : List Value) (depth : ℕ) where
+  -- the number of the object that a target is when the action is done
   abbrev acted_object : Target → ℕ
   acted_object target = object_of doing.state self sender target
 
+  -- what an action comes to that is not refused
   abbrev pub acted : Effect → Next
   acted (e.Set of property value) =
       with_found (title_evaluated doing.state self sender args value)
@@ -120,7 +123,7 @@ abbrev pub warns_or : Option Code → ℕ → Doing → Next → Next
 warns_or (Some code) self doing next = puts (Warn code (Some self) ∷ []) doing
 warns_or None self doing next = next
 
--- which branch is taken, where the test is a truth
+-- the branch that is taken, by the truth that the test is
 abbrev pub branch : Bool → Acts → Acts → Acts
 branch true held failed = held
 branch false held failed = failed

@@ -25,10 +25,11 @@ use Rattle.thread_model.specs.Settings.{Settings}
 use Rattle.thread_model.specs.State.{State}
 use Rattle.thread_model.specs.Targets.{truth_evaluated}
 
--- the object stands and is not dying
+-- an object that stands is not dying
 abbrev pub is_living : Row → Bool
 is_living row = not row.dying
 
+-- an object of this number stands and is not dying
 abbrev pub lives : Doing → ℕ → Bool
 lives doing number = option_map_or is_living (row_of doing.state.forest.rows number) false
 

@@ -33,6 +33,7 @@ method_at settings state object index = slice_get (methods_of settings state obj
 abbrev pub kinds_at : List Method → ℕ → List Kind
 kinds_at methods index = option_map_or (λ method. method.signature.kinds) (slice_get methods index) []
 
+-- is the method with this index a signal
 abbrev pub is_signal_at : List Method → ℕ → Bool
 is_signal_at methods index = option_map_or (λ method. method.is_signal) (slice_get methods index) false
 
@@ -40,7 +41,7 @@ is_signal_at methods index = option_map_or (λ method. method.is_signal) (slice_
 abbrev pub method_with : List Method → Signature → Found ℕ
 method_with methods signature = ok_or (method_number signature methods) NoSuchMethod
 
--- the same of a signal; a slot is none
+-- the index of the signal with this signature; a slot is no signal
 abbrev pub signal_with : List Method → Signature → Found ℕ
 signal_with methods signature = method_with methods signature >>= λ index. if is_signal_at methods index then Ok index else Err NoSuchMethod
 
@@ -48,9 +49,10 @@ signal_with methods signature = method_with methods signature >>= λ index. if i
 abbrev pub signature_in : List ℕ → Found Signature
 signature_in text = ok_or (signature_of text) BadSignature
 
--- the index of the method, and of the signal, that a text names
+-- the index of the method that a text names
 abbrev pub method_named : List Method → List ℕ → Found ℕ
 method_named methods text = signature_in text >>= method_with methods
 
+-- the index of the signal that a text names
 abbrev pub signal_named : List Method → List ℕ → Found ℕ
 signal_named methods text = signature_in text >>= signal_with methods

@@ -57,7 +57,7 @@ weights most (item ∷ agenda) = weight most item + weights most agenda
 abbrev pub turn_weight : Most → ℕ
 turn_weight most = most.actions * (most.connections + 3) + most.connections + 3
 
--- and a deletion
+-- how many items a deletion comes to at most
 abbrev pub deletion_weight : Most → ℕ
 deletion_weight most = 2 * most.objects + 2
 

@@ -52,7 +52,7 @@ asked_pattern settings state sender signal receiver method =
     sender (option_map (signal_named (methods_of settings state sender)) signal)
     receiver (λ object. option_map (method_named (methods_of settings state object)) method)
 
--- breaking them replies how many they were
+-- breaking the connections that match replies how many they were
 abbrev pub disconnects : State → Found Pattern → Effect State Line Post
 disconnects state (Ok pattern) = replies (without_connections state (matches pattern)) (a.Number (count_by (matches pattern) state.connections.rows))
 disconnects state (Err code) = refuses state code

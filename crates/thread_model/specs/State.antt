@@ -76,7 +76,7 @@ with_connection state new = record state { connections = connected state.connect
 abbrev pub without_connections : State → (Connection → Bool) → State
 without_connections state test = record state { connections = without test state.connections }
 
--- both ends of a connection stand
+-- the objects at both ends of a connection stand
 pub record IsTied (state : State) (row : Connection) : Type 0 where
   pub sender : IsTrue (is_there state.forest.rows row.sender)
   pub receiver : IsTrue (is_there state.forest.rows row.receiver)

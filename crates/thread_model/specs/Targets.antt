@@ -23,11 +23,11 @@ object_of state self sender Sender = sender
 object_of state self sender (Child title) = unwrap_or (found_below state.forest.rows self (λ number. is_text title (title_of state.titles number))) 0
 object_of state self sender (Object number) = number
 
--- the same of a target that need not be named
+-- the number of the object that a target is, where a target is named
 abbrev pub named_object_of : State → ℕ → ℕ → Option Target → Option ℕ
 named_object_of state self sender target = option_map (object_of state self sender) target
 
--- the name of an object's title as a property
+-- is this the name of the property that is an object's title
 abbrev pub is_title : List ℕ → Bool
 is_title name = bytes_eq name (codes "objectName")
 
@@ -38,11 +38,12 @@ property_of state object name =
     then (if is_title name then Ok (title_of state.titles object) else Err (refused NoSuchProperty))
     else Err (refused NoSuchObject)
 
--- what the slot of `self` reads
+-- the value of a property that the slot of `self` reads
 abbrev pub reads : State → ℕ → ℕ → Target → List ℕ → Answer (Unit {0})
 reads state self sender target name = property_of state (object_of state self sender target) name
 
--- the value, or why there is none; what reads for a slot has no fault of its own
+-- the value that an evaluation ends with, or why there is none; what reads for a slot has no fault of
+-- its own
 abbrev pub outcome : Answer (Unit {0}) → Found Value
 outcome (Ok value) = Ok value
 outcome (Err (refused code)) = Err code

@@ -25,7 +25,7 @@ abbrev pub is_untied_first : List Item → ℕ → Bool
 is_untied_first [] number = true
 is_untied_first (item ∷ agenda) number = unties number item || (not (lets_go number item) && is_untied_first agenda number)
 
--- so it is with both ends of a connection
+-- a connection is broken before either of its ends is let go
 pub record IsBrokenInTime (agenda : List Item) (row : Connection) : Type 0 where
   pub sender : IsTrue (is_untied_first agenda row.sender)
   pub receiver : IsTrue (is_untied_first agenda row.receiver)
@@ -35,5 +35,5 @@ pub record IsUnderWay (agenda : List Item) (state : State) : Type 0 where
   pub whole : IsWhole state
   -- exactly those objects are dying that are still to be let go
   pub going : All (λ row. list_any (lets_go row.number) agenda ≡ row.dying) state.forest.rows
-  -- and none of them before its connections are broken
+  -- no object is let go before its connections are broken
   pub in_time : All (IsBrokenInTime agenda) state.connections.rows

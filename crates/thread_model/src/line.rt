@@ -30,8 +30,5 @@ pub enum Line {
     Call(Call),
     /// An action in the body of this object's slot was refused, or a signal of this object was not
     /// sent. That the turns are used up is said of no object.
-    Warning {
-        code: Code,
-        object: Option<u32>,
-    },
+    Warning { code: Code, object: Option<u32> },
 }
