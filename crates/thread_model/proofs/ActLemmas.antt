@@ -18,7 +18,7 @@ use Rattle.object_tree.specs.Refusing.{object_refusal, set_parent_refusal}
 use Rattle.object_tree.specs.Rows.{is_there}
 use Rattle.thread_model.specs.Acts.{act_refusal, acted, connection, emission, is_queued, pattern, warns_or, with_found}
 use Rattle.thread_model.specs.Connecting.{connection_refusal, fits_at, new_connection}
-use Rattle.thread_model.specs.Doing.{Doing, connected, disconnected, reparented, retitled}
+use Rattle.thread_model.specs.Doing.{Doing, linked, unlinked, adopted, retitled}
 use Rattle.thread_model.specs.Items.{Delete, Emit, Next, Warn, puts}
 use Rattle.thread_model.specs.Methods.{Found}
 use Rattle.thread_model.specs.Settings.{Settings}
@@ -50,9 +50,9 @@ module _ (settings : Settings) (doing : Doing) (self sender : ℕ) (args : List 
     (sends : (target signal : ℕ) (values : List Value) → P (puts (Emit target signal values depth ∷ []) doing))
     (deletes : (target : ℕ) → P (puts (Delete target depth ∷ []) doing))
     (titles : (target : ℕ) (title : Value) → is_there doing.state.forest.rows target ≡ true → IsOfKind k.Text title → P (puts [] (retitled doing target title)))
-    (moves : (target : ℕ) (parent : Option ℕ) → set_parent_refusal doing.state.forest target parent ≡ None → P (puts [] (reparented doing target parent)))
-    (connects : (new : NewConnection) → IsAllowed doing.state.connections → object_refusal doing.state.forest.rows new.sender ≡ None → object_refusal doing.state.forest.rows new.receiver ≡ None → P (puts [] (connected doing new)))
-    (breaks : (pattern : Pattern) → P (puts [] (disconnected doing pattern)))
+    (moves : (target : ℕ) (parent : Option ℕ) → set_parent_refusal doing.state.forest target parent ≡ None → P (puts [] (adopted doing target parent)))
+    (connects : (new : NewConnection) → IsAllowed doing.state.connections → object_refusal doing.state.forest.rows new.sender ≡ None → object_refusal doing.state.forest.rows new.receiver ≡ None → P (puts [] (linked doing new)))
+    (breaks : (pattern : Pattern) → P (puts [] (unlinked doing pattern)))
   where
     titled_by : (of : ℕ) (declared there : Bool) (found : Found Value) → is_there doing.state.forest.rows of ≡ there → ((title : Value) → found ≡ Ok title → IsOfKind k.Text title)
         → P (warns_or (cond declared (option_or (cond there None (Some NoSuchObject)) (result_err found)) (Some BadValue)) self doing (with_found found (λ title. puts [] (retitled doing of title)) doing))
@@ -67,21 +67,21 @@ module _ (settings : Settings) (doing : Doing) (self sender : ℕ) (args : List 
     sent_by of true (Ok emitted) = sends of emitted.0 emitted.1
     sent_by of true (Err code) = warns code
 
-    connected_by : (queued unique : Bool) (a b : Option Code) (found : Found NewConnection)
+    linked_by : (queued unique : Bool) (a b : Option Code) (found : Found NewConnection)
         → ((new : NewConnection) → found ≡ Ok new → (a ≡ object_refusal doing.state.forest.rows new.sender) × (b ≡ object_refusal doing.state.forest.rows new.receiver))
-        → P (warns_or (cond queued (Some BadValue) (option_or a (option_or b (connection_refusal doing.state.connections found unique)))) self doing (with_found found (λ new. puts [] (connected doing new)) doing))
-    connected_by true unique a b found ends = warns BadValue
-    connected_by false unique (Some code) b found ends = warns code
-    connected_by false unique None (Some code) found ends = warns code
-    connected_by false unique None None (Err code) ends = warns code
-    connected_by false unique None None (Ok new) ends = by (connect_refusal doing.state.connections new unique) refl
+        → P (warns_or (cond queued (Some BadValue) (option_or a (option_or b (connection_refusal doing.state.connections found unique)))) self doing (with_found found (λ new. puts [] (linked doing new)) doing))
+    linked_by true unique a b found ends = warns BadValue
+    linked_by false unique (Some code) b found ends = warns code
+    linked_by false unique None (Some code) found ends = warns code
+    linked_by false unique None None (Err code) ends = warns code
+    linked_by false unique None None (Ok new) ends = by (connect_refusal doing.state.connections new unique) refl
       where
-        by : (refusal : Option Code) → connect_refusal doing.state.connections new unique ≡ refusal → P (warns_or refusal self doing (puts [] (connected doing new)))
+        by : (refusal : Option Code) → connect_refusal doing.state.connections new unique ≡ refusal → P (warns_or refusal self doing (puts [] (linked doing new)))
         by (Some code) e = warns code
         by None e = connects new (allowed doing.state.connections new unique e) (sym (ends new refl).0) (sym (ends new refl).1)
 
     broken_by : (there : Bool) (named : Option Code) (found : Found Pattern)
-        → P (warns_or (option_or (cond there None (Some NoSuchObject)) (option_or named (result_err found))) self doing (with_found found (λ broken. puts [] (disconnected doing broken)) doing))
+        → P (warns_or (option_or (cond there None (Some NoSuchObject)) (option_or named (result_err found))) self doing (with_found found (λ broken. puts [] (unlinked doing broken)) doing))
     broken_by false named found = warns NoSuchObject
     broken_by true (Some code) found = warns code
     broken_by true None (Ok broken) = breaks broken
@@ -91,7 +91,7 @@ module _ (settings : Settings) (doing : Doing) (self sender : ℕ) (args : List 
     deleted_by target (Some code) = warns code
     deleted_by target None = deletes target
 
-    moved_by : (target : ℕ) (parent : Option ℕ) (refusal : Option Code) → set_parent_refusal doing.state.forest target parent ≡ refusal → P (warns_or refusal self doing (puts [] (reparented doing target parent)))
+    moved_by : (target : ℕ) (parent : Option ℕ) (refusal : Option Code) → set_parent_refusal doing.state.forest target parent ≡ refusal → P (warns_or refusal self doing (puts [] (adopted doing target parent)))
     moved_by target parent (Some code) e = warns code
     moved_by target parent None e = moves target parent e
 
@@ -102,7 +102,7 @@ module _ (settings : Settings) (doing : Doing) (self sender : ℕ) (args : List 
         (title_text (evaluated doing.state self sender args value))
     acted_cases (e.Emit of signal sent) = sent_by (object_of doing.state self sender of) (is_there doing.state.forest.rows (object_of doing.state self sender of)) (emission settings doing.state self sender args (object_of doing.state self sender of) signal sent)
     acted_cases (e.Connect of signal to method mode unique single) =
-        connected_by (is_queued mode) unique _ _ (connection settings doing.state (object_of doing.state self sender of) signal (object_of doing.state self sender to) method mode single)
+        linked_by (is_queued mode) unique _ _ (connection settings doing.state (object_of doing.state self sender of) signal (object_of doing.state self sender to) method mode single)
         (λ new found. let its = joins settings doing.state _ _ _ _ mode single new found in
         (ap (object_refusal doing.state.forest.rows) (sym its.sender), ap (object_refusal doing.state.forest.rows) (sym its.receiver)))
     acted_cases (e.Disconnect of signal to method) =

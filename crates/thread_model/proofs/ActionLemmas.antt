@@ -21,7 +21,7 @@ use Rattle.thread_model.specs.Absence.{named_absence}
 use Rattle.thread_model.specs.Acts.{act_refusal, acted, acts, chosen, connection, emission, is_queued, pattern, warns_or, with_found}
 use Rattle.thread_model.specs.Agenda.{step}
 use Rattle.thread_model.specs.Connecting.{connection_refusal}
-use Rattle.thread_model.specs.Doing.{Doing, connected, disconnected, reparented, retitled}
+use Rattle.thread_model.specs.Doing.{Doing, linked, unlinked, adopted, retitled}
 use Rattle.thread_model.specs.Items.{Act, Delete, Emit, Next, Warn, puts}
 use Rattle.thread_model.specs.Methods.{Found}
 use Rattle.thread_model.specs.Settings.{Settings}
@@ -116,7 +116,7 @@ module _ (settings : Settings) (self sender : ℕ) (args : List Value) (depth : 
 
     connect_next : Bool → Option Code → Option Code → Found NewConnection → Next
     connect_next queued one other found =
-        warns_or (cond queued (Some BadValue) (option_or one (option_or other (connection_refusal doing.state.connections found unique)))) self doing (with_found found (λ new. puts [] (connected doing new)) doing)
+        warns_or (cond queued (Some BadValue) (option_or one (option_or other (connection_refusal doing.state.connections found unique)))) self doing (with_found found (λ new. puts [] (linked doing new)) doing)
 
     -- no connection can be queued yet
     pub connect_queued : is_queued mode ≡ true → comes_to connect ≡ warned BadValue
@@ -154,22 +154,22 @@ module _ (settings : Settings) (self sender : ℕ) (args : List Value) (depth : 
           connect_faulty code found = by_sender' None other ∙ ap (connect_next false None None) found
 
           by_found : (new : NewConnection) → connection settings doing.state target signal receiver method mode single ≡ Ok new → (refusal : Option Code) → connect_refusal doing.state.connections new unique ≡ refusal
-              → comes_to connect ≡ warns_or refusal self doing (puts [] (connected doing new))
+              → comes_to connect ≡ warns_or refusal self doing (puts [] (linked doing new))
           unfolding connect_next
           by_found new found refusal e =
               by_sender' None other ∙ ap (connect_next false None None) found
-              ∙ ap (λ refusal. warns_or refusal self doing (puts [] (connected doing new))) e
+              ∙ ap (λ refusal. warns_or refusal self doing (puts [] (linked doing new))) e
 
           pub connect_refused : (new : NewConnection) (code : Code) → connection settings doing.state target signal receiver method mode single ≡ Ok new → connect_refusal doing.state.connections new unique ≡ Some code → comes_to connect ≡ warned code
           connect_refused new code found refused = by_found new found (Some code) refused
 
-          pub connect_done : (new : NewConnection) → connection settings doing.state target signal receiver method mode single ≡ Ok new → connect_refusal doing.state.connections new unique ≡ None → comes_to connect ≡ puts [] (connected doing new)
+          pub connect_done : (new : NewConnection) → connection settings doing.state target signal receiver method mode single ≡ Ok new → connect_refusal doing.state.connections new unique ≡ None → comes_to connect ≡ puts [] (linked doing new)
           connect_done new found passed = by_found new found None passed
 
   -- disconnecting
   module _ (of : Target) (signal : Option Signature) (to : Option Target) (method : Option Signature) (target : ℕ) (receiver : Option ℕ) (is : target ≡ object of) (is_to : receiver ≡ named_object to) where
     disconnect_next : Bool → Option Code → Found Pattern → Next
-    disconnect_next there named found = warns_or (option_or (absent there) (option_or named (result_err found))) self doing (with_found found (λ broken. puts [] (disconnected doing broken)) doing)
+    disconnect_next there named found = warns_or (option_or (absent there) (option_or named (result_err found))) self doing (with_found found (λ broken. puts [] (unlinked doing broken)) doing)
 
     by_pattern : (there : Bool) (named : Option Code) → is_there doing.state.forest.rows target ≡ there → named_absence doing.state receiver ≡ named
         → comes_to (e.Disconnect of signal to method) ≡ disconnect_next there named (pattern settings doing.state target signal receiver method)
@@ -193,7 +193,7 @@ module _ (settings : Settings) (self sender : ℕ) (args : List Value) (depth : 
       unfolding disconnect_next
       disconnect_faulty code named found = by_pattern true None there named ∙ ap (disconnect_next true None) found
 
-      pub disconnect_done : (broken : Pattern) → named_absence doing.state receiver ≡ None → pattern settings doing.state target signal receiver method ≡ Ok broken → comes_to (e.Disconnect of signal to method) ≡ puts [] (disconnected doing broken)
+      pub disconnect_done : (broken : Pattern) → named_absence doing.state receiver ≡ None → pattern settings doing.state target signal receiver method ≡ Ok broken → comes_to (e.Disconnect of signal to method) ≡ puts [] (unlinked doing broken)
       unfolding disconnect_next
       disconnect_done broken named found = by_pattern true None there named ∙ ap (disconnect_next true None) found
 
@@ -219,16 +219,16 @@ module _ (settings : Settings) (self sender : ℕ) (args : List Value) (depth : 
 
   -- giving another parent
   module _ (of : Target) (above : Option Target) (target : ℕ) (parent : Option ℕ) (is : target ≡ object of) (is_above : parent ≡ named_object above) where
-    by_moved : (refusal : Option Code) → set_parent_refusal doing.state.forest target parent ≡ refusal → comes_to (e.SetParent of above) ≡ warns_or refusal self doing (puts [] (reparented doing target parent))
+    by_moved : (refusal : Option Code) → set_parent_refusal doing.state.forest target parent ≡ refusal → comes_to (e.SetParent of above) ≡ warns_or refusal self doing (puts [] (adopted doing target parent))
     by_moved refusal e =
-        ap (λ target. warns_or (set_parent_refusal doing.state.forest target (named_object above)) self doing (puts [] (reparented doing target (named_object above)))) (sym is)
-        ∙ ap (λ parent. warns_or (set_parent_refusal doing.state.forest target parent) self doing (puts [] (reparented doing target parent))) (sym is_above)
-        ∙ ap (λ refusal. warns_or refusal self doing (puts [] (reparented doing target parent))) e
+        ap (λ target. warns_or (set_parent_refusal doing.state.forest target (named_object above)) self doing (puts [] (adopted doing target (named_object above)))) (sym is)
+        ∙ ap (λ parent. warns_or (set_parent_refusal doing.state.forest target parent) self doing (puts [] (adopted doing target parent))) (sym is_above)
+        ∙ ap (λ refusal. warns_or refusal self doing (puts [] (adopted doing target parent))) e
 
     pub set_parent_refused : (code : Code) → set_parent_refusal doing.state.forest target parent ≡ Some code → comes_to (e.SetParent of above) ≡ warned code
     set_parent_refused code refused = by_moved (Some code) refused
 
-    pub set_parent_done : set_parent_refusal doing.state.forest target parent ≡ None → comes_to (e.SetParent of above) ≡ puts [] (reparented doing target parent)
+    pub set_parent_done : set_parent_refusal doing.state.forest target parent ≡ None → comes_to (e.SetParent of above) ≡ puts [] (adopted doing target parent)
     set_parent_done passed = by_moved None passed
 
   -- choosing a branch

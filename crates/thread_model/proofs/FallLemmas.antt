@@ -18,7 +18,7 @@ use Rattle.thread_model.specs.declared.line.Line.TheVariants as line
 use Rattle.thread_model.specs.declared.line.Line.TheVariants.{Warning}
 use Rattle.thread_model.specs.Acts.{acts, chosen}
 use Rattle.thread_model.specs.Agenda.{call_line, called, callee_items, calls_of, emitted, kins, lives, lives_below, method_items, ran, stands, step, with_turn}
-use Rattle.thread_model.specs.Doing.{Doing, connected, disconnected, dying, gone, reparented, retitled, shot, told, turn_taken, untied, used_up}
+use Rattle.thread_model.specs.Doing.{Doing, linked, unlinked, dying, gone, adopted, retitled, shot, told, turn_taken, untied, used_up}
 use Rattle.thread_model.specs.Items.{Act, Call, Cut, Delete, Emit, Gone, Item, Kin, Next, Reply, Run, Warn, puts}
 use Rattle.thread_model.specs.Methods.{Found, method_at}
 use Rattle.thread_model.specs.Run.{Most, deletion_weight, most, turn_weight, weight, weights}
@@ -28,7 +28,7 @@ use Rattle.thread_model.specs.Targets.{truth_evaluated}
 use Rattle.thread_model.proofs.ActLemmas.{acted_cases}
 use Rattle.thread_model.proofs.LivingLemmas.{few_children, filter-fewer, living_rows}
 use Rattle.thread_model.proofs.WeightLemmas.{act-some, acts-weight, body-size, calls-weight, choice-weight, kins-weight, weight-some}
-use Rattle.thread_model.proofs.ShrinkLemmas.{Shrinks, both, connected_shrinks, disconnected_shrinks, dying_less, dying_shrinks, gone_shrinks, reparented_shrinks, retitled_shrinks, same, shot_shrinks, told_shrinks, turn_shrinks, turn_taken-less, untied_shrinks, used_up_shrinks}
+use Rattle.thread_model.proofs.ShrinkLemmas.{Shrinks, both, linked_shrinks, unlinked_shrinks, dying_less, dying_shrinks, gone_shrinks, adopted_shrinks, retitled_shrinks, same, shot_shrinks, told_shrinks, turn_shrinks, turn_taken-less, untied_shrinks, used_up_shrinks}
 
 abbrev pub total : Most → Doing → ℕ → ℕ
 total n doing items = doing.turns * turn_weight n + living_rows doing.state.forest.rows * deletion_weight n + items
@@ -148,9 +148,9 @@ falls settings (Act (effect plain) args self sender depth) doing =
     (λ target signal values. lighter settings item doing (puts (Emit target signal values depth ∷ []) doing) (same doing) (omega arith))
     (λ target. lighter settings item doing (puts (Delete target depth ∷ []) doing) (same doing) (omega arith))
     (λ target title there text. idle settings item doing (retitled doing target title) (retitled_shrinks doing target title))
-    (λ target parent passed. idle settings item doing (reparented doing target parent) (reparented_shrinks doing target parent))
-    (λ new allowed sender' receiver'. idle settings item doing (connected doing new) (connected_shrinks doing new allowed))
-    (λ pattern. idle settings item doing (disconnected doing pattern) (disconnected_shrinks doing pattern))
+    (λ target parent passed. idle settings item doing (adopted doing target parent) (adopted_shrinks doing target parent))
+    (λ new allowed sender' receiver'. idle settings item doing (linked doing new) (linked_shrinks doing new allowed))
+    (λ pattern. idle settings item doing (unlinked doing pattern) (unlinked_shrinks doing pattern))
     plain
 falls settings (Act (when test held failed) args self sender depth) doing = chosen_falls settings test held failed args self sender depth doing (truth_evaluated doing.state self sender args test)
 falls settings (Warn code object) doing = idle settings (Warn code object) doing (told doing (line.Warning code object)) (told_shrinks doing (line.Warning code object))

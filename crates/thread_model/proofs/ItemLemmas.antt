@@ -24,7 +24,7 @@ use Rattle.thread_model.specs.State.{State}
 use Rattle.thread_model.specs.Targets.{truth_evaluated}
 use Rattle.thread_model.specs.UnderWay.{IsUnderWay, is_gone}
 use Rattle.thread_model.proofs.ActLemmas.{acted_cases}
-use Rattle.thread_model.proofs.UnderWayLemmas.{behind, connected_under, disconnected_under, dying_under, gone_under, in_front, reparented_under, retitled_under, shot_under, told_under, turn_under, untied_under, used_up_under}
+use Rattle.thread_model.proofs.UnderWayLemmas.{behind, linked_under, unlinked_under, dying_under, gone_under, in_front, adopted_under, retitled_under, shot_under, told_under, turn_under, untied_under, used_up_under}
 
 -- actions, calls and children let nothing go
 acts_stay : (body : Acts) (args : List Value) (self sender depth : ℕ) → list_any is_gone (acts body args self sender depth) ≡ false
@@ -104,9 +104,9 @@ item_under_way settings (Act (effect plain) args self sender depth) agenda doing
     (λ target signal values. in_front (Emit target signal values depth ∷ []) agenda doing.state refl rest)
     (λ target. in_front (Delete target depth ∷ []) agenda doing.state refl rest)
     (λ target title there text. retitled_under agenda doing rest target title there text)
-    (λ target parent passed. reparented_under agenda doing rest target parent passed)
-    (λ new allowed sender' receiver'. connected_under agenda doing rest new allowed sender' receiver')
-    (λ pattern. disconnected_under agenda doing rest pattern)
+    (λ target parent passed. adopted_under agenda doing rest target parent passed)
+    (λ new allowed sender' receiver'. linked_under agenda doing rest new allowed sender' receiver')
+    (λ pattern. unlinked_under agenda doing rest pattern)
     plain
 item_under_way settings (Act (when test held failed) args self sender depth) agenda doing under =
     let rest = behind (Act (when test held failed) args self sender depth) agenda doing.state (λ number. refl) (λ number. refl) under in

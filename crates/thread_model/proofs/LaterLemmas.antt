@@ -23,7 +23,7 @@ use Rattle.thread_model.specs.declared.line.Line.TheVariants as line
 use Rattle.thread_model.specs.declared.line.Line.TheVariants.{Warning}
 use Rattle.thread_model.specs.Acts.{chosen}
 use Rattle.thread_model.specs.Agenda.{call_line, called, calls_of, emitted, lives, lives_below, ran, stands, step, with_turn}
-use Rattle.thread_model.specs.Doing.{Doing, connected, disconnected, dying, gone, in_state, reparented, retitled, shot, told, turn_taken, untied, used_up}
+use Rattle.thread_model.specs.Doing.{Doing, linked, unlinked, dying, gone, in_state, adopted, retitled, shot, told, turn_taken, untied, used_up}
 use Rattle.thread_model.specs.Items.{Act, Call, Cut, Delete, Emit, Gone, Item, Kin, Next, Reply, Run, Warn, puts}
 use Rattle.thread_model.specs.Methods.{Found, method_at}
 use Rattle.thread_model.specs.Run.{run}
@@ -51,8 +51,8 @@ later_same place = record { left = λ row. true; added = []; rows = sym (filter-
 later_without : (test : Connection → Bool) (place : Rows) → IsLater place (record { rows = filter (λ row. not (test row)) place.rows; last_number = place.last_number })
 later_without test place = record { left = λ row. not (test row); added = []; rows = sym (append-nil (filter (λ row. not (test row)) place.rows)); above = above-nothing place.last_number; last = omega arith }
 
-later_connected : (place : Rows) (new : NewConnection) → IsLater place (record { rows = place.rows ++ numbered (place.last_number + 1) new ∷ []; last_number = place.last_number + 1 })
-later_connected place new = record {
+later_linked : (place : Rows) (new : NewConnection) → IsLater place (record { rows = place.rows ++ numbered (place.last_number + 1) new ∷ []; last_number = place.last_number + 1 })
+later_linked place new = record {
   left = λ row. true;
   added = numbered (place.last_number + 1) new ∷ [];
   rows = ap (λ rows. rows ++ numbered (place.last_number + 1) new ∷ []) (sym (filter-all place.rows));
@@ -102,16 +102,16 @@ module _ (settings : Settings) where
   unfolding untied
   kins_later target depth doing = later_without (touches target) doing.state.connections
 
-  connected_later : (doing : Doing) (new : NewConnection) → Later doing (connected doing new)
-  unfolding connected
-  connected_later doing new = later_connected doing.state.connections new
+  linked_later : (doing : Doing) (new : NewConnection) → Later doing (linked doing new)
+  unfolding linked
+  linked_later doing new = later_linked doing.state.connections new
 
-  disconnected_later : (doing : Doing) (pattern : Pattern) → Later doing (disconnected doing pattern)
-  unfolding disconnected
-  disconnected_later doing pattern = later_without (matches pattern) doing.state.connections
+  unlinked_later : (doing : Doing) (pattern : Pattern) → Later doing (unlinked doing pattern)
+  unfolding unlinked
+  unlinked_later doing pattern = later_without (matches pattern) doing.state.connections
 
-  others_later : (doing : Doing) (target : ℕ) (title : Value) (parent : Option ℕ) → Later doing (retitled doing target title) × Later doing (reparented doing target parent) × Later doing (dying doing target) × Later doing (gone doing target)
-  unfolding retitled reparented dying gone
+  others_later : (doing : Doing) (target : ℕ) (title : Value) (parent : Option ℕ) → Later doing (retitled doing target title) × Later doing (adopted doing target parent) × Later doing (dying doing target) × Later doing (gone doing target)
+  unfolding retitled adopted dying gone
   others_later doing target title parent = (unchanged doing, unchanged doing, unchanged doing, unchanged doing)
 
   ran_later : (target sender : ℕ) (args : List Value) (depth : ℕ) (doing : Doing) (found : Option Method) → Later doing (option_map_or (ran doing target sender args depth) found (puts [] doing)).doing
@@ -139,8 +139,8 @@ module _ (settings : Settings) where
       (λ target. unchanged doing)
       (λ target title there text. (others_later doing target title None).0)
       (λ target parent passed. (others_later doing target Invalid parent).1)
-      (λ new allowed sender' receiver'. connected_later doing new)
-      (λ pattern. disconnected_later doing pattern)
+      (λ new allowed sender' receiver'. linked_later doing new)
+      (λ pattern. unlinked_later doing pattern)
       plain
   step_later (Act (when test held failed) args self sender depth) doing = chosen_later (truth_evaluated doing.state self sender args test) held failed args self sender depth doing
   step_later (Warn code object) doing = told_later doing (line.Warning code object)

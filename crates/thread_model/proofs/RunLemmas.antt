@@ -110,7 +110,7 @@ module _ (settings : Settings) where
     unfolding run
     run_keeps agenda doing holds = steps_keep (enough settings agenda doing) agenda doing (omega arith) holds
 
-  -- two agendas are done one after the other
+  -- two agendas are done one after the other, where the first comes to its end in so many steps
   parts_within : (fuel : ℕ) (one other : List Item) (doing : Doing) → enough settings one doing ≤ fuel → run settings (one ++ other) doing ≡ run settings other (run settings one doing)
   parts_within fuel [] other doing is_enough = ap (run settings other) (sym (at_end doing))
   parts_within zero (item ∷ one) other doing is_enough = absurd (let some = enough-some settings item one doing in omega (arith, some))
@@ -126,6 +126,7 @@ module _ (settings : Settings) where
   pub in_parts : (one other : List Item) (doing : Doing) → run settings (one ++ other) doing ≡ run settings other (run settings one doing)
   in_parts one other doing = parts_within (enough settings one doing) one other doing (omega arith)
 
+  -- an agenda is done item after item
   pub after_first : (item : Item) (agenda : List Item) (doing : Doing) → run settings (item ∷ agenda) doing ≡ run settings agenda (run settings (item ∷ []) doing)
   after_first item agenda doing = in_parts (item ∷ []) agenda doing
 

@@ -15,7 +15,7 @@ use Rattle.object_tree.specs.Changes.{marked, orphaned, removed}
 use Rattle.thread_model.specs.declared.line.Line.{Line}
 use Rattle.thread_model.specs.declared.line.Line.TheVariants.{Warning}
 use Rattle.thread_model.specs.Agenda.{lives}
-use Rattle.thread_model.specs.Doing.{Doing, connected, disconnected, dying, gone, in_state, reparented, retitled, shot, told, turn_taken, untied, used_up}
+use Rattle.thread_model.specs.Doing.{Doing, linked, unlinked, dying, gone, in_state, adopted, retitled, shot, told, turn_taken, untied, used_up}
 use Rattle.thread_model.specs.State.{without_connections}
 use Rattle.thread_model.proofs.ConnectionLemmas.{IsAllowed}
 use Rattle.thread_model.proofs.LivingLemmas.{all_orphaned-living, filter-fewer, filter-living, living_rows, marked-one, reparented-as_many}
@@ -72,13 +72,13 @@ pub untied_shrinks : (doing : Doing) (target : ℕ) → Shrinks doing (untied do
 unfolding untied
 untied_shrinks doing target = record { turns = omega arith; living = omega arith; objects = omega arith; connections = kept CONNECTIONS (λ row. not (touches target row)) doing.state.connections.rows }
 
-pub disconnected_shrinks : (doing : Doing) (pattern : Pattern) → Shrinks doing (disconnected doing pattern)
-unfolding disconnected
-disconnected_shrinks doing pattern = record { turns = omega arith; living = omega arith; objects = omega arith; connections = kept CONNECTIONS (λ row. not (matches pattern row)) doing.state.connections.rows }
+pub unlinked_shrinks : (doing : Doing) (pattern : Pattern) → Shrinks doing (unlinked doing pattern)
+unfolding unlinked
+unlinked_shrinks doing pattern = record { turns = omega arith; living = omega arith; objects = omega arith; connections = kept CONNECTIONS (λ row. not (matches pattern row)) doing.state.connections.rows }
 
-pub connected_shrinks : (doing : Doing) (new : NewConnection) → IsAllowed doing.state.connections → Shrinks doing (connected doing new)
-unfolding connected
-connected_shrinks doing new allowed = record {
+pub linked_shrinks : (doing : Doing) (new : NewConnection) → IsAllowed doing.state.connections → Shrinks doing (linked doing new)
+unfolding linked
+linked_shrinks doing new allowed = record {
   turns = omega arith;
   living = omega arith;
   objects = omega arith;
@@ -89,9 +89,9 @@ pub retitled_shrinks : (doing : Doing) (target : ℕ) (title : Value) → Shrink
 unfolding retitled
 retitled_shrinks doing target title = record { turns = omega arith; living = omega arith; objects = omega arith; connections = omega arith }
 
-pub reparented_shrinks : (doing : Doing) (target : ℕ) (parent : Option ℕ) → Shrinks doing (reparented doing target parent)
-unfolding reparented
-reparented_shrinks doing target parent =
+pub adopted_shrinks : (doing : Doing) (target : ℕ) (parent : Option ℕ) → Shrinks doing (adopted doing target parent)
+unfolding adopted
+adopted_shrinks doing target parent =
     let many = reparented-as_many doing.state.forest target parent in
     record { turns = omega arith; living = omega (arith, many.living); objects = omega (arith, many.objects); connections = omega arith }
 

@@ -18,7 +18,7 @@ use Rattle.object_tree.specs.Refusing.{object_refusal, set_parent_refusal}
 use Rattle.object_tree.specs.Rows.{is_there}
 use Rattle.thread_model.specs.declared.line.Line.{Line}
 use Rattle.thread_model.specs.declared.line.Line.TheVariants.{Warning}
-use Rattle.thread_model.specs.Doing.{Doing, connected, disconnected, dying, gone, in_state, reparented, retitled, shot, told, turn_taken, untied, used_up}
+use Rattle.thread_model.specs.Doing.{Doing, linked, unlinked, dying, gone, in_state, adopted, retitled, shot, told, turn_taken, untied, used_up}
 use Rattle.thread_model.specs.Items.{Cut, Gone, Item}
 use Rattle.thread_model.specs.State.{State, without_connections}
 use Rattle.thread_model.specs.UnderWay.{IsBrokenInTime, IsUnderWay, is_gone, is_untied_first, lets_go, unties}
@@ -113,17 +113,17 @@ module _ (agenda : List Item) (doing : Doing) (under : IsUnderWay agenda doing.s
   unfolding shot
   shot_under row = cond_both row.single (in_state doing (without_connections doing.state (has_number row.number))) doing (λ (new : Doing). IsUnderWay agenda new.state) (λ single. without_under (has_number row.number)) (λ lasting. under)
 
-  pub disconnected_under : (pattern : Pattern) → IsUnderWay agenda (disconnected doing pattern).state
-  unfolding disconnected
-  disconnected_under pattern = without_under (matches pattern)
+  pub unlinked_under : (pattern : Pattern) → IsUnderWay agenda (unlinked doing pattern).state
+  unfolding unlinked
+  unlinked_under pattern = without_under (matches pattern)
 
   -- an end of a new connection lives, and so is not to be let go
   staying : (number : ℕ) → Stands doing.state.forest.rows number → is_untied_first agenda number ≡ true
   staying number stands = untied_staying number agenda (of_row (IsGoing agenda) doing.state.forest.rows number stands.row stands.found under.going ∙ stands.living)
 
-  pub connected_under : (new : NewConnection) → IsAllowed doing.state.connections → object_refusal doing.state.forest.rows new.sender ≡ None → object_refusal doing.state.forest.rows new.receiver ≡ None → IsUnderWay agenda (connected doing new).state
-  unfolding connected
-  connected_under new allowed sender' receiver' =
+  pub linked_under : (new : NewConnection) → IsAllowed doing.state.connections → object_refusal doing.state.forest.rows new.sender ≡ None → object_refusal doing.state.forest.rows new.receiver ≡ None → IsUnderWay agenda (linked doing new).state
+  unfolding linked
+  linked_under new allowed sender' receiver' =
       let one = stands_living doing.state.forest.rows new.sender sender' in
       let other = stands_living doing.state.forest.rows new.receiver receiver' in
       record {
@@ -136,9 +136,9 @@ module _ (agenda : List Item) (doing : Doing) (under : IsUnderWay agenda doing.s
   unfolding retitled
   retitled_under target title there text = record { whole = whole_with_title doing.state target title there text under.whole; going = under.going; in_time = under.in_time }
 
-  pub reparented_under : (target : ℕ) (parent : Option ℕ) → set_parent_refusal doing.state.forest target parent ≡ None → IsUnderWay agenda (reparented doing target parent).state
-  unfolding reparented
-  reparented_under target parent passed = record {
+  pub adopted_under : (target : ℕ) (parent : Option ℕ) → set_parent_refusal doing.state.forest target parent ≡ None → IsUnderWay agenda (adopted doing target parent).state
+  unfolding adopted
+  adopted_under target parent passed = record {
     whole = whole_with_parent doing.state target parent passed under.whole;
     going = each_reparented (IsGoing agenda) doing.state.forest target parent under.going;
     in_time = under.in_time;

@@ -18,7 +18,7 @@ use Rattle.connection_list.specs.declared.pattern.Pattern.{Pattern}
 use Rattle.object_tree.specs.Refusing.{object_refusal, set_parent_refusal}
 use Rattle.thread_model.specs.Absence.{absence, named_absence}
 use Rattle.thread_model.specs.Connecting.{connection_refusal, new_connection, pattern_with}
-use Rattle.thread_model.specs.Doing.{Doing, connected, disconnected, reparented, retitled}
+use Rattle.thread_model.specs.Doing.{Doing, linked, unlinked, adopted, retitled}
 use Rattle.thread_model.specs.Items.{Act, Delete, Emit, Item, Next, Warn, puts}
 use Rattle.thread_model.specs.Methods.{Found, ◌>>=◌, kinds_at, method_with, methods_of, signal_with}
 use Rattle.thread_model.specs.Settings.{Settings}
@@ -109,14 +109,14 @@ module _ (settings : Settings) (doing : Doing) (self sender : ℕ) (args : List 
       (λ emitted. puts (Emit (acted_object of) emitted.0 emitted.1 depth ∷ []) doing) doing
   acted (e.Connect of signal to method mode unique single) =
       with_found (connection settings doing.state (acted_object of) signal (acted_object to) method mode single)
-      (λ new. puts [] (connected doing new)) doing
+      (λ new. puts [] (linked doing new)) doing
   acted (e.Disconnect of signal to method) =
       with_found (pattern settings doing.state (acted_object of) signal (named_object_of doing.state self sender to) method)
-      (λ broken. puts [] (disconnected doing broken)) doing
+      (λ broken. puts [] (unlinked doing broken)) doing
   acted (e.Delete target) = puts (Delete (acted_object target) depth ∷ []) doing
   acted (e.DeleteLater target) = puts [] doing
   acted (e.Block of on) = puts [] doing
-  acted (e.SetParent of parent) = puts [] (reparented doing (acted_object of) (named_object_of doing.state self sender parent))
+  acted (e.SetParent of parent) = puts [] (adopted doing (acted_object of) (named_object_of doing.state self sender parent))
 
 -- a refused action warns of its code for the object whose slot is run, and does nothing
 abbrev pub warns_or : Option Code → ℕ → Doing → Next → Next

@@ -54,20 +54,20 @@ unfoldable pub gone : Doing → ℕ → Doing
 gone doing target = in_state doing (without_object doing.state target)
 
 -- an object has another parent
-unfoldable pub reparented : Doing → ℕ → Option ℕ → Doing
-reparented doing target parent = in_state doing (with_parent doing.state target parent)
+unfoldable pub adopted : Doing → ℕ → Option ℕ → Doing
+adopted doing target parent = in_state doing (with_parent doing.state target parent)
 
 -- an object has another title
 unfoldable pub retitled : Doing → ℕ → Value → Doing
 retitled doing target title = in_state doing (with_title doing.state target title)
 
 -- one more connection is made
-unfoldable pub connected : Doing → NewConnection → Doing
-connected doing new = in_state doing (with_connection doing.state new)
+unfoldable pub linked : Doing → NewConnection → Doing
+linked doing new = in_state doing (with_connection doing.state new)
 
 -- the connections that match are broken
-unfoldable pub disconnected : Doing → Pattern → Doing
-disconnected doing pattern = in_state doing (without_connections doing.state (matches pattern))
+unfoldable pub unlinked : Doing → Pattern → Doing
+unlinked doing pattern = in_state doing (without_connections doing.state (matches pattern))
 
 -- a single-shot connection is broken before its callee is called
 unfoldable pub shot : Doing → Connection → Doing
