@@ -1,5 +1,6 @@
 pub mod CommandLemmas
 pub mod HeldLemmas
+pub mod LineTexts
 pub mod Plain
 pub mod Cutting
 pub mod Outputs

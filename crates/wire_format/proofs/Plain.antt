@@ -14,6 +14,7 @@ use Rattle.refusals.specs.Codes.{code_text}
 use Rattle.thread_model.specs.declared.line.Answer.{Answer}
 use Rattle.thread_model.specs.declared.line.Line.TheVariants.{Reply, Error}
 use Rattle.wire_format.specs.Text.{json_of_answer, text_of_line, is_plain_byte, is_session_text}
+use Rattle.wire_format.proofs.LineTexts.{around, error_line, reply_line}
 
 -- what a plain byte is not
 record Plain (x : ℕ) : Type 0 where
@@ -122,24 +123,10 @@ name_is_plain (x ∷ s) h =
 pub session_is_plain : (s : List ℕ) → IsTrue (is_session_text s) → list_all is_plain_byte s ≡ true
 session_is_plain s h = ⊎_elim (λ named. name_is_plain s named) (λ none. ap (list_all is_plain_byte) ((bytes_eq-Decides s (codes "-")).0 none)) (or_cases (is_name s) (bytes_eq s (codes "-")) h)
 
--- a line, part by part: what opens it, what it tells, and its session
-around : List ℕ → List ℕ → List ℕ → List ℕ
-around opening told session = (opening ++ (told ++ (codes ",\"session\":" ++ (session ++ 125 ∷ [])))) ++ 10 ∷ []
-
-error_line : (code : Code) (session : List ℕ) → text_of_line session (Error code) ≡ around (codes "{\"error\":") (compact_text (string (code_text code))) (compact_text (string session))
-unfolding text_of_line around serde_json_on_literals
-error_line code session = refl
-
-reply_line : (answer : Answer) (session : List ℕ) → text_of_line session (Reply answer) ≡ around (codes "{\"reply\":") (compact_text (json_of_answer answer)) (compact_text (string session))
-unfolding text_of_line around serde_json_on_literals
-reply_line answer session = refl
-
 around_word : (opening told session : List ℕ) → around opening told (34 ∷ (session ++ 34 ∷ [])) ≡ opening ++ (told ++ (codes ",\"session\":\"" ++ (session ++ codes "\"}\n")))
-unfolding around
 around_word opening told session = simp append_assoc
 
 around_text : (opening told session : List ℕ) → around opening (34 ∷ (told ++ 34 ∷ [])) (34 ∷ (session ++ 34 ∷ [])) ≡ (opening ++ 34 ∷ []) ++ (told ++ (codes "\",\"session\":\"" ++ (session ++ codes "\"}\n")))
-unfolding around
 around_text opening told session = simp append_assoc
 
 pub text_of_error : (code : Code) (session : List ℕ) → IsTrue (is_session_text session) → text_of_line session (Error code) ≡ codes "{\"error\":\"" ++ (code_text code ++ (codes "\",\"session\":\"" ++ (session ++ codes "\"}\n")))
