@@ -112,15 +112,44 @@ fn push_call(
     ensures { OnOk result
         (string_bytes buffer.new ≡ string_bytes buffer.old ++ text_of_line session.now (Line.Call call.now)) }
 {
-    buffer.push_str("{\"args\":")?;
-    push_values(alloc, buffer, call.args.as_slice())?;
-    buffer.push_str(",\"call\":")?;
-    push_text(alloc, buffer, call.method.as_str())?;
-    buffer.push_str(",\"object\":")?;
+    push_args(alloc, buffer, call.args.as_slice())?;
+    push_method(alloc, buffer, call.method.as_str())?;
     push_number(buffer, call.object)?;
     buffer.push_str(",\"sender\":")?;
     push_number(buffer, call.sender)?;
     push_session(alloc, buffer, session)?;
+    Ok(())
+}
+
+/// Appends the bracket that opens a call's line, and the values that the slot is given.
+fn push_args(alloc: Global, buffer: &mut String, args: &[Value]) -> Result<(), AllocError>
+    ensures { OnOk result (string_bytes buffer.new ≡ string_bytes buffer.old
+        ++ (codes "{\"args\":" ++ compact_text (array_of json_of args.now))) }
+{
+    buffer.push_str("{\"args\":[")?;
+    for (place, value) in args.iter().enumerate() {
+        if place > 0 {
+            buffer.push_str(",")?;
+        }
+        push_shown(alloc, buffer, shown_value(value, &mut Digits::new()))?;
+    }
+    buffer.push_str("]")
+}
+
+/// Appends the slot, up to the number of its object.
+fn push_method(alloc: Global, buffer: &mut String, method: &str) -> Result<(), AllocError>
+    ensures { OnOk result (string_bytes buffer.new ≡ string_bytes buffer.old
+        ++ (codes ",\"call\":" ++ (compact_text (string method.now) ++ codes ",\"object\":"))) }
+{
+    if !is_plain(method) {
+        buffer.push_str(",\"call\":")?;
+        push_escaped(alloc, buffer, method)?;
+        buffer.push_str(",\"object\":")?;
+        return Ok(());
+    }
+    buffer.push_str(",\"call\":\"")?;
+    buffer.push_str(method)?;
+    buffer.push_str("\",\"object\":")?;
     Ok(())
 }
 
@@ -143,9 +172,9 @@ fn push_warning(
         None => buffer.push_str("{\"session\":")?,
     }
     push_text(alloc, buffer, session)?;
-    buffer.push_str(",\"warning\":")?;
-    push_text(alloc, buffer, code.text())?;
-    buffer.push_str("}\n")?;
+    buffer.push_str(",\"warning\":\"")?;
+    buffer.push_str(code.text())?;
+    buffer.push_str("\"}\n")?;
     Ok(())
 }
 
@@ -154,9 +183,15 @@ fn push_session(alloc: Global, buffer: &mut String, session: &str) -> Result<(),
     ensures { OnOk result (string_bytes buffer.new ≡ string_bytes buffer.old
         ++ (codes ",\"session\":" ++ (compact_text (string session.now) ++ codes "}\n"))) }
 {
-    buffer.push_str(",\"session\":")?;
-    push_text(alloc, buffer, session)?;
-    buffer.push_str("}\n")?;
+    if !is_plain(session) {
+        buffer.push_str(",\"session\":")?;
+        push_escaped(alloc, buffer, session)?;
+        buffer.push_str("}\n")?;
+        return Ok(());
+    }
+    buffer.push_str(",\"session\":\"")?;
+    buffer.push_str(session)?;
+    buffer.push_str("\"}\n")?;
     Ok(())
 }
 
@@ -211,21 +246,6 @@ fn push_numbers(buffer: &mut String, numbers: &[u32]) -> Result<(), AllocError>
             buffer.push_str(",")?;
         }
         push_number(buffer, *number)?;
-    }
-    buffer.push_str("]")
-}
-
-/// Appends values as an array.
-fn push_values(alloc: Global, buffer: &mut String, values: &[Value]) -> Result<(), AllocError>
-    ensures { OnOk result
-        (string_bytes buffer.new ≡ string_bytes buffer.old ++ compact_text (array_of json_of values.now)) }
-{
-    buffer.push_str("[")?;
-    for (place, value) in values.iter().enumerate() {
-        if place > 0 {
-            buffer.push_str(",")?;
-        }
-        push_shown(alloc, buffer, shown_value(value, &mut Digits::new()))?;
     }
     buffer.push_str("]")
 }
