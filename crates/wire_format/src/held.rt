@@ -5,7 +5,7 @@ ghost use Rattle.serde_json.specs.Data.{object};
 ghost use Rattle.serde_json.specs.View.{view};
 ghost use Rattle.json_reading.specs.Members.{data_of, members_in};
 ghost use Rattle.wire_format.specs.Keys.{Key, key_seen, key_word};
-ghost use Rattle.wire_format.specs.Held.{all_held, held_at, held_by, held_seen, has_only, is_known, json_of, list_of, mode_named, mode_of, number_in, number_of, reads, text_of, truth_of};
+ghost use Rattle.wire_format.specs.Held.{held_at, held_by, held_seen, has_only, is_known, json_of, list_of, mode_named, mode_of, number_in, number_of, reads, text_of, truth_of};
 
 use crate::keys::{Holds, Key, MOST_KEYS};
 use connection_types::ConnectionType;

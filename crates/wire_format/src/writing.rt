@@ -5,7 +5,7 @@ ghost use Rattle.serde_json.specs.Data.{string};
 ghost use Rattle.serde_json.specs.Written.{compact_text};
 ghost use Rattle.variant_value.specs.Values.{json_of};
 ghost use Rattle.wire_format.specs.Shown.{text_of_shown};
-ghost use Rattle.wire_format.specs.Text.{array_of, json_of_answer, json_of_meta, json_of_name, json_of_number, text_of_line, text_of_fault, is_plain_byte};
+ghost use Rattle.wire_format.specs.Text.{array_of, json_of_meta, json_of_name, json_of_number, text_of_line, text_of_fault, is_plain_byte};
 
 use crate::fault::LineFault;
 use crate::shown::{Shown, shown_as, shown_value};
@@ -79,8 +79,8 @@ fn push_reply(
     session: &str,
     answer: &Answer,
 ) -> Result<(), AllocError>
-    ensures { OnOk result
-        (string_bytes buffer.new ≡ string_bytes buffer.old ++ text_of_line session.now (Line.Reply answer.now)) }
+    ensures { OnOk result (string_bytes buffer.new
+        ≡ string_bytes buffer.old ++ text_of_line session.now (Line.Reply answer.now)) }
 {
     buffer.push_str("{\"reply\":")?;
     push_shown(alloc, buffer, shown_as(answer, &mut Digits::new()))?;
@@ -94,8 +94,8 @@ fn push_error(
     session: &str,
     code: Code,
 ) -> Result<(), AllocError>
-    ensures { OnOk result
-        (string_bytes buffer.new ≡ string_bytes buffer.old ++ text_of_line session.now (Line.Error code)) }
+    ensures { OnOk result (string_bytes buffer.new
+        ≡ string_bytes buffer.old ++ text_of_line session.now (Line.Error code)) }
 {
     buffer.push_str("{\"error\":")?;
     push_text(alloc, buffer, code.text())?;
@@ -109,8 +109,8 @@ fn push_call(
     session: &str,
     call: &Call,
 ) -> Result<(), AllocError>
-    ensures { OnOk result
-        (string_bytes buffer.new ≡ string_bytes buffer.old ++ text_of_line session.now (Line.Call call.now)) }
+    ensures { OnOk result (string_bytes buffer.new
+        ≡ string_bytes buffer.old ++ text_of_line session.now (Line.Call call.now)) }
 {
     push_args(alloc, buffer, call.args.as_slice())?;
     push_method(alloc, buffer, call.method.as_str())?;
@@ -160,8 +160,8 @@ fn push_warning(
     code: Code,
     object: Option<u32>,
 ) -> Result<(), AllocError>
-    ensures { OnOk result
-        (string_bytes buffer.new ≡ string_bytes buffer.old ++ text_of_line session.now (Line.Warning code object)) }
+    ensures { OnOk result (string_bytes buffer.new
+        ≡ string_bytes buffer.old ++ text_of_line session.now (Line.Warning code object)) }
 {
     match object {
         Some(object) => {
@@ -209,8 +209,8 @@ fn push_shown(alloc: Global, buffer: &mut String, shown: Shown<'_>) -> Result<()
 
 /// Appends what there is in a class.
 fn push_meta(alloc: Global, buffer: &mut String, meta: &MetaObject) -> Result<(), AllocError>
-    ensures { OnOk result
-        (string_bytes buffer.new ≡ string_bytes buffer.old ++ compact_text (json_of_meta meta.now)) }
+    ensures { OnOk result (string_bytes buffer.new
+        ≡ string_bytes buffer.old ++ compact_text (json_of_meta meta.now)) }
 {
     buffer.push_str("{\"class\":")?;
     push_text(alloc, buffer, meta.class.as_str())?;
@@ -229,16 +229,16 @@ fn push_meta(alloc: Global, buffer: &mut String, meta: &MetaObject) -> Result<()
 }
 
 fn push_number(buffer: &mut String, number: u32) -> Result<(), AllocError>
-    ensures { OnOk result
-        (string_bytes buffer.new ≡ string_bytes buffer.old ++ compact_text (json_of_number number)) }
+    ensures { OnOk result (string_bytes buffer.new
+        ≡ string_bytes buffer.old ++ compact_text (json_of_number number)) }
 {
     buffer.push_str(Digits::new().format(number))
 }
 
 /// Appends numbers as an array.
 fn push_numbers(buffer: &mut String, numbers: &[u32]) -> Result<(), AllocError>
-    ensures { OnOk result
-        (string_bytes buffer.new ≡ string_bytes buffer.old ++ compact_text (array_of json_of_number numbers.now)) }
+    ensures { OnOk result (string_bytes buffer.new
+        ≡ string_bytes buffer.old ++ compact_text (array_of json_of_number numbers.now)) }
 {
     buffer.push_str("[")?;
     for (place, number) in numbers.iter().enumerate() {
@@ -252,8 +252,8 @@ fn push_numbers(buffer: &mut String, numbers: &[u32]) -> Result<(), AllocError>
 
 /// Appends a name, or `null` where there is none.
 fn push_name(alloc: Global, buffer: &mut String, name: &Option<Text>) -> Result<(), AllocError>
-    ensures { OnOk result
-        (string_bytes buffer.new ≡ string_bytes buffer.old ++ compact_text (json_of_name name.now)) }
+    ensures { OnOk result (string_bytes buffer.new
+        ≡ string_bytes buffer.old ++ compact_text (json_of_name name.now)) }
 {
     match name {
         Some(name) => push_text(alloc, buffer, name.as_str()),
@@ -263,8 +263,8 @@ fn push_name(alloc: Global, buffer: &mut String, name: &Option<Text>) -> Result<
 
 /// Appends texts as an array.
 fn push_texts(alloc: Global, buffer: &mut String, texts: &[Text]) -> Result<(), AllocError>
-    ensures { OnOk result
-        (string_bytes buffer.new ≡ string_bytes buffer.old ++ compact_text (array_of string texts.now)) }
+    ensures { OnOk result (string_bytes buffer.new
+        ≡ string_bytes buffer.old ++ compact_text (array_of string texts.now)) }
 {
     buffer.push_str("[")?;
     for (place, text) in texts.iter().enumerate() {

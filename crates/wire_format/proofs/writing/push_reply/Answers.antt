@@ -1,6 +1,4 @@
 use Rattle.std.proofs.Common.{◌++◌, ◌∙◌, codes, string_bytes, sym, ap}
-use Rattle.serde_json.specs.Data.{string}
-use Rattle.serde_json.specs.Written.{compact_text}
 use Rattle.wire_format.proofs.LineTexts.{reply_line, three_behind}
 use Rattle.wire_format.proofs.writing.push_reply.Goals as goal
 
