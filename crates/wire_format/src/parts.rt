@@ -36,11 +36,7 @@ impl<'a> Parts<'a> {
 
 /// The text of a line in parts. A line that tells more than one value, or a text in which JSON
 /// escapes something, has none. The digits of a number are lent.
-pub fn line_parts<'a>(
-    session: &'a str,
-    line: &'a Line,
-    digits: &'a mut Digits,
-) -> Option<Parts<'a>>
+pub fn line_parts<'a>(session: &'a str, line: &'a Line, digits: &'a mut Digits) -> Option<Parts<'a>>
     requires { IsTrue (is_session_text session.now) }
     ensures { IfSome result (λ parts. text_of_parts parts ≡ text_of_line session.now line.now) }
 {
@@ -61,6 +57,7 @@ pub fn line_parts<'a>(
             }),
             _ => None,
         },
+        Line::Call(_) | Line::Warning { .. } => None,
     }
 }
 
