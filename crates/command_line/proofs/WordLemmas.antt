@@ -1,23 +1,27 @@
 -- What clap makes of the words of metad's command line, word by word.
-use Rattle.std.proofs.Common.{◌≡◌, ◌∙◌, ◌⊎◌, ◌==◌, ℕ, suc, Bool, true, false, refl, sym, ap, List, [], ◌∷◌, Option, Some, None, inl, inr, codes, bytes_eq, subst, ap₂, ◌+◌, arith, take}
+use Rattle.std.proofs.Common.{◌≡◌, ◌∙◌, ◌⊎◌, ◌==◌, ◌&&◌, ℕ, suc, Bool, true, false, refl, sym, ap, List, [], ◌∷◌, Option, Some, None, inl, inr, codes, bytes_eq, subst, ap₂, ◌+◌, arith, take, drop}
 use Rattle.std.specs.Prelude.{if◌then◌else◌, slice_get, is_some, fold, Result, Ok, Err, IsErrAnd}
 use Rattle.std.specs.List.{before_first, after_first, position_or_len}
 use Rattle.std.specs.Str.{chars}
-use Rattle.std.proofs.lemmas.Bool.{cases_Bool, both_ways, eq-eqb, eqb-true, eqb-false, false_from_ne_true, false≢true, ne_eqb, or_parts, true≢false}
+use Rattle.std.proofs.lemmas.Bool.{cases_Bool, both_ways, eq-eqb, eqb-true, eqb-false, false_from_ne_true, false≢true, ne_eqb, or_parts, true≢false, and_right}
 use Rattle.std.proofs.lemmas.Slice.Eq.{bytes_eq-Decides}
-use Rattle.clap.specs.Faults.{check_fault, defaults_fault, entered_fault, settle_fault, walk_fault, turn_fault, flags_fault, is_simple_and_free}
+use Rattle.clap.specs.Faults.{check_fault, defaults_fault, entered_fault, settle_fault, use_fault, walk_fault, turn_fault, flags_fault, is_simple_and_free}
 use Rattle.clap.specs.Kinds.{or_else}
-use Rattle.clap.specs.Lexer.{has_byte, long_of, short_of}
-use Rattle.clap.specs.Simple.{built, entered, is_simple}
-use Rattle.clap.specs.Walk.{Held, Walk, finished, settled, idle, nothing_held, walked, bundle_met}
-use Rattle.clap.specs.Words.{Rule, Shape, Text, Row, fault_of, matches_of, first_of, IsAmong, Kinds, kind_of}
+use Rattle.clap.specs.Lexer.{has_byte, long_of, short_of, without_minus}
+use Rattle.clap.specs.Simple.{built, entered, filled, is_simple, with_index}
+use Rattle.clap.specs.Walk.{Held, Waiting, Walk, finished, settled, settled_rows, idle, option, used, walked, bundle_met}
+use Rattle.clap.specs.Words.{Rule, Shape, Text, Row, fault_of, matches_of, first_of, one_of, IsAmong, Kinds, kind_of}
 use Rattle.clap.specs.declared.error.Error.{Error}
 use Rattle.clap.specs.declared.error.kind.ErrorKind.{ErrorKind}
-use Rattle.clap.specs.declared.error.kind.ErrorKind.TheVariants.{DisplayHelp, OutOfMemory, UnknownArgument, TooManyValues}
+use Rattle.clap.specs.declared.error.kind.ErrorKind.TheVariants.{ArgumentConflict, DisplayHelp, InvalidValue, OutOfMemory, UnknownArgument, TooManyValues, ValueValidation}
+use Rattle.clap.specs.declared.parser.matches.ValueSource.TheVariants.{CommandLine}
+use Rattle.clap.specs.declared.builder.value_parser.Reading.TheVariants.{AsWritten, WithoutMinus}
 use Rattle.clap.proofs.OnLiterals.{clap_on_literals}
-use Rattle.command_line.specs.Asked.{Asked, run, help, mistake, asked, asked_behind, asked_by_paths, asks_help, is_option, one_path, Reads, Says}
-use Rattle.command_line.specs.Program.{metad}
+use Rattle.command_line.specs.Asked.{Asked, run, help, mistake, asked, asked_behind, asked_by_paths, asks_help, has_value, is_option, names_turns, number_in, one_number, one_path, run_with, Gives, Reads, Says}
+use Rattle.command_line.specs.Program.{metad, turns_rule}
 use Rattle.command_line.specs.declared.options.Options.{Options}
+use Rattle.clap.specs.ValueTests.{accepts}
+use Rattle.command_line.proofs.NumberLemmas.{parser, accepts-number, no_number, number_plain}
 
 pub simple : is_simple metad ≡ true
 unfolding clap_on_literals
@@ -33,122 +37,194 @@ shape = (built metad).top
 abbrev rules : List Rule
 rules = shape.rules
 
--- what is held once this path was met
-abbrev held : Option Text → Held
-held None = nothing_held
-held (Some path) = record { rows = []; pending = Some (codes "classes", path ∷ []); skip = 0 }
+-- the option of the turns as it was built
+abbrev turns : Rule
+turns = with_index 2 (filled turns_rule)
+
+abbrev Pending : Type 0
+Pending = Option (Text × List Text)
+
+abbrev held : List Row → Pending → Held
+held rows pending = record { rows = rows; pending = pending; skip = 0 }
 
 abbrev position : Option Text → ℕ
 position None = 1
 position (Some path) = 2
 
+-- whether the number of turns is awaited
+abbrev waiting : Bool → Waiting
+waiting false = idle
+waiting true = option (codes "turns")
+
 -- where the walk stands between two words
-abbrev at : Bool → Option Text → Walk
-at is_trailing path = record { held = held path; waiting = idle; position = position path; is_trailing = is_trailing; stopped = None }
+abbrev at : Bool → Bool → Option Text → List Row → Pending → Walk
+at is_trailing awaits path rows pending = record { held = held rows pending; waiting = waiting awaits; position = position path; is_trailing = is_trailing; stopped = None }
+
+-- what is wrong with what is pending, and the rows where it is used
+abbrev settle : List Row → Pending → Kinds
+settle rows pending = settle_fault rules false (held rows pending)
+
+abbrev settles : List Row → Pending → List Row
+settles rows pending = settled_rows rules pending rows
+
+and_false : (b : Bool) → (b && false) ≡ false
+and_false b = and_right b false refl
+
+-- ---- one word
+
+abbrev IsTurn : Walk → Text → Kinds → Type 0
+IsTurn from word kinds = turn_fault shape [] from word ≡ kinds
+
+abbrev GoesTo : Walk → Text → Walk → Type 0
+GoesTo from word to = walked rules [] from word ≡ to
 
 -- a word of which the walk makes nothing but a path
-abbrev IsPathWord : Bool → Text → Type 0
-IsPathWord t word = (turn_fault shape [] (at t None) word ≡ [])
-    × (walked rules [] (at t None) word ≡ at t (Some word))
-    × ((path : Text) → turn_fault shape [] (at t (Some path)) word ≡ UnknownArgument ∷ [])
+abbrev IsPathWord : Bool → Bool → Text → Type 0
+IsPathWord t a word = (rows : List Row) (pending : Pending)
+    → IsTurn (at t a None rows pending) word (settle rows pending)
+    × GoesTo (at t a None rows pending) word (at t false (Some word) (settles rows pending) (Some (codes "classes", word ∷ [])))
+    × ((path : Text) → IsTurn (at t a (Some path) rows pending) word (UnknownArgument ∷ []))
 
 -- behind `--` each word is one
-path_behind_dashes : (word : Text) → IsPathWord true word
+path_behind_dashes : (awaits : Bool) (word : Text) → IsPathWord true awaits word
 unfolding walked
-path_behind_dashes word = (refl, refl, λ path. refl)
+path_behind_dashes awaits word rows pending = (rw and_false refl, rw and_false refl, λ path. refl)
 
-dashes : (path : Option Text) → (turn_fault shape [] (at false path) (codes "--") ≡ []) × (walked rules [] (at false path) (codes "--") ≡ at true path)
+dashes : (awaits : Bool) (path : Option Text) (rows : List Row) (pending : Pending)
+    → IsTurn (at false awaits path rows pending) (codes "--") [] × GoesTo (at false awaits path rows pending) (codes "--") (at true awaits path rows pending)
 unfolding walked
-dashes None = (refl, refl)
-dashes (Some path) = (refl, refl)
+dashes false path rows pending = (refl, refl)
+dashes true path rows pending = (refl, refl)
 
 -- a word that names no option
-plain_word : (word : Text) → bytes_eq word (codes "--") ≡ false → long_of word ≡ None → short_of word ≡ None → IsPathWord false word
+plain_word : (word : Text) → bytes_eq word (codes "--") ≡ false → long_of word ≡ None → short_of word ≡ None → IsPathWord false false word
 unfolding walked
-plain_word word no_dashes no_long no_short = (rw (no_dashes, no_long, no_short) refl, rw (no_dashes, no_long, no_short) refl, λ path. rw (no_dashes, no_long, no_short) refl)
+plain_word word no_dashes no_long no_short rows pending =
+    (rw (no_dashes, no_long, no_short, and_false) refl, rw (no_dashes, no_long, no_short, and_false) refl, λ path. rw (no_dashes, no_long, no_short) refl)
 
 -- a hyphen with no character behind it
-blank_word : (word : Text) (byte : ℕ) (rest : Text) → bytes_eq word (codes "--") ≡ false → long_of word ≡ None → short_of word ≡ Some (byte ∷ rest) → slice_get (chars (byte ∷ rest)) 0 ≡ None → IsPathWord false word
+blank_word : (word : Text) (byte : ℕ) (rest : Text) → bytes_eq word (codes "--") ≡ false → long_of word ≡ None → short_of word ≡ Some (byte ∷ rest) → slice_get (chars (byte ∷ rest)) 0 ≡ None → IsPathWord false false word
 unfolding walked bundle_met flags_fault
-blank_word word byte rest no_dashes no_long a_short no_letter = (rw (no_dashes, no_long, a_short, no_letter) refl, rw (no_dashes, no_long, a_short, no_letter) refl, λ path. rw (no_dashes, no_long, a_short, no_letter) refl)
+blank_word word byte rest no_dashes no_long a_short no_letter rows pending =
+    (rw (no_dashes, no_long, a_short, no_letter, and_false) refl, rw (no_dashes, no_long, a_short, no_letter, and_false) refl, λ path. rw (no_dashes, no_long, a_short, no_letter) refl)
 
-abbrev short_kinds : Bool → Kinds
-short_kinds true = DisplayHelp ∷ []
-short_kinds false = UnknownArgument ∷ []
+-- such words where the number of turns is awaited
+abbrev IsValueWord : Text → Type 0
+IsValueWord word = (path : Option Text) (rows : List Row) → IsTurn (at false true path rows (Some (codes "turns", []))) word []
+    × GoesTo (at false true path rows (Some (codes "turns", []))) word (at false false path rows (Some (codes "turns", word ∷ [])))
+
+plain_value : (word : Text) → bytes_eq word (codes "--") ≡ false → long_of word ≡ None → short_of word ≡ None → IsValueWord word
+unfolding walked
+plain_value word no_dashes no_long no_short path rows = (rw (no_dashes, no_long, no_short) refl, rw (no_dashes, no_long, no_short) refl)
+
+blank_value : (word : Text) (byte : ℕ) (rest : Text) → bytes_eq word (codes "--") ≡ false → long_of word ≡ None → short_of word ≡ Some (byte ∷ rest) → slice_get (chars (byte ∷ rest)) 0 ≡ None → IsValueWord word
+unfolding walked bundle_met flags_fault
+blank_value word byte rest no_dashes no_long a_short no_letter path rows = (rw (no_dashes, no_long, a_short, no_letter) refl, rw (no_dashes, no_long, a_short, no_letter) refl)
+
+abbrev short_kinds : Bool → Kinds → Kinds
+short_kinds true s = or_else s (DisplayHelp ∷ [])
+short_kinds false s = UnknownArgument ∷ []
 
 -- a hyphen with a character behind it
-short_word : (path : Option Text) (word : Text) (byte : ℕ) (rest : Text) (letter : ℕ) (is_h : Bool) → bytes_eq word (codes "--") ≡ false → long_of word ≡ None → short_of word ≡ Some (byte ∷ rest)
-    → slice_get (chars (byte ∷ rest)) 0 ≡ Some letter → (104 == letter) ≡ is_h → turn_fault shape [] (at false path) word ≡ short_kinds is_h
+short_word : (awaits : Bool) (path : Option Text) (rows : List Row) (pending : Pending) (s : Kinds) (word : Text) (byte : ℕ) (rest : Text) (letter : ℕ) (is_h : Bool)
+    → settle rows pending ≡ s → bytes_eq word (codes "--") ≡ false → long_of word ≡ None → short_of word ≡ Some (byte ∷ rest)
+    → slice_get (chars (byte ∷ rest)) 0 ≡ Some letter → (104 == letter) ≡ is_h → IsTurn (at false awaits path rows pending) word (short_kinds is_h s)
 unfolding walked bundle_met flags_fault
-short_word None word byte rest letter true no_dashes no_long a_short a_letter h = rw (no_dashes, no_long, a_short, a_letter, h) refl
-short_word None word byte rest letter false no_dashes no_long a_short a_letter h = rw (no_dashes, no_long, a_short, a_letter, h) refl
-short_word (Some path) word byte rest letter true no_dashes no_long a_short a_letter h = rw (no_dashes, no_long, a_short, a_letter, h) refl
-short_word (Some path) word byte rest letter false no_dashes no_long a_short a_letter h = rw (no_dashes, no_long, a_short, a_letter, h) refl
+short_word false path rows pending [] word byte rest letter true is no_dashes no_long a_short a_letter h = rw (no_dashes, no_long, a_short, a_letter, h, is) refl
+short_word false path rows pending (k ∷ ks) word byte rest letter true is no_dashes no_long a_short a_letter h = rw (no_dashes, no_long, a_short, a_letter, h, is) refl
+short_word false path rows pending s word byte rest letter false is no_dashes no_long a_short a_letter h = rw (no_dashes, no_long, a_short, a_letter, h) refl
+short_word true path rows pending [] word byte rest letter true is no_dashes no_long a_short a_letter h = rw (no_dashes, no_long, a_short, a_letter, h, is) refl
+short_word true path rows pending (k ∷ ks) word byte rest letter true is no_dashes no_long a_short a_letter h = rw (no_dashes, no_long, a_short, a_letter, h, is) refl
+short_word true path rows pending s word byte rest letter false is no_dashes no_long a_short a_letter h = rw (no_dashes, no_long, a_short, a_letter, h) refl
 
-abbrev long_kinds : Bool → Option Text → Kinds
-long_kinds true None = DisplayHelp ∷ []
-long_kinds true (Some value) = TooManyValues ∷ []
-long_kinds false value = UnknownArgument ∷ []
+abbrev long_kinds : Bool → Option Text → Kinds → Kinds
+long_kinds true None s = or_else s (DisplayHelp ∷ [])
+long_kinds true (Some value) s = TooManyValues ∷ []
+long_kinds false value s = UnknownArgument ∷ []
 
--- two hyphens with a name behind them
-long_word : (path : Option Text) (word : Text) (name : Text) (value : Option Text) (is_help : Bool) → bytes_eq word (codes "--") ≡ false → long_of word ≡ Some (name, value)
-    → bytes_eq (codes "help") name ≡ is_help → turn_fault shape [] (at false path) word ≡ long_kinds is_help value
+-- two hyphens with a name behind them that is not the turns'
+long_word : (awaits : Bool) (path : Option Text) (rows : List Row) (pending : Pending) (s : Kinds) (word : Text) (name : Text) (value : Option Text) (is_help : Bool)
+    → settle rows pending ≡ s → bytes_eq word (codes "--") ≡ false → long_of word ≡ Some (name, value)
+    → bytes_eq (codes "turns") name ≡ false → bytes_eq (codes "help") name ≡ is_help → IsTurn (at false awaits path rows pending) word (long_kinds is_help value s)
 unfolding walked
-long_word None word name None true no_dashes a_long h = rw (no_dashes, a_long, h) refl
-long_word None word name (Some value) true no_dashes a_long h = rw (no_dashes, a_long, h) refl
-long_word None word name value false no_dashes a_long h = rw (no_dashes, a_long, h) refl
-long_word (Some path) word name None true no_dashes a_long h = rw (no_dashes, a_long, h) refl
-long_word (Some path) word name (Some value) true no_dashes a_long h = rw (no_dashes, a_long, h) refl
-long_word (Some path) word name value false no_dashes a_long h = rw (no_dashes, a_long, h) refl
+long_word false path rows pending [] word name None true is no_dashes a_long no_turns h = rw (no_dashes, a_long, no_turns, h, is) refl
+long_word false path rows pending (k ∷ ks) word name None true is no_dashes a_long no_turns h = rw (no_dashes, a_long, no_turns, h, is) refl
+long_word false path rows pending s word name (Some value) true is no_dashes a_long no_turns h = rw (no_dashes, a_long, no_turns, h) refl
+long_word false path rows pending s word name value false is no_dashes a_long no_turns h = rw (no_dashes, a_long, no_turns, h) refl
+long_word true path rows pending [] word name None true is no_dashes a_long no_turns h = rw (no_dashes, a_long, no_turns, h, is) refl
+long_word true path rows pending (k ∷ ks) word name None true is no_dashes a_long no_turns h = rw (no_dashes, a_long, no_turns, h, is) refl
+long_word true path rows pending s word name (Some value) true is no_dashes a_long no_turns h = rw (no_dashes, a_long, no_turns, h) refl
+long_word true path rows pending s word name value false is no_dashes a_long no_turns h = rw (no_dashes, a_long, no_turns, h) refl
 
--- what the walk says of an option
-abbrev Refuses : Bool → Kinds → Type 0
-Refuses true kinds = kinds ≡ DisplayHelp ∷ []
-Refuses false kinds = (kinds ≡ UnknownArgument ∷ []) ⊎ (kinds ≡ TooManyValues ∷ [])
+or_nothing : (kinds : Kinds) → or_else kinds [] ≡ kinds
+or_nothing [] = refl
+or_nothing (k ∷ ks) = refl
 
-take_more : (n : ℕ) (x : ℕ) (xs : Text) → take (1 + n) (x ∷ xs) ≡ x ∷ take n xs
-take_more n x xs = let more : 1 + n ≡ suc n = omega arith in ap (λ k. take k (x ∷ xs)) more
+-- the turns with a number attached
+turns_value : (awaits : Bool) (path : Option Text) (rows : List Row) (pending : Pending) (word value : Text)
+    → bytes_eq word (codes "--") ≡ false → long_of word ≡ Some (codes "turns", Some value)
+    → IsTurn (at false awaits path rows pending) word (or_else (settle rows pending) (use_fault false turns (value ∷ []) (settles rows pending)))
+    × GoesTo (at false awaits path rows pending) word (at false false path (used turns (value ∷ []) (settles rows pending)) None)
+unfolding walked
+turns_value false path rows pending word value no_dashes a_long = (rw (no_dashes, a_long) (or_nothing (or_else (settle rows pending) (use_fault false turns (value ∷ []) (settles rows pending)))), rw (no_dashes, a_long) refl)
+turns_value true path rows pending word value no_dashes a_long = (rw (no_dashes, a_long) (or_nothing (or_else (settle rows pending) (use_fault false turns (value ∷ []) (settles rows pending)))), rw (no_dashes, a_long) refl)
+
+-- and alone
+turns_alone : (awaits : Bool) (path : Option Text) (rows : List Row) (pending : Pending)
+    → IsTurn (at false awaits path rows pending) (codes "--turns") (settle rows pending)
+    × GoesTo (at false awaits path rows pending) (codes "--turns") (at false true path (settles rows pending) (Some (codes "turns", [])))
+unfolding walked
+turns_alone false path rows pending = (or_nothing (settle rows pending), refl)
+turns_alone true path rows pending = (or_nothing (settle rows pending), refl)
+
+-- ---- what may be said of words
+
+abbrev IsMistake : Kinds → Type 0
+IsMistake kinds = (k : ErrorKind) × (kinds ≡ k ∷ []) × Says mistake k
+
+-- whether what is pending is a mistake
+abbrev Stands : Bool → Kinds → Type 0
+Stands false s = s ≡ []
+Stands true s = IsMistake s
+
+-- what the walk says of an option, by whether what is pending is a mistake and whether it asks for help
+abbrev Refuses : Bool → Bool → Kinds → Type 0
+Refuses false true kinds = kinds ≡ DisplayHelp ∷ []
+Refuses _ _ kinds = IsMistake kinds
+
+unknown : (kinds : Kinds) → kinds ≡ UnknownArgument ∷ [] → IsMistake kinds
+unknown kinds is = (UnknownArgument, is, refl)
+
+refuses_other : (is_bad : Bool) (kinds : Kinds) → IsMistake kinds → Refuses is_bad false kinds
+refuses_other false kinds is = is
+refuses_other true kinds is = is
+
+refuses_help : (is_bad : Bool) (s kinds : Kinds) → Stands is_bad s → kinds ≡ or_else s (DisplayHelp ∷ []) → Refuses is_bad true kinds
+refuses_help false s kinds stands is = is ∙ ap (λ x. or_else x (DisplayHelp ∷ [])) stands
+refuses_help true s kinds stands is = (stands.0, is ∙ ap (λ x. or_else x (DisplayHelp ∷ [])) stands.1, stands.2)
+
+-- ---- how words are spelled
+
+before_more : (byte : ℕ) (rest : Text) → (byte == 61) ≡ false → before_first (λ x. x == 61) (byte ∷ rest) ≡ byte ∷ before_first (λ x. x == 61) rest
+before_more byte rest other =
+    let n = position_or_len (λ y. y == 61) rest in
+    let more : 1 + n ≡ suc n = omega arith in
+    rw other (ap (λ k. take k (byte ∷ rest)) more)
+
+after_more : (byte : ℕ) (rest : Text) → (byte == 61) ≡ false → after_first (λ x. x == 61) (byte ∷ rest) ≡ after_first (λ x. x == 61) rest
+after_more byte rest other =
+    let n = position_or_len (λ y. y == 61) rest in
+    let more : 1 + n + 1 ≡ suc (n + 1) = omega arith in
+    rw other (ap (λ k. drop k (byte ∷ rest)) more)
 
 all_before : (text : Text) → has_byte 61 text ≡ false → before_first (λ x. x == 61) text ≡ text
 all_before [] h = refl
 all_before (x ∷ rest) h =
     let parts = or_parts (x == 61) (has_byte 61 rest) h in
-    rw parts.0 (take_more (position_or_len (λ y. y == 61) rest) x rest ∙ ap (λ l. x ∷ l) (all_before rest parts.1))
+    before_more x rest parts.0 ∙ ap (λ l. x ∷ l) (all_before rest parts.1)
 
 differs : (text other : Text) → bytes_eq text other ≡ false → bytes_eq other text ≡ false
 differs text other unlike = false_from_ne_true _ (λ yes. let same : other ≡ text = (bytes_eq-Decides other text).0 yes in both_ways _ unlike ((bytes_eq-Decides text other).1 (sym same)))
-
-help_word : (path : Option Text) → turn_fault shape [] (at false path) (codes "--help") ≡ DisplayHelp ∷ []
-help_word path = long_word path (codes "--help") (codes "help") None true refl refl refl
-
-other_long : (path : Option Text) (byte : ℕ) (rest : Text) (has_value : Bool) → has_byte 61 (byte ∷ rest) ≡ has_value → bytes_eq (byte ∷ rest) (codes "help") ≡ false
-    → Refuses false (turn_fault shape [] (at false path) (45 ∷ 45 ∷ byte ∷ rest))
-other_long path byte rest false no_value no_help =
-    inl (long_word path (45 ∷ 45 ∷ byte ∷ rest) (byte ∷ rest) None false refl (rw (no_value, all_before (byte ∷ rest) no_value) refl) (differs (byte ∷ rest) (codes "help") no_help))
-other_long path byte rest true value no_help =
-    let name = before_first (λ x. x == 61) (byte ∷ rest) in
-    let after = after_first (λ x. x == 61) (byte ∷ rest) in
-    let a_long : long_of (45 ∷ 45 ∷ byte ∷ rest) ≡ Some (name, Some after) = rw value refl in
-    elim (cases_Bool (bytes_eq (codes "help") name)) [
-      | inl like ↦ inr (long_word path (45 ∷ 45 ∷ byte ∷ rest) name (Some after) true refl a_long like)
-      | inr unlike ↦ inl (long_word path (45 ∷ 45 ∷ byte ∷ rest) name (Some after) false refl a_long unlike)
-    ]
-
-long_refused : (path : Option Text) (byte : ℕ) (rest : Text) (is_help : Bool) → bytes_eq (byte ∷ rest) (codes "help") ≡ is_help
-    → Refuses is_help (turn_fault shape [] (at false path) (45 ∷ 45 ∷ byte ∷ rest))
-long_refused path byte rest true is_help =
-    let same : byte ∷ rest ≡ codes "help" = (bytes_eq-Decides (byte ∷ rest) (codes "help")).0 is_help in
-    ap (λ text. turn_fault shape [] (at false path) (45 ∷ 45 ∷ text)) same ∙ help_word path
-long_refused path byte rest false no_help = other_long path byte rest (has_byte 61 (byte ∷ rest)) refl no_help
-
--- which letter stands behind a hyphen, where it is no hyphen
-short_refused : (path : Option Text) (byte : ℕ) (rest : Text) (letter : ℕ) (is_h : Bool) → (byte == 45) ≡ false → slice_get (chars (byte ∷ rest)) 0 ≡ Some letter
-    → (letter == 104) ≡ is_h → Refuses is_h (turn_fault shape [] (at false path) (45 ∷ byte ∷ rest))
-short_refused path byte rest letter true no_hyphen a_letter h =
-    let same : letter ≡ 104 = eqb-true letter 104 h in
-    short_word path (45 ∷ byte ∷ rest) byte rest letter true (rw no_hyphen refl) (rw no_hyphen refl) (rw no_hyphen refl) a_letter (eq-eqb 104 letter (sym same))
-short_refused path byte rest letter false no_hyphen a_letter h =
-    inl (short_word path (45 ∷ byte ∷ rest) byte rest letter false (rw no_hyphen refl) (rw no_hyphen refl) (rw no_hyphen refl) a_letter (ne_eqb 104 letter (λ same. eqb-false letter 104 h (sym same))))
 
 hyphen_first : (rest : Text) → slice_get (chars (45 ∷ rest)) 0 ≡ Some 45
 unfolding chars
@@ -159,6 +235,62 @@ nothing_first : slice_get (chars []) 0 ≡ None
 unfolding chars
 nothing_first = refl
 
+two_before : (text : Text) → before_first (λ x. x == 61) (45 ∷ 45 ∷ text) ≡ 45 ∷ 45 ∷ before_first (λ x. x == 61) text
+two_before text = before_more 45 (45 ∷ text) refl ∙ ap (λ l. 45 ∷ l) (before_more 45 text refl)
+
+two_after : (text : Text) → after_first (λ x. x == 61) (45 ∷ 45 ∷ text) ≡ after_first (λ x. x == 61) text
+two_after text = after_more 45 (45 ∷ text) refl ∙ after_more 45 text refl
+
+-- ---- options that are not the turns'
+
+-- a word with two hyphens that does not name the turns
+not_turns : (text : Text) → names_turns (45 ∷ 45 ∷ text) ≡ false → bytes_eq (codes "turns") (before_first (λ x. x == 61) text) ≡ false
+not_turns text other = false_from_ne_true _ (λ yes.
+    let same : codes "turns" ≡ before_first (λ x. x == 61) text = (bytes_eq-Decides _ _).0 yes in
+    let whole : before_first (λ x. x == 61) (45 ∷ 45 ∷ text) ≡ codes "--turns" = two_before text ∙ ap (λ l. 45 ∷ 45 ∷ l) (sym same) in
+    both_ways _ other ((bytes_eq-Decides (before_first (λ x. x == 61) (45 ∷ 45 ∷ text)) (codes "--turns")).1 whole))
+
+-- the walk's turn at an option, by what it asks for
+abbrev AtOption : Bool → Kinds → Bool → Text → Type 0
+AtOption awaits s is_help word = (is_bad : Bool) (path : Option Text) (rows : List Row) (pending : Pending)
+    → settle rows pending ≡ s → Stands is_bad s → Refuses is_bad is_help (turn_fault shape [] (at false awaits path rows pending) word)
+
+help_long : (awaits : Bool) (s : Kinds) → AtOption awaits s true (codes "--help")
+help_long awaits s is_bad path rows pending is stands =
+    refuses_help is_bad s _ stands (long_word awaits path rows pending s (codes "--help") (codes "help") None true is refl refl refl refl)
+
+other_long : (awaits : Bool) (s : Kinds) (byte : ℕ) (rest : Text) (has : Bool) → has_byte 61 (byte ∷ rest) ≡ has → names_turns (45 ∷ 45 ∷ byte ∷ rest) ≡ false → bytes_eq (byte ∷ rest) (codes "help") ≡ false
+    → AtOption awaits s false (45 ∷ 45 ∷ byte ∷ rest)
+other_long awaits s byte rest false no_value no_turns no_help is_bad path rows pending is stands =
+    let whole = all_before (byte ∷ rest) no_value in
+    refuses_other is_bad _ (unknown _ (long_word awaits path rows pending s (45 ∷ 45 ∷ byte ∷ rest) (byte ∷ rest) None false is refl (rw (no_value, whole) refl)
+    (ap (λ t. bytes_eq (codes "turns") t) (sym whole) ∙ not_turns (byte ∷ rest) no_turns) (differs (byte ∷ rest) (codes "help") no_help)))
+other_long awaits s byte rest true value no_turns no_help is_bad path rows pending is stands =
+    let name = before_first (λ x. x == 61) (byte ∷ rest) in
+    let after = after_first (λ x. x == 61) (byte ∷ rest) in
+    let a_long : long_of (45 ∷ 45 ∷ byte ∷ rest) ≡ Some (name, Some after) = rw value refl in
+    refuses_other is_bad _ (elim (cases_Bool (bytes_eq (codes "help") name)) [
+      | inl like ↦ (TooManyValues, long_word awaits path rows pending s (45 ∷ 45 ∷ byte ∷ rest) name (Some after) true is refl a_long (not_turns (byte ∷ rest) no_turns) like, refl)
+      | inr unlike ↦ unknown _ (long_word awaits path rows pending s (45 ∷ 45 ∷ byte ∷ rest) name (Some after) false is refl a_long (not_turns (byte ∷ rest) no_turns) unlike)
+    ])
+
+long_refused : (awaits : Bool) (s : Kinds) (byte : ℕ) (rest : Text) (is_help : Bool) → names_turns (45 ∷ 45 ∷ byte ∷ rest) ≡ false → bytes_eq (byte ∷ rest) (codes "help") ≡ is_help
+    → AtOption awaits s is_help (45 ∷ 45 ∷ byte ∷ rest)
+long_refused awaits s byte rest true no_turns is_help =
+    let same : byte ∷ rest ≡ codes "help" = (bytes_eq-Decides (byte ∷ rest) (codes "help")).0 is_help in
+    subst (λ text. AtOption awaits s true (45 ∷ 45 ∷ text)) (sym same) (help_long awaits s)
+long_refused awaits s byte rest false no_turns no_help = other_long awaits s byte rest (has_byte 61 (byte ∷ rest)) refl no_turns no_help
+
+-- which letter stands behind a hyphen, where it is no hyphen
+short_refused : (awaits : Bool) (s : Kinds) (byte : ℕ) (rest : Text) (letter : ℕ) (is_h : Bool) → (byte == 45) ≡ false → slice_get (chars (byte ∷ rest)) 0 ≡ Some letter
+    → (letter == 104) ≡ is_h → AtOption awaits s is_h (45 ∷ byte ∷ rest)
+short_refused awaits s byte rest letter true no_hyphen a_letter h is_bad path rows pending is stands =
+    let same : letter ≡ 104 = eqb-true letter 104 h in
+    refuses_help is_bad s _ stands (short_word awaits path rows pending s (45 ∷ byte ∷ rest) byte rest letter true is (rw no_hyphen refl) (rw no_hyphen refl) (rw no_hyphen refl) a_letter (eq-eqb 104 letter (sym same)))
+short_refused awaits s byte rest letter false no_hyphen a_letter h is_bad path rows pending is stands =
+    refuses_other is_bad _ (unknown _ (short_word awaits path rows pending s (45 ∷ byte ∷ rest) byte rest letter false is (rw no_hyphen refl) (rw no_hyphen refl) (rw no_hyphen refl) a_letter
+    (ne_eqb 104 letter (λ same. eqb-false letter 104 h (sym same)))))
+
 -- what the definition says of an option
 asks_long : (byte : ℕ) (rest : Text) (is_help : Bool) → bytes_eq (byte ∷ rest) (codes "help") ≡ is_help → asks_help (45 ∷ 45 ∷ byte ∷ rest) ≡ is_help
 asks_long byte rest true h = rw h refl
@@ -168,124 +300,166 @@ asks_short : (byte : ℕ) (rest : Text) (letter : ℕ) (is_h : Bool) → (byte =
     → (letter == 104) ≡ is_h → asks_help (45 ∷ byte ∷ rest) ≡ is_h
 asks_short byte rest letter is_h no_hyphen a_letter h = rw (no_hyphen, a_letter) h
 
-option_after : (path : Option Text) (rest : Text) (letter : Option ℕ) → bytes_eq (45 ∷ rest) (codes "--") ≡ false → slice_get (chars rest) 0 ≡ letter → is_some letter ≡ true
-    → Refuses (asks_help (45 ∷ rest)) (turn_fault shape [] (at false path) (45 ∷ rest))
-option_after path rest None no_dashes is some = absurd (false≢true some)
-option_after path [] (Some letter) no_dashes is some = let bad : None ≡ Some letter = sym nothing_first ∙ is in cc
-option_after path (byte ∷ rest) (Some letter) no_dashes is some = elim (cases_Bool (byte == 45)) [
-  | inl hyphen ↦ subst Holds (sym (eqb-true byte 45 hyphen)) (long rest) no_dashes
+option_after : (awaits : Bool) (s : Kinds) (rest : Text) (letter : Option ℕ) → bytes_eq (45 ∷ rest) (codes "--") ≡ false → names_turns (45 ∷ rest) ≡ false → slice_get (chars rest) 0 ≡ letter → is_some letter ≡ true
+    → AtOption awaits s (asks_help (45 ∷ rest)) (45 ∷ rest)
+option_after awaits s rest None no_dashes no_turns is some = absurd (false≢true some)
+option_after awaits s [] (Some letter) no_dashes no_turns is some = let bad : None ≡ Some letter = sym nothing_first ∙ is in cc
+option_after awaits s (byte ∷ rest) (Some letter) no_dashes no_turns is some = elim (cases_Bool (byte == 45)) [
+  | inl hyphen ↦ subst Holds (sym (eqb-true byte 45 hyphen)) (long rest) no_dashes no_turns
   | inr other ↦
-      subst (λ h. Refuses h (turn_fault shape [] (at false path) (45 ∷ byte ∷ rest))) (sym (asks_short byte rest letter (letter == 104) other is refl))
-      (short_refused path byte rest letter (letter == 104) other is refl)
+      subst (λ h. AtOption awaits s h (45 ∷ byte ∷ rest)) (sym (asks_short byte rest letter (letter == 104) other is refl))
+      (short_refused awaits s byte rest letter (letter == 104) other is refl)
 ]
   where
     Holds : ℕ → Type 0
-    Holds b = bytes_eq (45 ∷ b ∷ rest) (codes "--") ≡ false → Refuses (asks_help (45 ∷ b ∷ rest)) (turn_fault shape [] (at false path) (45 ∷ b ∷ rest))
+    Holds b = bytes_eq (45 ∷ b ∷ rest) (codes "--") ≡ false → names_turns (45 ∷ b ∷ rest) ≡ false → AtOption awaits s (asks_help (45 ∷ b ∷ rest)) (45 ∷ b ∷ rest)
 
-    long : (text : Text) → bytes_eq (45 ∷ 45 ∷ text) (codes "--") ≡ false → Refuses (asks_help (45 ∷ 45 ∷ text)) (turn_fault shape [] (at false path) (45 ∷ 45 ∷ text))
-    long [] unlike = absurd (true≢false unlike)
-    long (b ∷ text) unlike =
-        subst (λ h. Refuses h (turn_fault shape [] (at false path) (45 ∷ 45 ∷ b ∷ text))) (sym (asks_long b text (bytes_eq (b ∷ text) (codes "help")) refl))
-        (long_refused path b text (bytes_eq (b ∷ text) (codes "help")) refl)
+    long : (text : Text) → bytes_eq (45 ∷ 45 ∷ text) (codes "--") ≡ false → names_turns (45 ∷ 45 ∷ text) ≡ false → AtOption awaits s (asks_help (45 ∷ 45 ∷ text)) (45 ∷ 45 ∷ text)
+    long [] unlike no_turns = absurd (true≢false unlike)
+    long (b ∷ text) unlike no_turns =
+        subst (λ h. AtOption awaits s h (45 ∷ 45 ∷ b ∷ text)) (sym (asks_long b text (bytes_eq (b ∷ text) (codes "help")) refl))
+        (long_refused awaits s b text (bytes_eq (b ∷ text) (codes "help")) no_turns refl)
 
 -- what the walk says of a word that the definition calls an option
-option_word : (path : Option Text) (word : Text) → bytes_eq word (codes "--") ≡ false → is_option word ≡ true → Refuses (asks_help word) (turn_fault shape [] (at false path) word)
-option_word path [] no_dashes option = absurd (false≢true option)
-option_word path (byte ∷ rest) no_dashes option = elim (cases_Bool (byte == 45)) [
-  | inl hyphen ↦ subst Holds (sym (eqb-true byte 45 hyphen)) (λ unlike is. option_after path rest (slice_get (chars rest) 0) unlike refl is) no_dashes option
-  | inr other ↦ let bad : false ≡ true = rw other at option in absurd (false≢true bad)
+option_word : (awaits : Bool) (s : Kinds) (word : Text) → bytes_eq word (codes "--") ≡ false → names_turns word ≡ false → is_option word ≡ true → AtOption awaits s (asks_help word) word
+option_word awaits s [] no_dashes no_turns dashed = absurd (false≢true dashed)
+option_word awaits s (byte ∷ rest) no_dashes no_turns dashed = elim (cases_Bool (byte == 45)) [
+  | inl hyphen ↦ subst Holds (sym (eqb-true byte 45 hyphen)) (λ unlike other is. option_after awaits s rest (slice_get (chars rest) 0) unlike other refl is) no_dashes no_turns dashed
+  | inr other ↦ let bad : false ≡ true = rw other at dashed in absurd (false≢true bad)
 ]
   where
     Holds : ℕ → Type 0
-    Holds b = bytes_eq (b ∷ rest) (codes "--") ≡ false → is_option (b ∷ rest) ≡ true → Refuses (asks_help (b ∷ rest)) (turn_fault shape [] (at false path) (b ∷ rest))
+    Holds b = bytes_eq (b ∷ rest) (codes "--") ≡ false → names_turns (b ∷ rest) ≡ false → is_option (b ∷ rest) ≡ true → AtOption awaits s (asks_help (b ∷ rest)) (b ∷ rest)
 
-path_after : (rest : Text) (letter : Option ℕ) → bytes_eq (45 ∷ rest) (codes "--") ≡ false → slice_get (chars rest) 0 ≡ letter → is_some letter ≡ false → IsPathWord false (45 ∷ rest)
+-- ---- words that are none
+
+abbrev IsPlain : Text → Type 0
+IsPlain word = IsPathWord false false word × IsValueWord word
+
+path_after : (rest : Text) (letter : Option ℕ) → bytes_eq (45 ∷ rest) (codes "--") ≡ false → slice_get (chars rest) 0 ≡ letter → is_some letter ≡ false → IsPlain (45 ∷ rest)
 path_after rest (Some letter) no_dashes is some = absurd (true≢false some)
-path_after [] None no_dashes is some = plain_word (45 ∷ []) no_dashes refl refl
+path_after [] None no_dashes is some = (plain_word (45 ∷ []) no_dashes refl refl, plain_value (45 ∷ []) no_dashes refl refl)
 path_after (byte ∷ rest) None no_dashes is some = elim (cases_Bool (byte == 45)) [
   | inl hyphen ↦
       let nothing : Some 45 ≡ None = sym (hyphen_first rest) ∙ (ap (λ b. slice_get (chars (b ∷ rest)) 0) (sym (eqb-true byte 45 hyphen)) ∙ is) in
       absurd (true≢false (ap (λ (o : Option ℕ). is_some o) nothing))
-  | inr other ↦ blank_word (45 ∷ byte ∷ rest) byte rest no_dashes (rw other refl) (rw other refl) is
+  | inr other ↦ (blank_word (45 ∷ byte ∷ rest) byte rest no_dashes (rw other refl) (rw other refl) is, blank_value (45 ∷ byte ∷ rest) byte rest no_dashes (rw other refl) (rw other refl) is)
 ]
 
+bare_word : (byte : ℕ) (rest : Text) → bytes_eq (byte ∷ rest) (codes "--") ≡ false → (byte == 45) ≡ false → IsPlain (byte ∷ rest)
+bare_word byte rest no_dashes other = (plain_word (byte ∷ rest) no_dashes (rw other refl) (rw other refl), plain_value (byte ∷ rest) no_dashes (rw other refl) (rw other refl))
+
 -- and of a word that it calls none
-path_word : (word : Text) → bytes_eq word (codes "--") ≡ false → is_option word ≡ false → IsPathWord false word
-path_word [] no_dashes no_option = plain_word [] no_dashes refl refl
+path_word : (word : Text) → bytes_eq word (codes "--") ≡ false → is_option word ≡ false → IsPlain word
+path_word [] no_dashes no_option = (plain_word [] no_dashes refl refl, plain_value [] no_dashes refl refl)
 path_word (byte ∷ rest) no_dashes no_option = elim (cases_Bool (byte == 45)) [
   | inl hyphen ↦ subst Holds (sym (eqb-true byte 45 hyphen)) (λ unlike is. path_after rest (slice_get (chars rest) 0) unlike refl is) no_dashes no_option
-  | inr other ↦ plain_word (byte ∷ rest) no_dashes (rw other refl) (rw other refl)
+  | inr other ↦ bare_word byte rest no_dashes other
 ]
   where
     Holds : ℕ → Type 0
-    Holds b = bytes_eq (b ∷ rest) (codes "--") ≡ false → is_option (b ∷ rest) ≡ false → IsPathWord false (b ∷ rest)
+    Holds b = bytes_eq (b ∷ rest) (codes "--") ≡ false → is_option (b ∷ rest) ≡ false → IsPlain (b ∷ rest)
+
+-- a number is such a word
+number_word : (word : Text) (number : ℕ) → number_in word ≡ Some number → IsValueWord word
+number_word [] number is = let none : None ≡ Some number = is in cc
+number_word (byte ∷ rest) number is = elim (cases_Bool (byte == 45)) [
+  | inl hyphen ↦
+      let none : None ≡ Some number = sym (no_number rest) ∙ subst (λ b. number_in (b ∷ rest) ≡ Some number) (eqb-true byte 45 hyphen) is in
+      cc
+  | inr other ↦ (bare_word byte rest (rw other refl) other).1
+]
+
+-- ---- words that name the turns
+
+head_before : (byte : ℕ) (rest : Text) (first : ℕ) (more : Text) → before_first (λ x. x == 61) (byte ∷ rest) ≡ first ∷ more → (byte ≡ first) × (before_first (λ x. x == 61) rest ≡ more)
+head_before byte rest first more is = elim (cases_Bool (byte == 61)) [
+  | inl equals ↦ let none : [] ≡ first ∷ more = rw equals at is in cc
+  | inr other ↦
+      let same : byte ∷ before_first (λ x. x == 61) rest ≡ first ∷ more = sym (before_more byte rest other) ∙ is in
+      let head : byte ≡ first = cc in
+      let tail : before_first (λ x. x == 61) rest ≡ more = cc in
+      (head, tail)
+]
+
+-- with a number attached
+abbrev HasNumber : Text → Type 0
+HasNumber word = (bytes_eq word (codes "--") ≡ false) × (long_of word ≡ Some (codes "turns", Some (after_first (λ x. x == 61) word)))
+
+has_number : (text : Text) → before_first (λ x. x == 61) text ≡ codes "turns" → has_byte 61 text ≡ true → HasNumber (45 ∷ 45 ∷ text)
+has_number [] is value = absurd (false≢true value)
+has_number (byte ∷ rest) is value = (refl, rw value (ap₂ (λ (name after : Text). Some (name, Some after)) is (sym (two_after (byte ∷ rest)))))
+
+turns_with : (word : Text) → before_first (λ x. x == 61) word ≡ codes "--turns" → has_value word ≡ true → HasNumber word
+turns_with [] is value = absurd (false≢true value)
+turns_with (a ∷ []) is value = let bad : [] ≡ codes "-turns" = (head_before a [] 45 (codes "-turns") is).1 in cc
+turns_with (a ∷ b ∷ text) is value =
+    let first = head_before a (b ∷ text) 45 (codes "-turns") is in
+    let second = head_before b text 45 (codes "turns") first.1 in
+    let same : a ∷ b ∷ text ≡ 45 ∷ 45 ∷ text = ap₂ (λ (x y : ℕ). x ∷ y ∷ text) first.0 second.0 in
+    subst HasNumber (sym same) (has_number text second.1 (subst (λ w. has_value w ≡ true) same value))
+
+-- or alone
+turns_without : (word : Text) → before_first (λ x. x == 61) word ≡ codes "--turns" → has_value word ≡ false → word ≡ codes "--turns"
+turns_without word is no_value = sym (all_before word no_value) ∙ is
+
+-- ---- the rows
+
+abbrev path_row : Text → Row
+path_row path = record { id = codes "classes"; values = path ∷ []; count = None; source = Some CommandLine; reading = AsWritten }
+
+abbrev turns_row : Text → Row
+turns_row text = record { id = codes "turns"; values = text ∷ []; count = None; source = Some CommandLine; reading = WithoutMinus }
+
+-- those of a path and of a text for the turns, in any order
+abbrev AreRows : Option Text → Option Text → List Row → Type 0
+AreRows None None rows = rows ≡ []
+AreRows (Some path) None rows = rows ≡ path_row path ∷ []
+AreRows None (Some text) rows = rows ≡ turns_row text ∷ []
+AreRows (Some path) (Some text) rows = (rows ≡ path_row path ∷ turns_row text ∷ []) ⊎ (rows ≡ turns_row text ∷ path_row path ∷ [])
+
+-- what is pending is no mistake, and comes to these rows
+abbrev HoldsWell : Option Text → Option Text → List Row → Pending → Type 0
+HoldsWell path text rows pending = (settle rows pending ≡ []) × AreRows path text (settles rows pending)
+
+path_held : (text : Option Text) (rows : List Row) (path : Text) → AreRows None text rows → HoldsWell (Some path) text rows (Some (codes "classes", path ∷ []))
+path_held None rows path are = rw are (refl, refl)
+path_held (Some text) rows path are = rw are (refl, inr refl)
+
+turns_used : (path : Option Text) (rows : List Row) (text : Text) → AreRows path None rows → AreRows path (Some text) (used turns (text ∷ []) rows)
+turns_used None rows text are = rw are refl
+turns_used (Some path) rows text are = rw are (inl refl)
+
+-- what is wrong with a text for the turns, where there was one before and where this one is a number
+abbrev Takes : Option Text → Option ℕ → Kinds → Type 0
+Takes None (Some number) kinds = kinds ≡ []
+Takes _ _ kinds = IsMistake kinds
+
+accepted : (text : Text) (number : Option ℕ) → number_in text ≡ number → accepts false parser text ≡ is_some number
+accepted text number is = accepts-number text ∙ ap (λ (o : Option ℕ). is_some o) is
+
+turns_taken : (path before : Option Text) (rows : List Row) (text : Text) (number : Option ℕ) → AreRows path before rows → number_in text ≡ number → Takes before number (use_fault false turns (text ∷ []) rows)
+turns_taken None None rows text None are is = rw (are, accepted text None is) (ValueValidation, refl, refl)
+turns_taken None None rows text (Some number) are is = rw (are, accepted text (Some number) is) refl
+turns_taken (Some path) None rows text None are is = rw (are, accepted text None is) (ValueValidation, refl, refl)
+turns_taken (Some path) None rows text (Some number) are is = rw (are, accepted text (Some number) is) refl
+turns_taken None (Some before) rows text number are is = rw are (ArgumentConflict, refl, refl)
+turns_taken (Some path) (Some before) rows text number (inl are) is = rw are (ArgumentConflict, refl, refl)
+turns_taken (Some path) (Some before) rows text number (inr are) is = rw are (ArgumentConflict, refl, refl)
 
 -- ---- the whole walk
 
--- where it ends, and what it says
-abbrev Walks : Asked → Kinds → Walk → Type 0
-Walks (run path) kinds end = (kinds ≡ []) × ((is_trailing : Bool) × (end ≡ at is_trailing path))
-Walks help kinds end = kinds ≡ DisplayHelp ∷ []
-Walks mistake kinds end = (kinds ≡ UnknownArgument ∷ []) ⊎ (kinds ≡ TooManyValues ∷ [])
+-- the text for the turns is the number of turns
+abbrev IsRead : Option Text → Option ℕ → Type 0
+IsRead None None = Unit {0}
+IsRead (Some text) (Some number) = number_in text ≡ Some number
+IsRead _ _ = ⊥
 
-abbrev walk_end : Walk → List Text → Walk
-walk_end = fold (walked rules [])
-
--- a word of which the walk makes a path goes to the definition's `one_path`
-one_more : (is_trailing : Bool) (path : Option Text) (word : Text) (rest : List Text) (next : Asked) → IsPathWord is_trailing word
-    → Walks next (walk_fault shape [] (at is_trailing (Some word)) rest) (walk_end (at is_trailing (Some word)) rest)
-    → Walks (one_path path next) (walk_fault shape [] (at is_trailing path) (word ∷ rest)) (walk_end (at is_trailing path) (word ∷ rest))
-unfolding walk_fault
-one_more is_trailing None word rest next is walks = rw (is.0, is.1) walks
-one_more is_trailing (Some path) word rest next is walks = inl (rw (is.2 path) refl)
-
-walks_paths : (path : Option Text) (words : List Text) → Walks (asked_by_paths path words) (walk_fault shape [] (at true path) words) (walk_end (at true path) words)
-unfolding walk_fault
-walks_paths path [] = (refl, (true, refl))
-walks_paths path (word ∷ rest) = one_more true path word rest (asked_by_paths (Some word) rest) (path_behind_dashes word) (walks_paths (Some word) rest)
-
-walks_dashes : (path : Option Text) (rest : List Text) → Walks (asked_by_paths path rest) (walk_fault shape [] (at false path) (codes "--" ∷ rest)) (walk_end (at false path) (codes "--" ∷ rest))
-unfolding walk_fault walked
-walks_dashes None rest = walks_paths None rest
-walks_dashes (Some path) rest = walks_paths (Some path) rest
-
-walks_option : (path : Option Text) (word : Text) (rest : List Text) (is_help : Bool) → Refuses is_help (turn_fault shape [] (at false path) word)
-    → Walks (if is_help then help else mistake) (walk_fault shape [] (at false path) (word ∷ rest)) (walk_end (at false path) (word ∷ rest))
-unfolding walk_fault
-walks_option path word rest true refused = rw refused refl
-walks_option path word rest false (inl unknown) = inl (rw unknown refl)
-walks_option path word rest false (inr too_many) = inr (rw too_many refl)
-
-walks_words : (path : Option Text) (words : List Text) → Walks (asked_behind path words) (walk_fault shape [] (at false path) words) (walk_end (at false path) words)
-unfolding walk_fault
-walks_words path [] = (refl, (false, refl))
-walks_words path (word ∷ rest) = elim (cases_Bool (bytes_eq word (codes "--"))) [
-  | inl is_dashes ↦
-      let same : word ≡ codes "--" = (bytes_eq-Decides word (codes "--")).0 is_dashes in
-      subst (λ w. Holds (asked_behind path (w ∷ rest)) w) (sym same) (walks_dashes path rest)
-  | inr no_dashes ↦ elim (cases_Bool (is_option word)) [
-    | inl option ↦
-        let read : asked_behind path (word ∷ rest) ≡ (if asks_help word then help else mistake) = rw (no_dashes, option) refl in
-        subst (λ a. Holds a word) (sym read) (walks_option path word rest (asks_help word) (option_word path word no_dashes option))
-    | inr no_option ↦
-        let read : asked_behind path (word ∷ rest) ≡ one_path path (asked_behind (Some word) rest) = rw (no_dashes, no_option) refl in
-        subst (λ a. Holds a word) (sym read) (one_more false path word rest (asked_behind (Some word) rest) (path_word word no_dashes no_option) (walks_words (Some word) rest))
-  ]
-]
-  where
-    Holds : Asked → Text → Type 0
-    Holds a w = Walks a (walk_fault shape [] (at false path) (w ∷ rest)) (walk_end (at false path) (w ∷ rest))
-
--- ---- the whole command line
-
--- what clap says of words: what it refuses them by, and the path that it finds
-abbrev Told : Asked → Kinds → Option Text → Type 0
-Told (run path) kinds found = (kinds ≡ []) × (found ≡ path)
-Told help kinds found = kinds ≡ DisplayHelp ∷ []
-Told mistake kinds found = (kinds ≡ UnknownArgument ∷ []) ⊎ (kinds ≡ TooManyValues ∷ [])
-
-abbrev path_in : List Row → Option Text
-path_in = first_of (codes "classes")
+-- what clap says of words: what it refuses them by, and the rows that it finds
+abbrev Told : Asked → Kinds → List Row → Type 0
+Told (run path number) kinds rows = (kinds ≡ []) × (first_of (codes "classes") rows ≡ path) × Gives (one_of (codes "turns") rows) number
+Told help kinds rows = kinds ≡ DisplayHelp ∷ []
+Told mistake kinds rows = IsMistake kinds
 
 -- what the walk's end comes to
 abbrev judged : Kinds → Walk → Kinds
@@ -295,55 +469,270 @@ judged kinds end = or_else kinds
     (or_else (defaults_fault (settled rules end.held).rows rules)
     (check_fault shape (finished rules end.held) (is_some (entered (built metad) end.stopped))))))
 
-abbrev path_at : Walk → Option Text
-path_at end = path_in (finished rules end.held)
+abbrev walk_end : Walk → List Text → Walk
+walk_end = fold (walked rules [])
 
-judged_well : (is_trailing : Bool) (path : Option Text) → judged [] (at is_trailing path) ≡ []
-unfolding defaults_fault
-judged_well is_trailing None = refl
-judged_well is_trailing (Some path) = refl
+-- what is said of these words, from here on
+abbrev Walks : Asked → Walk → List Text → Type 0
+Walks wanted from words = Told wanted (judged (walk_fault shape [] from words) (walk_end from words)) (finished rules (walk_end from words).held)
 
-path_met : (is_trailing : Bool) (path : Option Text) → path_at (at is_trailing path) ≡ path
-path_met is_trailing None = refl
-path_met is_trailing (Some path) = refl
+-- a word that is taken
+goes_on : (wanted : Asked) (from to : Walk) (word : Text) (rest : List Text) → IsTurn from word [] → GoesTo from word to → Walks wanted to rest → Walks wanted from (word ∷ rest)
+unfolding walk_fault
+goes_on wanted from to word rest turn goes walks =
+    let step : walk_fault shape [] from (word ∷ rest) ≡ walk_fault shape [] (walked rules [] from word) rest = rw turn refl in
+    let next : Walks wanted (walked rules [] from word) rest = subst (λ w. Walks wanted w rest) (sym goes) walks in
+    let end = walk_end from (word ∷ rest) in
+    subst (λ kinds. Told wanted (judged kinds end) (finished rules end.held)) (sym step) next
 
-is_judged : (words : List Text) → fault_of metad words ≡ judged (walk_fault shape [] (at false None) words) (walk_end (at false None) words)
-is_judged words = refl
+-- a word that is refused
+stops : (from : Walk) (word : Text) (rest : List Text) → IsMistake (turn_fault shape [] from word) → Walks mistake from (word ∷ rest)
+unfolding walk_fault
+stops from word rest is = (is.0, rw is.1 refl, is.2)
 
--- after a walk that ends well nothing is refused, and the path that was met is found
-ended : (path : Option Text) (is_trailing : Bool) (words : List Text) → walk_fault shape [] (at false None) words ≡ [] → walk_end (at false None) words ≡ at is_trailing path
-    → (fault_of metad words ≡ []) × (path_in (matches_of metad words) ≡ path)
-ended path is_trailing words passed end = (is_judged words ∙ (ap₂ judged passed end ∙ judged_well is_trailing path), ap path_at end ∙ path_met is_trailing path)
+shows_help : (from : Walk) (word : Text) (rest : List Text) → turn_fault shape [] from word ≡ DisplayHelp ∷ [] → Walks help from (word ∷ rest)
+unfolding walk_fault
+shows_help from word rest is = rw is refl
 
-told : (wanted : Asked) (words : List Text) → Walks wanted (walk_fault shape [] (at false None) words) (walk_end (at false None) words) → Told wanted (fault_of metad words) (path_in (matches_of metad words))
-told (run path) words walks = ended path walks.1.0 words walks.0 walks.1.1
-told help words walks = rw walks refl
-told mistake words (inl unknown) = inl (rw unknown refl)
-told mistake words (inr too_many) = inr (rw too_many refl)
+along : (kinds other : Kinds) → kinds ≡ other → IsMistake other → IsMistake kinds
+along kinds other is bad = (bad.0, is ∙ bad.1, bad.2)
 
-pub asked_told : (words : List Text) → Told (asked words) (fault_of metad words) (path_in (matches_of metad words))
-asked_told words = told (asked words) words (walks_words None words)
+-- where what is pending is a mistake
+ends_badly : (t a : Bool) (path : Option Text) (rows : List Row) (pending : Pending) → IsMistake (settle rows pending) → Walks mistake (at t a path rows pending) []
+unfolding walk_fault
+ends_badly t a path rows pending bad = (bad.0, rw bad.1 refl, bad.2)
 
-runs : (wanted : Asked) (kinds : Kinds) (found : Option Text) → Told wanted kinds found → kinds ≡ [] → wanted ≡ run found
-runs (run path) kinds found t none = ap run (sym t.1)
-runs help kinds found t none = let bad : DisplayHelp ∷ [] ≡ [] = sym t ∙ none in cc
-runs mistake kinds found (inl t) none = let bad : UnknownArgument ∷ [] ≡ [] = sym t ∙ none in cc
-runs mistake kinds found (inr t) none = let bad : TooManyValues ∷ [] ≡ [] = sym t ∙ none in cc
+path_refused : (t a : Bool) (path : Option Text) (rows : List Row) (pending : Pending) (word : Text) → IsMistake (settle rows pending) → IsPathWord t a word → IsMistake (turn_fault shape [] (at t a path rows pending) word)
+path_refused t a None rows pending word bad is = along _ _ (is rows pending).0 bad
+path_refused t a (Some path) rows pending word bad is = unknown _ ((is rows pending).2 path)
 
--- where clap takes the words, a run is asked for with the path that it finds
-pub run_asked : (words : List Text) → fault_of metad words ≡ [] → asked words ≡ run (path_in (matches_of metad words))
-run_asked words none = runs (asked words) (fault_of metad words) (path_in (matches_of metad words)) (asked_told words) none
+bad_paths : (a : Bool) (path : Option Text) (rows : List Row) (pending : Pending) (words : List Text) → IsMistake (settle rows pending) → Walks mistake (at true a path rows pending) words
+bad_paths a path rows pending [] bad = ends_badly true a path rows pending bad
+bad_paths a path rows pending (word ∷ rest) bad = stops (at true a path rows pending) word rest (path_refused true a path rows pending word bad (path_behind_dashes a word))
 
-says : (wanted : Asked) (kinds : Kinds) (found : Option Text) (kind : ErrorKind) → Told wanted kinds found → IsAmong kind kinds → Says wanted kind
-says (run path) kinds found kind t among = absurd (subst (IsAmong kind) t.0 among)
-says help kinds found kind t among = elim (subst (IsAmong kind) t among) [ inl is ↦ subst (Says help) (sym is) refl | inr none ↦ absurd none ]
-says mistake kinds found kind (inl t) among = elim (subst (IsAmong kind) t among) [ inl is ↦ subst (Says mistake) (sym is) refl | inr none ↦ absurd none ]
-says mistake kinds found kind (inr t) among = elim (subst (IsAmong kind) t among) [ inl is ↦ subst (Says mistake) (sym is) refl | inr none ↦ absurd none ]
+bad_turns : (awaits : Bool) (path : Option Text) (rows : List Row) (pending : Pending) (word : Text) (has : Bool) → IsMistake (settle rows pending) → before_first (λ x. x == 61) word ≡ codes "--turns" → has_value word ≡ has
+    → IsMistake (turn_fault shape [] (at false awaits path rows pending) word)
+bad_turns awaits path rows pending word true bad is value =
+    let number = turns_with word is value in
+    let wrong = use_fault false turns (after_first (λ x. x == 61) word ∷ []) (settles rows pending) in
+    along _ _ ((turns_value awaits path rows pending word (after_first (λ x. x == 61) word) number.0 number.1).0 ∙ ap (λ k. or_else k wrong) bad.1) (bad.0, refl, bad.2)
+bad_turns awaits path rows pending word false bad is no_value =
+    subst (λ w. IsMistake (turn_fault shape [] (at false awaits path rows pending) w)) (sym (turns_without word is no_value)) (along _ _ (turns_alone awaits path rows pending).0 bad)
+
+refused_badly : (is_help : Bool) (kinds : Kinds) → Refuses true is_help kinds → IsMistake kinds
+refused_badly true kinds is = is
+refused_badly false kinds is = is
+
+-- each word then, but `--` and those that are none, is refused
+bad_option : (awaits : Bool) (path : Option Text) (rows : List Row) (pending : Pending) (word : Text) → IsMistake (settle rows pending) → bytes_eq word (codes "--") ≡ false → names_turns word ≡ false → is_option word ≡ true
+    → IsMistake (turn_fault shape [] (at false awaits path rows pending) word)
+bad_option awaits path rows pending word bad no_dashes no_turns dashed =
+    refused_badly (asks_help word) _ (option_word awaits (settle rows pending) word no_dashes no_turns dashed true path rows pending refl bad)
+
+bad_dashes : (awaits : Bool) (path : Option Text) (rows : List Row) (pending : Pending) (word : Text) (rest : List Text) → IsMistake (settle rows pending) → bytes_eq word (codes "--") ≡ true → Walks mistake (at false awaits path rows pending) (word ∷ rest)
+bad_dashes awaits path rows pending word rest bad is =
+    let same : word ≡ codes "--" = (bytes_eq-Decides word (codes "--")).0 is in
+    let turn = dashes awaits path rows pending in
+    subst (λ w. Walks mistake (at false awaits path rows pending) (w ∷ rest)) (sym same) (goes_on mistake (at false awaits path rows pending) (at true awaits path rows pending) (codes "--") rest turn.0 turn.1 (bad_paths awaits path rows pending rest bad))
+
+bad_words : (path : Option Text) (rows : List Row) (pending : Pending) (words : List Text) → IsMistake (settle rows pending) → Walks mistake (at false false path rows pending) words
+bad_words path rows pending [] bad = ends_badly false false path rows pending bad
+bad_words path rows pending (word ∷ rest) bad = elim (cases_Bool (bytes_eq word (codes "--"))) [
+  | inl is_dashes ↦ bad_dashes false path rows pending word rest bad is_dashes
+  | inr no_dashes ↦ stops (at false false path rows pending) word rest (elim (cases_Bool (names_turns word)) [
+    | inl is_turns ↦ bad_turns false path rows pending word (has_value word) bad ((bytes_eq-Decides _ _).0 is_turns) refl
+    | inr no_turns ↦ elim (cases_Bool (is_option word)) [
+      | inl dashed ↦ bad_option false path rows pending word bad no_dashes no_turns dashed
+      | inr no_option ↦ path_refused false false path rows pending word bad (path_word word no_dashes no_option).0
+    ]
+  ])
+]
+
+-- where the number of turns is awaited and this word is none, or is one too many
+bad_number : (path before : Option Text) (rows : List Row) (word : Text) (rest : List Text) → AreRows path before rows → IsMistake (use_fault false turns (word ∷ []) rows)
+    → Walks mistake (at false true path rows (Some (codes "turns", []))) (word ∷ rest)
+bad_number path before rows word rest are bad =
+    let none : IsMistake (settle rows (Some (codes "turns", []))) = (InvalidValue, refl, refl) in
+    elim (cases_Bool (bytes_eq word (codes "--"))) [
+      | inl is_dashes ↦ bad_dashes true path rows (Some (codes "turns", [])) word rest none is_dashes
+      | inr no_dashes ↦ elim (cases_Bool (names_turns word)) [
+        | inl is_turns ↦ stops _ word rest (bad_turns true path rows (Some (codes "turns", [])) word (has_value word) none ((bytes_eq-Decides _ _).0 is_turns) refl)
+        | inr no_turns ↦ elim (cases_Bool (is_option word)) [
+          | inl dashed ↦ stops _ word rest (bad_option true path rows (Some (codes "turns", [])) word none no_dashes no_turns dashed)
+          | inr no_option ↦
+              let turn = (path_word word no_dashes no_option).1 path rows in
+              goes_on mistake _ (at false false path rows (Some (codes "turns", word ∷ []))) word rest turn.0 turn.1 (bad_words path rows (Some (codes "turns", word ∷ [])) rest bad)
+        ]
+      ]
+    ]
+
+-- where it is well
+given_turns : (text : Text) (number : ℕ) → number_in text ≡ Some number → Gives (Some (without_minus text)) number
+given_turns text number is = rw (number_plain text number is) is
+
+ends_well : (t : Bool) (path text : Option Text) (number : Option ℕ) (rows : List Row) (pending : Pending) → HoldsWell path text rows pending → IsRead text number → Walks (run_with path number) (at t false path rows pending) []
+unfolding walk_fault defaults_fault
+ends_well t None None None rows pending well read = rw (well.0, well.1) (refl, refl, refl)
+ends_well t (Some path) None None rows pending well read = rw (well.0, well.1) (refl, refl, refl)
+ends_well t None (Some text) (Some number) rows pending well read = rw (well.0, well.1) (refl, refl, given_turns text number read)
+ends_well t (Some path) (Some text) (Some number) rows pending (settled, inl are) read = rw (settled, are) (refl, refl, given_turns text number read)
+ends_well t (Some path) (Some text) (Some number) rows pending (settled, inr are) read = rw (settled, are) (refl, refl, given_turns text number read)
+ends_well t path None (Some number) rows pending well read = absurd read
+ends_well t path (Some text) None rows pending well read = absurd read
+
+-- ---- the definition's cases
+
+-- what is said of these words where nothing, or the number of turns, is awaited
+abbrev WalksWords : Bool → List Text → Type 0
+WalksWords false words = (path text : Option Text) (number : Option ℕ) (rows : List Row) (pending : Pending) → HoldsWell path text rows pending → IsRead text number
+    → Walks (asked_behind false path number words) (at false false path rows pending) words
+WalksWords true words = (path text : Option Text) (number : Option ℕ) (rows : List Row) → AreRows path text rows → IsRead text number
+    → Walks (asked_behind true path number words) (at false true path rows (Some (codes "turns", []))) words
+
+-- a word that is a path, where there is none yet or one already
+one_more : (t : Bool) (path text : Option Text) (number : Option ℕ) (rows : List Row) (pending : Pending) (word : Text) (rest : List Text) (next : Asked) → HoldsWell path text rows pending → IsPathWord t false word
+    → ((rows : List Row) (pending : Pending) → HoldsWell (Some word) text rows pending → Walks next (at t false (Some word) rows pending) rest)
+    → Walks (one_path path next) (at t false path rows pending) (word ∷ rest)
+one_more t None text number rows pending word rest next well is walks =
+    let turn = is rows pending in
+    let to = settles rows pending in
+    goes_on next (at t false None rows pending) (at t false (Some word) to (Some (codes "classes", word ∷ []))) word rest (turn.0 ∙ well.0) turn.1
+    (walks to (Some (codes "classes", word ∷ [])) (path_held text to word well.1))
+one_more t (Some path) text number rows pending word rest next well is walks =
+    stops (at t false (Some path) rows pending) word rest (unknown _ ((is rows pending).2 path))
+
+walks_paths : (path text : Option Text) (number : Option ℕ) (rows : List Row) (pending : Pending) (words : List Text) → HoldsWell path text rows pending → IsRead text number
+    → Walks (asked_by_paths path number words) (at true false path rows pending) words
+walks_paths path text number rows pending [] well read = ends_well true path text number rows pending well read
+walks_paths path text number rows pending (word ∷ rest) well read =
+    one_more true path text number rows pending word rest (asked_by_paths (Some word) number rest) well (path_behind_dashes false word)
+    (λ (to : List Row) (new : Pending) well. walks_paths (Some word) text number to new rest well read)
+
+walks_dashes : (path text : Option Text) (number : Option ℕ) (rows : List Row) (pending : Pending) (rest : List Text) → HoldsWell path text rows pending → IsRead text number
+    → Walks (asked_by_paths path number rest) (at false false path rows pending) (codes "--" ∷ rest)
+walks_dashes path text number rows pending rest well read =
+    let turn = dashes false path rows pending in
+    goes_on _ (at false false path rows pending) (at true false path rows pending) (codes "--") rest turn.0 turn.1 (walks_paths path text number rows pending rest well read)
+
+walks_option : (path : Option Text) (rows : List Row) (pending : Pending) (word : Text) (rest : List Text) (is_help : Bool) → Refuses false is_help (turn_fault shape [] (at false false path rows pending) word)
+    → Walks (if is_help then help else mistake) (at false false path rows pending) (word ∷ rest)
+walks_option path rows pending word rest true refused = shows_help (at false false path rows pending) word rest refused
+walks_option path rows pending word rest false refused = stops (at false false path rows pending) word rest refused
+
+-- what the definition makes of a text for the turns
+abbrev numbered : Option Text → Option ℕ → Option ℕ → List Text → Asked
+numbered path given number rest = one_number given number (λ n. asked_behind false path (Some n) rest)
+
+-- a text for the turns that stands in the word
+walks_value : (path before : Option Text) (given number : Option ℕ) (rows : List Row) (pending : Pending) (word : Text) (rest : List Text) → HoldsWell path before rows pending → IsRead before given → HasNumber word
+    → number_in (after_first (λ x. x == 61) word) ≡ number → WalksWords false rest → Walks (numbered path given number rest) (at false false path rows pending) (word ∷ rest)
+walks_value path before given number rows pending word rest well read has is walks = go before given number well read is
+  where
+    value : Text
+    value = after_first (λ x. x == 61) word
+
+    wrong : Kinds
+    wrong = use_fault false turns (value ∷ []) (settles rows pending)
+
+    turn : (before : Option Text) → HoldsWell path before rows pending → IsTurn (at false false path rows pending) word wrong
+    turn before well = (turns_value false path rows pending word value has.0 has.1).0 ∙ ap (λ k. or_else k wrong) well.0
+
+    go : (before : Option Text) (given number : Option ℕ) → HoldsWell path before rows pending → IsRead before given → number_in value ≡ number → Walks (numbered path given number rest) (at false false path rows pending) (word ∷ rest)
+    go None None None well read is = stops (at false false path rows pending) word rest (along _ wrong (turn None well) (turns_taken path None (settles rows pending) value None well.1 is))
+    go None None (Some n) well read is =
+        let new = used turns (value ∷ []) (settles rows pending) in
+        goes_on _ (at false false path rows pending) (at false false path new None) word rest (turn None well ∙ turns_taken path None (settles rows pending) value (Some n) well.1 is)
+        (turns_value false path rows pending word value has.0 has.1).1 (walks path (Some value) (Some n) new None (refl, turns_used path (settles rows pending) value well.1) is)
+    go (Some text) (Some g) number well read is =
+        stops (at false false path rows pending) word rest (along _ wrong (turn (Some text) well) (turns_taken path (Some text) (settles rows pending) value number well.1 is))
+    go None (Some g) number well read is = absurd read
+    go (Some text) None number well read is = absurd read
+
+-- the text for the turns that is awaited
+walks_number : (path before : Option Text) (given number : Option ℕ) (rows : List Row) (word : Text) (rest : List Text) → AreRows path before rows → IsRead before given
+    → number_in word ≡ number → WalksWords false rest → Walks (numbered path given number rest) (at false true path rows (Some (codes "turns", []))) (word ∷ rest)
+walks_number path None None None rows word rest are read is walks = bad_number path None rows word rest are (turns_taken path None rows word None are is)
+walks_number path None None (Some n) rows word rest are read is walks =
+    let turn = number_word word n is path rows in
+    let new : Pending = Some (codes "turns", word ∷ []) in
+    goes_on _ (at false true path rows (Some (codes "turns", []))) (at false false path rows new) word rest turn.0 turn.1
+    (walks path (Some word) (Some n) rows new (turns_taken path None rows word (Some n) are is, turns_used path rows word are) is)
+walks_number path (Some text) (Some g) number rows word rest are read is walks = bad_number path (Some text) rows word rest are (turns_taken path (Some text) rows word number are is)
+walks_number path None (Some g) number rows word rest are read is walks = absurd read
+walks_number path (Some text) None number rows word rest are read is walks = absurd read
+
+-- a word that names the turns
+walks_turns : (path text : Option Text) (number : Option ℕ) (rows : List Row) (pending : Pending) (word : Text) (rest : List Text) → HoldsWell path text rows pending → IsRead text number
+    → before_first (λ x. x == 61) word ≡ codes "--turns" → WalksWords false rest → WalksWords true rest
+    → Walks (if has_value word then numbered path number (number_in (after_first (λ x. x == 61) word)) rest else asked_behind true path number rest) (at false false path rows pending) (word ∷ rest)
+walks_turns path text number rows pending word rest well read is walks awaits = go (has_value word) refl
+  where
+    go : (has : Bool) → has_value word ≡ has → Walks (if has then numbered path number (number_in (after_first (λ x. x == 61) word)) rest else asked_behind true path number rest) (at false false path rows pending) (word ∷ rest)
+    go true value = walks_value path text number (number_in (after_first (λ x. x == 61) word)) rows pending word rest well read (turns_with word is value) refl walks
+    go false no_value =
+        let turn = turns_alone false path rows pending in
+        let next = asked_behind true path number rest in
+        subst (λ w. Walks next (at false false path rows pending) (w ∷ rest)) (sym (turns_without word is no_value))
+        (goes_on next (at false false path rows pending) (at false true path (settles rows pending) (Some (codes "turns", []))) (codes "--turns") rest (turn.0 ∙ well.0) turn.1
+        (awaits path text number (settles rows pending) well.1 read))
+
+-- any word, where nothing is awaited
+walks_word : (path text : Option Text) (number : Option ℕ) (rows : List Row) (pending : Pending) (word : Text) (rest : List Text) → HoldsWell path text rows pending → IsRead text number
+    → WalksWords false rest → WalksWords true rest → Walks (asked_behind false path number (word ∷ rest)) (at false false path rows pending) (word ∷ rest)
+walks_word path text number rows pending word rest well read walks awaits = elim (cases_Bool (bytes_eq word (codes "--"))) [
+  | inl is_dashes ↦
+      let same : word ≡ codes "--" = (bytes_eq-Decides word (codes "--")).0 is_dashes in
+      subst (λ w. Holds (asked_behind false path number (w ∷ rest)) w) (sym same) (walks_dashes path text number rows pending rest well read)
+  | inr no_dashes ↦ elim (cases_Bool (names_turns word)) [
+    | inl is_turns ↦
+        let means : asked_behind false path number (word ∷ rest) ≡ (if has_value word then numbered path number (number_in (after_first (λ x. x == 61) word)) rest else asked_behind true path number rest) = rw (no_dashes, is_turns) refl in
+        subst (λ a. Holds a word) (sym means) (walks_turns path text number rows pending word rest well read ((bytes_eq-Decides _ _).0 is_turns) walks awaits)
+    | inr no_turns ↦ elim (cases_Bool (is_option word)) [
+      | inl dashed ↦
+          let means : asked_behind false path number (word ∷ rest) ≡ (if asks_help word then help else mistake) = rw (no_dashes, no_turns, dashed) refl in
+          subst (λ a. Holds a word) (sym means) (walks_option path rows pending word rest (asks_help word) (option_word false (settle rows pending) word no_dashes no_turns dashed false path rows pending refl well.0))
+      | inr no_option ↦
+          let means : asked_behind false path number (word ∷ rest) ≡ one_path path (asked_behind false (Some word) number rest) = rw (no_dashes, no_turns, no_option) refl in
+          subst (λ a. Holds a word) (sym means) (one_more false path text number rows pending word rest (asked_behind false (Some word) number rest) well (path_word word no_dashes no_option).0
+          (λ (to : List Row) (new : Pending) well. walks (Some word) text number to new well read))
+    ]
+  ]
+]
+  where
+    Holds : Asked → Text → Type 0
+    Holds a w = Walks a (at false false path rows pending) (w ∷ rest)
+
+walks_words : (awaits : Bool) (words : List Text) → WalksWords awaits words
+walks_words true [] = λ path text number rows are read. ends_badly false true path rows (Some (codes "turns", [])) (InvalidValue, refl, refl)
+walks_words true (word ∷ rest) = λ path text number rows are read. walks_number path text number (number_in word) rows word rest are read refl (walks_words false rest)
+walks_words false [] = λ path text number rows pending well read. ends_well false path text number rows pending well read
+walks_words false (word ∷ rest) = λ path text number rows pending well read. walks_word path text number rows pending word rest well read (walks_words false rest) (walks_words true rest)
+
+-- ---- the whole command line
+
+pub asked_told : (words : List Text) → Told (asked words) (fault_of metad words) (matches_of metad words)
+asked_told words = walks_words false words None None None [] None (refl, refl) tt
+
+runs : (wanted : Asked) (kinds : Kinds) (rows : List Row) → Told wanted kinds rows → kinds ≡ []
+    → (number : ℕ) × (wanted ≡ run (first_of (codes "classes") rows) number) × Gives (one_of (codes "turns") rows) number
+runs (run path number) kinds rows t none = (number, ap (λ p. run p number) (sym t.1), t.2)
+runs help kinds rows t none = let bad : DisplayHelp ∷ [] ≡ [] = sym t ∙ none in cc
+runs mistake kinds rows t none = let bad : t.0 ∷ [] ≡ [] = sym t.1 ∙ none in cc
+
+-- where clap takes the words, a run is asked for with the path and the turns that it finds
+pub run_asked : (words : List Text) → fault_of metad words ≡ []
+    → (number : ℕ) × (asked words ≡ run (first_of (codes "classes") (matches_of metad words)) number) × Gives (one_of (codes "turns") (matches_of metad words)) number
+run_asked words none = runs (asked words) (fault_of metad words) (matches_of metad words) (asked_told words) none
+
+says : (wanted : Asked) (kinds : Kinds) (rows : List Row) (kind : ErrorKind) → Told wanted kinds rows → IsAmong kind kinds → Says wanted kind
+says (run path number) kinds rows kind t among = absurd (subst (IsAmong kind) t.0 among)
+says help kinds rows kind t among = elim (subst (IsAmong kind) t among) [ inl is ↦ subst (Says help) (sym is) refl | inr none ↦ absurd none ]
+says mistake kinds rows kind t among = elim (subst (IsAmong kind) t.1 among) [ inl is ↦ subst (Says mistake) (sym is) t.2 | inr none ↦ absurd none ]
 
 -- where clap refuses them, the kind says what is asked for
 pub kind_says : (words : List Text) (kind : ErrorKind) → (kind ≡ OutOfMemory) ⊎ IsAmong kind (fault_of metad words) → Says (asked words) kind
 kind_says words kind (inl memory) = subst (Says (asked words)) (sym memory) tt
-kind_says words kind (inr among) = says (asked words) (fault_of metad words) (path_in (matches_of metad words)) kind (asked_told words) among
+kind_says words kind (inr among) = says (asked words) (fault_of metad words) (matches_of metad words) kind (asked_told words) among
 
 -- the kind of the error that is passed on says it too
 pub reads_refusal : (wanted : Asked) (result : Result Options Error) (error : Error) → IsErrAnd result (λ e. e ≡ error) → Says wanted (kind_of error) → Reads wanted result
