@@ -55,7 +55,7 @@ fn metad_command<'a>(alloc: Global) -> Result<Command<'a>, AllocError>
         .long("turns")
         .value_name("N")
         .value_parser(value_parser!(u32).range(1..=1_000_000))
-        .help("The turns of each command, 1 to 1000000; without it 10000");
+        .help("How many turns each command has for its calls, from 1 to 1000000 [default: 10000]");
     Command::new(alloc, "metad")
         .no_binary_name(true)
         .about(ABOUT)

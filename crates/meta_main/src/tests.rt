@@ -1,6 +1,7 @@
 //! Worked sessions, from bytes to bytes on a fresh server with ample memory.
 use super::*;
-use program_start::DEMONSTRATION;
+use class_table::ClassTable;
+use program_start::{DEFAULT_TURNS, DEMONSTRATION};
 use std::alloc::{AllocError, Global};
 use std::test::Fail;
 
@@ -141,7 +142,7 @@ const SESSIONS: [Session; 8] = [
 /// What a fresh server with the demonstration classes writes for an input.
 fn written(alloc: Global, input: &[u8]) -> Result<(Vec<u8>, Summary), Fail> {
     let classes = ClassTable::from_text(alloc, DEMONSTRATION.as_bytes())?;
-    let mut server = Server::new(alloc, classes, TURNS)?;
+    let mut server = Server::new(alloc, classes, DEFAULT_TURNS)?;
     let mut reader = Counted::new(input);
     let mut writer = Counted::new(Vec::new(alloc));
     let summary = run(alloc, &mut reader, &mut writer, &mut server)?;
