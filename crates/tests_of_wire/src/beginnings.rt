@@ -72,7 +72,7 @@ fn each_end_has_its_status_and_text(rt: HostRuntime) -> Result<(), Fail> {
     };
     let text = class_text(alloc, Some(&fault))?;
     assert!(rt; text.as_str() == "metad: class file refused: C04 at class 1");
-    let usage = "\n\nUsage: metad [CLASSES]\n\nFor more information, try '--help'.\n";
+    let usage = "\n\nUsage: metad [OPTIONS] [CLASSES]\n\nFor more information, try '--help'.\n";
     let endings = [
         (
             Ending::of_class_file(alloc, &ClassFileError::Refused(fault)),
