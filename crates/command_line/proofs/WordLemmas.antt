@@ -9,7 +9,7 @@ use Rattle.clap.specs.Faults.{check_fault, defaults_fault, entered_fault, settle
 use Rattle.clap.specs.Kinds.{or_else}
 use Rattle.clap.specs.Lexer.{has_byte, long_of, short_of, without_minus}
 use Rattle.clap.specs.Simple.{built, entered, filled, is_simple, with_index}
-use Rattle.clap.specs.Walk.{Held, Waiting, Walk, finished, settled, settled_rows, idle, option, used, walked, bundle_met}
+use Rattle.clap.specs.Walk.{Held, Waiting, Walk, finished, settled, settled_rows, idle, option, subcommand_met, used, walked, bundle_met}
 use Rattle.clap.specs.Words.{Rule, Shape, Text, Row, fault_of, matches_of, first_of, one_of, IsAmong, Kinds, kind_of}
 use Rattle.clap.specs.declared.error.Error.{Error}
 use Rattle.clap.specs.declared.error.kind.ErrorKind.{ErrorKind}
@@ -70,6 +70,11 @@ settles rows pending = settled_rows rules pending rows
 and_false : (b : Bool) → (b && false) ≡ false
 and_false b = and_right b false refl
 
+-- no word is a subcommand
+no_subcommand : (awaits : Bool) (word : Text) → subcommand_met [] (waiting awaits) word ≡ None
+no_subcommand false word = refl
+no_subcommand true word = refl
+
 -- ---- one word
 
 abbrev IsTurn : Walk → Text → Kinds → Type 0
@@ -93,8 +98,7 @@ path_behind_dashes awaits word rows pending = (rw and_false refl, rw and_false r
 dashes : (awaits : Bool) (path : Option Text) (rows : List Row) (pending : Pending)
     → IsTurn (at false awaits path rows pending) (codes "--") [] × GoesTo (at false awaits path rows pending) (codes "--") (at true awaits path rows pending)
 unfolding walked
-dashes false path rows pending = (refl, refl)
-dashes true path rows pending = (refl, refl)
+dashes awaits path rows pending = (rw no_subcommand refl, rw no_subcommand refl)
 
 -- a word that names no option
 plain_word : (word : Text) → bytes_eq word (codes "--") ≡ false → long_of word ≡ None → short_of word ≡ None → IsPathWord false false word
@@ -130,12 +134,9 @@ short_word : (awaits : Bool) (path : Option Text) (rows : List Row) (pending : P
     → settle rows pending ≡ s → bytes_eq word (codes "--") ≡ false → long_of word ≡ None → short_of word ≡ Some (byte ∷ rest)
     → slice_get (chars (byte ∷ rest)) 0 ≡ Some letter → (104 == letter) ≡ is_h → IsTurn (at false awaits path rows pending) word (short_kinds is_h s)
 unfolding walked bundle_met flags_fault
-short_word false path rows pending [] word byte rest letter true is no_dashes no_long a_short a_letter h = rw (no_dashes, no_long, a_short, a_letter, h, is) refl
-short_word false path rows pending (k ∷ ks) word byte rest letter true is no_dashes no_long a_short a_letter h = rw (no_dashes, no_long, a_short, a_letter, h, is) refl
-short_word false path rows pending s word byte rest letter false is no_dashes no_long a_short a_letter h = rw (no_dashes, no_long, a_short, a_letter, h) refl
-short_word true path rows pending [] word byte rest letter true is no_dashes no_long a_short a_letter h = rw (no_dashes, no_long, a_short, a_letter, h, is) refl
-short_word true path rows pending (k ∷ ks) word byte rest letter true is no_dashes no_long a_short a_letter h = rw (no_dashes, no_long, a_short, a_letter, h, is) refl
-short_word true path rows pending s word byte rest letter false is no_dashes no_long a_short a_letter h = rw (no_dashes, no_long, a_short, a_letter, h) refl
+short_word awaits path rows pending [] word byte rest letter true is no_dashes no_long a_short a_letter h = rw (no_subcommand, no_dashes, no_long, a_short, a_letter, h, is) refl
+short_word awaits path rows pending (k ∷ ks) word byte rest letter true is no_dashes no_long a_short a_letter h = rw (no_subcommand, no_dashes, no_long, a_short, a_letter, h, is) refl
+short_word awaits path rows pending s word byte rest letter false is no_dashes no_long a_short a_letter h = rw (no_subcommand, no_dashes, no_long, a_short, a_letter, h) refl
 
 abbrev long_kinds : Bool → Option Text → Kinds → Kinds
 long_kinds true None s = or_else s (DisplayHelp ∷ [])
@@ -147,14 +148,10 @@ long_word : (awaits : Bool) (path : Option Text) (rows : List Row) (pending : Pe
     → settle rows pending ≡ s → bytes_eq word (codes "--") ≡ false → long_of word ≡ Some (name, value)
     → bytes_eq (codes "turns") name ≡ false → bytes_eq (codes "help") name ≡ is_help → IsTurn (at false awaits path rows pending) word (long_kinds is_help value s)
 unfolding walked
-long_word false path rows pending [] word name None true is no_dashes a_long no_turns h = rw (no_dashes, a_long, no_turns, h, is) refl
-long_word false path rows pending (k ∷ ks) word name None true is no_dashes a_long no_turns h = rw (no_dashes, a_long, no_turns, h, is) refl
-long_word false path rows pending s word name (Some value) true is no_dashes a_long no_turns h = rw (no_dashes, a_long, no_turns, h) refl
-long_word false path rows pending s word name value false is no_dashes a_long no_turns h = rw (no_dashes, a_long, no_turns, h) refl
-long_word true path rows pending [] word name None true is no_dashes a_long no_turns h = rw (no_dashes, a_long, no_turns, h, is) refl
-long_word true path rows pending (k ∷ ks) word name None true is no_dashes a_long no_turns h = rw (no_dashes, a_long, no_turns, h, is) refl
-long_word true path rows pending s word name (Some value) true is no_dashes a_long no_turns h = rw (no_dashes, a_long, no_turns, h) refl
-long_word true path rows pending s word name value false is no_dashes a_long no_turns h = rw (no_dashes, a_long, no_turns, h) refl
+long_word awaits path rows pending [] word name None true is no_dashes a_long no_turns h = rw (no_subcommand, no_dashes, a_long, no_turns, h, is) refl
+long_word awaits path rows pending (k ∷ ks) word name None true is no_dashes a_long no_turns h = rw (no_subcommand, no_dashes, a_long, no_turns, h, is) refl
+long_word awaits path rows pending s word name (Some value) true is no_dashes a_long no_turns h = rw (no_subcommand, no_dashes, a_long, no_turns, h) refl
+long_word awaits path rows pending s word name value false is no_dashes a_long no_turns h = rw (no_subcommand, no_dashes, a_long, no_turns, h) refl
 
 or_nothing : (kinds : Kinds) → or_else kinds [] ≡ kinds
 or_nothing [] = refl
@@ -166,16 +163,14 @@ turns_value : (awaits : Bool) (path : Option Text) (rows : List Row) (pending : 
     → IsTurn (at false awaits path rows pending) word (or_else (settle rows pending) (use_fault false turns (value ∷ []) (settles rows pending)))
     × GoesTo (at false awaits path rows pending) word (at false false path (used turns (value ∷ []) (settles rows pending)) None)
 unfolding walked
-turns_value false path rows pending word value no_dashes a_long = (rw (no_dashes, a_long) (or_nothing (or_else (settle rows pending) (use_fault false turns (value ∷ []) (settles rows pending)))), rw (no_dashes, a_long) refl)
-turns_value true path rows pending word value no_dashes a_long = (rw (no_dashes, a_long) (or_nothing (or_else (settle rows pending) (use_fault false turns (value ∷ []) (settles rows pending)))), rw (no_dashes, a_long) refl)
+turns_value awaits path rows pending word value no_dashes a_long = (rw (no_subcommand, no_dashes, a_long) (or_nothing (or_else (settle rows pending) (use_fault false turns (value ∷ []) (settles rows pending)))), rw (no_subcommand, no_dashes, a_long) refl)
 
 -- and alone
 turns_alone : (awaits : Bool) (path : Option Text) (rows : List Row) (pending : Pending)
     → IsTurn (at false awaits path rows pending) (codes "--turns") (settle rows pending)
     × GoesTo (at false awaits path rows pending) (codes "--turns") (at false true path (settles rows pending) (Some (codes "turns", [])))
 unfolding walked
-turns_alone false path rows pending = (or_nothing (settle rows pending), refl)
-turns_alone true path rows pending = (or_nothing (settle rows pending), refl)
+turns_alone awaits path rows pending = (rw no_subcommand (or_nothing (settle rows pending)), rw no_subcommand refl)
 
 -- ---- what may be said of words
 
