@@ -8,7 +8,8 @@ use Rattle.clap.proofs.WalkLemmas.{first_value-rows, one_text-rows}
 use Rattle.command_line.specs.Program.{metad}
 use Rattle.command_line.specs.Asked.{Gives, asked, run}
 use Rattle.command_line.proofs.NumberLemmas.{gives_once, turns_read}
-use Rattle.command_line.proofs.WordLemmas.{kind_says, reads_refusal, run_asked, simple, simple_and_free}
+use Rattle.command_line.proofs.WalkLemmas.{kind_says, reads_refusal, run_asked}
+use Rattle.command_line.proofs.WordLemmas.{simple, simple_and_free}
 use Rattle.command_line.proofs.options.options_of.Goals as goal
 use Rattle.command_line.proofs.options.options_of.Goals.{in-Some+in_ok-from_str-in-Some, in-None}
 
