@@ -1,9 +1,12 @@
 //! Worked sessions, from bytes to bytes on a fresh server with ample memory.
 use super::*;
 use class_table::ClassTable;
-use program_start::{DEFAULT_TURNS, DEMONSTRATION};
+use program_start::DEMONSTRATION;
 use std::alloc::{AllocError, Global};
 use std::test::Fail;
+
+/// The turns of a command where the command line does not say.
+const TURNS: u32 = 10_000;
 
 /// Lines and what is answered to them, line by line.
 type Session = (&'static str, &'static str);
@@ -142,7 +145,7 @@ const SESSIONS: [Session; 8] = [
 /// What a fresh server with the demonstration classes writes for an input.
 fn written(alloc: Global, input: &[u8]) -> Result<(Vec<u8>, Summary), Fail> {
     let classes = ClassTable::from_text(alloc, DEMONSTRATION.as_bytes())?;
-    let mut server = Server::new(alloc, classes, DEFAULT_TURNS)?;
+    let mut server = Server::new(alloc, classes, TURNS)?;
     let mut reader = Counted::new(input);
     let mut writer = Counted::new(Vec::new(alloc));
     let summary = run(alloc, &mut reader, &mut writer, &mut server)?;

@@ -13,7 +13,6 @@ pub use class_file::{
     ClassFileError, MOST_BYTES, classes_at, classes_in, classes_of, read_at_most,
 };
 pub use class_files::ClassFiles;
-pub use command_line::DEFAULT_TURNS;
 pub use demonstration::DEMONSTRATION;
 pub use ending::{Ending, Stream, class_text};
 pub use starting::{start, start_with, words_of};
