@@ -4,3 +4,7 @@ pub mod DeletingLemmas
 pub mod CommandsLemmas
 pub mod PropertiesLemmas
 pub mod ClassesLemmas
+pub mod FoundLemmas
+pub mod ActingLemmas
+pub mod AgendaLemmas
+pub mod InvokingLemmas

@@ -1,8 +1,10 @@
-use Rattle.std.proofs.Common.{◌≡◌, ◌∷◌, ◌++◌, List, drop}
-use Rattle.thread_model.specs.declared.line.Line.{Line}
-use Rattle.thread_model.specs.Agenda.{Cut, Item, run}
+use Rattle.std.proofs.Common.{◌≡◌, ◌∷◌, [], drop}
+use Rattle.thread_model.specs.Doing.{Doing, in_state}
+use Rattle.thread_model.specs.Items.{Cut}
+use Rattle.thread_model.specs.Run.{run}
+use Rattle.thread_model.specs.Settings.{Settings}
 use Rattle.session_tables.specs.Tables.{IsPlaced, state_at}
-use Rattle.session_engine.specs.Deleting.{Lessens, doing}
+use Rattle.session_engine.specs.Deleting.{Lessens}
 use Rattle.session_engine.proofs.DeletingLemmas.{kins_from, left_to_do}
 use Rattle.session_engine.proofs.deleting.+deletion.Given as goal
 
@@ -15,10 +17,10 @@ decreases-delete l = left_to_do l.tables.now l.place 1
 abbrev pub decreases-kin : goal.decreases-kin
 decreases-kin l = left_to_do l.tables.now l.place 2
 
--- so far the children before this one were deleted
+-- so far the connections were broken, and the children before this one deleted
 abbrev pub invariant-cut-children : goal.invariant-cut-children
 invariant-cut-children l = record {
   lessens : Lessens l.place l.fn.tables l.tables;
   placed : IsPlaced l.tables l.place;
-  runs : (rest : List Item) (lines : List Line) → run (kins_from l.target l.depth (drop l.child-index l.child-items) ++ rest) (doing (state_at l.tables l.place) lines) ≡ run (Cut l.target l.depth ∷ rest) (doing (state_at l.fn.tables l.place) lines);
+  runs : (settings : Settings) (doing : Doing) → run settings (kins_from l.target l.depth (drop l.child-index l.child-items)) (in_state doing (state_at l.tables l.place)) ≡ run settings (Cut l.target l.depth ∷ []) (in_state doing (state_at l.fn.tables l.place));
 }
