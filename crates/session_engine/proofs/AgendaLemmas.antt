@@ -42,13 +42,13 @@ use Rattle.session_tables.specs.Tables.{IsPlaced, state_at, with_state}
 use Rattle.session_tables.proofs.TablesLemmas.{state_with}
 use Rattle.session_engine.specs.declared.slot.Slot.{Slot}
 use Rattle.session_engine.specs.declared.telling.Telling.{Telling}
-use Rattle.session_engine.specs.Acting.{Tries, act_of}
+use Rattle.session_engine.specs.Actions.{Tries, act_of}
 use Rattle.session_engine.specs.declared.commands.Caller.{Caller}
 use Rattle.session_engine.specs.Setup.{settings_of}
 use Rattle.session_engine.specs.Telling.{Warns, doing_at, spent, with_line}
 use Rattle.session_engine.proofs.FoundLemmas.{item_at}
 
--- how much is left to do: each way round the calls takes a turn
+-- how much is left to do: each way round the calls takes a turn, which counts for more than any rank
 abbrev pub left_to_do : Telling → ℕ → ℕ
 left_to_do telling rank = 100 * telling.turns + rank
 

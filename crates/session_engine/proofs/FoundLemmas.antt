@@ -17,7 +17,7 @@ use Rattle.connection_types.specs.declared.callee.Callee.TheVariants.{Method}
 use Rattle.connection_types.specs.declared.connection_type.ConnectionType.{ConnectionType}
 use Rattle.refusals.specs.declared.code.Code.TheVariants.{DoesNotFit}
 use Rattle.thread_model.specs.Connecting.{fits_at, new_connection}
-use Rattle.session_engine.specs.Acting.{is_limit}
+use Rattle.session_engine.specs.Actions.{is_limit}
 use Rattle.thread_model.specs.Methods.{Found, ◌>>=◌}
 use Rattle.thread_model.specs.Settings.{Settings}
 use Rattle.thread_model.specs.Signals.{values_of, with_value}

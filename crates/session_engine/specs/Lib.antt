@@ -3,7 +3,7 @@ pub mod Methods
 pub mod Returning
 pub mod Sessions
 pub mod Telling
-pub mod Deleting
-pub mod Acting
+pub mod Deletion
+pub mod Actions
 pub mod Commands
 pub mod Engine

@@ -9,12 +9,12 @@ ghost use Rattle.thread_model.specs.Agenda.{call_line, stands};
 ghost use Rattle.thread_model.specs.Doing.{told};
 ghost use Rattle.thread_model.specs.Items.{Call, Emit};
 ghost use Rattle.class_table.specs.Sound.{IsMethod};
-ghost use Rattle.session_tables.specs.Tables.{IsPlaced, state_at};
-ghost use Rattle.session_engine.specs.Acting.{Does, Keeps, act_of};
+ghost use Rattle.session_tables.specs.Tables.{IsPlaced};
+ghost use Rattle.session_engine.specs.Actions.{Does, Keeps, act_of};
 ghost use Rattle.session_engine.specs.Telling.{doing_at};
 
 use crate::commands::Caller;
-use crate::deleting::delete;
+use crate::deletion::delete;
 use crate::effects::{change, deleted, sent, truth};
 use crate::methods::method_at;
 use crate::slot::Slot;

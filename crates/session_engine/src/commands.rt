@@ -7,8 +7,8 @@ ghost use Rattle.session_engine.specs.Telling.{fresh_telling};
 ghost use Rattle.session_engine.specs.Returning.{wants_memory};
 
 use crate::classes::describe;
-use crate::connecting::{Options, connect, disconnect, disconnect_one};
-use crate::invoking::invoke;
+use crate::connections::{Options, connect, disconnect, disconnect_one};
+use crate::invocation::invoke;
 use crate::properties::{set_title, title};
 use crate::setup::Setup;
 use crate::telling::Telling;

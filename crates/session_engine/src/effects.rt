@@ -6,12 +6,12 @@ ghost use Rattle.thread_model.specs.Acts.{emission, is_queued};
 ghost use Rattle.thread_model.specs.Items.{Delete, Emit};
 ghost use Rattle.thread_model.specs.Targets.{truth_evaluated};
 ghost use Rattle.session_tables.specs.Tables.{IsPlaced, state_at};
-ghost use Rattle.session_engine.specs.Acting.{IsSent, Keeps, Tries, is_nested};
+ghost use Rattle.session_engine.specs.Actions.{IsSent, Keeps, Tries, is_nested};
 ghost use Rattle.session_engine.specs.Setup.{settings_of};
 
 use crate::commands::Caller;
-use crate::connecting::{Options, connection, pattern};
-use crate::evaluating::{
+use crate::connections::{Options, connection, pattern};
+use crate::evaluation::{
     Reader, all_converted, all_evaluated, named_object_of, object_of, title_evaluated,
     truth_evaluated,
 };
@@ -33,6 +33,7 @@ pub struct Emission {
     pub args: Items<Value>,
 }
 
+/// Where the expressions of a slot's body are evaluated.
 fn reader<'a>(caller: &Caller, tables: &'a Tables, slot: &Slot) -> Reader<'a>
     requires { IsPlaced tables.now caller.now.place }
     ensures tables { result.tables.now ≡ tables.now }

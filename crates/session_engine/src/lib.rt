@@ -4,12 +4,12 @@
 mod agenda;
 mod classes;
 mod commands;
-mod connecting;
-mod deleting;
+mod connections;
+mod deletion;
 mod effects;
 mod engine;
-mod evaluating;
-mod invoking;
+mod evaluation;
+mod invocation;
 mod methods;
 mod properties;
 mod setup;

@@ -13,13 +13,13 @@ use Rattle.thread_model.proofs.NextCallLemmas.{emission_end}
 use Rattle.thread_model.proofs.RunLemmas.{by_change, by_step}
 use Rattle.session_tables.specs.Tables.{state_at}
 use Rattle.session_engine.specs.declared.effects.Emission.{Emission}
-use Rattle.session_engine.specs.Acting.{act_of}
-use Rattle.session_engine.specs.Deleting.{Deletes}
+use Rattle.session_engine.specs.Actions.{act_of}
+use Rattle.session_engine.specs.Deletion.{Deletes}
 use Rattle.session_engine.specs.Setup.{settings_of}
 use Rattle.session_engine.specs.Telling.{doing_at}
-use Rattle.session_engine.proofs.ActingLemmas.{keeps_same, keeps_twice, keeps_with, placed_kept}
+use Rattle.session_engine.proofs.ActionLemmas.{keeps_same, keeps_twice, keeps_with, placed_kept}
 use Rattle.session_engine.proofs.AgendaLemmas.{acts_end, acts_go_on, call_absent, call_functor, call_signal, call_slot, call_spent, effect_done, effect_warned, emission_begins, emission_goes_on, failed_done, found_stands, held_done, last_stays, left_to_do, next_smaller, test_warned, told_is, turns_fall, warn_done}
-use Rattle.session_engine.proofs.DeletingLemmas.{OnOk-map}
+use Rattle.session_engine.proofs.DeletionLemmas.{OnOk-map}
 use Rattle.session_engine.proofs.agenda.+agenda.Goals as goal
 
 pub act-returns-in-Ok-true-clause-does : goal.act-returns-in-Ok-true-clause-does

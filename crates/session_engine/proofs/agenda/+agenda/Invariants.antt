@@ -6,7 +6,7 @@ use Rattle.thread_model.specs.Run.{run}
 use Rattle.thread_model.proofs.NextCallLemmas.{calls_to}
 use Rattle.thread_model.proofs.RemainingLemmas.{remaining}
 use Rattle.session_tables.specs.Tables.{IsPlaced, state_at}
-use Rattle.session_engine.specs.Acting.{Keeps}
+use Rattle.session_engine.specs.Actions.{Keeps}
 use Rattle.session_engine.specs.Setup.{settings_of}
 use Rattle.session_engine.specs.Telling.{doing_at}
 use Rattle.session_engine.proofs.AgendaLemmas.{left_to_do}
@@ -27,6 +27,7 @@ decreases-act l = left_to_do l.telling.now (2 * count l.action.now + 5)
 abbrev pub decreases-acts : goal.decreases-acts
 decreases-acts l = left_to_do l.telling.now (2 * counts (acts_of l.actions.now) + 6)
 
+-- a body has at most 32 actions
 abbrev pub decreases-run_slot : goal.decreases-run_slot
 decreases-run_slot l = left_to_do l.telling.now 71
 

@@ -6,7 +6,7 @@ use Rattle.thread_model.proofs.ActionLemmas.{set_done}
 use Rattle.thread_model.specs.Targets.{object_of, title_evaluated}
 use Rattle.session_engine.specs.Setup.{settings_of}
 use Rattle.session_engine.specs.Telling.{doing_at}
-use Rattle.session_engine.proofs.ActingLemmas.{is_there_by, put_at, read_as}
+use Rattle.session_engine.proofs.ActionLemmas.{is_there_by, put_at, read_as}
 use Rattle.session_engine.proofs.effects.set.Goals as goal
 
 pub returns-clause-tries : goal.returns-clause-tries

@@ -4,7 +4,7 @@ use Rattle.thread_model.proofs.ActionLemmas.{set_parent_done}
 use Rattle.thread_model.specs.Targets.{named_object_of, object_of}
 use Rattle.session_engine.specs.Setup.{settings_of}
 use Rattle.session_engine.specs.Telling.{doing_at}
-use Rattle.session_engine.proofs.ActingLemmas.{put_at, read_as}
+use Rattle.session_engine.proofs.ActionLemmas.{put_at, read_as}
 use Rattle.session_engine.proofs.effects.set_parent.Goals as goal
 
 pub returns-clause-tries : goal.returns-clause-tries
