@@ -1,5 +1,5 @@
 //! The tables, and the places in them.
-ghost use Rattle.std.specs.Prelude.{◌≡◌, [], IsTrue, OnOk, length};
+ghost use Rattle.std.specs.Prelude.{◌≡◌, [], OnOk, length};
 ghost use Rattle.session_tables.specs.Session.{gone};
 ghost use Rattle.session_tables.specs.Tables.{AreSame, HasRoom, IsPlaced, failed_at, opened, with_session, with_state};
 ghost use Rattle.thread_model.specs.State.{empty};

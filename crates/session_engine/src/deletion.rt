@@ -2,9 +2,9 @@
 //! agenda of a session, and calls the others where that puts items in front. An object is marked as
 //! dying before anything else, so that none is deleted twice and the calls come to an end.
 ghost use Rattle.std.specs.Prelude.{ℕ, ◌∷◌, [], OnOk};
-ghost use Rattle.thread_model.specs.Agenda.{Cut, Delete, Gone, Kin};
+ghost use Rattle.thread_model.specs.Items.{Cut, Delete, Gone, Kin};
 ghost use Rattle.session_tables.specs.Tables.{IsPlaced, state_at};
-ghost use Rattle.session_engine.specs.Deleting.{Does, Lessens};
+ghost use Rattle.session_engine.specs.Deletion.{Deletes, Lessens};
 
 use session_tables::Tables;
 use std::alloc::AllocError;
@@ -13,7 +13,7 @@ use std::alloc::AllocError;
 #[cycle(deletion)]
 pub fn delete(tables: &mut Tables, place: usize, target: u32, depth: u32) -> Result<(), AllocError>
     requires { IsPlaced tables.old place }
-    ensures does { OnOk result (Does (Delete target depth ∷ []) (state_at tables.old place) (state_at tables.new place)) }
+    ensures does { OnOk result (Deletes (Delete target depth ∷ []) (state_at tables.old place) (state_at tables.new place)) }
     ensures lessens { Lessens place tables.old tables.new }
 {
     if !tables.lives(place, target) {
@@ -25,14 +25,15 @@ pub fn delete(tables: &mut Tables, place: usize, target: u32, depth: u32) -> Res
     Ok(())
 }
 
-/// Deletes the children of a dying object.
+/// Breaks the connections of a dying object, and deletes its children.
 #[cycle(deletion)]
 fn cut(tables: &mut Tables, place: usize, target: u32, depth: u32) -> Result<(), AllocError>
     requires { IsPlaced tables.old place }
-    ensures does { OnOk result (Does (Cut target depth ∷ []) (state_at tables.old place) (state_at tables.new place)) }
+    ensures does { OnOk result (Deletes (Cut target depth ∷ []) (state_at tables.old place) (state_at tables.new place)) }
     ensures lessens { Lessens place tables.old tables.new }
 {
     let children = tables.children(place, Some(target))?;
+    tables.untie(place, target);
     'children: for child in children.as_slice() {
         kin(tables, place, target, *child, depth)?;
     }
@@ -49,7 +50,7 @@ fn kin(
     depth: u32,
 ) -> Result<(), AllocError>
     requires { IsPlaced tables.old place }
-    ensures does { OnOk result (Does (Kin parent child depth ∷ []) (state_at tables.old place) (state_at tables.new place)) }
+    ensures does { OnOk result (Deletes (Kin parent child depth ∷ []) (state_at tables.old place) (state_at tables.new place)) }
     ensures lessens { Lessens place tables.old tables.new }
 {
     if !tables.lives_below(place, parent, child) {
@@ -61,7 +62,7 @@ fn kin(
 /// Lets a dying object go.
 fn gone(tables: &mut Tables, place: usize, target: u32)
     requires { IsPlaced tables.old place }
-    ensures does { (depth : ℕ) → Does (Gone target depth ∷ []) (state_at tables.old place) (state_at tables.new place) }
+    ensures does { (depth : ℕ) → Deletes (Gone target depth ∷ []) (state_at tables.old place) (state_at tables.new place) }
     ensures lessens { Lessens place tables.old tables.new }
 {
     tables.remove(place, target);

@@ -1,20 +1,24 @@
-use Rattle.std.proofs.Common.{◌≡◌, ◌<◌, ◌≤◌, true, false, suc, Some, refl, ◌∙◌, arith}
+use Rattle.std.proofs.Common.{◌≡◌, ◌<◌, ◌≤◌, true, false, suc, Some, ◌∙◌, arith}
 use Rattle.std.specs.Option.{option_map_or}
+use Rattle.std.proofs.lemmas.List.{drop_all}
 use Rattle.std.specs.Prelude.{◌&&◌}
 use Rattle.object_tree.specs.Rows.{is_same, row_of}
 use Rattle.thread_model.specs.Agenda.{is_living}
 use Rattle.session_tables.specs.Tables.{IsPlaced, state_at}
-use Rattle.session_engine.specs.Deleting.{living_at}
-use Rattle.session_engine.proofs.DeletingLemmas.{Lessens-none, Lessens-twice, OnOk-map, cut_first, cut_next, delete_none, delete_rows, kin_none, kin_some, left_to_do, marked_keeps, marked_lessens}
-use Rattle.session_tables.proofs.TablesLemmas.{placed_after}
-use Rattle.session_engine.proofs.deleting.+deletion.Goals as goal
+use Rattle.session_engine.specs.Deletion.{living_at}
+use Rattle.session_engine.proofs.DeletionLemmas.{Lessens-twice, OnOk-map, cut_first, cut_next, delete_none, delete_rows, kin_none, kin_some, left_to_do, cut_last, marked_keeps, marked_lessens, untied_lessens}
+use Rattle.session_tables.proofs.TablesLemmas.{placed_after, state_with}
+use Rattle.session_engine.proofs.deletion.+deletion.Goals as goal
 
 pub cut-children-init : goal.cut-children-init
-cut-children-init t c = record {
-  lessens = Lessens-none _ _ _ refl;
-  placed = c.requires;
-  runs = λ rest lines. cut_first (state_at c.args.tables.now c.args.place) c.args.target c.args.depth c.as_slice-child-items.result.now rest lines (c.as_slice-child-items.ensures.value ∙ c.in_ok-children.ensures);
-}
+cut-children-init t c =
+    let less = untied_lessens c.args.tables.now c.untie.new.self c.args.place c.args.target c.requires c.untie.ensures in
+    record {
+      lessens = less;
+      placed = placed_after c.args.tables.now c.untie.new.self c.args.place less.only c.requires;
+      runs = cut_first (state_at c.args.tables.now c.args.place) (state_at c.untie.new.self c.args.place) c.args.target c.args.depth c.as_slice-child-items.result.now
+          (c.as_slice-child-items.ensures.value ∙ c.in_ok-children.ensures) (state_with c.args.tables.now c.untie.new.self c.args.place _ c.requires c.untie.ensures);
+    }
 
 pub cut-returns-in_err-kin-clause-lessens : goal.cut-returns-in_err-kin-clause-lessens
 cut-returns-in_err-kin-clause-lessens t c = Lessens-twice c.args.tables.now c.children.tables c.kin.new.tables c.args.place c.children.invariant.lessens c.kin.ensures.lessens
@@ -69,3 +73,7 @@ pub kin-returns-clause-does : goal.kin-returns-clause-does
 kin-returns-clause-does t c =
     let lives : option_map_or (λ row. is_living row && is_same row.parent (Some c.args.parent)) (row_of (state_at c.args.tables.now c.args.place).forest.rows c.args.child) false ≡ true = grind arith in
     OnOk-map c.delete.result (kin_some (state_at c.args.tables.now c.args.place) (state_at c.delete.new.tables c.args.place) c.args.parent c.args.child c.args.depth lives) c.delete.ensures.does
+
+pub cut-returns-clause-does : goal.cut-returns-clause-does
+cut-returns-clause-does t c = cut_last (state_at c.args.tables.now c.args.place) (state_at c.children.tables c.args.place) c.args.target c.args.depth c.children.child-index c.as_slice-child-items.result.now
+    (drop_all c.children.child-index c.as_slice-child-items.result.now (omega arith)) c.children.invariant.runs
