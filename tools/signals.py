@@ -28,7 +28,7 @@ NUMBERS = (0, 1, -1, 7, 2**31 - 1, 2**31, 2**63)
 
 
 def text_of(value):
-    return json.dumps(value, separators=(",", ":"), sort_keys=True)
+    return json.dumps(value, separators=(",", ":"), sort_keys=True, ensure_ascii=False)
 
 
 def kinds_of(method):
