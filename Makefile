@@ -7,7 +7,7 @@ PROGRAM = meta_main
 CRATE = crates/$(PROGRAM)
 CC ?= cc
 
-.PHONY: all run test budget rows examples ends pipes trees classes respelled refusals bench clean
+.PHONY: all run test budget rows examples ends pipes trees classes respelled chance refusals bench clean
 
 all: bin/metad
 
@@ -25,7 +25,8 @@ test: budget
 	rt ci
 	mkdir -p bin
 	cp $(CRATE)/out/$(PROGRAM) bin/metad
-	$(MAKE) --no-print-directory rows respelled examples ends pipes trees classes refusals
+	cp crates/tree_reader/out/tree_reader bin/tree_reader
+	$(MAKE) --no-print-directory rows respelled chance examples ends pipes trees classes refusals
 
 budget:
 	python3 tools/budget.py .
@@ -36,6 +37,10 @@ rows:
 
 respelled:
 	python3 tools/respelled.py bin/metad tests/rows
+
+# takes bin/tree_reader as it is too
+chance:
+	python3 tools/chance.py bin/metad bin/tree_reader
 
 examples:
 	python3 tools/examples.py bin/metad README.md docs/PROTOCOL.md

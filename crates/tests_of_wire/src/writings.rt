@@ -5,7 +5,9 @@ use std::alloc::{AllocError, Global};
 use std::test::Fail;
 use thread_model::{Answer, Line, MetaObject};
 use variant_value::Value;
-use wire_format::{error_parts, line_text, sessions_are_isolated, write_line};
+use wire_format::{
+    Digits, Parts, error_parts, line_parts, line_text, sessions_are_isolated, write_line,
+};
 
 /// The numbers 3, 1 and 20.
 fn numbers(alloc: Global) -> Result<Items<u32>, AllocError> {
@@ -39,33 +41,54 @@ const WRITTEN: &str = r#"{"reply":0,"session":"a"}
 {"reply":true,"session":"a"}
 {"reply":null,"session":"a"}
 {"reply":-5,"session":"a"}
+{"reply":"a text of more than 22 bytes, ä","session":"a"}
 {"reply":"\"ä\\\n\u0001/","session":"a"}
 {"reply":[3,1,20],"session":"a"}
 {"reply":{"class":"Lamp","methodOffset":3,"methods":["on()","off()"],"properties":[],"propertyOffset":1,"super":"QObject"},"session":"a"}"#;
+
+/// The parts of a line, put together.
+fn joined(alloc: Global, parts: &Parts<'_>) -> Result<String, AllocError> {
+    let mut text = String::new(alloc);
+    for part in parts.in_order() {
+        text.push_str(part)?;
+    }
+    Ok(text)
+}
+
+/// Whether a line has parts, which put together are its text.
+fn has_parts(alloc: Global, line: &Line, text: &String) -> Result<bool, AllocError> {
+    match line_parts("a", line, &mut Digits::new()) {
+        Some(parts) => Ok(joined(alloc, &parts)? == *text),
+        None => Ok(false),
+    }
+}
 
 #[test]
 fn lines_are_written(rt: HostRuntime) -> Result<(), Fail> {
     let alloc = rt.alloc();
     let escaped = Text::from_str(alloc, "\"ä\\\n\u{1}/")?;
+    let plain = Text::from_str(alloc, "a text of more than 22 bytes, ä")?;
     let answers = [
-        Answer::Number(0),
-        Answer::Found(None),
-        Answer::Found(Some(7)),
-        Answer::Truth(true),
-        Answer::Value(Value::Invalid),
-        Answer::Value(Value::Int(-5)),
-        Answer::Value(Value::Text(escaped)),
-        Answer::Numbers(numbers(alloc)?),
-        Answer::Meta(lamp(alloc)?),
+        (Answer::Number(0), true),
+        (Answer::Found(None), true),
+        (Answer::Found(Some(7)), true),
+        (Answer::Truth(true), true),
+        (Answer::Value(Value::Invalid), true),
+        (Answer::Value(Value::Int(-5)), true),
+        (Answer::Value(Value::Text(plain)), true),
+        (Answer::Value(Value::Text(escaped)), false),
+        (Answer::Numbers(numbers(alloc)?), false),
+        (Answer::Meta(lamp(alloc)?), false),
     ];
     let mut wanted = WRITTEN.lines();
     let mut buffer = String::new(alloc);
-    for answer in answers {
+    for (answer, in_parts) in answers {
         let line = Line::Reply(answer);
         let text = line_text(alloc, "a", &line)?;
         write_line(alloc, &mut buffer, "a", &line)?;
         let is_line = text.as_str().strip_suffix('\n') == wanted.next();
-        assert!(rt; is_line && buffer == text, "{text}");
+        let parts = has_parts(alloc, &line, &text)? == in_parts;
+        assert!(rt; is_line && parts && buffer == text, "{text}");
     }
     sessions_are_isolated();
     Ok(())
@@ -75,16 +98,12 @@ fn lines_are_written(rt: HostRuntime) -> Result<(), Fail> {
 fn refusals_are_written_in_parts(rt: HostRuntime) -> Result<(), Fail> {
     let refusal = Line::Error(Code::OutOfMemory);
     for session in ["a", "-"] {
-        let mut buffer = String::new(rt.alloc());
-        for part in error_parts(Code::OutOfMemory, session) {
-            buffer.push_str(part)?;
-        }
+        let text = joined(rt.alloc(), &error_parts(Code::OutOfMemory, session))?;
         assert!(rt;
-            buffer
-                .as_str()
+            text.as_str()
                 .starts_with("{\"error\":\"E21\",\"session\":\"")
         );
-        assert!(rt; buffer == line_text(rt.alloc(), session, &refusal)?);
+        assert!(rt; text == line_text(rt.alloc(), session, &refusal)?);
     }
     Ok(())
 }

@@ -1,0 +1,152 @@
+//! Reading a line as a tree.
+use plain_types::{Text, is_name};
+use refusals::Code;
+use serde_json::Value;
+use std::alloc::{AllocError, Global};
+use thread_model::{Command, Tagged};
+use wire_format::{LINE_BYTES, LineFault, ReadError};
+
+/// The command that the line is, read by `serde_json`.
+pub fn read_tree(alloc: Global, line: &[u8]) -> Result<Tagged, ReadError> {
+    let json = tree_in(alloc, line)?;
+    let session = text_at(alloc, &json, "session")?;
+    let Some(session) = session.filter(|name| is_name(name.as_str())) else {
+        return Err(fault(Code::NotACommand, None));
+    };
+    match command_in(alloc, &json)? {
+        Some(command) => Ok(Tagged { session, command }),
+        None => Err(fault(Code::NotACommand, Some(session))),
+    }
+}
+
+fn fault(code: Code, session: Option<Text>) -> ReadError {
+    ReadError::Fault(LineFault { code, session })
+}
+
+fn tree_in(alloc: Global, line: &[u8]) -> Result<Value, ReadError> {
+    let Ok(text) = str::from_utf8(line) else {
+        return Err(fault(Code::UnreadableLine, None));
+    };
+    if line.len() > LINE_BYTES {
+        return Err(fault(Code::UnreadableLine, None));
+    }
+    match Value::from_str(alloc, text) {
+        Ok(json) => Ok(json),
+        Err(error) if error.is_memory() => Err(ReadError::Memory),
+        Err(_) => Err(fault(Code::UnreadableLine, None)),
+    }
+}
+
+/// The command that the tree is, made of what its keys hold where they are those of its word.
+fn command_in(alloc: Global, json: &Value) -> Result<Option<Command>, AllocError> {
+    let word = match json.get("do").and_then(Value::as_str) {
+        Some(word) if has_keys_of(word, json) => word,
+        _ => return Ok(None),
+    };
+    let object = json.get("object").and_then(object_of);
+    let parent = json.get("parent").and_then(object_of);
+    let class = text_at(alloc, json, "class")?;
+    let name = text_at(alloc, json, "name")?;
+    let value = json.get("value").map(Value::clone).transpose()?;
+    Ok(match word {
+        "new" => class.map(|class| Command::New { class, parent }),
+        "delete" => object.map(|object| Command::Delete { object }),
+        "setParent" => object.map(|object| Command::SetParent { object, parent }),
+        "children" => Some(Command::Children { object }),
+        "find" => object.map(|object| Command::Find {
+            object,
+            name,
+            class,
+        }),
+        "set" => object
+            .zip(value)
+            .map(|(object, value)| Command::Set { object, value }),
+        "get" => object.map(|object| Command::Get { object }),
+        "meta" => class.map(|class| Command::Meta { class }),
+        _ => None,
+    })
+}
+
+/// The number of an object.
+fn object_of(value: &Value) -> Option<u32> {
+    match value.as_u64()? {
+        0 => None,
+        number => u32::try_from(number).ok(),
+    }
+}
+
+fn text_at(alloc: Global, json: &Value, key: &str) -> Result<Option<Text>, AllocError> {
+    match json.get(key).and_then(Value::as_str) {
+        Some(text) => Ok(Some(Text::from_str(alloc, text)?)),
+        None => Ok(None),
+    }
+}
+
+/// What a key holds.
+#[derive(Clone, Copy)]
+enum Kind {
+    Name,
+    Words,
+    Object,
+    ObjectOrNull,
+    ObjectName,
+    Json,
+}
+
+type Key = (&'static str, Kind);
+
+const CLASS: Key = ("class", Kind::Name);
+
+const NAME: Key = ("name", Kind::Words);
+
+const OBJECT: Key = ("object", Kind::Object);
+
+const PARENT: Key = ("parent", Kind::Object);
+
+const PARENT_OR_NULL: Key = ("parent", Kind::ObjectOrNull);
+
+const PROPERTY: Key = ("property", Kind::ObjectName);
+
+const VALUE: Key = ("value", Kind::Json);
+
+/// Whether the tree has the keys of a word: those that it needs, and those that it may have.
+fn has_keys_of(word: &str, json: &Value) -> bool {
+    match word {
+        "new" => has(json, &[CLASS], &[PARENT]),
+        "delete" => has(json, &[OBJECT], &[]),
+        "setParent" => has(json, &[OBJECT, PARENT_OR_NULL], &[]),
+        "children" => has(json, &[], &[OBJECT]),
+        "find" => has(json, &[OBJECT], &[NAME, CLASS]),
+        "set" => has(json, &[OBJECT, PROPERTY, VALUE], &[]),
+        "get" => has(json, &[OBJECT, PROPERTY], &[]),
+        "meta" => has(json, &[CLASS], &[]),
+        _ => false,
+    }
+}
+
+/// Whether the needed keys are there, and no others but the further ones and those of every
+/// command; and each holds what it has to.
+fn has(json: &Value, needed: &[Key], further: &[Key]) -> bool {
+    let Some(members) = json.as_object() else {
+        return false;
+    };
+    needed.iter().all(|(key, _)| json.get(*key).is_some())
+        && members.iter().all(|(key, value)| {
+            let is_it = |(known, kind): &Key| key.as_str() == *known && is_of(*kind, value);
+            key.as_str() == "do"
+                || key.as_str() == "session"
+                || needed.iter().any(is_it)
+                || further.iter().any(is_it)
+        })
+}
+
+fn is_of(kind: Kind, value: &Value) -> bool {
+    match kind {
+        Kind::Name => value.as_str().is_some_and(|text| is_name(text)),
+        Kind::Words => value.as_str().is_some(),
+        Kind::Object => object_of(value).is_some(),
+        Kind::ObjectOrNull => value.is_null() || object_of(value).is_some(),
+        Kind::ObjectName => value.as_str() == Some("objectName"),
+        Kind::Json => true,
+    }
+}

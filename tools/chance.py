@@ -1,0 +1,167 @@
+#!/usr/bin/env python3
+"""Gives the built program lines made by chance, and compares what it writes, byte for byte, with what a second
+program writes that reads each line as a tree, by `serde_json` alone.
+
+The lines are commands of a few sessions with their keys in any order, some twice, some missing, some of
+others; with white space, escapes, numbers and texts in and out of form, lists and objects in one another, also
+about as deep as JSON is read; some with bytes changed, left out, put in or repeated; and some as long as a line
+may be, or one byte longer. Other sessions follow, so that many commands find the objects that they name.
+Usage: chance.py PROGRAM TREE_READER [SEED]
+"""
+
+import random
+import subprocess
+import sys
+from pathlib import Path
+
+from row import SECONDS, difference
+
+LINES = 200_000
+LINE_BYTES = 65_536
+LONG = 100
+DEPTH = 127
+LINES_OF_SESSIONS = 600
+
+SESSIONS = ("a", "b", "\\u0063")
+CLASSES = (*('"QObject"',) * 6, '"QObj\\u0065ct"', '"Probe"', '"Nope"', '"a b"', '""')
+WORDS = (*("new",) * 4, *("setParent", "children", "find", "set", "get") * 2, "delete", "meta", "jump", "n\\u0065w")
+KEYS = ("do", "session", "object", "property", "value", "class", "parent", "name", "x", "d\\u006f", "obj\\u0065ct", "Do", "")
+NUMBERS = (
+    *("1", "2", "3", "0", "-1", "01", "1.0", "1e0", "1E2", "-0", "1.5", "+1", "0x1", "1.", ".5", "-", "--1"),
+    *("0.0", "00", "-0.0e-0", "10e-1", "2.50E+01", "0e5", "1e", "1e+", "1.e1", "1e1.5", "1e-400", "-12.75e+2"),
+    *("4294967295", "4294967296", "9007199254740993", "18446744073709551615", "18446744073709551616"),
+    *("18446744073709551617", "99999999999999999999999999", "1e400", "-9223372036854775809"),
+)
+TEXTS = (
+    *("lamp", "", "ä", "é€", "😀", "\\n", '\\"', "\\\\", "\\/", "/", "\\u0041", "\\ud83d\\ude00", "a\\u0000b"),
+    *("\\ud83d", "\\udc00", "\\ud83d\\u0041", "\\u00", "\\x", "\t", "\x01", "\x1f", "\x7f", "objectN\\u0061me"),
+)
+LITERALS = ("null", "true", "false", "nul", "True", "truee", "NaN", "Infinity")
+SPACES = ("", " ", "\t", "  ", "\r")
+PIECES = b'{}[]:,"\\0123456789.-+eEntf '
+BYTES = (0x00, 0x1F, 0x80, 0xC3, 0xED, 0xF0, 0xFF)
+
+
+class Chance(random.Random):
+    """What is made by chance."""
+
+    made = 0  # lines so far
+
+    def session(self):
+        return f'"{self.choice(SESSIONS)}{self.made // LINES_OF_SESSIONS}"'
+
+    def is_so(self, share):
+        return self.random() < share
+
+    def text(self):
+        return f'"{self.choice(TEXTS)}"' if self.is_so(0.8) else '"' + "x" * self.randrange(60) + '"'
+
+    def value(self, depth=0):
+        kind = self.random()
+        if kind < 0.005:
+            nested = DEPTH + self.randint(-2, 2) - depth
+            return "[" * nested + "]" * nested
+        if kind < 0.35:
+            return self.text()
+        if kind < 0.6:
+            return self.choice(NUMBERS)
+        if kind < 0.72 or depth > 2:
+            return self.choice(LITERALS)
+        if kind < 0.86:
+            return "[" + ",".join(self.value(depth + 1) for _ in range(self.randrange(4))) + self.choice(("", "", ",")) + "]"
+        return "{" + ",".join(f"{self.text()}:{self.value(depth + 1)}" for _ in range(self.randrange(4))) + "}"
+
+    def object(self):
+        return str(self.randint(1, 12))
+
+    def members_of(self, word):
+        """The members of a command in form, but for its word and its session."""
+        if word == "set":
+            return [("object", self.object()), ("property", '"objectName"'), ("value", self.value())]
+        if word == "get":
+            return [("object", self.object()), ("property", '"objectName"')]
+        if word == "setParent":
+            return [("object", self.object()), ("parent", self.choice((self.object(), "null")))]
+        members = []
+        if word in ("delete", "find") or word == "children" and self.is_so(0.6):
+            members.append(("object", self.object()))
+        if word in ("new", "n\\u0065w", "meta") or word == "find" and self.is_so(0.4):
+            members.append(("class", self.choice(CLASSES)))
+        if word == "new" and self.is_so(0.5):
+            members.append(("parent", self.object()))
+        if word == "find" and self.is_so(0.5):
+            members.append(("name", self.text()))
+        return members
+
+    def members(self):
+        """The members of a command, which may be out of form."""
+        word = self.choice(WORDS)
+        members = [("do", f'"{word}"'), ("session", self.session()), *self.members_of(word)]
+        if self.is_so(0.15):
+            at = self.randrange(len(members))
+            members[at] = (members[at][0], self.value())
+        if self.is_so(0.2):
+            members.append((self.choice(KEYS), self.value()))
+        if self.is_so(0.1):
+            members.append(self.choice(members))
+        if self.is_so(0.1):
+            members.pop(self.randrange(len(members)))
+        if self.is_so(0.7):
+            self.shuffle(members)
+        return members
+
+    def changed(self, line):
+        """The line with some bytes changed, left out, put in or repeated."""
+        line = bytearray(line)
+        for _ in range(self.randint(1, 3)):
+            at = self.randrange(len(line) + 1)
+            new = bytes([self.choice(PIECES) if self.is_so(0.8) else self.choice(BYTES)])
+            line[at : at + self.randrange(2)] = self.choice((b"", new, new, line[max(0, at - 5) : at]))
+        return bytes(line).replace(b"\n", b" ")
+
+    def line(self):
+        self.made += 1
+        has_space = self.is_so(0.3)
+        space = (lambda: self.choice(SPACES)) if has_space else (lambda: "")
+        members = ",".join(f'{space()}"{key}"{space()}:{space()}{value}{space()}' for key, value in self.members())
+        line = f"{space()}{{{members}}}{space()}".encode()
+        return self.changed(line) if self.is_so(0.25) else line
+
+    def long_line(self, size):
+        """A line of so many bytes, filled up with spaces or with a text."""
+        line = self.line()
+        if self.is_so(0.5):
+            return line.ljust(size)
+        front = f'{{"do":"set","object":{self.object()},"property":"objectName","session":{self.session()},"value":"'.encode()
+        return front.ljust(size - 2, b"x") + b'"}'
+
+
+def lines_of(chance):
+    """The lines, of which each so many is a long one: in turn the longest that there may be, and one byte more."""
+    each = LINES // LONG
+    return [
+        chance.line() if at % each else chance.long_line(LINE_BYTES + at // each % 2)
+        for at in range(1, LINES + 1)
+    ]
+
+
+def main():
+    program, reader = (str(Path(it).resolve()) for it in sys.argv[1:3])
+    seed = sys.argv[3] if len(sys.argv) > 3 else "1"
+    lines = lines_of(Chance(seed))
+    given = b"\n".join(lines)
+    wrote, wanted = (subprocess.run([it], input=given, capture_output=True, timeout=SECONDS) for it in (program, reader))
+    replies = wanted.stdout.count(b'{"reply":')
+    if wanted.returncode or replies < LINES // 10:
+        print(f"lines by chance, seed {seed}: the second program ended with {wanted.returncode}, after {replies:,} replies")
+        return 1
+    if (wrote.returncode, wrote.stdout) != (0, wanted.stdout):
+        fault = difference(wrote.stdout, wanted.stdout) or f"status {wrote.returncode}, and not 0"
+        print(f"lines by chance, seed {seed}: of the output {fault}")
+        return 1
+    print(f"lines by chance: {LINES:,} answered alike, {replies:,} of them by replies")
+    return 0
+
+
+if __name__ == "__main__":
+    sys.exit(main())
