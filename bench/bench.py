@@ -39,6 +39,11 @@ LEAST_METAS = 20_000
 LEAST_ROUNDS = 300_000
 MOST_READING = 100
 
+LEAST_CALLS = 5_000_000
+
+# One that calls beside other sessions may take so many times as long as alone.
+MOST_BESIDE = 1.3
+
 # How often memory may be asked for in a line.
 MOST_ALLOCATIONS = 4
 
@@ -52,6 +57,12 @@ MOST_GROWTH = 2
 CLASSES = 1_024
 DEPTH = 8
 METHODS = 256
+EARS = 1_000
+RINGS = 1_000
+OTHER_SESSIONS = 10_000
+OTHER_CONNECTIONS = 15_000
+BELL = """{"name":"Bell","super":"QObject","signals":["rang(int)"],"slots":[]},
+{"name":"Ear","super":"QObject","signals":[],"slots":[{"sig":"hear(int)","body":[]}]}"""
 METHODS_OF_QOBJECT = ["destroyed()", "objectNameChanged(QString)", "deleteLater()"]
 
 # One of many classes, of about 1,020 bytes.
@@ -164,6 +175,41 @@ def with_lists(lines):
         yield line.replace('"#"', f'[{number},"lamp",true]'), '{"error":"E22","session":"s0"}\n'
 
 
+def connect(session, sender, receiver, number):
+    line = f'{{"do":"connect","method":"hear(int)","receiver":{receiver},"sender":{sender},"session":"{session}","signal":"rang(int)"}}\n'
+    return line, reply(session, number)
+
+
+def ring(session, bell, ears):
+    """A bell rings, and each ear is told."""
+    called = (f'{{"args":[5],"call":"hear(int)","object":{ear},"sender":{bell},"session":"{session}"}}\n' for ear in ears)
+    return f'{{"args":[5],"do":"invoke","method":"rang(int)","object":{bell},"session":"{session}"}}\n', "".join(called) + reply(session, True)
+
+
+def bell_and_ears(rings):
+    """A bell that rings so many times for all ears."""
+    yield f'{{"class":"Bell","do":"new","session":"a"}}\n', reply("a", 1)
+    ears = range(2, EARS + 2)
+    yield from ((f'{{"class":"Ear","do":"new","session":"a"}}\n', reply("a", ear)) for ear in ears)
+    yield from (connect("a", 1, ear, ear - 1) for ear in ears)
+    yield from (ring("a", 1, ears) for _ in range(rings))
+
+
+def other_sessions():
+    """Sessions that each have two objects and a connection between them."""
+    for number in range(OTHER_SESSIONS):
+        name = f"s{number}"
+        yield from ((f'{{"class":"{kind}","do":"new","session":"{name}"}}\n', reply(name, at)) for at, kind in ((1, "Bell"), (2, "Ear")))
+        yield connect(name, 1, 2, 1)
+
+
+def other_connections():
+    """Connections of another bell of the session that rings."""
+    bell = EARS + 2
+    yield f'{{"class":"Bell","do":"new","session":"a"}}\n', reply("a", bell)
+    yield from (connect("a", bell, 2, EARS + number) for number in range(1, OTHER_CONNECTIONS + 1))
+
+
 def once_each(sessions):
     """An object, a write and a read in each session."""
     for number in range(sessions):
@@ -229,8 +275,9 @@ def seconds_of_lines(name, command, lines, room):
     seconds = []
     for _ in range(RUNS):
         seconds.append(seconds_of(command, given, wrote))
+        told = (text for _, texts in lines for text in texts.splitlines(keepends=True))
         with open(wrote) as replies:
-            for number, (got, (_, wanted)) in enumerate(zip_longest(replies, lines, fillvalue=("", "")), 1):
+            for number, (got, wanted) in enumerate(zip_longest(replies, told, fillvalue=""), 1):
                 if got != wanted:
                     sys.exit(f"{name}: line {number} is {got[:200]!r}, and not {wanted[:200]!r}")
     return min(seconds)
@@ -304,6 +351,27 @@ def measure(name, lines, command, room, least=0):
     return not missed
 
 
+def seconds_of_rings(command, before, room):
+    """How long the rings take alone, behind these lines and those that make the bell and its ears."""
+    made = list(bell_and_ears(0)) + list(before)
+    all_rings = made + [ring("a", 1, range(2, EARS + 2))] * RINGS
+    return seconds_of_lines("calls", command, all_rings, room) - seconds_of_lines("calls", command, made, room)
+
+
+def measure_calls(command, room):
+    """Prints how many calls a second one signal makes, alone and beside others; answers whether the marks are reached."""
+    alone = seconds_of_rings(command, (), room)
+    beside = seconds_of_rings(command, other_sessions(), room)
+    many = seconds_of_rings(command, other_connections(), room)
+    calls = EARS * RINGS / alone
+    missed = f"; under its mark of {LEAST_CALLS:,}" if calls < LEAST_CALLS else ""
+    slower = f"; over its mark of {MOST_BESIDE}" if beside > MOST_BESIDE * alone else ""
+    print(f"calls of {EARS:,} receivers of one signal: {calls:,.0f} a second{missed}")
+    print(f"the same beside {OTHER_SESSIONS:,} sessions: {beside / alone:.2f} times as long{slower}")
+    print(f"the same beside {OTHER_CONNECTIONS:,} connections of the session: {many / alone:.2f} times as long")
+    return not missed and not slower
+
+
 def allocations_of(program, counter, lines, room):
     """How often the program asks for memory in a run with these lines."""
     given, counted = f"{room}/stdin", f"{room}/counted"
@@ -353,6 +421,7 @@ def main():
             measure(f"{LINES} lines that make and delete an object beside 1", come_and_go(0, LINES), [program], room, LEAST_ROUNDS),
             measure(f"the same beside {OBJECTS}", come_and_go(OBJECTS, LINES), [program], room, LEAST_ROUNDS),
             measure_allocations(program, counter, room),
+            measure_calls([program, class_file(f"{room}/bell.json", [BELL])], room),
             measure_visits("children", lambda number: children("a", 1, list(range(2, number + 2))), [program], room),
             measure_visits("find", lambda number: find_none("a", 1), [program], room),
             measure(f"{METAS} meta lines of {METHODS} methods", [meta("a", described)] * METAS, with_panel, room, LEAST_METAS),

@@ -66,15 +66,18 @@ ENDS = [
     End("help", words=("--help",), stdout=None),
     End("help that cannot be written", words=("--help",), sink="/dev/full", status=4, stderr=None),
     End("an option that is not there", words=("--slow",), status=2, stderr=None),
+    End("turns", words=("--turns", "1000000"), given=NEW, stdout=ONE),
+    End("no turns", words=("--turns", "0"), status=2, stderr=None),
+    End("turns twice", words=("--turns=1", "--turns=1"), status=2, stderr=None),
     End("a class file that is a folder", words=("/",), status=1, stderr=b"metad: class file refused: unreadable\n"),
     End("a class file that is empty", words=("/dev/null",), status=1, stderr=b"metad: class file refused: C01 at class 0\n"),
 ]
 
 
 def help_fault(program):
-    """What is wrong with the help: it has to name the program, its word and nothing on standard error."""
+    """What is wrong with the help: it has to name the program, its word and its options."""
     ran = subprocess.run([program, "--help"], capture_output=True, timeout=SECONDS)
-    lacking = [it for it in ("metad", "CLASSES", "--help") if it not in ran.stdout.decode()]
+    lacking = [it for it in ("metad", "CLASSES", "--turns", "--help") if it not in ran.stdout.decode()]
     return f"the help does not say {lacking}" if lacking else None
 
 

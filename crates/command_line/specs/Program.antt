@@ -1,8 +1,21 @@
 -- The command line of metad as clap sees it.
-use Rattle.std.specs.Prelude.{true, codes}
-use Rattle.clap.specs.Words.{App, new_app, new_rule, with_rule}
+use Rattle.std.specs.Prelude.{Some, true, codes, pos}
+use Rattle.clap.specs.Words.{App, Rule, new_app, new_rule, with_rule}
 use Rattle.clap.specs.Simple.{on_top}
+use Rattle.clap.specs.declared.builder.value_parser.ValueParser.TheVariants.{Signed}
 
--- `metad [CLASSES]`, read from the words after the program's name
+-- the path
+abbrev pub classes_rule : Rule
+classes_rule = record (new_rule (codes "classes")) { value_names = 1 }
+
+-- `--turns N`, a whole number from 1 to 1,000,000
+abbrev pub turns_rule : Rule
+turns_rule = record (new_rule (codes "turns")) {
+  long = Some (codes "turns");
+  value_names = 1;
+  parser = Some (Signed (pos 1) (pos 1000000));
+}
+
+-- `metad [OPTIONS] [CLASSES]`, read from the words after the program's name
 abbrev pub metad : App
-metad = with_rule (on_top (λ s. record s { no_binary_name = true }) (new_app (codes "metad"))) (record (new_rule (codes "classes")) { value_names = 1 })
+metad = with_rule (with_rule (on_top (λ s. record s { no_binary_name = true }) (new_app (codes "metad"))) classes_rule) turns_rule

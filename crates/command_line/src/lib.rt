@@ -4,5 +4,5 @@
 mod options;
 mod refusal;
 
-pub use options::{Options, options_of};
+pub use options::{DEFAULT_TURNS, Options, options_of};
 pub use refusal::{goes_to_standard_output, status_of_refusal, text_of_refusal};

@@ -1,29 +1,37 @@
 //! The options that a command line gives.
 ghost use Rattle.std.specs.Prelude.{◌≡◌, IfOk, map, codes};
-ghost use Rattle.clap.specs.Words.{FailsBy, app_of, fault_of, first_of, matches_of};
+ghost use Rattle.clap.specs.Words.{FailsBy, app_of, fault_of, first_of, matches_of, one_of};
 ghost use Rattle.command_line.specs.Program.{metad};
-ghost use Rattle.command_line.specs.Asked.{Reads, asked};
+ghost use Rattle.command_line.specs.Asked.{Gives, Reads, asked};
 
-use clap::{Arg, Command, Error};
+use clap::{Arg, Command, Error, value_parser};
 use plain_types::Text;
 use std::alloc::{AllocError, Global};
 use std::convert::AsStr;
+
+/// How many turns each command has for the calls that it causes, where the words do not say.
+pub const DEFAULT_TURNS: u32 = 10_000;
 
 /// What the program is told to do.
 #[derive(Debug, Drop)]
 pub struct Options {
     /// The path of the class file, as it was written; none stands for the demonstration classes.
     pub classes: Option<Text>,
+    /// How many turns each command has for the calls that it causes.
+    pub turns: u32,
 }
 
 /// The options that the words of a command line give. The program's name is not among the words; in
-/// all that an error says it is `metad`. Behind `--` there are no options, so that a path may begin
-/// with `-`. An empty word is a path too. The error holds the help, where a word asks for it before
-/// any mistake, or else the first mistake, or says that memory was wanted.
+/// all that an error says it is `metad`. The turns are given by `--turns N` or `--turns=N`, once at
+/// most, before the path or behind it. Behind `--` there are no options, so that a path may begin with
+/// `-`. An empty word is a path too. The error holds the help, where a word asks for it before any
+/// mistake, or else the first mistake, or says that memory was wanted.
 pub fn options_of<S: AsStr>(alloc: Global, words: &[S]) -> Result<Options, Error>
     ensures asked { Reads (asked (map S.text words.now)) result }
     ensures classes { IfOk result (λ options.
         options.classes ≡ first_of (codes "classes") (matches_of metad (map S.text words.now))) }
+    ensures turns { IfOk result (λ options.
+        Gives (one_of (codes "turns") (matches_of metad (map S.text words.now))) options.turns) }
     ensures kinds { FailsBy (fault_of metad (map S.text words.now)) result }
 {
     let command = metad_command(alloc)?;
@@ -32,7 +40,8 @@ pub fn options_of<S: AsStr>(alloc: Global, words: &[S]) -> Result<Options, Error
         Some(path) => Some(Text::from_str(alloc, path)?),
         None => None,
     };
-    Ok(Options { classes })
+    let turns = matches.get_one::<u32>("turns").unwrap_or(DEFAULT_TURNS);
+    Ok(Options { classes, turns })
 }
 
 /// The command line of `metad`, with the texts of its help.
@@ -42,11 +51,17 @@ fn metad_command<'a>(alloc: Global) -> Result<Command<'a>, AllocError>
     let classes = Arg::new(alloc, "classes").value_name("CLASSES").help(
         "A JSON class file; without it the demonstration classes are used",
     );
+    let turns = Arg::new(alloc, "turns")
+        .long("turns")
+        .value_name("N")
+        .value_parser(value_parser!(u32).range(1..=1_000_000))
+        .help("How many turns each command has for its calls, from 1 to 1000000 [default: 10000]");
     Command::new(alloc, "metad")
         .no_binary_name(true)
         .about(ABOUT)
         .after_help(EXAMPLE)
-        .arg(classes)
+        .arg(classes)?
+        .arg(turns)
 }
 
 const ABOUT: &str = "A server of live objects in isolated sessions.

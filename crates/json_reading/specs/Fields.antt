@@ -1,6 +1,6 @@
 -- What is read at a key of an object.
-use Rattle.std.specs.Prelude.{◌&&◌, ℕ, Bool, true, List, if◌then◌else◌, Option, Some, None, option_and_then}
-use Rattle.serde_json.specs.Data.{Data, Members, no_members, member}
+use Rattle.std.specs.Prelude.{◌&&◌, ℕ, Bool, true, List, [], ◌∷◌, if◌then◌else◌, Option, Some, None, option_and_then}
+use Rattle.serde_json.specs.Data.{Data, array, Items, no_items, item, Members, no_members, member}
 use Rattle.serde_json.specs.Find.{get, as_str}
 use Rattle.plain_types.specs.Names.{is_name}
 
@@ -26,3 +26,12 @@ name_at key json = do
 abbrev pub all_keys : (List ℕ → Bool) → Members → Bool
 all_keys test no_members = true
 all_keys test (member key value rest) = test key && all_keys test rest
+
+-- the elements of an array, one after another; other JSON has none
+abbrev pub elements_in : Items → List Data
+elements_in no_items = []
+elements_in (item json rest) = json ∷ elements_in rest
+
+abbrev pub elements_of : Data → List Data
+elements_of (array items) = elements_in items
+elements_of _ = []

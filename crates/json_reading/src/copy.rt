@@ -1,10 +1,12 @@
 //! Values that own what they have.
-ghost use Rattle.std.specs.Prelude.{◌≡◌, IfOk};
+ghost use Rattle.std.specs.Prelude.{◌≡◌, IfOk, map};
 ghost use Rattle.serde_json.specs.Data.{array};
 ghost use Rattle.serde_json.specs.View.{view};
+ghost use Rattle.json_reading.specs.Fields.{elements_of};
 ghost use Rattle.json_reading.specs.Members.{data_of, items_in, scalar_data};
 
 use crate::field::{Field, Scalar};
+use plain_types::Items;
 use serde_json::Value;
 use std::alloc::{AllocError, Global};
 
@@ -17,6 +19,17 @@ impl Field<'_> {
             Field::Plain(scalar) => scalar_json(alloc, scalar),
             Field::List(scalars) => list_json(alloc, scalars),
             Field::Tree(value) => Value::clone(value),
+        }
+    }
+
+    /// Copies of the elements of the array that the value is, or none where it is no array.
+    #[tactic(auto, using(crate::proofs::CopyLemmas::elements_of_array))]
+    pub fn to_items(&self, alloc: Global) -> Result<Items<Value>, AllocError>
+        ensures { IfOk result (λ items. map view items ≡ elements_of (data_of self.now)) }
+    {
+        match self.to_json(alloc)? {
+            Value::Array(items) => Ok(Items::from_vec(items)),
+            _ => Ok(Items::new(alloc)),
         }
     }
 }

@@ -31,7 +31,7 @@ pub struct Member<'a> {
 
 impl<'a> Field<'a> {
     ghost use Rattle.std.specs.Prelude.{◌≡◌, option_map, option_and_then, is_some};
-    ghost use Rattle.serde_json.specs.Find.{as_null, as_bool, as_str, as_number, as_u64};
+    ghost use Rattle.serde_json.specs.Find.{as_array, as_null, as_bool, as_str, as_number, as_u64};
     ghost use Rattle.json_reading.specs.Members.{data_of};
 
     /// Whether the value is null.
@@ -42,6 +42,17 @@ impl<'a> Field<'a> {
             Field::Plain(scalar) => matches!(scalar, Scalar::Null),
             Field::List(_) => false,
             Field::Tree(value) => value.is_null(),
+        }
+    }
+
+    /// Whether the value is an array.
+    pub fn is_list(&self) -> bool
+        ensures { result ≡ is_some (as_array (data_of self.now)) }
+    {
+        match self {
+            Field::Plain(_) => false,
+            Field::List(_) => true,
+            Field::Tree(value) => value.is_array(),
         }
     }
 

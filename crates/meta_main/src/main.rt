@@ -6,18 +6,14 @@ mod status;
 #[cfg(test)]
 mod tests;
 
-use class_table::ClassTable;
-use program_start::start;
+use program_start::{Beginning, start};
 use server_world::Server;
 use std::process::ExitCode;
 use wire_lines::{Counted, RunFault, Summary, run};
 
-/// How many turns each command has for the calls that it causes.
-const TURNS: u32 = 10_000;
-
 fn main(rt: HostRuntime) -> ExitCode {
     match start(&rt) {
-        Ok(classes) => end_of_run(&rt, &serve(&rt, classes)),
+        Ok(beginning) => end_of_run(&rt, &serve(&rt, beginning)),
         Err(ending) => {
             let mut output = Counted::new(rt.stdout());
             let mut error = Counted::new(rt.stderr());
@@ -26,9 +22,10 @@ fn main(rt: HostRuntime) -> ExitCode {
     }
 }
 
-/// Answers standard input on standard output, to its end, with objects of these classes.
-fn serve(rt: &HostRuntime, classes: ClassTable) -> Result<Summary, RunFault> {
-    let Ok(mut server) = Server::new(rt.alloc(), classes, TURNS) else {
+/// Answers standard input on standard output, to its end, with these classes and turns.
+fn serve(rt: &HostRuntime, beginning: Beginning) -> Result<Summary, RunFault> {
+    let Beginning { classes, turns } = beginning;
+    let Ok(mut server) = Server::new(rt.alloc(), classes, turns) else {
         return Err(RunFault::Memory);
     };
     let mut reader = Counted::new(rt.stdin());

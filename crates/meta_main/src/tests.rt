@@ -1,8 +1,12 @@
 //! Worked sessions, from bytes to bytes on a fresh server with ample memory.
 use super::*;
+use class_table::ClassTable;
 use program_start::DEMONSTRATION;
 use std::alloc::{AllocError, Global};
 use std::test::Fail;
+
+/// The turns of a command where the command line does not say.
+const TURNS: u32 = 10_000;
 
 /// Lines and what is answered to them, line by line.
 type Session = (&'static str, &'static str);

@@ -1,9 +1,9 @@
 -- What the start of the program comes to.
 use Rattle.std.specs.Prelude.{◌≡◌, ◌⊎◌, ℕ, List, Option, Some, None, Result, Ok, Err, IfErr, IfSome}
-use Rattle.class_table.specs.declared.class.Class.{Class}
 use Rattle.class_table.specs.declared.fault.ClassFault.{ClassFault}
 use Rattle.class_table.specs.ClassFile.{table_of}
 use Rattle.command_line.specs.Asked.{Asked, asked, run, help, mistake}
+use Rattle.program_start.specs.declared.beginning.Beginning.{Beginning}
 use Rattle.program_start.specs.declared.demonstration.TheConstants.{DEMONSTRATION}
 use Rattle.program_start.specs.declared.ending.Ending.{Ending}
 use Rattle.program_start.specs.declared.ending.TheConstants.{NO_UTF_8}
@@ -14,12 +14,13 @@ use Rattle.program_start.specs.Ending.{IsEnding, IsOutOfMemory, class_text, line
 abbrev pub Files : Type 0
 Files = List ℕ → Option (List ℕ)
 
--- a run is asked for, and it has these classes: those of the file that is named, or the demonstration classes
-abbrev pub RunsWith : Files → Asked → List Class → Type 0
-RunsWith files (run None) classes = table_of DEMONSTRATION.now ≡ Ok classes
-RunsWith files (run (Some path)) classes = IfSome (files path) (λ bytes. table_of bytes ≡ Ok classes)
-RunsWith files help classes = ⊥
-RunsWith files mistake classes = ⊥
+-- a run is asked for, and it has its turns and its classes: those of the file that is named, or the
+-- demonstration classes
+abbrev pub RunsWith : Files → Asked → Beginning → Type 0
+RunsWith files (run None turns) beginning = (beginning.turns ≡ turns) × (table_of DEMONSTRATION.now ≡ Ok beginning.classes)
+RunsWith files (run (Some path) turns) beginning = (beginning.turns ≡ turns) × IfSome (files path) (λ bytes. table_of bytes ≡ Ok beginning.classes)
+RunsWith files help beginning = ⊥
+RunsWith files mistake beginning = ⊥
 
 -- a class file that cannot be read, or has this fault
 abbrev pub IsRefused : Option (List ℕ) → Option ClassFault → Type 0
@@ -30,14 +31,14 @@ IsRefused file (Some fault) = IfSome file (λ bytes. table_of bytes ≡ Err faul
 abbrev pub EndsFor : Files → Asked → Ending → Type 0
 EndsFor files help ending = (ending.status ≡ 0) × (ending.stream ≡ StandardOutput)
 EndsFor files mistake ending = (ending.status ≡ 2) × (ending.stream ≡ StandardError)
-EndsFor files (run None) ending =
+EndsFor files (run None turns) ending =
     (fault : ClassFault) × (table_of DEMONSTRATION.now ≡ Err fault) × IsEnding 1 StandardError (line (class_text (Some fault))) ending
-EndsFor files (run (Some path)) ending =
+EndsFor files (run (Some path) turns) ending =
     (fault : Option ClassFault) × IsRefused (files path) fault × IsEnding 1 StandardError (line (class_text fault)) ending
 
--- there are classes where a run is asked for, and else the program ends as the words ask, or for want of memory
-abbrev pub Starts : Files → Asked → Result (List Class) Ending → Type 0
-Starts files wanted (Ok classes) = RunsWith files wanted classes
+-- there are classes and turns where a run is asked for, and else the program ends as the words ask, or for want of memory
+abbrev pub Starts : Files → Asked → Result Beginning Ending → Type 0
+Starts files wanted (Ok beginning) = RunsWith files wanted beginning
 Starts files wanted (Err ending) = IsOutOfMemory ending ⊎ EndsFor files wanted ending
 
 -- words that are no UTF-8 are told as a mistake in them, and memory may be wanted for them
@@ -45,5 +46,5 @@ abbrev pub SaysNoWords : Ending → Type 0
 SaysNoWords ending = IsOutOfMemory ending ⊎ IsEnding 2 StandardError NO_UTF_8.now ending
 
 -- the program starts as some words ask, which are those that it was given, or there are none
-abbrev pub StartsByProcess : Files → Result (List Class) Ending → Type 0
+abbrev pub StartsByProcess : Files → Result Beginning Ending → Type 0
 StartsByProcess files result = ((words : List (List ℕ)) × Starts files (asked words) result) ⊎ IfErr result (λ ending. SaysNoWords ending)

@@ -33,7 +33,7 @@ pub struct Ending {
 /// What is said of a command line that is no text, as it is said of other mistakes.
 const NO_UTF_8: &str = "error: invalid UTF-8 was detected in one or more arguments
 
-Usage: metad [CLASSES]
+Usage: metad [OPTIONS] [CLASSES]
 
 For more information, try '--help'.
 ";

@@ -1,12 +1,14 @@
-//! The start of `metad`: what its command line asks for, and the classes that it runs with.
+//! The start of `metad`: what its command line asks for, and the classes and turns that it runs with.
 #![tactic(auto)]
 
+mod beginning;
 mod class_file;
 mod class_files;
 mod demonstration;
 mod ending;
 mod starting;
 
+pub use beginning::Beginning;
 pub use class_file::{
     ClassFileError, MOST_BYTES, classes_at, classes_in, classes_of, read_at_most,
 };

@@ -3,10 +3,10 @@ ghost use Rattle.std.specs.Prelude.{IfErr, map};
 ghost use Rattle.command_line.specs.Asked.{asked};
 ghost use Rattle.program_start.specs.Start.{Starts, StartsByProcess, SaysNoWords};
 
+use crate::beginning::Beginning;
 use crate::class_file::classes_at;
 use crate::class_files::ClassFiles;
 use crate::ending::Ending;
-use class_table::ClassTable;
 use command_line::options_of;
 use std::alloc::AllocError;
 use std::convert::AsStr;
@@ -14,9 +14,9 @@ use std::env;
 use std::env::Env;
 use std::io::ErrorKind;
 
-/// The classes that the program is to run with, or how it ends where there is no run: by the command
-/// line of the process, and then by the class file that it names.
-pub fn start<R: ClassFiles + Env + AllocGlobal>(rt: &R) -> Result<ClassTable, Ending>
+/// What the program is to run with, or how it ends where there is no run: by the command line of the
+/// process, and then by the class file that it names.
+pub fn start<R: ClassFiles + Env + AllocGlobal>(rt: &R) -> Result<Beginning, Ending>
     ensures { StartsByProcess (R.holds rt.now) result }
 {
     let words = words_of(rt)?;
@@ -40,11 +40,11 @@ pub fn words_of<R: Env + AllocGlobal>(rt: &R) -> Result<Vec<String>, Ending>
     }
 }
 
-/// The classes that the program is to run with, or how it ends, by these words of a command line.
+/// What the program is to run with, or how it ends, by these words of a command line.
 pub fn start_with<R: ClassFiles + AllocGlobal, S: AsStr>(
     rt: &R,
     words: &[S],
-) -> Result<ClassTable, Ending>
+) -> Result<Beginning, Ending>
     ensures { Starts (R.holds rt.now) (asked (map S.text words.now)) result }
 {
     let alloc = rt.alloc();
@@ -54,7 +54,10 @@ pub fn start_with<R: ClassFiles + AllocGlobal, S: AsStr>(
     };
     let path = options.classes.as_ref().map(|path| path.as_str());
     match classes_at(rt, path) {
-        Ok(classes) => Ok(classes),
+        Ok(classes) => Ok(Beginning {
+            classes,
+            turns: options.turns,
+        }),
         Err(error) => Err(Ending::of_class_file(alloc, &error)),
     }
 }

@@ -7,12 +7,13 @@ use Rattle.refusals.specs.declared.code.Code.{Code}
 use Rattle.refusals.specs.declared.code.Code.TheVariants.{SessionFailed}
 use Rattle.refusals.specs.declared.fault.Fault.{Fault}
 use Rattle.refusals.specs.declared.fault.Fault.TheVariants.{Refused, Memory}
-use Rattle.refusals.specs.Answers.{RefusedBy}
+use Rattle.refusals.specs.Answers.{Answers, RefusedBy}
 use Rattle.thread_model.specs.declared.line.Answer.{Answer}
 use Rattle.thread_model.specs.declared.line.Line.{Line}
 use Rattle.thread_model.specs.declared.post.Post.{Post}
 use Rattle.thread_model.specs.Asked.{Asked}
 use Rattle.thread_model.specs.Effects.{replies, unless}
+use Rattle.thread_model.specs.Methods.{Found}
 use Rattle.thread_model.specs.Refusing.{refusal}
 use Rattle.thread_model.specs.State.{State}
 use Rattle.thread_model.specs.Thread.{performs}
@@ -20,9 +21,11 @@ use Rattle.session_tables.specs.declared.tables.Tables.{Tables}
 use Rattle.session_tables.specs.Refused.{OnRefused}
 use Rattle.session_tables.specs.Session.{Session, gone}
 use Rattle.session_tables.specs.Tables.{ChangesOnly, failed_at, session_at, state_at, with_session, with_state}
-use Rattle.session_tables.proofs.TablesLemmas.{with_session_after, with_state_same, with_state_session}
+use Rattle.session_tables.proofs.TablesLemmas.{changes_same, with_session_after, with_state_same, with_state_session}
 use Rattle.session_engine.specs.declared.commands.Caller.{Caller}
-use Rattle.session_engine.specs.Commands.{Obeys, Performs, reply_lines}
+use Rattle.session_engine.specs.declared.telling.Telling.{Telling}
+use Rattle.session_engine.specs.Commands.{Obeys, Performs, reply_after, reply_lines}
+use Rattle.session_engine.specs.Telling.{fresh_telling}
 use Rattle.session_engine.specs.Engine.{Contents, IsWhole, contents, place, seen, sessions, states}
 use Rattle.session_engine.specs.Returning.{Returns, told, wants_memory}
 use Rattle.session_engine.specs.Sessions.{IsStep, session_after, session_refusal}
@@ -75,11 +78,27 @@ module _ (caller : Caller) (asked : Asked) (old new : Tables) where
     only = tt;
   }
 
+-- where what is looked for is not found
+pub found_fault : {T A : Type 0} (caller : Caller) (asked : Asked) (tables : Tables) (lines : T → List Line) (rest : Found A → Option Code) (found : Found A) (fault : Fault) (result : Result T Fault) → IsErrAnd result (λ other. other ≡ fault)
+    → its_refusal caller asked tables tables ≡ rest found → ((code : Code) → rest (Err code) ≡ Some code) → Answers {T = A} (Err fault) found → Performs caller asked tables tables lines result
+found_fault caller asked tables lines rest found (Refused code) result h is law why = stopped caller asked tables tables lines code result h (is ∙ ap rest why ∙ law code) refl
+found_fault caller asked tables lines rest found Memory result h is law why = starved caller asked tables tables lines result h (changes_same tables tables caller.place refl)
+
+-- a fact of every fault holds of a refusal
+pub on_refused : {P : Type 0} (fault : Fault) → P → OnRefused {T = ℕ} (Err fault) P
+on_refused (Refused code) h = h
+on_refused Memory h = tt
+
 -- also where it only reads
 pub replied_by : (caller : Caller) (asked : Asked) (tables : Tables) (answer : Answer) → its_refusal caller asked tables tables ≡ None → its_effect caller asked tables tables ≡ replies (state_at tables caller.place) answer
     → Performs caller asked tables tables reply_lines (Ok answer)
 replied_by caller asked tables answer passed effect =
     replied caller asked tables tables (state_at tables caller.place) answer passed effect (sym (with_state_same tables caller.place))
+
+-- a command that tells nothing before its reply
+pub silently : (caller : Caller) (asked : Asked) (old new : Tables) (telling : Telling) (result : Result Answer Fault) → telling ≡ fresh_telling caller.setup.now.turns
+    → Performs caller asked old new reply_lines result → Performs caller asked old new (reply_after telling.lines) result
+silently caller asked old new telling result fresh performed = subst (λ (telling : Telling). Performs caller asked old new (reply_after telling.lines) result) (sym fresh) performed
 
 module _ (caller : Caller) (asked : Asked) (old new : Tables) where
   -- what the session does with it

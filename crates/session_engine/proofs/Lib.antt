@@ -1,6 +1,10 @@
 pub mod EngineLemmas
 pub mod StepLemmas
-pub mod DeletingLemmas
+pub mod DeletionLemmas
 pub mod CommandsLemmas
 pub mod PropertiesLemmas
 pub mod ClassesLemmas
+pub mod FoundLemmas
+pub mod ActionLemmas
+pub mod AgendaLemmas
+pub mod InvocationLemmas

@@ -1,5 +1,5 @@
 -- What JSON is written as a title.
-use Rattle.std.proofs.Common.{◌≡◌, true, false, List, Option, Result, Ok, Err, IsErrAnd, is_some, refl, ap, ◌∙◌}
+use Rattle.std.proofs.Common.{◌≡◌, true, false, List, Result, Err, IsErrAnd, is_some, refl, ap, ◌∙◌}
 use Rattle.std.specs.Result.{result_err}
 use Rattle.serde_json.specs.Data as d
 use Rattle.serde_json.specs.Find.{as_null}

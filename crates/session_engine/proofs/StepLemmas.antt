@@ -1,12 +1,12 @@
 -- What a command of one session makes of an engine, by names.
-use Rattle.std.proofs.Common.{◌≡◌, ◌⊎◌, inl, inr, ℕ, Bool, true, false, true≢false, List, [], ◌∷◌, Option, Some, None, Result, Ok, Err, IfOk, OnOk, OnErr, IfSome, IsSome, OnSome, IsTrue, IsFalse, refl, sym, ap, subst, ◌∙◌, ⊎_elim}
+use Rattle.std.proofs.Common.{◌≡◌, inl, ℕ, Bool, true, false, List, [], ◌∷◌, Option, Some, None, Result, Ok, Err, IfOk, OnOk, OnErr, IfSome, IsSome, OnSome, IsFalse, refl, sym, ap, subst, ◌∙◌, ⊎_elim}
 use Rattle.std.specs.Prelude.{bytes_eq, if◌then◌else◌}
 use Rattle.std.specs.Result.{result_ok}
 use Rattle.std.specs.declared.alloc.AllocError.{AllocError}
 use Rattle.std.proofs.Math.Path.{fun_ext}
 use Rattle.std.proofs.lemmas.Bool.{cases_Bool, both_ways}
 use Rattle.std.proofs.lemmas.Slice.Eq.{bytes_eq-Decides}
-use Rattle.isolation.specs.World.{effect, after}
+use Rattle.isolation.specs.World.{after}
 use Rattle.isolation.proofs.Worlds.{after-own, strangers}
 use Rattle.refusals.specs.declared.code.Code.{Code}
 use Rattle.refusals.specs.declared.code.Code.TheVariants.{SessionFailed}
@@ -16,7 +16,7 @@ use Rattle.thread_model.specs.Asked.{Asked}
 use Rattle.thread_model.specs.Effects.{unless}
 use Rattle.thread_model.specs.Machine.{machine}
 use Rattle.thread_model.specs.Refusing.{refusal}
-use Rattle.thread_model.specs.State.{IsSound, State}
+use Rattle.thread_model.specs.State.{IsSound}
 use Rattle.thread_model.specs.Thread.{Settings, does, joins_name, performs}
 use Rattle.thread_model.proofs.Lawful.{lawful}
 use Rattle.thread_model.proofs.LawLemmas.{keeps_sound}

@@ -1,16 +1,13 @@
 -- What a command makes of the session at a place.
-use Rattle.std.specs.Prelude.{◌≡◌, ℕ, List, [], ◌∷◌, None, Result, OnOk, IsFalse}
-use Rattle.isolation.specs.Machine.{Effect}
+use Rattle.std.specs.Prelude.{◌≡◌, List, [], ◌∷◌, ◌++◌, Result, OnOk, IsFalse}
 use Rattle.refusals.specs.Answers.{OnDone, OnMemory}
 use Rattle.refusals.specs.declared.fault.Fault.{Fault}
 use Rattle.thread_model.specs.declared.line.Answer.{Answer}
 use Rattle.thread_model.specs.declared.line.Line.{Line}
 use Rattle.thread_model.specs.declared.line.Line.TheVariants.{Reply}
-use Rattle.thread_model.specs.declared.post.Post.{Post}
 use Rattle.thread_model.specs.Asked.{Asked}
 use Rattle.thread_model.specs.Refusing.{refusal}
-use Rattle.thread_model.specs.State.{State}
-use Rattle.thread_model.specs.Thread.{Settings, performs}
+use Rattle.thread_model.specs.Thread.{performs}
 use Rattle.session_tables.specs.declared.tables.Tables.{Tables}
 use Rattle.session_tables.specs.Refused.{OnRefused}
 use Rattle.session_tables.specs.Session.{gone}
@@ -23,6 +20,10 @@ use Rattle.session_engine.specs.Setup.{settings_of}
 -- what is told of a reply
 abbrev pub reply_lines : Answer → List Line
 reply_lines answer = Reply answer ∷ []
+
+-- the same of a reply behind what was told before it
+abbrev pub reply_after : List Line → Answer → List Line
+reply_after lines answer = lines ++ Reply answer ∷ []
 
 -- a command of a session that has not failed; `lines` says what is told by what the call returns
 pub record Performs {T : Type 0} (caller : Caller) (asked : Asked) (old new : Tables) (lines : T → List Line) (result : Result T Fault) : Type 0 where

@@ -1,6 +1,9 @@
 pub mod Setup
+pub mod Methods
 pub mod Returning
 pub mod Sessions
-pub mod Deleting
+pub mod Telling
+pub mod Deletion
+pub mod Actions
 pub mod Commands
 pub mod Engine

@@ -2,12 +2,16 @@
 ghost use Rattle.std.specs.Prelude.{◌≡◌, ◌∷◌, [], IfOk};
 ghost use Rattle.thread_model.specs.Asked.{asked};
 ghost use Rattle.session_tables.specs.Tables.{IsPlaced};
-ghost use Rattle.session_engine.specs.Commands.{Obeys, Performs, reply_lines};
+ghost use Rattle.session_engine.specs.Commands.{Obeys, Performs, reply_after};
+ghost use Rattle.session_engine.specs.Telling.{fresh_telling};
 ghost use Rattle.session_engine.specs.Returning.{wants_memory};
 
 use crate::classes::describe;
+use crate::connections::{Options, connect, disconnect, disconnect_one};
+use crate::invocation::invoke;
 use crate::properties::{set_title, title};
 use crate::setup::Setup;
+use crate::telling::Telling;
 use crate::trees::{children, delete_object, find, new_object, set_parent};
 use plain_types::{Items, Text};
 use refusals::{Code, Fault};
@@ -38,19 +42,28 @@ pub fn obey(caller: &Caller, tables: &mut Tables, command: &Command) -> Result<I
     replied
 }
 
-/// Does a command, and returns the line of its reply.
+/// Does a command, and returns what is told.
 fn reply(caller: &Caller, tables: &mut Tables, command: &Command) -> Result<Items<Line>, Fault>
     requires { IsPlaced tables.old caller.now.place }
     ensures { Performs caller.now (asked command.now) tables.old tables.new (λ lines. lines) result }
 {
-    let answer = perform(caller, tables, command)?;
-    Ok(one_line(caller.setup.alloc, Line::Reply(answer))?)
+    let mut telling = Telling::new(caller.setup);
+    let answer = perform(caller, tables, &mut telling, command)?;
+    telling.tell(Line::Reply(answer))?;
+    Ok(telling.lines)
 }
 
-/// Does a command, and returns what is replied.
-fn perform(caller: &Caller, tables: &mut Tables, command: &Command) -> Result<Answer, Fault>
-    requires { IsPlaced tables.old caller.now.place }
-    ensures { Performs caller.now (asked command.now) tables.old tables.new reply_lines result }
+/// Does a command, tells what it tells before its reply, and returns what is replied.
+#[tactic(auto, using(crate::proofs::CommandsLemmas::silently))]
+fn perform(
+    caller: &Caller,
+    tables: &mut Tables,
+    telling: &mut Telling,
+    command: &Command,
+) -> Result<Answer, Fault>
+    requires placed { IsPlaced tables.old caller.now.place }
+    requires fresh { telling.old ≡ fresh_telling caller.now.setup.now.turns }
+    ensures { Performs caller.now (asked command.now) tables.old tables.new (reply_after telling.new.lines) result }
 {
     match command {
         Command::New { class, parent } => new_object(caller, tables, class, *parent),
@@ -65,6 +78,34 @@ fn perform(caller: &Caller, tables: &mut Tables, command: &Command) -> Result<An
         Command::Set { object, value } => set_title(caller, tables, *object, value),
         Command::Get { object } => title(caller, tables, *object),
         Command::Meta { class } => describe(caller, tables, class),
+        Command::Connect {
+            sender,
+            signal,
+            receiver,
+            method,
+            mode,
+            unique,
+            single,
+        } => {
+            let options = Options {
+                mode: *mode,
+                unique: *unique,
+                single: *single,
+            };
+            connect(caller, tables, *sender, signal, *receiver, method, options)
+        }
+        Command::DisconnectOne { connection } => disconnect_one(caller, tables, *connection),
+        Command::Disconnect {
+            sender,
+            signal,
+            receiver,
+            method,
+        } => disconnect(caller, tables, *sender, signal, *receiver, method),
+        Command::Invoke {
+            object,
+            method,
+            args,
+        } => invoke(caller, tables, telling, *object, method, args.as_slice()),
     }
 }
 

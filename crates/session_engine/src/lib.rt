@@ -1,12 +1,20 @@
 //! The engine: the sessions of a server, and what a command of one of them does to all.
 #![tactic(auto)]
 
+mod agenda;
 mod classes;
 mod commands;
-mod deleting;
+mod connections;
+mod deletion;
+mod effects;
 mod engine;
+mod evaluation;
+mod invocation;
+mod methods;
 mod properties;
 mod setup;
+mod slot;
+mod telling;
 mod trees;
 
 pub use engine::Engine;

@@ -4,7 +4,7 @@ ghost use Rattle.session_tables.specs.Tables.{IsPlaced};
 ghost use Rattle.session_engine.specs.Commands.{Performs, reply_lines};
 
 use crate::commands::Caller;
-use crate::deleting::delete;
+use crate::deletion::delete;
 use plain_types::{Items, Text};
 use refusals::Fault;
 use session_tables::Tables;

@@ -4,6 +4,7 @@
 #![tactic(auto)]
 
 mod properties;
+mod signals;
 mod tables;
 mod titles;
 mod trees;

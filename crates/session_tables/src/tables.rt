@@ -1,10 +1,11 @@
 //! The tables, and the places in them.
-ghost use Rattle.std.specs.Prelude.{◌≡◌, [], IsTrue, OnOk, length};
+ghost use Rattle.std.specs.Prelude.{◌≡◌, [], OnOk, length};
 ghost use Rattle.session_tables.specs.Session.{gone};
 ghost use Rattle.session_tables.specs.Tables.{AreSame, HasRoom, IsPlaced, failed_at, opened, with_session, with_state};
 ghost use Rattle.thread_model.specs.State.{empty};
 
 use crate::titles::Titles;
+use connection_list::Connections;
 use object_tree::Forests;
 use places::Places;
 use std::alloc::{AllocError, Global};
@@ -14,8 +15,9 @@ use std::alloc::{AllocError, Global};
 pub struct Tables {
     pub(crate) forests: Forests,
     pub(crate) titles: Places<Titles>,
-    /// Memory was wanted for the session and not found. Its objects are gone, and it refuses every
-    /// command.
+    pub(crate) connections: Connections,
+    /// Memory was wanted for the session and not found. Its objects and connections are gone, and
+    /// it refuses every command.
     pub(crate) failed: Places<bool>,
 }
 
@@ -24,11 +26,13 @@ impl Tables {
     pub fn new(alloc: Global) -> Tables
         ensures forests { result.forests.places ≡ [] }
         ensures titles { result.titles.places ≡ [] }
+        ensures connections { result.connections.places ≡ [] }
         ensures failed { result.failed.places ≡ [] }
     {
         Tables {
             forests: Forests::new(alloc),
             titles: Places::new(alloc),
+            connections: Connections::new(alloc),
             failed: Places::new(alloc),
         }
     }
@@ -40,6 +44,7 @@ impl Tables {
     {
         self.forests.ready()?;
         self.titles.ready()?;
+        self.connections.ready()?;
         self.failed.ready()
     }
 
@@ -51,16 +56,19 @@ impl Tables {
     {
         self.forests.open();
         self.titles.open(Titles::new(alloc));
+        self.connections.open();
         self.failed.open(false)
     }
 
-    /// Takes all that a session holds out; the numbers of its objects are then given again.
+    /// Takes all that a session holds out; the numbers of its objects and connections are then given
+    /// again.
     pub fn clear(&mut self, place: usize)
         requires { IsPlaced self.old place }
         ensures { self.new ≡ with_state self.old place empty }
     {
         self.forests.clear(place);
         self.titles.get_mut(place).clear();
+        self.connections.clear(place);
     }
 
     /// Lets a session fail.

@@ -1,15 +1,15 @@
 //! The trees of objects.
 ghost use Rattle.std.specs.Prelude.{◌≡◌, ◌+◌, ◌&&◌, IfOk, OnOk, OnErr, Some, false};
-ghost use Rattle.std.specs.Option.{option_map_or};
+ghost use Rattle.std.specs.Option.{option_map, option_map_or};
 ghost use Rattle.std.specs.Result.{result_err};
 ghost use Rattle.refusals.specs.Answers.{RefusedBy};
-ghost use Rattle.object_tree.specs.Rows.{children, is_same, row_of};
+ghost use Rattle.object_tree.specs.Rows.{children, is_same, is_there, row_of};
 ghost use Rattle.object_tree.specs.Changes.{marked};
 ghost use Rattle.object_tree.specs.Finding.{found_below};
-ghost use Rattle.object_tree.specs.Refusing.{add_refusal, parent_refusal, set_parent_refusal};
+ghost use Rattle.object_tree.specs.Refusing.{add_refusal, object_refusal, parent_refusal, set_parent_refusal};
 ghost use Rattle.thread_model.specs.Agenda.{is_living};
-ghost use Rattle.thread_model.specs.State.{with_object, with_parent, without_object};
-ghost use Rattle.thread_model.specs.Refusing.{absence, named_absence};
+ghost use Rattle.thread_model.specs.State.{is_text, title_of, with_object, with_parent, without_object};
+ghost use Rattle.thread_model.specs.Absence.{absence, named_absence};
 ghost use Rattle.thread_model.specs.Trees.{has_title, is_of_class};
 ghost use Rattle.session_tables.specs.Refused.{OnRefused};
 ghost use Rattle.session_tables.specs.Tables.{ChangesOnly, IsPlaced, state_at, with_state};
@@ -115,6 +115,45 @@ impl Tables {
             Some(code) => Err(code),
             None => Ok(()),
         }
+    }
+
+    /// Whether an object is there.
+    pub fn is_there(&self, place: usize, object: u32) -> bool
+        requires { IsPlaced self.now place }
+        ensures { result ≡ is_there (state_at self.now place).forest.rows object }
+    {
+        self.forests.row(place, object).is_some()
+    }
+
+    /// The index of an object's class, where the object is there.
+    pub fn class_of(&self, place: usize, object: u32) -> Option<u32>
+        requires { IsPlaced self.now place }
+        ensures { result ≡ option_map (λ row. row.class) (row_of (state_at self.now place).forest.rows object) }
+    {
+        let row = self.forests.row(place, object)?;
+        Some(row.class)
+    }
+
+    /// Refuses an object that is not there or is dying.
+    pub fn check_living(&self, place: usize, object: u32) -> Result<(), Code>
+        requires { IsPlaced self.now place }
+        ensures { result_err result ≡ object_refusal (state_at self.now place).forest.rows object }
+    {
+        match self.forests.object_refusal(place, object) {
+            Some(code) => Err(code),
+            None => Ok(()),
+        }
+    }
+
+    /// The nearest object below another one with this title.
+    pub fn child(&self, place: usize, object: u32, title: &str) -> Result<Option<u32>, AllocError>
+        requires { IsPlaced self.now place }
+        ensures { IfOk result (λ found. found ≡ found_below (state_at self.now place).forest.rows object
+            (λ number. is_text title.now (title_of (state_at self.now place).titles number))) }
+    {
+        self.forests.find_child(place, object, |number| {
+            Ok(self.titles.get(place).is_titled(number, title))
+        })
     }
 
     /// Whether an object stands and is not dying.

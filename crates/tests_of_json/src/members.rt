@@ -4,6 +4,7 @@ use json_reading::{
     Field, Scalar, Stop, plain_members, scan_members, token_members, tree_members, value_at,
 };
 use serde_json::Value;
+use std::alloc::{AllocError, Global};
 use std::test::Fail;
 
 /// Texts, with what scanning and what reading tokens make of them.
@@ -81,6 +82,14 @@ fn text<'a>(field: Option<&Field<'a>>) -> Option<&'a str> {
     field?.as_text()
 }
 
+/// How many elements are copied.
+fn copied(alloc: Global, field: Option<&Field<'_>>) -> Result<usize, AllocError> {
+    match field {
+        Some(field) => Ok(field.to_items(alloc)?.len()),
+        None => Ok(0),
+    }
+}
+
 fn is_seven_and_x(field: &Field<'_>) -> bool {
     match field {
         Field::List(items) => {
@@ -101,6 +110,8 @@ fn members_are_found(rt: HostRuntime) -> Result<(), Fail> {
     assert!(rt; value_at(&members, "no").is_some_and(|field| field.is_null()));
     assert!(rt; value_at(&members, "b").is_none());
     assert!(rt; value_at(&members, "list").is_some_and(is_seven_and_x));
+    assert!(rt; value_at(&members, "list").is_some_and(|field| field.is_list()));
+    assert_eq!(rt; copied(alloc, value_at(&members, "list"))?, 2);
     Ok(())
 }
 
@@ -113,5 +124,8 @@ fn members_of_a_tree_are_found(rt: HostRuntime) -> Result<(), Fail> {
     assert_eq!(rt; number(value_at(&members, "a")), Some(1));
     assert_eq!(rt; text(value_at(&members, "text")), Some("x"));
     assert!(rt; value_at(&members, "list").is_some_and(|field| !field.is_null()));
+    assert!(rt; value_at(&members, "list").is_some_and(|field| field.is_list()));
+    assert_eq!(rt; copied(alloc, value_at(&members, "list"))?, 2);
+    assert_eq!(rt; copied(alloc, value_at(&members, "text"))?, 0);
     Ok(())
 }

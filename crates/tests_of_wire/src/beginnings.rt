@@ -72,7 +72,7 @@ fn each_end_has_its_status_and_text(rt: HostRuntime) -> Result<(), Fail> {
     };
     let text = class_text(alloc, Some(&fault))?;
     assert!(rt; text.as_str() == "metad: class file refused: C04 at class 1");
-    let usage = "\n\nUsage: metad [CLASSES]\n\nFor more information, try '--help'.\n";
+    let usage = "\n\nUsage: metad [OPTIONS] [CLASSES]\n\nFor more information, try '--help'.\n";
     let endings = [
         (
             Ending::of_class_file(alloc, &ClassFileError::Refused(fault)),
@@ -129,12 +129,16 @@ fn the_words_name_the_class_file(rt: HostRuntime) -> Result<(), Fail> {
         path: "lamps.json",
         file: LAMP.as_bytes(),
     };
-    let runs: [(&[&str], &str); 2] = [(&[], "Probe"), (&["lamps.json"], "Lamp")];
-    for (words, class) in runs {
-        let Ok(classes) = start_with(&shelf, words) else {
-            return Err("classes")?;
+    let runs: [(&[&str], &str, u32); 3] = [
+        (&[], "Probe", 10_000),
+        (&["lamps.json"], "Lamp", 10_000),
+        (&["--turns=3", "lamps.json"], "Lamp", 3),
+    ];
+    for (words, class, turns) in runs {
+        let Ok(beginning) = start_with(&shelf, words) else {
+            return Err("a beginning")?;
         };
-        assert!(rt; classes.find(class).is_some());
+        assert!(rt; beginning.classes.find(class).is_some() && beginning.turns == turns);
     }
     let ends: [(&[&str], u8, &str); 3] = [
         (&["desks.json"], 1, UNREADABLE),

@@ -1,129 +1,77 @@
 -- Commands, posts and items keep a session sound.
-use Rattle.std.proofs.Common.{◌≡◌, ◌==◌, ◌||◌, ℕ, Bool, true, false, not, cond, List, [], ◌∷◌, ◌++◌, Option, Some, None, Result, Ok, Err, filter, map, refl, sym, ap, ◌∙◌, subst, ⊎_elim, arith}
-use Rattle.std.specs.Cmp.{nat_eq_equiv}
-use Rattle.std.specs.List.{AllByRecursion, list_any}
+use Rattle.std.proofs.Common.{◌≡◌, ◌==◌, ℕ, Bool, true, false, cond, List, [], ◌∷◌, ◌++◌, Option, Some, None, Result, Ok, Err, refl, sym, ap, ◌∙◌, arith}
+use Rattle.std.specs.List.{list_any}
 use Rattle.std.specs.Option.{option_or}
 use Rattle.std.specs.Result.{result_ok}
-use Rattle.std.proofs.lemmas.Bool.{cases_Bool, cond-false, cond-true, eq-eqb, eqb-true, false≢true, or_left, or_right}
-use Rattle.std.proofs.lemmas.List.Elements.{All-from_recursion, All-map, All-weaker, recursion_from_All}
-use Rattle.std.proofs.lemmas.List.Folds.{list_any-append}
+use Rattle.std.proofs.lemmas.Bool.{cond_both}
+use Rattle.std.proofs.lemmas.List.Elements.{All-weaker}
 use Rattle.isolation.specs.Machine.{Effect}
 use Rattle.refusals.specs.declared.code.Code.{Code}
 use Rattle.refusals.specs.declared.code.Code.TheVariants.{NoSuchObject}
+use Rattle.serde_json.specs.Data.{Data}
 use Rattle.signature_core.specs.declared.kind.Kind.TheVariants as k
 use Rattle.variant_value.specs.declared.value.Value.{Value}
 use Rattle.variant_value.specs.Values.{value_of}
 use Rattle.object_tree.specs.declared.row.Row.{Row}
-use Rattle.object_tree.specs.Rows.{has_number, has_parent, is_there}
-use Rattle.object_tree.specs.Changes.{marked, orphaned, removed}
+use Rattle.object_tree.specs.Rows.{is_there}
 use Rattle.object_tree.specs.Refusing.{parent_refusal}
+use Rattle.connection_list.specs.declared.connection.NewConnection.{NewConnection}
+use Rattle.connection_list.specs.declared.pattern.Pattern.{Pattern}
+use Rattle.connection_list.specs.Ends.{matches}
+use Rattle.connection_list.specs.Rows.{has_number}
+use Rattle.thread_model.specs.declared.line.Answer.{Answer}
 use Rattle.thread_model.specs.declared.line.Answer.TheVariants as a
 use Rattle.thread_model.specs.declared.line.Line.{Line}
 use Rattle.thread_model.specs.declared.post.Post.{Post}
-use Rattle.thread_model.specs.Agenda as to_do
-use Rattle.thread_model.specs.Agenda.{Cut, Doing, Gone, IsUnderWay, Item, Kin, Next, Reply, dying, gone, kins, lets_go, lives, lives_below, puts, run, step, told}
-use Rattle.thread_model.specs.Asked.{Asked, New, Delete, SetParent, Children, Find, Set, Get, Meta}
-use Rattle.thread_model.specs.Effects.{unless}
+use Rattle.thread_model.specs.Absence.{absence}
+use Rattle.thread_model.specs.Agenda.{with_turn}
+use Rattle.thread_model.specs.Asked.{Asked, New, Delete, SetParent, Children, Find, Set, Get, Meta, Connect, DisconnectOne, Disconnect, Invoke}
+use Rattle.thread_model.specs.Connecting.{connection_refusal}
+use Rattle.thread_model.specs.Doing.{Doing, begun, turn_taken, used_up}
+use Rattle.thread_model.specs.Effects.{does_next, unless}
+use Rattle.thread_model.specs.Items as to_do
+use Rattle.thread_model.specs.Items.{Emit, Item, Next, Run, puts}
 use Rattle.thread_model.specs.Laws.{KeepsSound, KeepsUnderWay}
+use Rattle.thread_model.specs.Methods.{Found, is_signal_at, methods_of}
 use Rattle.thread_model.specs.Properties.{stores}
-use Rattle.thread_model.specs.Refusing.{class_refusal, absence, refusal}
+use Rattle.thread_model.specs.Refusing.{class_refusal, refusal}
+use Rattle.thread_model.specs.Run.{run}
+use Rattle.thread_model.specs.Signals.{asked_connection, asked_method, asked_pattern, connects, disconnects, invoked, invokes}
 use Rattle.thread_model.specs.State.{IsSound, IsWhole, State, with_title}
 use Rattle.thread_model.specs.Thread.{Settings, arrives, does, performs}
-use Rattle.thread_model.proofs.AgendaLemmas.{run_keeps}
-use Rattle.thread_model.proofs.StateLemmas.{living_added, living_reparented, text_read, whole_empty, whole_with_dying, whole_with_object, whole_with_parent, whole_with_title, whole_without_object}
-
--- a row that is dying has its Gone in the agenda
-abbrev IsGoing : List Item → Row → Type 0
-IsGoing agenda row = row.dying ≡ true → list_any (lets_go row.number) agenda ≡ true
+use Rattle.thread_model.specs.UnderWay.{IsUnderWay, is_gone}
+use Rattle.thread_model.proofs.ActLemmas.{Joins, joins}
+use Rattle.thread_model.proofs.ConnectionLemmas.{allowed}
+use Rattle.thread_model.proofs.DyingLemmas.{each_added, each_reparented}
+use Rattle.thread_model.proofs.ItemLemmas.{item_under_way}
+use Rattle.thread_model.proofs.RunLemmas.{run_keeps}
+use Rattle.thread_model.proofs.StateLemmas.{whole_empty, whole_with_connection, whole_with_object, whole_with_parent, whole_with_title, whole_without_connections}
+use Rattle.thread_model.proofs.TitleLemmas.{text_read}
+use Rattle.thread_model.proofs.UnderWayLemmas.{IsGoing, none_goes, turn_under, untied_staying, used_up_under}
 
 -- between commands no agenda needs to let an object go
-under_way : (agenda : List Item) (state : State) → IsSound state → IsUnderWay agenda state
-under_way agenda state sound = record {
+under_way : (agenda : List Item) (state : State) → list_any is_gone agenda ≡ false → IsSound state → IsUnderWay agenda state
+under_way agenda state none sound = record {
   whole = sound.whole;
-  going = All-weaker (λ (row : Row). row.dying ≡ false) (IsGoing agenda) (λ row lives dying. absurd (false≢true (sym lives ∙ dying))) state.forest.rows sound.living;
+  going = All-weaker (λ (row : Row). row.dying ≡ false) (λ row. IsGoing agenda row.number row.dying) (λ row lives. none_goes row.number agenda none ∙ sym lives) state.forest.rows sound.living;
+  in_time = λ index default within. record { sender = untied_staying _ agenda (none_goes _ agenda none); receiver = untied_staying _ agenda (none_goes _ agenda none) };
 }
 
 -- where nothing is left to do, no object is dying
 sound_at_end : (state : State) → IsUnderWay [] state → IsSound state
 sound_at_end state under = record {
   whole = under.whole;
-  living = All-weaker (IsGoing []) (λ (row : Row). row.dying ≡ false) (λ row going. ⊎_elim (λ dying. absurd (false≢true (going dying))) (λ lives. lives) (cases_Bool row.dying)) state.forest.rows under.going;
+  living = All-weaker (λ row. IsGoing [] row.number row.dying) (λ (row : Row). row.dying ≡ false) (λ row going. sym going) state.forest.rows under.going;
 }
-
--- more may be put in front
-in_front : (items agenda : List Item) (state : State) → IsUnderWay agenda state → IsUnderWay (items ++ agenda) state
-in_front items agenda state under = record {
-  whole = under.whole;
-  going = All-weaker (IsGoing agenda) (IsGoing (items ++ agenda)) (λ row going dying. list_any-append (lets_go row.number) items agenda ∙ or_right (list_any (lets_go row.number) items) _ (going dying)) state.forest.rows under.going;
-}
-
--- an object that begins to die has its Gone put in front
-dying_under_way : (target depth : ℕ) (agenda : List Item) (doing : Doing) → IsUnderWay agenda doing.state → IsUnderWay (Cut target depth ∷ Gone target depth ∷ agenda) (dying doing target).state
-unfolding dying marked
-dying_under_way target depth agenda doing under = record {
-  whole = whole_with_dying doing.state target under.whole;
-  going = All-map (IsGoing (Cut target depth ∷ Gone target depth ∷ agenda)) change doing.state.forest.rows (All-weaker (IsGoing agenda) (λ row. IsGoing (Cut target depth ∷ Gone target depth ∷ agenda) (change row)) (λ row. one row (has_number target row) refl) doing.state.forest.rows under.going);
-}
-  where
-    change : Row → Row
-    change row = cond (has_number target row) (record row { dying = true }) row
-
-    one : (row : Row) (same : Bool) → has_number target row ≡ same → IsGoing agenda row → IsGoing (Cut target depth ∷ Gone target depth ∷ agenda) (cond same (record row { dying = true }) row)
-    one row true is going dying = or_left (target == row.number) _ (eq-eqb target row.number (sym (eqb-true row.number target is)))
-    one row false is going dying = or_right (target == row.number) _ (going dying)
-
--- the rows that stay when an object goes need its Gone no more
-gone_under_way : (target depth : ℕ) (agenda : List Item) (doing : Doing) → IsUnderWay (Gone target depth ∷ agenda) doing.state → IsUnderWay agenda (gone doing target).state
-unfolding gone removed
-gone_under_way target depth agenda doing under = record {
-  whole = whole_without_object doing.state target under.whole;
-  going = All-from_recursion (IsGoing agenda) _ (those doing.state.forest.rows (recursion_from_All (IsGoing (Gone target depth ∷ agenda)) doing.state.forest.rows under.going));
-}
-  where
-    root : (row : Row) (child : Bool) → IsGoing agenda row → IsGoing agenda (cond child (record row { parent = None }) row)
-    root row true going = going
-    root row false going = going
-
-    another : (row : Row) → has_number target row ≡ false → IsGoing (Gone target depth ∷ agenda) row → IsGoing agenda row
-    another row other going dying = ap (λ b. b || list_any (lets_go row.number) agenda) (sym (sym (nat_eq_equiv.symm row.number target) ∙ other)) ∙ going dying
-
-    those : (rows : List Row) → AllByRecursion (IsGoing (Gone target depth ∷ agenda)) rows → AllByRecursion (IsGoing agenda) (map (orphaned target) (filter (λ row. not (has_number target row)) rows))
-    those [] all = tt
-    those (row ∷ rest) all = by (has_number target row) refl (those rest all.1)
-      where
-        by : (same : Bool) → has_number target row ≡ same → AllByRecursion (IsGoing agenda) (map (orphaned target) (filter (λ row. not (has_number target row)) rest))
-            → AllByRecursion (IsGoing agenda) (map (orphaned target) (cond (not same) (row ∷ filter (λ row. not (has_number target row)) rest) (filter (λ row. not (has_number target row)) rest)))
-        by true is later = later
-        by false is later = (root row (has_parent (Some target) row) (another row is all.0), later)
-
--- what an item comes to keeps the session under way
-abbrev Keeps : List Item → Next → Type 0
-Keeps agenda next = IsUnderWay (next.items ++ agenda) next.doing.state
-
-item_under_way : (item : Item) (agenda : List Item) (doing : Doing) → IsUnderWay (item ∷ agenda) doing.state → IsUnderWay ((step item doing).items ++ agenda) (step item doing).doing.state
-unfolding told
-item_under_way (to_do.Delete target depth) agenda doing under =
-    let rest : IsUnderWay agenda doing.state = record { whole = under.whole; going = under.going } in
-    ⊎_elim
-    (λ yes. subst (Keeps agenda) (sym (cond-true (lives doing target) _ _ yes)) (dying_under_way target depth agenda doing rest))
-    (λ not_so. subst (Keeps agenda) (sym (cond-false (lives doing target) _ _ not_so)) rest)
-    (cases_Bool (lives doing target))
-item_under_way (Cut target depth) agenda doing under = in_front (kins doing target depth) agenda doing.state (record { whole = under.whole; going = under.going })
-item_under_way (Kin parent child depth) agenda doing under =
-    let rest : IsUnderWay agenda doing.state = record { whole = under.whole; going = under.going } in
-    ⊎_elim
-    (λ yes. subst (Keeps agenda) (sym (cond-true (lives_below doing parent child) _ _ yes)) (in_front (to_do.Delete child depth ∷ []) agenda doing.state rest))
-    (λ not_so. subst (Keeps agenda) (sym (cond-false (lives_below doing parent child) _ _ not_so)) rest)
-    (cases_Bool (lives_below doing parent child))
-item_under_way (Gone target depth) agenda doing under = gone_under_way target depth agenda doing under
-item_under_way (Reply answer) agenda doing under = record { whole = under.whole; going = under.going }
 
 pub keeps_under_way : KeepsUnderWay
 keeps_under_way = record { at_first = under_way; by_item = item_under_way; at_end = sound_at_end }
 
--- an agenda that is done leaves a session sound
-run_sound : (items : List Item) (doing : Doing) → IsSound doing.state → IsSound (run items doing).state
-run_sound items doing sound = sound_at_end (run items doing).state (run_keeps (λ items doing. IsUnderWay items doing.state) item_under_way items doing (under_way items doing.state sound))
+-- a command that does an agenda to its end leaves a session sound
+done_sound : (settings : Settings) (next : Next) (answer : Answer) → list_any is_gone (next.items ++ to_do.Reply answer ∷ []) ≡ false → IsSound next.doing.state → IsSound (does_next settings next answer).state
+done_sound settings next answer none sound =
+    let agenda = next.items ++ to_do.Reply answer ∷ [] in
+    sound_at_end (run settings agenda next.doing).state (run_keeps settings (λ items doing. IsUnderWay items doing.state) (item_under_way settings) agenda next.doing (under_way agenda next.doing.state none sound))
 
 -- nothing is refused where neither of two refusals stands
 or_none : {A : Type 0} (first second : Option A) → option_or first second ≡ None → (first ≡ None) × (second ≡ None)
@@ -142,13 +90,55 @@ stored_sound : (state : State) (target : ℕ) (read : Result Value Code) → ((t
 stored_sound state target (Ok title) whole sound = record { whole = whole title refl; living = sound.living }
 stored_sound state target (Err code) whole sound = sound
 
+-- a connection that is not refused is made
+connected_sound : (state : State) (sender receiver : ℕ) (unique : Bool) (found : Found NewConnection) → ((new : NewConnection) → found ≡ Ok new → Joins sender receiver new)
+    → is_there state.forest.rows sender ≡ true → is_there state.forest.rows receiver ≡ true → connection_refusal state.connections found unique ≡ None → IsSound state → IsSound (connects state found).state
+connected_sound state sender receiver unique (Err code) ends sender' receiver' passed sound = sound
+connected_sound state sender receiver unique (Ok new) ends sender' receiver' passed sound =
+    let its = ends new refl in
+    record {
+      whole = whole_with_connection state new (allowed state.connections new unique passed) (ap (is_there state.forest.rows) its.sender ∙ sender') (ap (is_there state.forest.rows) its.receiver ∙ receiver') sound.whole;
+      living = sound.living;
+    }
+
+disconnected_sound : (state : State) (found : Found Pattern) → IsSound state → IsSound (disconnects state found).state
+disconnected_sound state (Err code) sound = sound
+disconnected_sound state (Ok pattern) sound = record { whole = whole_without_connections state (matches pattern) sound.whole; living = sound.living }
+
+-- what an invocation begins with is sound, and lets nothing go
+record Begins (next : Next) : Type 0 where
+  pub none : list_any is_gone (next.items ++ to_do.Reply (a.Truth true) ∷ []) ≡ false
+  pub sound : IsSound next.doing.state
+
+used_up_sound : (doing : Doing) → IsSound doing.state → IsSound (used_up doing).state
+used_up_sound doing sound = sound_at_end (used_up doing).state (used_up_under [] doing (under_way [] doing.state refl sound))
+
+turn_sound : (doing : Doing) → IsSound doing.state → IsSound (turn_taken doing).state
+turn_sound doing sound = sound_at_end (turn_taken doing).state (turn_under [] doing (under_way [] doing.state refl sound))
+
+invoked_begins : (settings : Settings) (state : State) (target index : ℕ) (values : List Value) → IsSound state → Begins (invoked settings state target index values)
+invoked_begins settings state target index values sound =
+    let doing = begun settings state in
+    cond_both (is_signal_at (methods_of settings state target) index) (puts (Emit target index values 0 ∷ []) doing) (with_turn doing (puts (Run target index 0 values 0 ∷ []))) Begins
+    (λ signal. record { none = refl; sound = sound })
+    (λ slot. cond_both (doing.turns == 0) (puts [] (used_up doing)) (puts (Run target index 0 values 0 ∷ []) (turn_taken doing)) Begins
+    (λ spent. record { none = refl; sound = used_up_sound doing sound })
+    (λ some. record { none = refl; sound = turn_sound doing sound }))
+
+invokes_sound : (settings : Settings) (state : State) (target : ℕ) (args : List Data) (index : Option ℕ) → IsSound state → IsSound (invokes settings state target args index).state
+invokes_sound settings state target args None sound = sound
+invokes_sound settings state target args (Some index) sound =
+    let begins = invoked_begins settings state target index _ sound in
+    done_sound settings (invoked settings state target index _) (a.Truth true) begins.none begins.sound
+
 performed_sound : (settings : Settings) (self : List ℕ) (state : State) (asked : Asked) → refusal settings self state asked ≡ None → IsSound state → IsSound (performs settings self state asked).state
 unfolding refusal performs
 performed_sound settings self state (New class parent) passed sound =
     let allowed = (or_none (class_refusal settings.classes class) _ (or_none (parent_refusal state.forest.rows parent) _ passed).1).1 in
-    record { whole = whole_with_object state parent _ allowed sound.whole; living = living_added state.forest parent _ sound.living }
-performed_sound settings self state (Delete target) passed sound = run_sound (to_do.Delete target 0 ∷ Reply (a.Truth true) ∷ []) (record { state = state; lines = [] }) sound
-performed_sound settings self state (SetParent target parent) passed sound = record { whole = whole_with_parent state target parent passed sound.whole; living = living_reparented state.forest target parent sound.living }
+    record { whole = whole_with_object state parent _ allowed sound.whole; living = each_added (λ number dying. dying ≡ false) state.forest parent _ refl sound.living }
+performed_sound settings self state (Delete target) passed sound = done_sound settings (puts (to_do.Delete target 0 ∷ []) (begun settings state)) (a.Truth true) refl sound
+performed_sound settings self state (SetParent target parent) passed sound =
+    record { whole = whole_with_parent state target parent passed sound.whole; living = each_reparented (λ number dying. dying ≡ false) state.forest target parent sound.living }
 performed_sound settings self state (Children target) passed sound = sound
 performed_sound settings self state (Find target title class) passed sound = sound
 performed_sound settings self state (Set target value) passed sound =
@@ -156,6 +146,14 @@ performed_sound settings self state (Set target value) passed sound =
     stored_sound state target (value_of k.Text value) (λ title read. whole_with_title state target title there (text_read value title read) sound.whole) sound
 performed_sound settings self state (Get target) passed sound = sound
 performed_sound settings self state (Meta class) passed sound = sound
+performed_sound settings self state (Connect sender signal receiver method mode unique single) passed sound =
+    let one = or_none (absence state sender) _ passed in
+    let other = or_none (absence state receiver) _ one.1 in
+    connected_sound state sender receiver unique (asked_connection settings state sender signal receiver method mode single)
+    (joins settings state sender _ receiver _ mode single) (is_present state sender one.0) (is_present state receiver other.0) other.1 sound
+performed_sound settings self state (DisconnectOne connection) passed sound = record { whole = whole_without_connections state (has_number connection) sound.whole; living = sound.living }
+performed_sound settings self state (Disconnect sender signal receiver method) passed sound = disconnected_sound state (asked_pattern settings state sender signal receiver method) sound
+performed_sound settings self state (Invoke target method args) passed sound = invokes_sound settings state target args (asked_method settings state target method) sound
 
 -- a refused command leaves the state
 unless_sound : (refusal : Option Code) (state : State) (effect : Effect State Line Post) → IsSound state → (refusal ≡ None → IsSound effect.state) → IsSound (unless refusal state effect).state

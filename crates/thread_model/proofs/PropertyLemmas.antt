@@ -6,7 +6,8 @@ use Rattle.serde_json.specs.Data.{Data}
 use Rattle.thread_model.specs.Asked.{Set, Get}
 use Rattle.thread_model.specs.Effects.{unless}
 use Rattle.thread_model.specs.Properties.{gets, sets}
-use Rattle.thread_model.specs.Refusing.{absence, refusal, title_refusal}
+use Rattle.thread_model.specs.Refusing.{refusal, title_refusal}
+use Rattle.thread_model.specs.Absence.{absence}
 use Rattle.thread_model.specs.State.{State}
 use Rattle.thread_model.specs.Thread.{Settings, does, performs}
 

@@ -1,32 +1,31 @@
 -- What each change leaves of a session's state.
-use Rattle.std.proofs.Common.{◌≡◌, ◌+◌, ◌<◌, ◌≤◌, ◌==◌, ℕ, Bool, true, false, not, cond, List, [], ◌∷◌, ◌++◌, Option, Some, None, Ok, Err, Less, Equal, Greater, filter, length, nat_le, refl, sym, ap, ◌∙◌, subst, arith, ⊎_elim}
-use Rattle.std.specs.List.{All, AllByRecursion, list_any}
+use Rattle.std.proofs.Common.{◌≡◌, ◌+◌, ◌<◌, ◌≤◌, ◌==◌, ℕ, Bool, true, false, not, cond, List, [], ◌∷◌, ◌++◌, Option, None, Less, Equal, Greater, filter, refl, sym, ap, ◌∙◌, subst, arith, ⊎_elim}
+use Rattle.std.specs.List.{AllByRecursion, list_any}
 use Rattle.std.specs.List.Sorted.{IsStrictlySortedBy}
 use Rattle.std.specs.Map.{keys_of, remove_entry}
-use Rattle.std.specs.Option.{option_map_or}
 use Rattle.std.specs.declared.cmp.Ordering.{Ordering}
 use Rattle.std.specs.Ordering.{is_eq, match_ordering, nat_cmp}
-use Rattle.std.proofs.lemmas.Bool.{eq-eqb, eqb-true, leb-true, ne_eqb, or_cases}
+use Rattle.std.proofs.lemmas.Bool.{eq-eqb, eqb-true, ne_eqb, or_cases}
 use Rattle.std.proofs.lemmas.Bool.Decides.{nat_tests}
-use Rattle.std.proofs.lemmas.List.Elements.{All-map, All-push, All-weaker, recursion_from_All}
+use Rattle.std.proofs.lemmas.List.Elements.{All-filter, All-map, All-push, All-weaker, recursion_from_All}
 use Rattle.std.proofs.lemmas.Map.Keys.{sorted_head, sorted_tail}
 use Rattle.std.proofs.lemmas.Map.Views.{All-map-remove_entry, All-values-insert_entry}
-use Rattle.serde_json.specs.Data.{Data}
-use Rattle.serde_json.specs.Find.{as_str}
-use Rattle.refusals.specs.declared.code.Code.TheVariants.{BadValue, Limit}
 use Rattle.signature_core.specs.declared.kind.Kind.TheVariants as k
 use Rattle.variant_value.specs.declared.value.Value.{Value}
 use Rattle.variant_value.specs.declared.value.Value.TheVariants as v
-use Rattle.variant_value.specs.declared.value.TheConstants.{TEXT_BYTES}
-use Rattle.variant_value.specs.Values.{IsOfKind, text_of, value_of}
+use Rattle.variant_value.specs.Values.{IsOfKind}
 use Rattle.object_tree.specs.declared.row.Row.{Row}
-use Rattle.object_tree.specs.Rows.{has_number, is_there, numbers}
-use Rattle.object_tree.specs.Forest.{Forest}
-use Rattle.object_tree.specs.Refusing.{add_refusal, keeps_parent, set_parent_refusal}
-use Rattle.object_tree.specs.Changes.{added, marked, moved, reparented}
+use Rattle.object_tree.specs.Rows.{is_there, numbers}
+use Rattle.object_tree.specs.Refusing.{add_refusal, set_parent_refusal}
+use Rattle.object_tree.specs.Changes.{marked}
 use Rattle.object_tree.proofs.LawLemmas.{keeps_numbers, keeps_sound}
 use Rattle.object_tree.proofs.RowLemmas.{there_among}
-use Rattle.thread_model.specs.State.{IsWhole, State, Titles, empty, is_of, titled, with_object, with_parent, with_title, without_object}
+use Rattle.connection_list.specs.declared.connection.Connection.{Connection}
+use Rattle.connection_list.specs.declared.connection.NewConnection.{NewConnection}
+use Rattle.connection_list.specs.Rows.{numbered}
+use Rattle.connection_list.proofs.WithoutLemmas.{IsSound-without}
+use Rattle.thread_model.specs.State.{IsTied, IsWhole, State, Titles, empty, is_of, titled, with_connection, with_object, with_parent, with_title, without_connections, without_object}
+use Rattle.thread_model.proofs.ConnectionLemmas.{Ends, IsAllowed, sound_connected, sound_empty, tied_more, tied_same, tied_without}
 
 -- all of these are above this one
 abbrev Above : ℕ → List ℕ → Type 0
@@ -106,13 +105,21 @@ titles_rise : (state : State) → IsWhole state → IsStrictlySortedBy nat_cmp (
 titles_rise state whole = subst (IsStrictlySortedBy nat_cmp) (sym whole.titles) whole.forest.numbers_rise
 
 pub whole_empty : IsWhole empty
-whole_empty = record { forest = keeps_sound.at_first; titles = refl; texts = λ index default within. absurd (omega arith) }
+whole_empty = record {
+  forest = keeps_sound.at_first;
+  titles = refl;
+  texts = λ index default within. absurd (omega arith);
+  connections = sound_empty;
+  ends = λ index default within. absurd (omega arith);
+}
 
 pub whole_with_object : (state : State) (parent : Option ℕ) (class : ℕ) → add_refusal state.forest parent ≡ None → IsWhole state → IsWhole (with_object state parent class)
 whole_with_object state parent class allowed whole = record {
   forest = keeps_sound.by_added state.forest parent class allowed whole.forest;
   titles = keys-behind state.titles (state.forest.last_number + 1) (v.Text []) below ∙ ap (λ keys. keys ++ (state.forest.last_number + 1) ∷ []) whole.titles ∙ sym (keeps_numbers.by_added state.forest parent class);
   texts = All-values-insert_entry nat_cmp (state.forest.last_number + 1) (v.Text []) (IsOfKind k.Text) state.titles whole.texts (refl, omega arith);
+  connections = whole.connections;
+  ends = tied_more state (with_object state parent class) (state.forest.last_number + 1) (keeps_numbers.by_added state.forest parent class) state.connections.rows whole.ends;
 }
   where
     below : AllByRecursion (λ key. key < state.forest.last_number + 1) (keys_of state.titles)
@@ -126,6 +133,8 @@ whole_with_parent state number parent allowed whole = record {
   forest = keeps_sound.by_reparented state.forest number parent allowed whole.forest;
   titles = whole.titles ∙ sym (keeps_numbers.by_reparented state.forest number parent);
   texts = whole.texts;
+  connections = whole.connections;
+  ends = tied_same state (with_parent state number parent) (keeps_numbers.by_reparented state.forest number parent) state.connections.rows whole.ends;
 }
 
 pub whole_with_title : (state : State) (number : ℕ) (title : Value) → is_there state.forest.rows number ≡ true → IsOfKind k.Text title → IsWhole state → IsWhole (with_title state number title)
@@ -133,6 +142,8 @@ whole_with_title state number title there text whole = record {
   forest = whole.forest;
   titles = keys-replaced state.titles number title (titles_rise state whole) (ap (λ keys. list_any (λ key. number == key) keys) whole.titles ∙ sym (there_among state.forest.rows number) ∙ there) ∙ whole.titles;
   texts = All-values-insert_entry nat_cmp number title (IsOfKind k.Text) state.titles whole.texts text;
+  connections = whole.connections;
+  ends = tied_same state (with_title state number title) refl state.connections.rows whole.ends;
 }
 
 pub whole_with_dying : (state : State) (number : ℕ) → IsWhole state → IsWhole (record state { forest = marked state.forest number })
@@ -140,47 +151,35 @@ whole_with_dying state number whole = record {
   forest = keeps_sound.by_marked state.forest number whole.forest;
   titles = whole.titles ∙ sym (keeps_numbers.by_marked state.forest number);
   texts = whole.texts;
+  connections = whole.connections;
+  ends = tied_same state (record state { forest = marked state.forest number }) (keeps_numbers.by_marked state.forest number) state.connections.rows whole.ends;
 }
 
-pub whole_without_object : (state : State) (number : ℕ) → IsWhole state → IsWhole (without_object state number)
-whole_without_object state number whole = record {
+-- an object may go that no connection has as an end
+pub whole_without_object : (state : State) (number : ℕ) → Ends (λ end. (end == number) ≡ false) state.connections.rows → IsWhole state → IsWhole (without_object state number)
+whole_without_object state number loose whole = record {
   forest = keeps_sound.by_removed state.forest number whole.forest;
   titles = keys-removed state.titles number (titles_rise state whole) ∙ ap (filter (λ key. not (key == number))) whole.titles ∙ sym (keeps_numbers.by_removed state.forest number);
   texts = All-map-remove_entry (is_of number) (λ (entry : ℕ × Value). entry.1) (IsOfKind k.Text) state.titles whole.texts;
+  connections = whole.connections;
+  ends = tied_without state (without_object state number) number (keeps_numbers.by_removed state.forest number) state.connections.rows loose whole.ends;
 }
 
--- what is read as a text is one that is not too long
-pub text_read : (json : Data) (value : Value) → value_of k.Text json ≡ Ok value → IsOfKind k.Text value
-text_read json value read = by (as_str json) read
-  where
-    short : (text : List ℕ) (fits : Bool) → nat_le (length text) TEXT_BYTES ≡ fits → cond fits (Ok (v.Text text)) (Err Limit) ≡ Ok value → IsOfKind k.Text value
-    short text true is e = let same : v.Text text ≡ value = cc in subst (IsOfKind k.Text) same (refl, leb-true (length text) TEXT_BYTES is)
-    short text false is e = absurd (cc)
+pub whole_with_connection : (state : State) (new : NewConnection) → IsAllowed state.connections → is_there state.forest.rows new.sender ≡ true → is_there state.forest.rows new.receiver ≡ true → IsWhole state → IsWhole (with_connection state new)
+whole_with_connection state new allowed sender receiver whole = record {
+  forest = whole.forest;
+  titles = whole.titles;
+  texts = whole.texts;
+  connections = sound_connected state.connections new allowed whole.connections;
+  ends = All-push (IsTied (with_connection state new)) state.connections.rows (numbered (state.connections.last_number + 1) new)
+      (tied_same state (with_connection state new) refl state.connections.rows whole.ends) (record { sender = sender; receiver = receiver });
+}
 
-    by : (text : Option (List ℕ)) → option_map_or text_of text (Err BadValue) ≡ Ok value → IsOfKind k.Text value
-    by None e = absurd (cc)
-    by (Some text) e = short text (nat_le (length text) TEXT_BYTES) refl e
-
--- a new object lives
-pub living_added : (forest : Forest) (parent : Option ℕ) (class : ℕ) → All (λ (row : Row). row.dying ≡ false) forest.rows → All (λ (row : Row). row.dying ≡ false) (added forest parent class).rows
-unfolding added
-living_added forest parent class living = All-push (λ (row : Row). row.dying ≡ false) forest.rows _ living refl
-
--- what moves lives as before
-pub living_reparented : (forest : Forest) (number : ℕ) (parent : Option ℕ) → All (λ (row : Row). row.dying ≡ false) forest.rows → All (λ (row : Row). row.dying ≡ false) (reparented forest number parent).rows
-unfolding moved
-living_reparented forest number parent living = by (keeps_parent forest.rows number parent)
-  where
-    moves : Row → Row
-    moves row = record row { parent = parent; stamp = forest.last_stamp + 1 }
-
-    one : (row : Row) → row.dying ≡ false → (cond (has_number number row) (moves row) row).dying ≡ false
-    one row lives = each (has_number number row)
-      where
-        each : (b : Bool) → (cond b (moves row) row).dying ≡ false
-        each true = lives
-        each false = lives
-
-    by : (keeps : Bool) → All (λ (row : Row). row.dying ≡ false) (cond keeps forest (moved forest number parent)).rows
-    by true = living
-    by false = All-map (λ (row : Row). row.dying ≡ false) (λ row. cond (has_number number row) (moves row) row) forest.rows (All-weaker (λ (row : Row). row.dying ≡ false) (λ (row : Row). (cond (has_number number row) (moves row) row).dying ≡ false) one forest.rows living)
+pub whole_without_connections : (state : State) (test : Connection → Bool) → IsWhole state → IsWhole (without_connections state test)
+whole_without_connections state test whole = record {
+  forest = whole.forest;
+  titles = whole.titles;
+  texts = whole.texts;
+  connections = IsSound-without test state.connections whole.connections;
+  ends = All-filter (λ row. not (test row)) (IsTied (without_connections state test)) state.connections.rows (tied_same state (without_connections state test) refl state.connections.rows whole.ends);
+}

@@ -5,7 +5,8 @@ use Rattle.std.specs.Option.{option_or}
 use Rattle.object_tree.specs.Refusing.{add_refusal, parent_refusal, set_parent_refusal}
 use Rattle.thread_model.specs.Asked.{New, Delete, SetParent, Children, Find}
 use Rattle.thread_model.specs.Effects.{unless}
-use Rattle.thread_model.specs.Refusing.{class_refusal, named_class_refusal, named_absence, absence, refusal}
+use Rattle.thread_model.specs.Refusing.{class_refusal, named_class_refusal, refusal}
+use Rattle.thread_model.specs.Absence.{absence, named_absence}
 use Rattle.thread_model.specs.State.{State}
 use Rattle.thread_model.specs.Thread.{Settings, does, performs}
 use Rattle.thread_model.specs.Trees.{deletes, finds, lists, makes, reparents}
@@ -27,11 +28,11 @@ module _ (settings : Settings) (self : List ℕ) (state : State) where
   unfolding refusal
   refusal_delete target = refl
 
-  pub performs_delete : (target : ℕ) → performs settings self state (Delete target) ≡ deletes state target
+  pub performs_delete : (target : ℕ) → performs settings self state (Delete target) ≡ deletes settings state target
   unfolding performs
   performs_delete target = refl
 
-  pub does_delete : (target : ℕ) → does settings self state (Delete target) ≡ unless (absence state target) state (deletes state target)
+  pub does_delete : (target : ℕ) → does settings self state (Delete target) ≡ unless (absence state target) state (deletes settings state target)
   unfolding does refusal performs
   does_delete target = refl
 

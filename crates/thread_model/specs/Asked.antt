@@ -1,8 +1,9 @@
 -- A command as definitions see it: texts as lists of bytes, and JSON as what it says.
-use Rattle.std.specs.Prelude.{ℕ, List, Option}
+use Rattle.std.specs.Prelude.{ℕ, Bool, List, Option, map}
 use Rattle.serde_json.specs.Data.{Data}
 use Rattle.serde_json.specs.View.{view}
 use Rattle.isolation.specs.Machine as theory
+use Rattle.connection_types.specs.declared.connection_type.ConnectionType.{ConnectionType}
 use Rattle.thread_model.specs.declared.command.Command.{Command}
 use Rattle.thread_model.specs.declared.command.Command.TheVariants as c
 use Rattle.thread_model.specs.declared.command.Tagged.{Tagged}
@@ -25,6 +26,14 @@ pub data Asked : Type 0 where
   Get : (target : ℕ) → Asked
   -- describe this class
   Meta : (class : List ℕ) → Asked
+  -- connect a signal of the sender to a method of the receiver
+  Connect : (sender : ℕ) (signal : List ℕ) (receiver : ℕ) (method : List ℕ) (mode : ConnectionType) (unique single : Bool) → Asked
+  -- break the connection of this number
+  DisconnectOne : (connection : ℕ) → Asked
+  -- break the connections of the sender that match where signal, receiver and method are given
+  Disconnect : (sender : ℕ) (signal : Option (List ℕ)) (receiver : Option ℕ) (method : Option (List ℕ)) → Asked
+  -- call a slot of this object, or send a signal of it
+  Invoke : (target : ℕ) (method : List ℕ) (args : List Data) → Asked
 
 -- what a command asks
 abbrev pub asked : Command → Asked
@@ -36,6 +45,10 @@ asked (c.Find target title class) = Find target title class
 asked (c.Set target value) = Set target (view value)
 asked (c.Get target) = Get target
 asked (c.Meta class) = Meta class
+asked (c.Connect sender signal receiver method mode unique single) = Connect sender signal receiver method mode unique single
+asked (c.DisconnectOne connection) = DisconnectOne connection
+asked (c.Disconnect sender signal receiver method) = Disconnect sender signal receiver method
+asked (c.Invoke target method args) = Invoke target method (map view args)
 
 -- a command and the session that gives it
 abbrev pub tagged : List ℕ → Command → theory.Tagged (List ℕ) Asked

@@ -1,23 +1,28 @@
 -- How a command comes out.
-use Rattle.std.specs.Prelude.{List, [], ◌∷◌, Option, Some, None}
+use Rattle.std.specs.Prelude.{[], ◌∷◌, ◌++◌, Option, Some, None}
 use Rattle.isolation.specs.Machine.{Effect}
 use Rattle.refusals.specs.declared.code.Code.{Code}
 use Rattle.thread_model.specs.declared.line.Answer.{Answer}
 use Rattle.thread_model.specs.declared.line.Line.{Line}
 use Rattle.thread_model.specs.declared.line.Line.TheVariants.{Reply, Error}
 use Rattle.thread_model.specs.declared.post.Post.{Post}
-use Rattle.thread_model.specs.Agenda.{Item, run}
+use Rattle.thread_model.specs.Doing.{Doing}
+use Rattle.thread_model.specs.Items.{Next, Reply as to_reply}
+use Rattle.thread_model.specs.Run.{run}
+use Rattle.thread_model.specs.Settings.{Settings}
 use Rattle.thread_model.specs.State.{State}
 
 -- a command that prints one line, and posts nothing
 abbrev pub replies : State → Answer → Effect State Line Post
 replies state answer = record { state = state; lines = Reply answer ∷ []; posts = [] }
 
--- a command that does these items, and what they come to
-abbrev pub does_items : State → List Item → Effect State Line Post
-does_items state items =
-    let done = run items (record { state = state; lines = [] }) in
-    record { state = done.state; lines = done.lines; posts = [] }
+-- what a session was told when it has done a command, and its state then
+abbrev pub ended : Doing → Effect State Line Post
+ended doing = record { state = doing.state; lines = doing.lines; posts = [] }
+
+-- a command that comes to this, does it to its end, and then replies
+abbrev pub does_next : Settings → Next → Answer → Effect State Line Post
+does_next settings next answer = ended (run settings (next.items ++ to_reply answer ∷ []) next.doing)
 
 -- a command that is refused prints its code alone and changes nothing
 abbrev pub refuses : State → Code → Effect State Line Post

@@ -1,10 +1,19 @@
 -- What commands, posts and items leave of every session.
-use Rattle.std.specs.Prelude.{ℕ, List, [], ◌∷◌, ◌++◌}
+use Rattle.std.specs.Prelude.{◌≡◌, ℕ, List, [], ◌∷◌, ◌++◌, IsFalse}
+use Rattle.std.specs.List.{list_any}
+use Rattle.variant_value.specs.declared.value.Value.{Value}
+use Rattle.term_core.specs.Act.{Act}
+use Rattle.term_evaluation.specs.Unfolding.{unfolded}
 use Rattle.thread_model.specs.declared.post.Post.{Post}
-use Rattle.thread_model.specs.Agenda.{Doing, IsUnderWay, Item, step}
+use Rattle.thread_model.specs.Agenda.{step}
 use Rattle.thread_model.specs.Asked.{Asked}
+use Rattle.thread_model.specs.Doing.{Doing}
+use Rattle.thread_model.specs.Items as to_do
+use Rattle.thread_model.specs.Items.{Item}
+use Rattle.thread_model.specs.Run.{run}
 use Rattle.thread_model.specs.State.{IsSound, State, empty}
 use Rattle.thread_model.specs.Thread.{Settings, arrives, does}
+use Rattle.thread_model.specs.UnderWay.{IsUnderWay, is_gone}
 
 -- a session is sound before its first command, and stays so in each command and with each post of
 -- another session
@@ -13,9 +22,14 @@ pub record KeepsSound : Type 0 where
   pub by_command : (settings : Settings) (self : List ℕ) (state : State) (asked : Asked) → IsSound state → IsSound (does settings self state asked).state
   pub by_post : (state : State) (from : List ℕ) (post : Post) → IsSound state → IsSound (arrives state from post)
 
--- while it does an agenda each dying object has its Gone in what is still to be done; so at the end
--- none is dying
+-- while it does an agenda exactly those objects are dying that it is still to let go, and their
+-- connections are broken before; so at the end no object is dying and no connection has lost an end
 pub record KeepsUnderWay : Type 0 where
-  pub at_first : (agenda : List Item) (state : State) → IsSound state → IsUnderWay agenda state
-  pub by_item : (item : Item) (agenda : List Item) (doing : Doing) → IsUnderWay (item ∷ agenda) doing.state → IsUnderWay ((step item doing).items ++ agenda) (step item doing).doing.state
+  pub at_first : (agenda : List Item) (state : State) → IsFalse (list_any is_gone agenda) → IsSound state → IsUnderWay agenda state
+  pub by_item : (settings : Settings) (item : Item) (agenda : List Item) (doing : Doing) → IsUnderWay (item ∷ agenda) doing.state → IsUnderWay ((step settings item doing).items ++ agenda) (step settings item doing).doing.state
   pub at_end : (state : State) → IsUnderWay [] state → IsSound state
+
+-- an action over the arguments of its slot does what it does with them put in, over none
+abbrev pub ActsInPlace : Type 0
+ActsInPlace = (settings : Settings) (action : Act) (args : List Value) (self sender depth : ℕ) (doing : Doing) →
+    run settings (to_do.Act action args self sender depth ∷ []) doing ≡ run settings (to_do.Act (unfolded args action) [] self sender depth ∷ []) doing

@@ -4,24 +4,19 @@ use Rattle.std.specs.Option.{option_map_or, option_or}
 use Rattle.std.specs.Result.{result_err}
 use Rattle.serde_json.specs.Data.{Data, null}
 use Rattle.refusals.specs.declared.code.Code.{Code}
-use Rattle.refusals.specs.declared.code.Code.TheVariants.{NoSuchClass, NoSuchObject}
+use Rattle.refusals.specs.declared.code.Code.TheVariants.{NoSuchClass}
 use Rattle.signature_core.specs.declared.kind.Kind.TheVariants as k
 use Rattle.variant_value.specs.Values.{value_of}
 use Rattle.class_table.specs.declared.class.Class.{Class}
 use Rattle.class_table.specs.Lookup.{index_of}
-use Rattle.object_tree.specs.Rows.{is_there}
 use Rattle.object_tree.specs.Refusing.{add_refusal, parent_refusal, set_parent_refusal}
-use Rattle.thread_model.specs.Asked.{Asked, New, Delete, SetParent, Children, Find, Set, Get, Meta}
+use Rattle.thread_model.specs.Absence.{absence, named_absence}
+use Rattle.thread_model.specs.Asked.{Asked, New, Delete, SetParent, Children, Find, Set, Get, Meta, Connect, DisconnectOne, Disconnect, Invoke}
+use Rattle.thread_model.specs.Connecting.{connection_refusal}
+use Rattle.thread_model.specs.Methods.{signature_in}
 use Rattle.thread_model.specs.Settings.{Settings}
+use Rattle.thread_model.specs.Signals.{asked_connection, asked_method, asked_pattern, asked_values}
 use Rattle.thread_model.specs.State.{State}
-
--- the object is not there
-abbrev pub absence : State → ℕ → Option Code
-absence state target = if is_there state.forest.rows target then None else Some NoSuchObject
-
--- the same of an object that need not be named
-abbrev pub named_absence : State → Option ℕ → Option Code
-named_absence state target = option_map_or (absence state) target None
 
 -- no class has this name
 abbrev pub class_refusal : List Class → List ℕ → Option Code
@@ -35,6 +30,10 @@ named_class_refusal classes class = option_map_or (class_refusal classes) class 
 abbrev pub title_refusal : Data → Option Code
 title_refusal null = None
 title_refusal value = result_err (value_of k.Text value)
+
+-- the arguments do not serve the method that is called, where there is one
+abbrev pub values_refusal : Settings → State → ℕ → List Data → Option ℕ → Option Code
+values_refusal settings state target args index = option_map_or (λ index. result_err (asked_values settings state target index args)) index None
 
 -- why a command is refused in a session of this name and state, if it is
 unfoldable pub refusal : Settings → List ℕ → State → Asked → Option Code
@@ -53,3 +52,16 @@ refusal settings self state (Set target value) =
     (title_refusal value)
 refusal settings self state (Get target) = absence state target
 refusal settings self state (Meta class) = class_refusal settings.classes class
+refusal settings self state (Connect sender signal receiver method mode unique single) =
+    option_or (absence state sender) (
+    option_or (absence state receiver)
+    (connection_refusal state.connections (asked_connection settings state sender signal receiver method mode single) unique))
+refusal settings self state (DisconnectOne connection) = None
+refusal settings self state (Disconnect sender signal receiver method) =
+    option_or (absence state sender) (
+    option_or (named_absence state receiver)
+    (result_err (asked_pattern settings state sender signal receiver method)))
+refusal settings self state (Invoke target method args) =
+    option_or (absence state target) (
+    option_or (result_err (signature_in method))
+    (values_refusal settings state target args (asked_method settings state target method)))

@@ -1,13 +1,17 @@
 -- What a session holds.
-use Rattle.std.specs.Prelude.{◌≡◌, ◌+◌, ℕ, Bool, false, List, [], Option, IsFalse, bytes_eq}
+use Rattle.std.specs.Prelude.{◌≡◌, ◌+◌, ℕ, Bool, false, List, [], Option, IsFalse, IsTrue, bytes_eq}
 use Rattle.std.specs.BTreeMap.{insert_entry, is_at}
 use Rattle.std.specs.List.{All}
 use Rattle.std.specs.Map.{keys_of, lookup, remove_entry, values_of}
 use Rattle.std.specs.Option.{unwrap_or}
 use Rattle.std.specs.Ordering.{nat_cmp}
+use Rattle.connection_list.specs.declared.connection.Connection.{Connection}
+use Rattle.connection_list.specs.declared.connection.NewConnection.{NewConnection}
+use Rattle.connection_list.specs.Rows as list
+use Rattle.connection_list.specs.Rows.{Rows, connected, no_rows, without}
 use Rattle.object_tree.specs.Forest as tree
 use Rattle.object_tree.specs.Forest.{Forest, empty_forest}
-use Rattle.object_tree.specs.Rows.{numbers}
+use Rattle.object_tree.specs.Rows.{is_there, numbers}
 use Rattle.object_tree.specs.Changes.{added, reparented, removed}
 use Rattle.signature_core.specs.declared.kind.Kind.TheVariants as k
 use Rattle.variant_value.specs.declared.value.Value.{Value}
@@ -24,10 +28,12 @@ pub record State : Type 0 where
   pub forest : Forest
   -- the title of each
   pub titles : Titles
+  -- the connections between them
+  pub connections : Rows
 
 -- the state of a session that has had no command
 abbrev pub empty : State
-empty = record { forest = empty_forest; titles = [] }
+empty = record { forest = empty_forest; titles = []; connections = no_rows }
 
 -- is a title that of this object
 abbrev pub is_of : ℕ → ℕ → Bool
@@ -48,7 +54,7 @@ titled titles number title = insert_entry nat_cmp titles number title
 
 -- the state with one more object, whose title is the empty text
 abbrev pub with_object : State → Option ℕ → ℕ → State
-with_object state parent class = record { forest = added state.forest parent class; titles = titled state.titles (state.forest.last_number + 1) (v.Text []) }
+with_object state parent class = record state { forest = added state.forest parent class; titles = titled state.titles (state.forest.last_number + 1) (v.Text []) }
 
 -- the state with another parent of an object
 abbrev pub with_parent : State → ℕ → Option ℕ → State
@@ -60,7 +66,20 @@ with_title state number title = record state { titles = titled state.titles numb
 
 -- the state without an object: its children have become roots
 abbrev pub without_object : State → ℕ → State
-without_object state number = record { forest = removed state.forest number; titles = remove_entry (is_of number) state.titles }
+without_object state number = record state { forest = removed state.forest number; titles = remove_entry (is_of number) state.titles }
+
+-- the state with one more connection, which has the next number
+abbrev pub with_connection : State → NewConnection → State
+with_connection state new = record state { connections = connected state.connections new }
+
+-- the state without the connections that pass a test
+abbrev pub without_connections : State → (Connection → Bool) → State
+without_connections state test = record state { connections = without test state.connections }
+
+-- the objects at both ends of a connection stand
+pub record IsTied (state : State) (row : Connection) : Type 0 where
+  pub sender : IsTrue (is_there state.forest.rows row.sender)
+  pub receiver : IsTrue (is_there state.forest.rows row.receiver)
 
 -- what holds of every session, also while it does a command
 pub record IsWhole (state : State) : Type 0 where
@@ -69,6 +88,10 @@ pub record IsWhole (state : State) : Type 0 where
   pub titles : keys_of state.titles ≡ numbers state.forest.rows
   -- a title is a text that is not too long
   pub texts : All (IsOfKind k.Text) (values_of state.titles)
+  -- the numbers of connections rise, and there are not too many
+  pub connections : list.IsSound state.connections
+  -- no connection has an end that is gone
+  pub ends : All (IsTied state) state.connections.rows
 
 -- what holds of every session between commands
 pub record IsSound (state : State) : Type 0 where

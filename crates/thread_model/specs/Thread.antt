@@ -4,11 +4,12 @@ use Rattle.std.specs.Prelude.{ℕ, Bool, false, List}
 use Rattle.isolation.specs.Machine.{Effect}
 use Rattle.thread_model.specs.declared.line.Line.{Line}
 use Rattle.thread_model.specs.declared.post.Post.{Post}
-use Rattle.thread_model.specs.Asked.{Asked, New, Delete, SetParent, Children, Find, Set, Get, Meta}
+use Rattle.thread_model.specs.Asked.{Asked, New, Delete, SetParent, Children, Find, Set, Get, Meta, Connect, DisconnectOne, Disconnect, Invoke}
 use Rattle.thread_model.specs.Classes.{describes}
 use Rattle.thread_model.specs.Effects.{unless}
 use Rattle.thread_model.specs.Properties.{gets, sets}
 use Rattle.thread_model.specs.Refusing.{refusal}
+use Rattle.thread_model.specs.Signals.{asked_connection, asked_method, asked_pattern, connects, disconnects, disconnects_one, invokes}
 use Rattle.thread_model.specs.State.{State}
 use Rattle.thread_model.specs.Trees.{deletes, finds, lists, makes, reparents}
 pub use Rattle.thread_model.specs.Settings.{Settings}
@@ -16,13 +17,17 @@ pub use Rattle.thread_model.specs.Settings.{Settings}
 -- what a command does that is not refused, in a session of this name and state
 unfoldable pub performs : Settings → List ℕ → State → Asked → Effect State Line Post
 performs settings self state (New class parent) = makes settings.classes state class parent
-performs settings self state (Delete target) = deletes state target
+performs settings self state (Delete target) = deletes settings state target
 performs settings self state (SetParent target parent) = reparents state target parent
 performs settings self state (Children target) = lists state target
 performs settings self state (Find target title class) = finds settings.classes state target title class
 performs settings self state (Set target value) = sets state target value
 performs settings self state (Get target) = gets state target
 performs settings self state (Meta class) = describes settings.classes state class
+performs settings self state (Connect sender signal receiver method mode unique single) = connects state (asked_connection settings state sender signal receiver method mode single)
+performs settings self state (DisconnectOne connection) = disconnects_one state connection
+performs settings self state (Disconnect sender signal receiver method) = disconnects state (asked_pattern settings state sender signal receiver method)
+performs settings self state (Invoke target method args) = invokes settings state target args (asked_method settings state target method)
 
 -- what a command does
 unfoldable pub does : Settings → List ℕ → State → Asked → Effect State Line Post

@@ -9,9 +9,11 @@ use Rattle.object_tree.specs.Finding.{found_below}
 use Rattle.thread_model.specs.declared.line.Answer.TheVariants.{Number, Found, Numbers, Truth}
 use Rattle.thread_model.specs.declared.line.Line.{Line}
 use Rattle.thread_model.specs.declared.post.Post.{Post}
-use Rattle.thread_model.specs.Agenda.{Delete, Reply}
 use Rattle.thread_model.specs.Classes.{class_index}
-use Rattle.thread_model.specs.Effects.{does_items, replies}
+use Rattle.thread_model.specs.Doing.{begun}
+use Rattle.thread_model.specs.Effects.{does_next, replies}
+use Rattle.thread_model.specs.Items.{Delete, puts}
+use Rattle.thread_model.specs.Settings.{Settings}
 use Rattle.thread_model.specs.State.{State, is_text, title_of, with_object, with_parent}
 
 -- making an object of a class replies its number, which is the next one
@@ -19,8 +21,8 @@ abbrev pub makes : List Class → State → List ℕ → Option ℕ → Effect S
 makes classes state class parent = replies (with_object state parent (class_index classes class)) (Number (state.forest.last_number + 1))
 
 -- deleting an object, and all below it, replies true at the end
-abbrev pub deletes : State → ℕ → Effect State Line Post
-deletes state target = does_items state (Delete target 0 ∷ Reply (Truth true) ∷ [])
+abbrev pub deletes : Settings → State → ℕ → Effect State Line Post
+deletes settings state target = does_next settings (puts (Delete target 0 ∷ []) (begun settings state)) (Truth true)
 
 -- giving an object another parent, which may be none
 abbrev pub reparents : State → ℕ → Option ℕ → Effect State Line Post

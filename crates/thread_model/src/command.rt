@@ -1,5 +1,6 @@
 //! What clients ask.
-use plain_types::Text;
+use connection_types::ConnectionType;
+use plain_types::{Items, Text};
 
 /// A command of a session.
 #[derive(Drop)]
@@ -41,6 +42,37 @@ pub enum Command {
     /// Describes a class.
     Meta {
         class: Text,
+    },
+    /// Connects a signal of an object to a method of another, which may be the same, and replies the
+    /// connection's number.
+    Connect {
+        sender: u32,
+        signal: Text,
+        receiver: u32,
+        method: Text,
+        mode: ConnectionType,
+        /// Refused where the same is connected already (`Qt::UniqueConnection`).
+        unique: bool,
+        /// Taken out before its method is first called (`Qt::SingleShotConnection`).
+        single: bool,
+    },
+    /// Breaks the connection of this number, and replies whether it stood.
+    DisconnectOne {
+        connection: u32,
+    },
+    /// Breaks all connections of a sender that match, and replies how many: of any signal, to any
+    /// receiver, to any of its methods, where none is named. A method is named only beside a receiver.
+    Disconnect {
+        sender: u32,
+        signal: Option<Text>,
+        receiver: Option<u32>,
+        method: Option<Text>,
+    },
+    /// Calls a slot of an object or sends a signal of it, and replies whether it has such a method.
+    Invoke {
+        object: u32,
+        method: Text,
+        args: Items<serde_json::Value>,
     },
 }
 

@@ -4,14 +4,16 @@
 #![tactic(auto)]
 
 ghost use Rattle.thread_model.specs.Machine.{IsMetadLawful};
-ghost use Rattle.thread_model.specs.Agenda.{RunsToItsEnd};
-ghost use Rattle.thread_model.specs.Laws.{KeepsSound, KeepsUnderWay};
+ghost use Rattle.thread_model.specs.Run.{RunsToItsEnd};
+ghost use Rattle.thread_model.specs.Laws.{ActsInPlace, KeepsSound, KeepsUnderWay};
 
+mod call;
 mod command;
 mod line;
 mod meta;
 mod post;
 
+pub use call::{Call, NESTED_SIGNALS};
 pub use command::{Command, Tagged};
 pub use line::{Answer, Line};
 pub use meta::MetaObject;
@@ -24,14 +26,21 @@ pub fn machine_is_lawful()
     ensures { IsMetadLawful }
 {}
 
-/// The run of an agenda does its items one after another, up to the last.
+/// The run of an agenda does its items one after another, up to the last, and an agenda behind another
+/// one after it.
 pub fn agenda_runs_to_its_end()
     ensures { RunsToItsEnd }
 {}
 
 /// A session stays sound: between commands its objects stand in trees within the limits, each has a
-/// title, and none is being deleted.
+/// title, none is being deleted, and both ends of every connection stand.
 pub fn commands_keep_sessions_sound()
     ensures commands { KeepsSound }
     ensures items { KeepsUnderWay }
+{}
+
+/// An action does over the arguments of its slot what it does with them put in, over none. So a body is
+/// run where it stands, and no copy of it is needed.
+pub fn actions_run_in_place()
+    ensures { ActsInPlace }
 {}

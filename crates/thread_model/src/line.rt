@@ -1,4 +1,5 @@
 //! What clients are told.
+use crate::call::Call;
 use crate::meta::MetaObject;
 use plain_types::Items;
 use refusals::Code;
@@ -25,4 +26,9 @@ pub enum Line {
     Reply(Answer),
     /// The command was refused.
     Error(Code),
+    /// A slot is called.
+    Call(Call),
+    /// An action in the body of this object's slot was refused, or a signal of this object was not
+    /// sent. That the turns are used up is said of no object.
+    Warning { code: Code, object: Option<u32> },
 }

@@ -1,5 +1,5 @@
 -- Texts in which JSON escapes nothing.
-use Rattle.std.proofs.Common.{◌≡◌, ◌<◌, ◌≤◌, ◌==◌, ◌&&◌, not, ℕ, suc, Bool, true, false, List, [], ◌∷◌, ◌++◌, IsTrue, bytes_eq, codes, leb, ltb, drop, refl, sym, ap, ap₂, ◌∙◌, ⊎_elim, append_assoc, lit<, arith}
+use Rattle.std.proofs.Common.{◌≡◌, ◌<◌, ◌≤◌, ◌==◌, ◌&&◌, not, ℕ, suc, Bool, true, false, List, [], ◌∷◌, ◌++◌, IsTrue, bytes_eq, codes, leb, ltb, drop, refl, sym, ap, ◌∙◌, ⊎_elim, lit<, arith}
 use Rattle.std.specs.List.{list_all}
 use Rattle.std.proofs.lemmas.Bool.{and_parts, and_from, or_left, or_cases, leb-true, lt-leb}
 use Rattle.std.proofs.lemmas.Bool.Decides.{nat_tests}
@@ -11,9 +11,7 @@ use Rattle.plain_types.specs.Names.{is_name_start, is_name_byte, is_name}
 use Rattle.refusals.specs.declared.code.Code.{Code}
 use Rattle.refusals.specs.declared.code.Code.TheVariants.{UnreadableLine, NotACommand, NoSuchClass, NoSuchObject, NoSuchMethod, BadSignature, DoesNotFit, ConnectedAlready, UniqueFunctor, NoSuchFunctor, NoSuchProperty, Cycle, Dying, Limit, NameTaken, OwnSession, NoGroup, NotBindable, NumbersUsedUp, SessionFailed, OutOfMemory, BadValue, TurnsUsedUp}
 use Rattle.refusals.specs.Codes.{code_text}
-use Rattle.thread_model.specs.declared.line.Answer.{Answer}
-use Rattle.thread_model.specs.declared.line.Line.TheVariants.{Reply, Error}
-use Rattle.wire_format.specs.Text.{json_of_answer, text_of_line, is_plain_byte, is_session_text}
+use Rattle.wire_format.specs.Text.{is_plain_byte, is_session_text}
 
 -- what a plain byte is not
 record Plain (x : ℕ) : Type 0 where
@@ -121,43 +119,3 @@ name_is_plain (x ∷ s) h =
 -- and what a line names as its session
 pub session_is_plain : (s : List ℕ) → IsTrue (is_session_text s) → list_all is_plain_byte s ≡ true
 session_is_plain s h = ⊎_elim (λ named. name_is_plain s named) (λ none. ap (list_all is_plain_byte) ((bytes_eq-Decides s (codes "-")).0 none)) (or_cases (is_name s) (bytes_eq s (codes "-")) h)
-
--- a line, part by part: what opens it, what it tells, and its session
-around : List ℕ → List ℕ → List ℕ → List ℕ
-around opening told session = (opening ++ (told ++ (codes ",\"session\":" ++ (session ++ 125 ∷ [])))) ++ 10 ∷ []
-
-error_line : (code : Code) (session : List ℕ) → text_of_line session (Error code) ≡ around (codes "{\"error\":") (compact_text (string (code_text code))) (compact_text (string session))
-unfolding text_of_line around serde_json_on_literals
-error_line code session = refl
-
-reply_line : (answer : Answer) (session : List ℕ) → text_of_line session (Reply answer) ≡ around (codes "{\"reply\":") (compact_text (json_of_answer answer)) (compact_text (string session))
-unfolding text_of_line around serde_json_on_literals
-reply_line answer session = refl
-
-around_word : (opening told session : List ℕ) → around opening told (34 ∷ (session ++ 34 ∷ [])) ≡ opening ++ (told ++ (codes ",\"session\":\"" ++ (session ++ codes "\"}\n")))
-unfolding around
-around_word opening told session = simp append_assoc
-
-around_text : (opening told session : List ℕ) → around opening (34 ∷ (told ++ 34 ∷ [])) (34 ∷ (session ++ 34 ∷ [])) ≡ (opening ++ 34 ∷ []) ++ (told ++ (codes "\",\"session\":\"" ++ (session ++ codes "\"}\n")))
-unfolding around
-around_text opening told session = simp append_assoc
-
-pub text_of_error : (code : Code) (session : List ℕ) → IsTrue (is_session_text session) → text_of_line session (Error code) ≡ codes "{\"error\":\"" ++ (code_text code ++ (codes "\",\"session\":\"" ++ (session ++ codes "\"}\n")))
-text_of_error code session named =
-    error_line code session
-    ∙ ap₂ (around (codes "{\"error\":")) (text_of_plain (code_text code) (code_is_plain code)) (text_of_plain session (session_is_plain session named))
-    ∙ around_text (codes "{\"error\":") (code_text code) session
-
--- a reply's line, whose answer is written as a word
-pub text_of_word : (answer : Answer) (told session : List ℕ) → IsTrue (is_session_text session) → told ≡ compact_text (json_of_answer answer) → codes "{\"reply\":" ++ (told ++ (codes ",\"session\":\"" ++ (session ++ codes "\"}\n"))) ≡ text_of_line session (Reply answer)
-text_of_word answer told session named shown =
-    sym (reply_line answer session
-    ∙ ap₂ (around (codes "{\"reply\":")) (sym shown) (text_of_plain session (session_is_plain session named))
-    ∙ around_word (codes "{\"reply\":") told session)
-
--- and as a text in which JSON escapes nothing
-pub text_of_text : (answer : Answer) (told session : List ℕ) → IsTrue (is_session_text session) → list_all is_plain_byte told ≡ true → compact_text (string told) ≡ compact_text (json_of_answer answer) → codes "{\"reply\":\"" ++ (told ++ (codes "\",\"session\":\"" ++ (session ++ codes "\"}\n"))) ≡ text_of_line session (Reply answer)
-text_of_text answer told session named plain shown =
-    sym (reply_line answer session
-    ∙ ap₂ (around (codes "{\"reply\":")) (sym shown ∙ text_of_plain told plain) (text_of_plain session (session_is_plain session named))
-    ∙ around_text (codes "{\"reply\":") told session)

@@ -5,12 +5,13 @@ use Rattle.serde_json.specs.Data.{Data}
 use Rattle.json_reading.specs.Fields.{◌>>=◌, text_at}
 use Rattle.thread_model.specs.Asked.{Asked}
 use Rattle.wire_format.specs.declared.commands.Word.{Word}
-use Rattle.wire_format.specs.declared.commands.Word.TheVariants.{New, Delete, SetParent, Children, Find, Set, Get, Meta}
+use Rattle.wire_format.specs.declared.commands.Word.TheVariants.{New, Delete, SetParent, Children, Find, Set, Get, Meta, Connect, Disconnect, Invoke}
 use Rattle.wire_format.specs.Form.{Form}
 use Rattle.wire_format.specs.Held.{held_by}
 use Rattle.wire_format.specs.Trees as trees
 use Rattle.wire_format.specs.Properties as properties
 use Rattle.wire_format.specs.Classes as classes
+use Rattle.wire_format.specs.Signals as signals
 
 abbrev pub form_of : Word → Form
 form_of New = trees.new
@@ -21,9 +22,12 @@ form_of Find = trees.find
 form_of Set = properties.set
 form_of Get = properties.get
 form_of Meta = classes.meta
+form_of Connect = signals.connect
+form_of Disconnect = signals.disconnect
+form_of Invoke = signals.invoke
 
 abbrev pub all_words : List Word
-all_words = New ∷ Delete ∷ SetParent ∷ Children ∷ Find ∷ Set ∷ Get ∷ Meta ∷ []
+all_words = New ∷ Delete ∷ SetParent ∷ Children ∷ Find ∷ Set ∷ Get ∷ Meta ∷ Connect ∷ Disconnect ∷ Invoke ∷ []
 
 -- the command of this name
 abbrev pub word_named : List ℕ → Option Word

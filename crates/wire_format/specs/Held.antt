@@ -4,8 +4,10 @@ use Rattle.std.specs.List.{list_any}
 use Rattle.std.specs.Option.{option_map_or}
 use Rattle.plain_types.specs.Names.{is_name}
 use Rattle.serde_json.specs.Data.{Data}
-use Rattle.serde_json.specs.Find.{get, as_null, as_object, as_str, as_number, as_u64}
-use Rattle.json_reading.specs.Fields.{◌>>=◌, when, all_keys}
+use Rattle.serde_json.specs.Find.{get, as_array, as_bool, as_null, as_object, as_str, as_number, as_u64}
+use Rattle.connection_types.specs.declared.connection_type.ConnectionType.{ConnectionType}
+use Rattle.connection_types.specs.declared.connection_type.ConnectionType.TheVariants.{Auto, Direct}
+use Rattle.json_reading.specs.Fields.{◌>>=◌, when, all_keys, elements_of}
 use Rattle.json_reading.specs.Members.{data_of}
 use Rattle.wire_format.specs.declared.held.Held.{Held as HeldInCode}
 use Rattle.wire_format.specs.declared.held.Held.TheVariants as code
@@ -17,20 +19,26 @@ use Rattle.wire_format.specs.Keys.{Key, needed, optional, key_word}
 pub data Held : Type 0 where
   absent : Held
   none : Held
-  object : ℕ → Held
+  number : ℕ → Held
   text : List ℕ → Held
+  truth : Bool → Held
+  mode : ConnectionType → Held
+  list : List Data → Held
   any : Data → Held
 
 abbrev pub held_seen : HeldInCode → Held
 held_seen code.Absent = absent
 held_seen code.Null = none
-held_seen (code.Object number) = object number
+held_seen (code.Number n) = number n
 held_seen (code.Text t) = text t.now
+held_seen (code.Truth t) = truth t
+held_seen (code.Mode m) = mode m
+held_seen (code.List field) = list (elements_of (data_of field.now))
 held_seen (code.Any field) = any (data_of field.now)
 
 -- the number that is held, if one is
 abbrev pub number_of : Held → Option ℕ
-number_of (object number) = Some number
+number_of (number n) = Some n
 number_of held = None
 
 -- the text that is held, if one is
@@ -38,17 +46,36 @@ abbrev pub text_of : Held → Option (List ℕ)
 text_of (text t) = Some t
 text_of held = None
 
+-- the truth that is held, false where none is
+abbrev pub truth_of : Held → Bool
+truth_of (truth t) = t
+truth_of held = false
+
+-- how calls are made, `auto` where nothing is held
+abbrev pub mode_of : Held → ConnectionType
+mode_of (mode m) = m
+mode_of held = Auto
+
+-- the elements of the array that is held, if one is
+abbrev pub list_of : Held → Option (List Data)
+list_of (list elements) = Some elements
+list_of held = None
+
 -- the JSON that is held, if any is
 abbrev pub json_of : Held → Option Data
 json_of (any json) = Some json
 json_of held = None
 
--- the number of an object that a value is
-abbrev pub object_in : Data → Option ℕ
-object_in json = do
+-- the number of an object or of a connection that a value is
+abbrev pub number_in : Data → Option ℕ
+number_in json = do
   figure ← as_number json
   n ← as_u64 figure
   when (nat_le 1 n && nat_le n (2 ^ 32 - 1)) n
+
+-- how calls are made, by its name; there are no queued calls yet
+abbrev pub mode_named : List ℕ → Option ConnectionType
+mode_named name = if bytes_eq name (codes "auto") then Some Auto else (if bytes_eq name (codes "direct") then Some Direct else None)
 
 -- a value, as a key holds it
 abbrev pub reads : Holds → Data → Option Held
@@ -56,11 +83,14 @@ reads h.Name json = do
   name ← as_str json
   when (is_name name) (text name)
 reads h.Text json = option_map text (as_str json)
-reads h.Object json = option_map object (object_in json)
-reads h.ObjectOrNull json = if is_some (as_null json) then Some none else option_map object (object_in json)
+reads h.Number json = option_map number (number_in json)
+reads h.NumberOrNull json = if is_some (as_null json) then Some none else option_map number (number_in json)
 reads h.ObjectName json = do
   name ← as_str json
   when (bytes_eq name (codes "objectName")) (text name)
+reads h.Truth json = option_map truth (as_bool json)
+reads h.Mode json = option_map mode (option_and_then mode_named (as_str json))
+reads h.List json = when (is_some (as_array json)) (list (elements_of json))
 reads h.Any json = Some (any json)
 
 -- what JSON holds at a key

@@ -4,6 +4,7 @@ pub mod Form
 pub mod Trees
 pub mod Properties
 pub mod Classes
+pub mod Signals
 pub mod Commands
 pub mod Command
 pub mod Input

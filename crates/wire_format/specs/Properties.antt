@@ -1,7 +1,7 @@
 -- The commands of properties.
 use Rattle.std.specs.Prelude.{List, [], ◌∷◌, Option, None, codes, option_and_then, option_map}
 use Rattle.thread_model.specs.Asked.{Asked, Set, Get}
-use Rattle.wire_format.specs.declared.keys.Holds.TheVariants.{Object, ObjectName, Any}
+use Rattle.wire_format.specs.declared.keys.Holds.TheVariants.{Number, ObjectName, Any}
 use Rattle.wire_format.specs.Form.{Form}
 use Rattle.wire_format.specs.Held.{Held, json_of, number_of}
 use Rattle.wire_format.specs.Keys.{needed}
@@ -12,7 +12,7 @@ set_of (target ∷ property ∷ value ∷ []) = option_and_then (λ number. opti
 set_of held = None
 
 abbrev pub set : Form
-set = record { word = codes "set"; keys = needed (codes "object") Object ∷ needed (codes "property") ObjectName ∷ needed (codes "value") Any ∷ []; asks = set_of }
+set = record { word = codes "set"; keys = needed (codes "object") Number ∷ needed (codes "property") ObjectName ∷ needed (codes "value") Any ∷ []; asks = set_of }
 
 -- `get` reads a property
 abbrev pub get_of : List Held → Option Asked
@@ -20,4 +20,4 @@ get_of (target ∷ property ∷ []) = option_map Get (number_of target)
 get_of held = None
 
 abbrev pub get : Form
-get = record { word = codes "get"; keys = needed (codes "object") Object ∷ needed (codes "property") ObjectName ∷ []; asks = get_of }
+get = record { word = codes "get"; keys = needed (codes "object") Number ∷ needed (codes "property") ObjectName ∷ []; asks = get_of }

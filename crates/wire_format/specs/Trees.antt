@@ -1,7 +1,7 @@
 -- The commands of trees of objects.
 use Rattle.std.specs.Prelude.{List, [], ◌∷◌, Option, Some, None, codes, option_map}
 use Rattle.thread_model.specs.Asked.{Asked, New, Delete, SetParent, Children, Find}
-use Rattle.wire_format.specs.declared.keys.Holds.TheVariants.{Name, Text, Object, ObjectOrNull}
+use Rattle.wire_format.specs.declared.keys.Holds.TheVariants.{Name, Text, Number, NumberOrNull}
 use Rattle.wire_format.specs.Form.{Form}
 use Rattle.wire_format.specs.Held.{Held, number_of, text_of}
 use Rattle.wire_format.specs.Keys.{needed, optional}
@@ -12,7 +12,7 @@ new_of (class ∷ parent ∷ []) = option_map (λ name. New name (number_of pare
 new_of held = None
 
 abbrev pub new : Form
-new = record { word = codes "new"; keys = needed (codes "class") Name ∷ optional (codes "parent") Object ∷ []; asks = new_of }
+new = record { word = codes "new"; keys = needed (codes "class") Name ∷ optional (codes "parent") Number ∷ []; asks = new_of }
 
 -- `delete` deletes an object
 abbrev pub delete_of : List Held → Option Asked
@@ -20,7 +20,7 @@ delete_of (target ∷ []) = option_map Delete (number_of target)
 delete_of held = None
 
 abbrev pub delete : Form
-delete = record { word = codes "delete"; keys = needed (codes "object") Object ∷ []; asks = delete_of }
+delete = record { word = codes "delete"; keys = needed (codes "object") Number ∷ []; asks = delete_of }
 
 -- `setParent` gives an object another parent; null makes it a root
 abbrev pub set_parent_of : List Held → Option Asked
@@ -28,7 +28,7 @@ set_parent_of (target ∷ parent ∷ []) = option_map (λ number. SetParent numb
 set_parent_of held = None
 
 abbrev pub set_parent : Form
-set_parent = record { word = codes "setParent"; keys = needed (codes "object") Object ∷ needed (codes "parent") ObjectOrNull ∷ []; asks = set_parent_of }
+set_parent = record { word = codes "setParent"; keys = needed (codes "object") Number ∷ needed (codes "parent") NumberOrNull ∷ []; asks = set_parent_of }
 
 -- `children` tells the children of an object, or the roots
 abbrev pub children_of : List Held → Option Asked
@@ -36,7 +36,7 @@ children_of (target ∷ []) = Some (Children (number_of target))
 children_of held = None
 
 abbrev pub children : Form
-children = record { word = codes "children"; keys = optional (codes "object") Object ∷ []; asks = children_of }
+children = record { word = codes "children"; keys = optional (codes "object") Number ∷ []; asks = children_of }
 
 -- `find` looks for an object below another one
 abbrev pub find_of : List Held → Option Asked
@@ -44,4 +44,4 @@ find_of (target ∷ name ∷ class ∷ []) = option_map (λ number. Find number 
 find_of held = None
 
 abbrev pub find : Form
-find = record { word = codes "find"; keys = needed (codes "object") Object ∷ optional (codes "name") Text ∷ optional (codes "class") Name ∷ []; asks = find_of }
+find = record { word = codes "find"; keys = needed (codes "object") Number ∷ optional (codes "name") Text ∷ optional (codes "class") Name ∷ []; asks = find_of }

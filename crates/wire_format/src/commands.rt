@@ -12,6 +12,7 @@ use crate::classes::{META, meta_of};
 use crate::held::{Held, held_by};
 use crate::keys::Key;
 use crate::properties::{GET, SET, get_of, set_of};
+use crate::signals::{CONNECT, DISCONNECT, INVOKE, connect_of, disconnect_of, invoke_of};
 use crate::trees::{
     CHILDREN, DELETE, FIND, NEW, SET_PARENT, children_of, delete_of, find_of, new_of, set_parent_of,
 };
@@ -30,6 +31,9 @@ pub enum Word {
     Set,
     Get,
     Meta,
+    Connect,
+    Disconnect,
+    Invoke,
 }
 
 fn word_named(name: &str) -> Option<Word>
@@ -44,6 +48,9 @@ fn word_named(name: &str) -> Option<Word>
         "set" => Some(Word::Set),
         "get" => Some(Word::Get),
         "meta" => Some(Word::Meta),
+        "connect" => Some(Word::Connect),
+        "disconnect" => Some(Word::Disconnect),
+        "invoke" => Some(Word::Invoke),
         _ => None,
     }
 }
@@ -61,6 +68,9 @@ fn keys_of(word: Word) -> &'static [Key]
         Word::Set => &SET,
         Word::Get => &GET,
         Word::Meta => &META,
+        Word::Connect => &CONNECT,
+        Word::Disconnect => &DISCONNECT,
+        Word::Invoke => &INVOKE,
     }
 }
 
@@ -81,6 +91,9 @@ fn asked_with(
         Word::Set => set_of(alloc, held),
         Word::Get => Ok(get_of(held)),
         Word::Meta => meta_of(alloc, held),
+        Word::Connect => connect_of(alloc, held),
+        Word::Disconnect => disconnect_of(alloc, held),
+        Word::Invoke => invoke_of(alloc, held),
     }
 }
 

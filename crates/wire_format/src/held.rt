@@ -5,11 +5,12 @@ ghost use Rattle.serde_json.specs.Data.{object};
 ghost use Rattle.serde_json.specs.View.{view};
 ghost use Rattle.json_reading.specs.Members.{data_of, members_in};
 ghost use Rattle.wire_format.specs.Keys.{Key, key_seen, key_word};
-ghost use Rattle.wire_format.specs.Held.{all_held, held_at, held_by, held_seen, has_only, is_known, json_of, number_of, object_in, reads, text_of};
+ghost use Rattle.wire_format.specs.Held.{held_at, held_by, held_seen, has_only, is_known, json_of, list_of, mode_named, mode_of, number_in, number_of, reads, text_of, truth_of};
 
 use crate::keys::{Holds, Key, MOST_KEYS};
+use connection_types::ConnectionType;
 use json_reading::{Field, Member, value_at};
-use plain_types::{Text, is_name};
+use plain_types::{Items, Text, is_name};
 use serde_json::Value;
 use smallvec::SmallVec;
 use std::alloc::{AllocError, Global};
@@ -20,18 +21,22 @@ pub enum Held<'m, 'a> {
     #[default]
     Absent,
     Null,
-    Object(u32),
+    Number(u32),
     Text(&'a str),
+    Truth(bool),
+    Mode(ConnectionType),
+    /// The value is an array.
+    List(&'m Field<'a>),
     Any(&'m Field<'a>),
 }
 
 impl Held<'_, '_> {
-    /// The number of an object, where one is held.
+    /// The number, where one is held.
     pub(crate) fn number(&self) -> Option<u32>
         ensures { result ≡ number_of (held_seen self.now) }
     {
         match self {
-            Held::Object(number) => Some(*number),
+            Held::Number(number) => Some(*number),
             _ => None,
         }
     }
@@ -42,6 +47,36 @@ impl Held<'_, '_> {
     {
         match self {
             Held::Text(text) => Ok(Some(Text::from_str(alloc, text)?)),
+            _ => Ok(None),
+        }
+    }
+
+    /// The truth that is held, false where none is.
+    pub(crate) fn truth(&self) -> bool
+        ensures { result ≡ truth_of (held_seen self.now) }
+    {
+        match self {
+            Held::Truth(truth) => *truth,
+            _ => false,
+        }
+    }
+
+    /// How calls are made, `auto` where nothing is held.
+    pub(crate) fn mode(&self) -> ConnectionType
+        ensures { result ≡ mode_of (held_seen self.now) }
+    {
+        match self {
+            Held::Mode(mode) => *mode,
+            _ => ConnectionType::Auto,
+        }
+    }
+
+    /// Copies of the elements of the array, where one is held.
+    pub(crate) fn list(&self, alloc: Global) -> Result<Option<Items<Value>>, AllocError>
+        ensures { IfOk result (λ list. option_map (map view) list ≡ list_of (held_seen self.now)) }
+    {
+        match self {
+            Held::List(field) => Ok(Some(field.to_items(alloc)?)),
             _ => Ok(None),
         }
     }
@@ -112,20 +147,35 @@ fn read<'m, 'a>(holds: Holds, field: &'m Field<'a>) -> Option<Held<'m, 'a>>
     match holds {
         Holds::Name => field.as_text().filter(|text| is_name(text)).map(Held::Text),
         Holds::Text => field.as_text().map(Held::Text),
-        Holds::Object => Some(Held::Object(object_in(field)?)),
-        Holds::ObjectOrNull if field.is_null() => Some(Held::Null),
-        Holds::ObjectOrNull => Some(Held::Object(object_in(field)?)),
+        Holds::Number => Some(Held::Number(number_in(field)?)),
+        Holds::NumberOrNull if field.is_null() => Some(Held::Null),
+        Holds::NumberOrNull => Some(Held::Number(number_in(field)?)),
         Holds::ObjectName => field
             .as_text()
             .filter(|text| *text == "objectName")
             .map(Held::Text),
+        Holds::Truth => Some(Held::Truth(field.as_truth()?)),
+        Holds::Mode => Some(Held::Mode(mode_named(field.as_text()?)?)),
+        Holds::List if field.is_list() => Some(Held::List(field)),
+        Holds::List => None,
         Holds::Any => Some(Held::Any(field)),
     }
 }
 
-/// The number of an object that the value is.
-fn object_in(field: &Field<'_>) -> Option<u32>
-    ensures { result ≡ object_in (data_of field.now) }
+/// How calls are made, by its name.
+fn mode_named(name: &str) -> Option<ConnectionType>
+    ensures { result ≡ mode_named name.now }
+{
+    match name {
+        "auto" => Some(ConnectionType::Auto),
+        "direct" => Some(ConnectionType::Direct),
+        _ => None,
+    }
+}
+
+/// The number of an object or of a connection that the value is.
+fn number_in(field: &Field<'_>) -> Option<u32>
+    ensures { result ≡ number_in (data_of field.now) }
 {
     match field.as_number()? {
         0 => None,

@@ -11,12 +11,18 @@ pub enum Holds {
     Name,
     /// Any text.
     Text,
-    /// The number of an object.
-    Object,
+    /// The number of an object or of a connection.
+    Number,
     /// The number of an object, or null for none.
-    ObjectOrNull,
+    NumberOrNull,
     /// The name of the only property that is written and read.
     ObjectName,
+    /// True or false.
+    Truth,
+    /// How calls are made: `auto` or `direct`.
+    Mode,
+    /// An array of any JSON.
+    List,
     /// Any JSON.
     Any,
 }

@@ -13,6 +13,7 @@ mod parts;
 mod properties;
 mod reading;
 mod shown;
+mod signals;
 mod trees;
 mod writing;
 

@@ -10,7 +10,7 @@ use std::alloc::{AllocError, Global};
 use thread_model::Command;
 
 pub(crate) const SET: [Key; 3] = [
-    Key::Needed("object", Holds::Object),
+    Key::Needed("object", Holds::Number),
     Key::Needed("property", Holds::ObjectName),
     Key::Needed("value", Holds::Any),
 ];
@@ -29,7 +29,7 @@ pub(crate) fn set_of(alloc: Global, held: &[Held<'_, '_>]) -> Result<Option<Comm
 }
 
 pub(crate) const GET: [Key; 2] = [
-    Key::Needed("object", Holds::Object),
+    Key::Needed("object", Holds::Number),
     Key::Needed("property", Holds::ObjectName),
 ];
 

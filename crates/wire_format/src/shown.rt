@@ -35,7 +35,7 @@ pub(crate) fn shown_as<'a>(answer: &'a Answer, digits: &'a mut Digits) -> Shown<
     }
 }
 
-fn shown_value<'a>(value: &'a Value, digits: &'a mut Digits) -> Shown<'a>
+pub(crate) fn shown_value<'a>(value: &'a Value, digits: &'a mut Digits) -> Shown<'a>
     ensures { text_of_shown result ≡ compact_text (json_of value.now) }
 {
     match value {

@@ -11,7 +11,7 @@ use thread_model::Command;
 
 pub(crate) const NEW: [Key; 2] = [
     Key::Needed("class", Holds::Name),
-    Key::Optional("parent", Holds::Object),
+    Key::Optional("parent", Holds::Number),
 ];
 
 /// `new`: a class, and a parent where one is named.
@@ -28,7 +28,7 @@ pub(crate) fn new_of(alloc: Global, held: &[Held<'_, '_>]) -> Result<Option<Comm
     Ok(Some(Command::New { class, parent }))
 }
 
-pub(crate) const DELETE: [Key; 1] = [Key::Needed("object", Holds::Object)];
+pub(crate) const DELETE: [Key; 1] = [Key::Needed("object", Holds::Number)];
 
 /// `delete`: an object.
 pub(crate) fn delete_of(held: &[Held<'_, '_>]) -> Option<Command>
@@ -42,8 +42,8 @@ pub(crate) fn delete_of(held: &[Held<'_, '_>]) -> Option<Command>
 }
 
 pub(crate) const SET_PARENT: [Key; 2] = [
-    Key::Needed("object", Holds::Object),
-    Key::Needed("parent", Holds::ObjectOrNull),
+    Key::Needed("object", Holds::Number),
+    Key::Needed("parent", Holds::NumberOrNull),
 ];
 
 /// `setParent`: an object, and its parent or null.
@@ -58,7 +58,7 @@ pub(crate) fn set_parent_of(held: &[Held<'_, '_>]) -> Option<Command>
     Some(Command::SetParent { object, parent })
 }
 
-pub(crate) const CHILDREN: [Key; 1] = [Key::Optional("object", Holds::Object)];
+pub(crate) const CHILDREN: [Key; 1] = [Key::Optional("object", Holds::Number)];
 
 /// `children`: an object, or none for the roots.
 pub(crate) fn children_of(held: &[Held<'_, '_>]) -> Option<Command>
@@ -72,7 +72,7 @@ pub(crate) fn children_of(held: &[Held<'_, '_>]) -> Option<Command>
 }
 
 pub(crate) const FIND: [Key; 3] = [
-    Key::Needed("object", Holds::Object),
+    Key::Needed("object", Holds::Number),
     Key::Optional("name", Holds::Text),
     Key::Optional("class", Holds::Name),
 ];

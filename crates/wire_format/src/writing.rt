@@ -1,18 +1,22 @@
 //! The text of a line.
-ghost use Rattle.std.specs.Prelude.{◌≡◌, ◌∷◌, ◌++◌, [], IfOk, OnOk, OnErr, string_bytes};
+ghost use Rattle.std.specs.Prelude.{◌≡◌, ◌++◌, [], IfOk, OnOk, OnErr, codes, string_bytes};
 ghost use Rattle.std.specs.List.{list_all};
-ghost use Rattle.serde_json.specs.Data.{array, number, string, unsigned};
+ghost use Rattle.serde_json.specs.Data.{string};
 ghost use Rattle.serde_json.specs.Written.{compact_text};
-ghost use Rattle.wire_format.specs.Text.{elements, number_elements, json_of_answer, json_of_meta, json_of_name, told_of, text_of_line, text_of_fault, is_plain_byte};
+ghost use Rattle.variant_value.specs.Values.{json_of};
+ghost use Rattle.wire_format.specs.Shown.{text_of_shown};
+ghost use Rattle.wire_format.specs.Text.{array_of, json_of_meta, json_of_name, json_of_number, text_of_line, text_of_fault, is_plain_byte};
 
 use crate::fault::LineFault;
-use crate::shown::{Shown, shown_as};
+use crate::shown::{Shown, shown_as, shown_value};
 use itoa::Buffer as Digits;
 use json::Writer;
 use plain_types::Text;
+use refusals::Code;
 use std::alloc::{AllocError, Global};
 use std::mem;
-use thread_model::{Answer, Line, MetaObject};
+use thread_model::{Answer, Call, Line, MetaObject};
+use variant_value::Value;
 
 /// The text of a line that a session is told, with its line feed: compact JSON, its keys in byte
 /// order.
@@ -61,37 +65,141 @@ fn push_line(
     ensures { OnOk result
         (string_bytes buffer.new ≡ string_bytes buffer.old ++ text_of_line session.now line.now) }
 {
-    buffer.push_str("{")?;
-    push_told(alloc, buffer, line)?;
-    buffer.push_str(",\"session\":")?;
-    push_text(alloc, buffer, session)?;
-    buffer.push_str("}\n")?;
-    Ok(())
-}
-
-/// Appends what the line tells, with its key.
-fn push_told(alloc: Global, buffer: &mut String, line: &Line) -> Result<(), AllocError>
-    ensures { OnOk result (string_bytes buffer.new ≡ string_bytes buffer.old
-        ++ (compact_text (string (told_of line.now).0) ++ 58 ∷ compact_text (told_of line.now).1)) }
-{
     match line {
-        Line::Reply(answer) => {
-            buffer.push_str("\"reply\":")?;
-            push_answer(alloc, buffer, answer)?;
-        }
-        Line::Error(code) => {
-            buffer.push_str("\"error\":")?;
-            push_text(alloc, buffer, code.text())?;
-        }
+        Line::Reply(answer) => push_reply(alloc, buffer, session, answer),
+        Line::Error(code) => push_error(alloc, buffer, session, *code),
+        Line::Call(call) => push_call(alloc, buffer, session, call),
+        Line::Warning { code, object } => push_warning(alloc, buffer, session, *code, *object),
     }
+}
+
+fn push_reply(
+    alloc: Global,
+    buffer: &mut String,
+    session: &str,
+    answer: &Answer,
+) -> Result<(), AllocError>
+    ensures { OnOk result (string_bytes buffer.new
+        ≡ string_bytes buffer.old ++ text_of_line session.now (Line.Reply answer.now)) }
+{
+    buffer.push_str("{\"reply\":")?;
+    push_shown(alloc, buffer, shown_as(answer, &mut Digits::new()))?;
+    push_session(alloc, buffer, session)?;
     Ok(())
 }
 
-fn push_answer(alloc: Global, buffer: &mut String, answer: &Answer) -> Result<(), AllocError>
-    ensures { OnOk result
-        (string_bytes buffer.new ≡ string_bytes buffer.old ++ compact_text (json_of_answer answer.now)) }
+fn push_error(
+    alloc: Global,
+    buffer: &mut String,
+    session: &str,
+    code: Code,
+) -> Result<(), AllocError>
+    ensures { OnOk result (string_bytes buffer.new
+        ≡ string_bytes buffer.old ++ text_of_line session.now (Line.Error code)) }
 {
-    match shown_as(answer, &mut Digits::new()) {
+    buffer.push_str("{\"error\":")?;
+    push_text(alloc, buffer, code.text())?;
+    push_session(alloc, buffer, session)?;
+    Ok(())
+}
+
+fn push_call(
+    alloc: Global,
+    buffer: &mut String,
+    session: &str,
+    call: &Call,
+) -> Result<(), AllocError>
+    ensures { OnOk result (string_bytes buffer.new
+        ≡ string_bytes buffer.old ++ text_of_line session.now (Line.Call call.now)) }
+{
+    push_args(alloc, buffer, call.args.as_slice())?;
+    push_method(alloc, buffer, call.method.as_str())?;
+    push_number(buffer, call.object)?;
+    buffer.push_str(",\"sender\":")?;
+    push_number(buffer, call.sender)?;
+    push_session(alloc, buffer, session)?;
+    Ok(())
+}
+
+/// Appends the bracket that opens a call's line, and the values that the slot is given.
+fn push_args(alloc: Global, buffer: &mut String, args: &[Value]) -> Result<(), AllocError>
+    ensures { OnOk result (string_bytes buffer.new ≡ string_bytes buffer.old
+        ++ (codes "{\"args\":" ++ compact_text (array_of json_of args.now))) }
+{
+    buffer.push_str("{\"args\":[")?;
+    for (place, value) in args.iter().enumerate() {
+        if place > 0 {
+            buffer.push_str(",")?;
+        }
+        push_shown(alloc, buffer, shown_value(value, &mut Digits::new()))?;
+    }
+    buffer.push_str("]")
+}
+
+/// Appends the slot, up to the number of its object.
+fn push_method(alloc: Global, buffer: &mut String, method: &str) -> Result<(), AllocError>
+    ensures { OnOk result (string_bytes buffer.new ≡ string_bytes buffer.old
+        ++ (codes ",\"call\":" ++ (compact_text (string method.now) ++ codes ",\"object\":"))) }
+{
+    if !is_plain(method) {
+        buffer.push_str(",\"call\":")?;
+        push_escaped(alloc, buffer, method)?;
+        buffer.push_str(",\"object\":")?;
+        return Ok(());
+    }
+    buffer.push_str(",\"call\":\"")?;
+    buffer.push_str(method)?;
+    buffer.push_str("\",\"object\":")?;
+    Ok(())
+}
+
+fn push_warning(
+    alloc: Global,
+    buffer: &mut String,
+    session: &str,
+    code: Code,
+    object: Option<u32>,
+) -> Result<(), AllocError>
+    ensures { OnOk result (string_bytes buffer.new
+        ≡ string_bytes buffer.old ++ text_of_line session.now (Line.Warning code object)) }
+{
+    match object {
+        Some(object) => {
+            buffer.push_str("{\"object\":")?;
+            push_number(buffer, object)?;
+            buffer.push_str(",\"session\":")?;
+        }
+        None => buffer.push_str("{\"session\":")?,
+    }
+    push_text(alloc, buffer, session)?;
+    buffer.push_str(",\"warning\":\"")?;
+    buffer.push_str(code.text())?;
+    buffer.push_str("\"}\n")?;
+    Ok(())
+}
+
+/// Appends the session as the last member of a line, and the line's end.
+fn push_session(alloc: Global, buffer: &mut String, session: &str) -> Result<(), AllocError>
+    ensures { OnOk result (string_bytes buffer.new ≡ string_bytes buffer.old
+        ++ (codes ",\"session\":" ++ (compact_text (string session.now) ++ codes "}\n"))) }
+{
+    if !is_plain(session) {
+        buffer.push_str(",\"session\":")?;
+        push_escaped(alloc, buffer, session)?;
+        buffer.push_str("}\n")?;
+        return Ok(());
+    }
+    buffer.push_str(",\"session\":\"")?;
+    buffer.push_str(session)?;
+    buffer.push_str("\"}\n")?;
+    Ok(())
+}
+
+fn push_shown(alloc: Global, buffer: &mut String, shown: Shown<'_>) -> Result<(), AllocError>
+    ensures { OnOk result
+        (string_bytes buffer.new ≡ string_bytes buffer.old ++ text_of_shown shown.entry) }
+{
+    match shown {
         Shown::Word(word) => buffer.push_str(word),
         Shown::Text(text) => push_text(alloc, buffer, text),
         Shown::Numbers(numbers) => push_numbers(buffer, numbers),
@@ -101,51 +209,51 @@ fn push_answer(alloc: Global, buffer: &mut String, answer: &Answer) -> Result<()
 
 /// Appends what there is in a class.
 fn push_meta(alloc: Global, buffer: &mut String, meta: &MetaObject) -> Result<(), AllocError>
-    ensures { OnOk result
-        (string_bytes buffer.new ≡ string_bytes buffer.old ++ compact_text (json_of_meta meta.now)) }
+    ensures { OnOk result (string_bytes buffer.new
+        ≡ string_bytes buffer.old ++ compact_text (json_of_meta meta.now)) }
 {
     buffer.push_str("{\"class\":")?;
     push_text(alloc, buffer, meta.class.as_str())?;
     buffer.push_str(",\"methodOffset\":")?;
-    push_count(buffer, meta.method_offset)?;
+    push_number(buffer, meta.method_offset)?;
     buffer.push_str(",\"methods\":")?;
     push_texts(alloc, buffer, meta.methods.as_slice())?;
     buffer.push_str(",\"properties\":")?;
     push_texts(alloc, buffer, meta.properties.as_slice())?;
     buffer.push_str(",\"propertyOffset\":")?;
-    push_count(buffer, meta.property_offset)?;
+    push_number(buffer, meta.property_offset)?;
     buffer.push_str(",\"super\":")?;
     push_name(alloc, buffer, &meta.superclass)?;
     buffer.push_str("}")?;
     Ok(())
 }
 
-fn push_count(buffer: &mut String, count: u32) -> Result<(), AllocError>
-    ensures { OnOk result
-        (string_bytes buffer.new ≡ string_bytes buffer.old ++ compact_text (number (unsigned count))) }
+fn push_number(buffer: &mut String, number: u32) -> Result<(), AllocError>
+    ensures { OnOk result (string_bytes buffer.new
+        ≡ string_bytes buffer.old ++ compact_text (json_of_number number)) }
 {
-    buffer.push_str(Digits::new().format(count))
+    buffer.push_str(Digits::new().format(number))
 }
 
 /// Appends numbers as an array.
 fn push_numbers(buffer: &mut String, numbers: &[u32]) -> Result<(), AllocError>
-    ensures { OnOk result
-        (string_bytes buffer.new ≡ string_bytes buffer.old ++ compact_text (array (number_elements numbers.now))) }
+    ensures { OnOk result (string_bytes buffer.new
+        ≡ string_bytes buffer.old ++ compact_text (array_of json_of_number numbers.now)) }
 {
     buffer.push_str("[")?;
     for (place, number) in numbers.iter().enumerate() {
         if place != 0 {
             buffer.push_str(",")?;
         }
-        push_count(buffer, *number)?;
+        push_number(buffer, *number)?;
     }
     buffer.push_str("]")
 }
 
 /// Appends a name, or `null` where there is none.
 fn push_name(alloc: Global, buffer: &mut String, name: &Option<Text>) -> Result<(), AllocError>
-    ensures { OnOk result
-        (string_bytes buffer.new ≡ string_bytes buffer.old ++ compact_text (json_of_name name.now)) }
+    ensures { OnOk result (string_bytes buffer.new
+        ≡ string_bytes buffer.old ++ compact_text (json_of_name name.now)) }
 {
     match name {
         Some(name) => push_text(alloc, buffer, name.as_str()),
@@ -155,8 +263,8 @@ fn push_name(alloc: Global, buffer: &mut String, name: &Option<Text>) -> Result<
 
 /// Appends texts as an array.
 fn push_texts(alloc: Global, buffer: &mut String, texts: &[Text]) -> Result<(), AllocError>
-    ensures { OnOk result
-        (string_bytes buffer.new ≡ string_bytes buffer.old ++ compact_text (array (elements texts.now))) }
+    ensures { OnOk result (string_bytes buffer.new
+        ≡ string_bytes buffer.old ++ compact_text (array_of string texts.now)) }
 {
     buffer.push_str("[")?;
     for (place, text) in texts.iter().enumerate() {

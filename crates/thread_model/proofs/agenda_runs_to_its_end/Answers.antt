@@ -1,4 +1,4 @@
-use Rattle.thread_model.proofs.AgendaLemmas.{runs_to_its_end}
+use Rattle.thread_model.proofs.RunLemmas.{runs_to_its_end}
 use Rattle.thread_model.proofs.agenda_runs_to_its_end.Goals as goal
 
 pub returns : goal.returns

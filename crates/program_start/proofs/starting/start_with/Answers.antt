@@ -5,5 +5,5 @@ use Rattle.program_start.proofs.starting.start_with.Goals as goal
 
 pub returns : goal.returns
 returns g c =
-    ends_for (g.R.ClassFiles.holds c.args.rt.now) (asked (map g.S.AsStr.text c.args.words.now)) c.in-Ok.options.classes c.in-Err-classes_at.error c.of_class_file.result c.in-Ok.ensures.asked
+    ends_for (g.R.ClassFiles.holds c.args.rt.now) (asked (map g.S.AsStr.text c.args.words.now)) c.in-Ok.options.classes c.in-Ok.options.turns c.in-Err-classes_at.error c.of_class_file.result c.in-Ok.ensures.asked
     (search rules) c.of_class_file.ensures

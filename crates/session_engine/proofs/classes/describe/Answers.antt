@@ -1,4 +1,4 @@
-use Rattle.std.proofs.Common.{None, sym, ap, refl, slice_get, ◌∙◌}
+use Rattle.std.proofs.Common.{sym, ap, refl, slice_get, ◌∙◌}
 use Rattle.std.specs.Option.{option_copied}
 use Rattle.thread_model.specs.declared.line.Answer.TheVariants as a
 use Rattle.thread_model.specs.Classes.{described}

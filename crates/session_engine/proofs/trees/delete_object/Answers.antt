@@ -2,7 +2,7 @@ use Rattle.std.proofs.Common.{sym, refl, ◌∙◌}
 use Rattle.thread_model.proofs.TreeLemmas.{refusal_delete}
 use Rattle.session_tables.proofs.TablesLemmas.{changes_state}
 use Rattle.session_engine.proofs.CommandsLemmas.{replied, stopped}
-use Rattle.session_engine.proofs.DeletingLemmas.{performs_deleted}
+use Rattle.session_engine.proofs.DeletionLemmas.{performs_deleted}
 use Rattle.session_engine.proofs.trees.delete_object.Goals as goal
 
 pub returns-in_err-check_object : goal.returns-in_err-check_object

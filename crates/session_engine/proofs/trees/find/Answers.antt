@@ -1,4 +1,4 @@
-use Rattle.std.proofs.Common.{sym, ap, refl, ◌∙◌, ◌+◌, ◌&&◌}
+use Rattle.std.proofs.Common.{sym, ap, refl, ◌∙◌, ◌&&◌}
 use Rattle.thread_model.specs.declared.line.Answer.TheVariants as a
 use Rattle.object_tree.specs.Finding.{found_below}
 use Rattle.thread_model.specs.Effects.{replies}

@@ -1,6 +1,4 @@
-use Rattle.std.proofs.Common.{◌≡◌, ◌+◌, None, Err, Option, sym, ap, refl, ◌∙◌}
-use Rattle.std.specs.Option.{option_or}
-use Rattle.refusals.specs.declared.code.Code.{Code}
+use Rattle.std.proofs.Common.{◌+◌, sym, ap, refl, ◌∙◌}
 use Rattle.thread_model.specs.declared.line.Answer.TheVariants as a
 use Rattle.thread_model.specs.Effects.{replies}
 use Rattle.thread_model.specs.State.{with_object}

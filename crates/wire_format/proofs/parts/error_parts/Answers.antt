@@ -1,5 +1,5 @@
 use Rattle.std.proofs.Common.{sym}
-use Rattle.wire_format.proofs.Plain.{text_of_error}
+use Rattle.wire_format.proofs.LineTexts.{text_of_error}
 use Rattle.wire_format.proofs.parts.error_parts.Goals as goal
 
 pub returns : goal.returns

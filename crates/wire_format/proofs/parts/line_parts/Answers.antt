@@ -2,7 +2,7 @@ use Rattle.std.proofs.Common.{◌≡◌, ◌∙◌, true, sym, ap}
 use Rattle.std.specs.List.{list_all}
 use Rattle.wire_format.specs.Shown.{text_of_shown}
 use Rattle.wire_format.specs.Text.{is_plain_byte, text_of_line}
-use Rattle.wire_format.proofs.Plain.{text_of_word, text_of_text}
+use Rattle.wire_format.proofs.LineTexts.{text_of_word, text_of_text}
 use Rattle.wire_format.proofs.parts.line_parts.Goals as goal
 
 pub returns-in-Word : goal.returns-in-Word

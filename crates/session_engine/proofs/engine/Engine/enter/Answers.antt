@@ -1,4 +1,4 @@
-use Rattle.std.proofs.Common.{◌≡◌, ◌++◌, ◌∷◌, [], None, Some, length, sym, ap, ap₂, subst, ◌∙◌}
+use Rattle.std.proofs.Common.{◌≡◌, ◌++◌, ◌∷◌, [], None, Some, sym, ap, ap₂, subst, ◌∙◌}
 use Rattle.std.proofs.Math.Path.{fun_ext}
 use Rattle.session_engine.specs.Engine.{Contents, IsWhole, contents, opened, place, sessions}
 use Rattle.session_engine.proofs.EngineLemmas.{insert_key-new, place-opened, sessions-opened, sessions-same, whole_opened, whole_same, with_tables}

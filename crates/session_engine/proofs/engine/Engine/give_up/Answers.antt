@@ -1,4 +1,4 @@
-use Rattle.std.proofs.Common.{◌≡◌, Some, true, refl, sym, ap, subst, ◌∙◌}
+use Rattle.std.proofs.Common.{true, refl, sym, ap, subst, ◌∙◌}
 use Rattle.session_tables.specs.Session.{gone}
 use Rattle.session_engine.specs.Engine.{IsWhole, contents, place, sessions}
 use Rattle.session_engine.proofs.EngineLemmas.{kept_by_name, sessions-others, sessions-own, whole_given_up}

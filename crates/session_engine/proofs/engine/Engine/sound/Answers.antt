@@ -1,4 +1,4 @@
-use Rattle.std.proofs.Common.{IsFalse, subst, ap, ◌∙◌}
+use Rattle.std.proofs.Common.{subst}
 use Rattle.session_engine.specs.Engine.{Contents, seen}
 use Rattle.session_engine.specs.Sessions.{AreSound, AreWell}
 use Rattle.session_engine.proofs.EngineLemmas.{kept_by_name}

@@ -1,0 +1,12 @@
+//! What a run of the program begins with.
+
+use class_table::ClassTable;
+
+/// What a run of the program begins with.
+#[derive(Drop)]
+pub struct Beginning {
+    /// The classes that its objects can be of.
+    pub classes: ClassTable,
+    /// How many turns each command has for the calls that it causes.
+    pub turns: u32,
+}

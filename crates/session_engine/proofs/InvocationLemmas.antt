@@ -1,0 +1,144 @@
+-- The command that calls a slot or sends a signal.
+use Rattle.std.proofs.Common.{◌≡◌, ◌<◌, ◌-◌, ◌==◌, ℕ, true, false, List, [], ◌∷◌, Option, Some, None, Ok, Err, IsSome, slice_get, sym, ap, refl, subst, ◌∙◌, arith}
+use Rattle.std.proofs.lemmas.Bool.{cond-true, cond-false}
+use Rattle.std.proofs.lemmas.Bool.Decides.{nat_tests}
+use Rattle.std.proofs.lemmas.List.Quantifiers.{position-Some}
+use Rattle.std.proofs.lemmas.Option.{slice_get-get_or}
+use Rattle.std.specs.Option.{ok_or, option_and_then, option_map_or}
+use Rattle.std.specs.Result.{result_unwrap_or}
+use Rattle.refusals.specs.declared.code.Code.{Code}
+use Rattle.refusals.specs.declared.code.Code.TheVariants.{BadSignature, NoSuchMethod}
+use Rattle.serde_json.specs.Data.{Data}
+use Rattle.signature_core.specs.declared.signature.Signature.{Signature}
+use Rattle.signature_core.specs.Reading.{signature_of}
+use Rattle.variant_value.specs.declared.value.Value.{Value}
+use Rattle.class_table.specs.declared.class.Method.{Method}
+use Rattle.class_table.specs.Lookup.{is_same, method_number}
+use Rattle.term_core.specs.Act.{acts_of}
+use Rattle.thread_model.specs.declared.line.Answer.TheVariants as a
+use Rattle.thread_model.specs.declared.line.Line.TheVariants as line
+use Rattle.thread_model.specs.Acts.{acts}
+use Rattle.thread_model.specs.Agenda.{call_line, with_turn}
+use Rattle.thread_model.specs.Asked.{Invoke}
+use Rattle.thread_model.specs.Doing.{Doing, begun, told, turn_taken, used_up}
+use Rattle.thread_model.specs.Effects.{does_next, ended}
+use Rattle.thread_model.specs.Items.{Next, Run, puts}
+use Rattle.thread_model.specs.Methods.{Found, is_signal_at, method_at, methods_of}
+use Rattle.thread_model.specs.Run.{run}
+use Rattle.thread_model.specs.Settings.{Settings}
+use Rattle.thread_model.specs.Signals.{asked_method, asked_values, invoked, invokes}
+use Rattle.thread_model.specs.State.{State}
+use Rattle.thread_model.specs.Thread.{performs}
+use Rattle.thread_model.proofs.EmissionLemmas as rule
+use Rattle.thread_model.proofs.RunLemmas.{at_end, by_step}
+use Rattle.thread_model.proofs.SignalLemmas.{performs_invoke}
+use Rattle.thread_model.proofs.ThreadLemmas.{replies_last}
+use Rattle.session_tables.specs.declared.tables.Tables.{Tables}
+use Rattle.session_tables.specs.Tables.{state_at, with_state}
+use Rattle.session_tables.proofs.TablesLemmas.{changes_state}
+use Rattle.session_engine.specs.declared.commands.Caller.{Caller}
+use Rattle.session_engine.specs.declared.telling.Telling.{Telling}
+use Rattle.session_engine.specs.Actions.{Keeps}
+use Rattle.session_engine.specs.Commands.{Performs, reply_after}
+use Rattle.session_engine.specs.Setup.{settings_of}
+use Rattle.session_engine.specs.Telling.{doing_at, fresh_telling, spent}
+use Rattle.session_engine.proofs.AgendaLemmas.{spent_is}
+use Rattle.session_engine.proofs.CommandsLemmas.{its_refusal}
+
+-- the signature that a text spells
+pub signature_is : (found : Option Signature) (signature : Signature) → ok_or found BadSignature ≡ Ok signature → found ≡ Some signature
+signature_is (Some x) signature e = cc
+signature_is None signature e = absurd (cc)
+
+pub number_is : (found : Option ℕ) (index : ℕ) → Ok index ≡ ok_or found NoSuchMethod → found ≡ Some index
+number_is (Some x) index e = cc
+number_is None index e = absurd (cc)
+
+pub number_none : (found : Option ℕ) (code : Code) → Err code ≡ ok_or found NoSuchMethod → found ≡ None
+number_none (Some x) code e = absurd (cc)
+number_none None code e = refl
+
+-- the method that a text names is the one with the signature that it spells
+pub asked_is : (settings : Settings) (state : State) (target : ℕ) (text : List ℕ) (signature : Signature) (number : Option ℕ) → ok_or (signature_of text) BadSignature ≡ Ok signature → method_number signature (methods_of settings state target) ≡ number
+    → asked_method settings state target text ≡ number
+asked_is settings state target text signature number spelled found =
+    ap (option_and_then (λ signature. method_number signature (methods_of settings state target))) (signature_is (signature_of text) signature spelled) ∙ found
+
+module _ (settings : Settings) (state : State) (target index : ℕ) (values : List Value) where
+  invoked_spent : is_signal_at (methods_of settings state target) index ≡ false → settings.turns ≡ 0 → invoked settings state target index values ≡ puts [] (used_up (begun settings state))
+  invoked_spent slot none =
+      let is : (settings.turns == 0) ≡ true = grind (arith, nat_tests, none) in
+      cond-false (is_signal_at (methods_of settings state target) index) _ (with_turn (begun settings state) (puts (Run target index 0 values 0 ∷ []))) slot ∙ cond-true (settings.turns == 0) _ _ is
+
+  invoked_slot : is_signal_at (methods_of settings state target) index ≡ false → 0 < settings.turns → invoked settings state target index values ≡ puts (Run target index 0 values 0 ∷ []) (turn_taken (begun settings state))
+  invoked_slot slot some =
+      let is : (settings.turns == 0) ≡ false = grind (arith, nat_tests, some) in
+      cond-false (is_signal_at (methods_of settings state target) index) _ (with_turn (begun settings state) (puts (Run target index 0 values 0 ∷ []))) slot ∙ cond-false (settings.turns == 0) _ _ is
+
+module _ (caller : Caller) (object index : ℕ) (values : List Value) (tables : Tables) (telling : Telling) (fresh : telling ≡ fresh_telling caller.setup.now.turns)
+    (method : Method) (has : Some method ≡ method_at (settings_of caller.setup.now) (state_at tables caller.place) object index) (slot : method.is_signal ≡ false) where
+  abbrev next : Next
+  next = invoked (settings_of caller.setup.now) (state_at tables caller.place) object index values
+
+  is_slot : is_signal_at (methods_of (settings_of caller.setup.now) (state_at tables caller.place) object) index ≡ false
+  is_slot = ap (λ (found : Option Method). option_map_or (λ method. method.is_signal) found false) (sym has) ∙ slot
+
+  fresh_doing : begun (settings_of caller.setup.now) (state_at tables caller.place) ≡ doing_at caller.place tables telling
+  fresh_doing = ap (doing_at caller.place tables) (sym fresh)
+
+  -- a slot that finds no turn is not run
+  pub run_spent : (after : Telling) → telling.turns ≡ 0 → after ≡ spent telling → run (settings_of caller.setup.now) next.items next.doing ≡ doing_at caller.place tables after
+  run_spent after none e =
+      let turns : caller.setup.now.turns ≡ 0 = sym (ap (λ (telling : Telling). telling.turns) fresh) ∙ none in
+      ap (λ (next : Next). run (settings_of caller.setup.now) next.items next.doing) (invoked_spent (settings_of caller.setup.now) (state_at tables caller.place) object index values is_slot turns)
+      ∙ at_end (settings_of caller.setup.now) (used_up (begun (settings_of caller.setup.now) (state_at tables caller.place)))
+      ∙ ap used_up fresh_doing ∙ spent_is caller.place tables telling after e
+
+  -- and else it takes one, and is run
+  pub run_called : (done : Doing) → 0 < telling.turns
+      → run (settings_of caller.setup.now) (acts (acts_of method.body.actions) values object 0 1)
+      (told (doing_at caller.place tables (record { lines = telling.lines; turns = telling.turns - 1; spent = telling.spent })) (call_line method object 0 values)) ≡ done
+      → run (settings_of caller.setup.now) next.items next.doing ≡ done
+  unfolding turn_taken
+  run_called done some does =
+      let same : telling.turns ≡ caller.setup.now.turns = ap (λ (telling : Telling). telling.turns) fresh in
+      let turns : 0 < caller.setup.now.turns = omega (arith, same, some) in
+      ap (λ (next : Next). run (settings_of caller.setup.now) next.items next.doing) (invoked_slot (settings_of caller.setup.now) (state_at tables caller.place) object index values is_slot turns)
+      ∙ ap (λ doing. run (settings_of caller.setup.now) (Run object index 0 values 0 ∷ []) (turn_taken doing)) fresh_doing
+      ∙ by_step (settings_of caller.setup.now) (Run object index 0 values 0) (turn_taken (doing_at caller.place tables telling)) _
+      (rule.run_slot (settings_of caller.setup.now) object index 0 values 0 (turn_taken (doing_at caller.place tables telling)) method (sym has))
+      ∙ does
+
+-- what was invoked tells its reply last
+pub performs_invoked : (caller : Caller) (object : ℕ) (text : List ℕ) (args : List Data) (old new : Tables) (telling : Telling) (index : ℕ) (values : List Value)
+    → its_refusal caller (Invoke object text args) old new ≡ None
+    → asked_method (settings_of caller.setup.now) (state_at old caller.place) object text ≡ Some index
+    → asked_values (settings_of caller.setup.now) (state_at old caller.place) object index args ≡ Ok values
+    → run (settings_of caller.setup.now) (invoked (settings_of caller.setup.now) (state_at old caller.place) object index values).items (invoked (settings_of caller.setup.now) (state_at old caller.place) object index values).doing ≡ doing_at caller.place new telling
+    → Keeps caller.place old new
+    → Performs caller (Invoke object text args) old new (reply_after telling.lines) (Ok (a.Truth true))
+unfolding told
+performs_invoked caller object text args old new telling index values passed found given does keeps =
+    let settings = settings_of caller.setup.now in
+    let state = state_at old caller.place in
+    let effect : performs settings caller.name.now state (Invoke object text args) ≡ ended (told (doing_at caller.place new telling) (line.Reply (a.Truth true))) =
+    performs_invoke settings caller.name.now state object text args
+    ∙ ap (invokes settings state object args) found
+    ∙ ap (λ (given : Found (List Value)). does_next settings (invoked settings state object index (result_unwrap_or given [])) (a.Truth true)) given
+    ∙ replies_last settings (invoked settings state object index values) (a.Truth true)
+    ∙ ap (λ done. ended (told done (line.Reply (a.Truth true)))) does
+    in
+    record {
+      returns = (passed, ap (λ effect. effect.lines) effect);
+      done = changes_state old new caller.place keeps.only keeps.failed ∙ ap (λ effect. with_state old caller.place effect.state) (sym effect);
+      refused = tt;
+      only = tt;
+    }
+
+-- a method that has a number is there
+pub method_there : (methods : List Method) (signature : Signature) (index : ℕ) → method_number signature methods ≡ Some index → IsSome (slice_get methods index)
+method_there [] signature index found = absurd (cc)
+method_there (first ∷ rest) signature index found =
+    let methods = first ∷ rest in
+    let there = slice_get-get_or methods index first (position-Some (λ (method : Method). is_same method.signature signature) methods index first found).0 in
+    subst IsSome (sym there) refl

@@ -1,0 +1,238 @@
+//! An agenda by nested calls. Each function does what the item of its name does, and calls the others
+//! where that puts items in front. The calls come to an end, since each way round takes a turn; no action
+//! gives one back, or makes an object.
+ghost use Rattle.std.specs.Prelude.{◌≡◌, ◌∷◌, [], ◌≤◌, ◌<◌, OnOk, IsTrue, take};
+ghost use Rattle.term_core.specs.Act.{acts_of, effect};
+ghost use Rattle.thread_model.specs.declared.call.TheConstants.{NESTED_SIGNALS};
+ghost use Rattle.thread_model.specs.Acts as model;
+ghost use Rattle.thread_model.specs.Agenda.{call_line, stands};
+ghost use Rattle.thread_model.specs.Doing.{told};
+ghost use Rattle.thread_model.specs.Items.{Call, Emit};
+ghost use Rattle.class_table.specs.Sound.{IsMethod};
+ghost use Rattle.session_tables.specs.Tables.{IsPlaced};
+ghost use Rattle.session_engine.specs.Actions.{Does, Keeps, act_of};
+ghost use Rattle.session_engine.specs.Telling.{doing_at};
+
+use crate::commands::Caller;
+use crate::deletion::delete;
+use crate::effects::{change, deleted, sent, truth};
+use crate::methods::method_at;
+use crate::slot::Slot;
+use crate::telling::Telling;
+use class_table::Method;
+use connection_list::Connection;
+use connection_types::Callee;
+use refusals::Code;
+use session_tables::Tables;
+use std::alloc::AllocError;
+use term_core::{Action, Effect, Step};
+use thread_model::NESTED_SIGNALS;
+use variant_value::Value;
+
+/// Sends a signal: calls its connections one after another, as they stand by then, up to the last that
+/// was made when the sending began.
+#[cycle(agenda)]
+pub fn emit(
+    caller: &Caller,
+    tables: &mut Tables,
+    telling: &mut Telling,
+    target: u32,
+    signal: u32,
+    args: &[Value],
+    depth: u32,
+) -> Result<(), AllocError>
+    requires placed { IsPlaced tables.old caller.now.place }
+    requires depth { depth ≤ NESTED_SIGNALS }
+    ensures does { OnOk result (Does caller.now (Emit target signal args.now depth ∷ []) (doing_at caller.now.place tables.old telling.old) tables.new telling.new) }
+    ensures keeps { Keeps caller.now.place tables.old tables.new }
+{
+    if !tables.is_there(caller.place, target) {
+        return Ok(());
+    }
+    if depth >= NESTED_SIGNALS {
+        return telling.warn(Code::Limit, Some(target));
+    }
+    let up_to = tables.last_connection(caller.place);
+    let mut after = 0;
+    'calls: while let Some(connection) = tables.next_connection(
+        caller.place,
+        target,
+        signal,
+        after,
+        up_to,
+    ) {
+        call(caller, tables, telling, &connection, args, depth)?;
+        after = connection.number;
+    }
+    Ok(())
+}
+
+/// Calls what a connection calls, which stands. A single-shot connection goes first.
+#[cycle(agenda)]
+fn call(
+    caller: &Caller,
+    tables: &mut Tables,
+    telling: &mut Telling,
+    connection: &Connection,
+    args: &[Value],
+    depth: u32,
+) -> Result<(), AllocError>
+    requires placed { IsPlaced tables.old caller.now.place }
+    requires depth { depth < NESTED_SIGNALS }
+    requires stands { IsTrue (stands (doing_at caller.now.place tables.old telling.old) connection.now.number) }
+    ensures does { OnOk result (Does caller.now (Call connection.now args.now depth ∷ []) (doing_at caller.now.place tables.old telling.old) tables.new telling.new) }
+    ensures keeps { Keeps caller.now.place tables.old tables.new }
+{
+    if telling.turns == 0 {
+        return telling.use_up();
+    }
+    telling.turns -= 1;
+    tables.shoot(caller.place, connection);
+    let Callee::Method(index) = connection.callee else {
+        return Ok(());
+    };
+    let Some(method) = method_at(caller, tables, connection.receiver, index) else {
+        return Ok(());
+    };
+    let given = first(args, method.signature.kinds.len());
+    if method.is_signal {
+        return emit(
+            caller,
+            tables,
+            telling,
+            connection.receiver,
+            index,
+            given,
+            depth + 1,
+        );
+    }
+    let slot = Slot {
+        object: connection.receiver,
+        sender: connection.sender,
+        args: given,
+        depth: depth + 1,
+    };
+    run_slot(caller, tables, telling, method, &slot)
+}
+
+/// Tells of a slot that is called, and does what its body says.
+#[cycle(agenda)]
+pub fn run_slot(
+    caller: &Caller,
+    tables: &mut Tables,
+    telling: &mut Telling,
+    method: &Method,
+    slot: &Slot,
+) -> Result<(), AllocError>
+    requires placed { IsPlaced tables.old caller.now.place }
+    requires depth { slot.now.depth ≤ NESTED_SIGNALS }
+    requires sound { IsMethod method.now }
+    ensures does { OnOk result (Does caller.now (model.acts (acts_of method.now.body.actions) slot.now.args.now slot.now.object slot.now.sender slot.now.depth)
+        (told (doing_at caller.now.place tables.old telling.old) (call_line method.now slot.now.object slot.now.sender slot.now.args.now)) tables.new telling.new) }
+    ensures keeps { Keeps caller.now.place tables.old tables.new }
+{
+    telling.call(caller.setup.alloc, method, slot)?;
+    acts(
+        caller,
+        tables,
+        telling,
+        slot,
+        method.body.actions.as_slice(),
+    )
+}
+
+/// Does actions, one after another.
+#[cycle(agenda)]
+fn acts(
+    caller: &Caller,
+    tables: &mut Tables,
+    telling: &mut Telling,
+    slot: &Slot,
+    actions: &[Action],
+) -> Result<(), AllocError>
+    requires placed { IsPlaced tables.old caller.now.place }
+    requires depth { slot.now.depth ≤ NESTED_SIGNALS }
+    ensures does { OnOk result (Does caller.now (model.acts (acts_of actions.now) slot.now.args.now slot.now.object slot.now.sender slot.now.depth)
+        (doing_at caller.now.place tables.old telling.old) tables.new telling.new) }
+    ensures keeps { Keeps caller.now.place tables.old tables.new }
+{
+    'actions: for action in actions {
+        act(caller, tables, telling, slot, action)?;
+    }
+    Ok(())
+}
+
+/// Does an action: its effect, or the branch that its test chooses.
+#[cycle(agenda)]
+fn act(
+    caller: &Caller,
+    tables: &mut Tables,
+    telling: &mut Telling,
+    slot: &Slot,
+    action: &Action,
+) -> Result<(), AllocError>
+    requires placed { IsPlaced tables.old caller.now.place }
+    requires depth { slot.now.depth ≤ NESTED_SIGNALS }
+    ensures does { OnOk result (Does caller.now (act_of slot.now action.now ∷ []) (doing_at caller.now.place tables.old telling.old) tables.new telling.new) }
+    ensures keeps { Keeps caller.now.place tables.old tables.new }
+{
+    match &action.step {
+        Step::Effect(plain) => effect(caller, tables, telling, slot, plain),
+        Step::When(test, held, failed) => match truth(caller, tables, slot, test) {
+            Ok(true) => acts(caller, tables, telling, slot, held),
+            Ok(false) => acts(caller, tables, telling, slot, failed),
+            Err(fault) => telling.warn_of(fault, slot.object),
+        },
+    }
+}
+
+/// Does what an action does that is no choice.
+#[cycle(agenda)]
+fn effect(
+    caller: &Caller,
+    tables: &mut Tables,
+    telling: &mut Telling,
+    slot: &Slot,
+    plain: &Effect,
+) -> Result<(), AllocError>
+    requires placed { IsPlaced tables.old caller.now.place }
+    requires depth { slot.now.depth ≤ NESTED_SIGNALS }
+    ensures does { OnOk result (Does caller.now (act_of slot.now (effect plain.now) ∷ []) (doing_at caller.now.place tables.old telling.old) tables.new telling.new) }
+    ensures keeps { Keeps caller.now.place tables.old tables.new }
+{
+    match plain {
+        Effect::Emit { of, signal, args } => {
+            match sent(caller, tables, slot, of, signal, args.as_slice()) {
+                Ok(sent) => emit(
+                    caller,
+                    tables,
+                    telling,
+                    sent.object,
+                    sent.signal,
+                    sent.args.as_slice(),
+                    slot.depth,
+                ),
+                Err(fault) => telling.warn_of(fault, slot.object),
+            }
+        }
+        Effect::Delete(target) => match deleted(caller, tables, slot, target) {
+            Ok(object) => delete(tables, caller.place, object, slot.depth),
+            Err(fault) => telling.warn_of(fault, slot.object),
+        },
+        _ => match change(caller, tables, slot, plain) {
+            Ok(()) => Ok(()),
+            Err(fault) => telling.warn_of(fault, slot.object),
+        },
+    }
+}
+
+/// The first values, as many as are wanted.
+fn first(values: &[Value], wanted: usize) -> &[Value]
+    ensures { result.now ≡ take wanted values.now }
+{
+    if wanted < values.len() {
+        &values[..wanted]
+    } else {
+        values
+    }
+}

@@ -1,0 +1,166 @@
+//! The objects that actions name, and the values of their expressions.
+ghost use Rattle.std.specs.Prelude.{◌≡◌, IfOk};
+ghost use Rattle.refusals.specs.Answers.{Answers};
+ghost use Rattle.thread_model.specs.Targets.{all_converted, all_evaluated, evaluated, named_object_of, object_of, title_evaluated, truth_evaluated};
+ghost use Rattle.session_tables.specs.Tables.{IsPlaced, state_at};
+
+use plain_types::{Items, Text};
+use refusals::{Code, Fault};
+use session_tables::Tables;
+use signature_core::Kind;
+use std::alloc::{AllocError, Global};
+use term_core::{Expr, Target};
+use term_evaluation::{Halt, Reads, evaluate};
+use variant_value::{TEXT_BYTES, Value};
+
+/// Where the expressions of a slot's body are evaluated: the session as it stands, the object whose slot
+/// it is, and the object that sent the signal, or 0.
+#[derive(Clone, Copy)]
+pub struct Reader<'a> {
+    pub tables: &'a Tables,
+    pub place: usize,
+    pub object: u32,
+    pub sender: u32,
+    ghost placed: { IsPlaced tables.now place },
+}
+
+impl Reads for Reader<'_> {
+    ghost use Rattle.thread_model.specs.Targets.{reads};
+    ghost use Rattle.session_tables.specs.Tables.{state_at};
+
+    type Own = ();
+
+    ghost reads = { λ r target name. reads (state_at r.tables.now r.place) r.object r.sender target name };
+
+    fn read(&self, alloc: Global, target: &Target, name: &Text) -> Result<Value, Halt<()>> {
+        let object = object_of(self, target)?;
+        if !self.tables.is_there(self.place, object) {
+            return Err(Halt::Refused(Code::NoSuchObject));
+        }
+        if name.as_str() != "objectName" {
+            return Err(Halt::Refused(Code::NoSuchProperty));
+        }
+        Ok(self.tables.title(alloc, self.place, object)?)
+    }
+}
+
+/// The number of the object that a target is, or 0 where there is none.
+pub fn object_of(reader: &Reader, target: &Target) -> Result<u32, AllocError>
+    ensures { IfOk result (λ object. object ≡ object_of (state_at reader.now.tables.now reader.now.place) reader.now.object reader.now.sender target.now) }
+{
+    match target {
+        Target::Itself => Ok(reader.object),
+        Target::Sender => Ok(reader.sender),
+        Target::Child(title) => {
+            let found = reader
+                .tables
+                .child(reader.place, reader.object, title.as_str())?;
+            Ok(found.unwrap_or(0))
+        }
+        Target::Object(number) => Ok(*number),
+    }
+}
+
+/// The same of a target that need not be named.
+pub fn named_object_of(reader: &Reader, target: &Option<Target>) -> Result<Option<u32>, AllocError>
+    ensures { IfOk result (λ object. object ≡ named_object_of (state_at reader.now.tables.now reader.now.place) reader.now.object reader.now.sender target.now) }
+{
+    match target {
+        Some(target) => Ok(Some(object_of(reader, target)?)),
+        None => Ok(None),
+    }
+}
+
+/// The value of an expression over the slot's arguments.
+pub fn evaluated(
+    alloc: Global,
+    reader: &Reader,
+    args: &[Value],
+    expr: &Expr,
+) -> Result<Value, Fault>
+    ensures { Answers result (evaluated (state_at reader.now.tables.now reader.now.place) reader.now.object reader.now.sender args.now expr.now) }
+{
+    match evaluate(alloc, expr, args, reader) {
+        Ok(value) => Ok(value),
+        Err(Halt::Refused(code)) => Err(Fault::Refused(code)),
+        Err(Halt::Own(())) => Err(Fault::Refused(Code::BadValue)),
+        Err(Halt::Memory) => Err(Fault::Memory),
+    }
+}
+
+/// The values of expressions, from left to right; the first fault ends it.
+pub fn all_evaluated(
+    alloc: Global,
+    reader: &Reader,
+    args: &[Value],
+    exprs: &[Expr],
+) -> Result<Items<Value>, Fault>
+    ensures { Answers result (all_evaluated (state_at reader.now.tables.now reader.now.place) reader.now.object reader.now.sender args.now exprs.now) }
+{
+    let mut values = Items::new(alloc);
+    for expr in exprs {
+        values.push(evaluated(alloc, reader, args, expr)?)?;
+    }
+    Ok(values)
+}
+
+/// The truth that an expression is.
+pub fn truth_evaluated(
+    alloc: Global,
+    reader: &Reader,
+    args: &[Value],
+    expr: &Expr,
+) -> Result<bool, Fault>
+    ensures { Answers result (truth_evaluated (state_at reader.now.tables.now reader.now.place) reader.now.object reader.now.sender args.now expr.now) }
+{
+    match evaluated(alloc, reader, args, expr)? {
+        Value::Bool(truth) => Ok(truth),
+        _ => Err(Fault::Refused(Code::BadValue)),
+    }
+}
+
+/// The text that an expression is, as a title.
+pub fn title_evaluated(
+    alloc: Global,
+    reader: &Reader,
+    args: &[Value],
+    expr: &Expr,
+) -> Result<Value, Fault>
+    ensures { Answers result (title_evaluated (state_at reader.now.tables.now reader.now.place) reader.now.object reader.now.sender args.now expr.now) }
+{
+    match evaluated(alloc, reader, args, expr)? {
+        Value::Text(text) => {
+            if text.as_str().len() > TEXT_BYTES {
+                return Err(Fault::Refused(Code::Limit));
+            }
+            Ok(Value::Text(text))
+        }
+        _ => Err(Fault::Refused(Code::BadValue)),
+    }
+}
+
+/// As many values as there are kinds, each as one of its kind.
+pub fn all_converted(
+    alloc: Global,
+    kinds: &[Kind],
+    values: Items<Value>,
+) -> Result<Items<Value>, Fault>
+    ensures { Answers result (all_converted kinds.now values) }
+{
+    let mut converted = Items::new(alloc);
+    let mut at = 0;
+    for value in values.into_vec() {
+        let Some(kind) = kinds.get(at) else {
+            return Err(Fault::Refused(Code::BadValue));
+        };
+        let Ok(value) = value.convert(*kind) else {
+            return Err(Fault::Refused(Code::BadValue));
+        };
+        converted.push(value)?;
+        at += 1;
+    }
+    if at < kinds.len() {
+        return Err(Fault::Refused(Code::BadValue));
+    }
+    Ok(converted)
+}

@@ -1,0 +1,130 @@
+//! The command that calls a slot or sends a signal.
+ghost use Rattle.std.specs.Prelude.{◌≡◌, OnOk, IsSome, map, slice_get};
+ghost use Rattle.serde_json.specs.View.{view};
+ghost use Rattle.refusals.specs.Answers.{Answers};
+ghost use Rattle.thread_model.specs.Asked.{Invoke};
+ghost use Rattle.thread_model.specs.Signals.{invoked, values_of};
+ghost use Rattle.session_tables.specs.Tables.{IsPlaced, state_at};
+ghost use Rattle.session_engine.specs.Actions.{Does, Keeps, is_limit};
+ghost use Rattle.session_engine.specs.Commands.{Performs, reply_after};
+ghost use Rattle.session_engine.specs.Methods.{its_methods};
+ghost use Rattle.session_engine.specs.Setup.{settings_of};
+ghost use Rattle.session_engine.specs.Telling.{fresh_telling};
+
+use crate::agenda::{emit, run_slot};
+use crate::commands::Caller;
+use crate::methods::{kinds_at, method_at, method_with};
+use crate::slot::Slot;
+use crate::telling::Telling;
+use plain_types::{Items, Text};
+use refusals::{Code, Fault};
+use session_tables::Tables;
+use signature_core::{Kind, Signature};
+use std::alloc::{AllocError, Global};
+use thread_model::Answer;
+use variant_value::Value;
+
+/// Calls a slot of an object or sends a signal of it, and replies whether it has such a method.
+pub fn invoke(
+    caller: &Caller,
+    tables: &mut Tables,
+    telling: &mut Telling,
+    object: u32,
+    method: &Text,
+    args: &[serde_json::Value],
+) -> Result<Answer, Fault>
+    requires placed { IsPlaced tables.old caller.now.place }
+    requires fresh { telling.old ≡ fresh_telling caller.now.setup.now.turns }
+    ensures { Performs caller.now (Invoke object method.now (map view args.now)) tables.old tables.new (reply_after telling.new.lines) result }
+{
+    tables.check_object(caller.place, object)?;
+    let signature = Signature::normalise(caller.setup.alloc, method.as_str())?;
+    let Ok(index) = method_with(caller, tables, object, &signature) else {
+        return Ok(Answer::Truth(false));
+    };
+    let kinds = kinds_at(caller, tables, object, index);
+    let values = values_of(caller.setup.alloc, kinds, args)?;
+    run(caller, tables, telling, object, index, values.as_slice())?;
+    Ok(Answer::Truth(true))
+}
+
+/// Calls the slot or sends the signal of this index.
+fn run(
+    caller: &Caller,
+    tables: &mut Tables,
+    telling: &mut Telling,
+    object: u32,
+    index: u32,
+    values: &[Value],
+) -> Result<(), AllocError>
+    requires placed { IsPlaced tables.old caller.now.place }
+    requires fresh { telling.old ≡ fresh_telling caller.now.setup.now.turns }
+    requires there { IsSome (slice_get (its_methods caller.now tables.old object) index) }
+    ensures does { OnOk result (Does caller.now (invoked (settings_of caller.now.setup.now) (state_at tables.old caller.now.place) object index values.now).items
+        (invoked (settings_of caller.now.setup.now) (state_at tables.old caller.now.place) object index values.now).doing tables.new telling.new) }
+    ensures keeps { Keeps caller.now.place tables.old tables.new }
+{
+    let Some(method) = method_at(caller, tables, object, index) else {
+        return Ok(());
+    };
+    if method.is_signal {
+        return emit(caller, tables, telling, object, index, values, 0);
+    }
+    if telling.turns == 0 {
+        return telling.use_up();
+    }
+    telling.turns -= 1;
+    let slot = Slot {
+        object,
+        sender: 0,
+        args: values,
+        depth: 1,
+    };
+    run_slot(caller, tables, telling, method, &slot)
+}
+
+/// As many values as there are kinds, each as one of its kind. Of two faults one that is no value comes
+/// before a text that is too long.
+fn values_of(
+    alloc: Global,
+    kinds: &[Kind],
+    args: &[serde_json::Value],
+) -> Result<Items<Value>, Fault>
+    ensures { Answers result (values_of kinds.now (map view args.now)) }
+{
+    let mut values = Items::new(alloc);
+    let mut is_long = false;
+    let mut at = 0;
+    for json in args {
+        let Some(kind) = kinds.get(at) else {
+            return Err(Fault::Refused(Code::BadValue));
+        };
+        match Value::from_json(alloc, *kind, json) {
+            Ok(value) => values.push(value)?,
+            Err(Fault::Refused(code)) => {
+                if !is_limit(code) {
+                    return Err(Fault::Refused(code));
+                }
+                is_long = true;
+            }
+            Err(Fault::Memory) => return Err(Fault::Memory),
+        }
+        at += 1;
+    }
+    if at < kinds.len() {
+        return Err(Fault::Refused(Code::BadValue));
+    }
+    if is_long {
+        return Err(Fault::Refused(Code::Limit));
+    }
+    Ok(values)
+}
+
+fn is_limit(code: Code) -> bool
+    ensures { result ≡ is_limit code }
+{
+    match code {
+        Code::Limit => true,
+        _ => false,
+    }
+}

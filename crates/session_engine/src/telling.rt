@@ -1,0 +1,96 @@
+//! What a command has told so far, and the turns that it has left.
+ghost use Rattle.std.specs.Prelude.{◌≡◌, IfOk, OnOk};
+ghost use Rattle.thread_model.specs.declared.line.Line.TheVariants.{Warning};
+ghost use Rattle.thread_model.specs.Agenda.{call_line};
+ghost use Rattle.session_engine.specs.Telling.{Warns, fresh_telling, spent, with_line};
+
+use crate::setup::Setup;
+use crate::slot::Slot;
+use class_table::Method;
+use plain_types::{Items, Text};
+use refusals::{Code, Fault};
+use std::alloc::{AllocError, Global};
+use thread_model::{Call, Line};
+use variant_value::Value;
+
+/// What a command has told so far, and the turns that it has left for the calls that it causes.
+#[derive(Drop)]
+pub struct Telling {
+    pub lines: Items<Line>,
+    pub turns: u32,
+    /// It was told that no turn is left.
+    pub spent: bool,
+}
+
+impl Telling {
+    /// Of a command that begins.
+    pub fn new(setup: &Setup) -> Telling
+        ensures { result ≡ fresh_telling setup.now.turns }
+    {
+        Telling {
+            lines: Items::new(setup.alloc),
+            turns: setup.turns,
+            spent: false,
+        }
+    }
+
+    pub fn tell(&mut self, line: Line) -> Result<(), AllocError>
+        ensures { OnOk result (self.new ≡ with_line self.old line) }
+    {
+        self.lines.push(line)
+    }
+
+    /// Warns of a code, and names an object with it.
+    pub fn warn(&mut self, code: Code, object: Option<u32>) -> Result<(), AllocError>
+        ensures { OnOk result (self.new ≡ with_line self.old (Warning code object)) }
+    {
+        self.tell(Line::Warning { code, object })
+    }
+
+    /// Warns that a turn is wanted and none is left, once in a command.
+    pub fn use_up(&mut self) -> Result<(), AllocError>
+        ensures { OnOk result (self.new ≡ spent self.old) }
+    {
+        if self.spent {
+            return Ok(());
+        }
+        self.warn(Code::TurnsUsedUp, None)?;
+        self.spent = true;
+        Ok(())
+    }
+
+    /// Warns of what an action of the slot of `object` was refused for. Where memory was wanted there is
+    /// nothing to warn of.
+    pub fn warn_of(&mut self, fault: Fault, object: u32) -> Result<(), AllocError>
+        ensures { OnOk result (Warns fault object self.old self.new) }
+    {
+        match fault {
+            Fault::Refused(code) => self.warn(code, Some(object)),
+            Fault::Memory => Err(AllocError),
+        }
+    }
+
+    /// Tells of a slot that is called.
+    pub fn call(&mut self, alloc: Global, method: &Method, slot: &Slot) -> Result<(), AllocError>
+        ensures { OnOk result (self.new ≡ with_line self.old (call_line method.now slot.now.object slot.now.sender slot.now.args.now)) }
+    {
+        let call = Call {
+            method: Text::from_string(method.signature.text(alloc)?),
+            object: slot.object,
+            sender: slot.sender,
+            args: copies(alloc, slot.args)?,
+        };
+        self.tell(Line::Call(call))
+    }
+}
+
+/// Copies of values.
+fn copies(alloc: Global, values: &[Value]) -> Result<Items<Value>, AllocError>
+    ensures { IfOk result (λ copies. copies ≡ values.now) }
+{
+    let mut copies = Items::new(alloc);
+    for value in values {
+        copies.push(value.copy(alloc)?)?;
+    }
+    Ok(copies)
+}

@@ -1,0 +1,95 @@
+//! The connections between objects.
+ghost use Rattle.std.specs.Prelude.{◌≡◌, ◌+◌, IfOk, OnOk, OnErr, count_by, find, if◌then◌else◌};
+ghost use Rattle.std.specs.List.{list_any};
+ghost use Rattle.refusals.specs.Answers.{RefusedBy};
+ghost use Rattle.connection_list.specs.Ends.{matches, touches};
+ghost use Rattle.connection_list.specs.Rows.{IsSound, connect_refusal, has_number, is_next};
+ghost use Rattle.thread_model.specs.State.{with_connection, without_connections};
+ghost use Rattle.session_tables.specs.Tables.{IsPlaced, state_at, with_state};
+
+use crate::tables::Tables;
+use connection_list::{Connection, NewConnection, Pattern};
+use refusals::Fault;
+
+impl Tables {
+    /// Connects, and returns the connection's number. The refusals are those of
+    /// [`Connections::connect`](connection_list::Connections::connect).
+    pub fn connect(&mut self, place: usize, new: NewConnection, unique: bool) -> Result<u32, Fault>
+        requires { IsPlaced self.old place }
+        ensures refusal { RefusedBy (connect_refusal (state_at self.old place).connections new unique) result }
+        ensures number { IfOk result (λ number. number ≡ (state_at self.old place).connections.last_number + 1) }
+        ensures ok { OnOk result (self.new ≡ with_state self.old place
+            (with_connection (state_at self.old place) new)) }
+        ensures err { OnErr result (self.new ≡ self.old) }
+    {
+        self.connections.connect(place, new, unique)
+    }
+
+    /// Breaks the connection of this number, and returns whether it stood.
+    pub fn disconnect_one(&mut self, place: usize, number: u32) -> bool
+        requires { IsPlaced self.old place }
+        ensures stood { result ≡ list_any (has_number number) (state_at self.old place).connections.rows }
+        ensures broken { self.new ≡ with_state self.old place
+            (without_connections (state_at self.old place) (has_number number)) }
+    {
+        self.connections.disconnect_one(place, number)
+    }
+
+    /// Breaks the connections that match a pattern, and returns how many.
+    pub fn disconnect(&mut self, place: usize, pattern: &Pattern) -> u32
+        requires { IsPlaced self.old place }
+        ensures count { result ≡ count_by (matches pattern.now) (state_at self.old place).connections.rows }
+        ensures broken { self.new ≡ with_state self.old place
+            (without_connections (state_at self.old place) (matches pattern.now)) }
+    {
+        self.connections.disconnect_matching(place, pattern)
+    }
+
+    /// Breaks the connections that have an object at either end.
+    pub fn untie(&mut self, place: usize, object: u32)
+        requires { IsPlaced self.old place }
+        ensures { self.new ≡ with_state self.old place
+            (without_connections (state_at self.old place) (touches object)) }
+    {
+        self.connections.drop_object(place, object);
+    }
+
+    /// The connection that an emission of `sender`'s `signal` calls next: of those that stand, the one
+    /// with the least number above `after` and at most `up_to`.
+    pub fn next_connection(
+        &self,
+        place: usize,
+        sender: u32,
+        signal: u32,
+        after: u32,
+        up_to: u32,
+    ) -> Option<Connection>
+        requires { IsPlaced self.now place }
+        ensures next { result ≡ find (is_next sender signal after up_to) (state_at self.now place).connections.rows }
+        ensures sound { IsSound (state_at self.now place).connections }
+    {
+        self.connections
+            .next_after(place, sender, signal, after, up_to)
+    }
+
+    /// Breaks a single-shot connection, as its callee is about to be called; another one stays.
+    pub fn shoot(&mut self, place: usize, connection: &Connection)
+        requires { IsPlaced self.old place }
+        ensures { self.new ≡ with_state self.old place (if connection.now.single
+            then without_connections (state_at self.old place) (has_number connection.now.number)
+            else state_at self.old place) }
+    {
+        if connection.single {
+            self.connections.disconnect_one(place, connection.number);
+        }
+    }
+
+    /// The number that was given last to a connection, or 0.
+    pub fn last_connection(&self, place: usize) -> u32
+        requires { IsPlaced self.now place }
+        ensures number { result ≡ (state_at self.now place).connections.last_number }
+        ensures sound { IsSound (state_at self.now place).connections }
+    {
+        self.connections.last_number(place)
+    }
+}

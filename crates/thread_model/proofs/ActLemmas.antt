@@ -1,0 +1,113 @@
+-- What an action may come to, by the effect that it has.
+use Rattle.std.proofs.Common.{◌≡◌, ℕ, Bool, true, false, cond, List, [], ◌∷◌, Option, Some, None, Ok, Err, refl, sym, ap}
+use Rattle.std.specs.Option.{option_or}
+use Rattle.std.specs.Result.{result_err}
+use Rattle.refusals.specs.declared.code.Code.{Code}
+use Rattle.refusals.specs.declared.code.Code.TheVariants.{BadValue, DoesNotFit, NoSuchObject}
+use Rattle.signature_core.specs.declared.kind.Kind.TheVariants as k
+use Rattle.variant_value.specs.declared.value.Value.{Value}
+use Rattle.variant_value.specs.Values.{IsOfKind}
+use Rattle.term_core.specs.declared.action.Effect.{Effect}
+use Rattle.term_core.specs.declared.action.Effect.TheVariants as e
+use Rattle.connection_types.specs.declared.callee.Callee.TheVariants.{Method}
+use Rattle.connection_types.specs.declared.connection_type.ConnectionType.{ConnectionType}
+use Rattle.connection_list.specs.declared.connection.NewConnection.{NewConnection}
+use Rattle.connection_list.specs.declared.pattern.Pattern.{Pattern}
+use Rattle.connection_list.specs.Rows.{connect_refusal}
+use Rattle.object_tree.specs.Refusing.{object_refusal, set_parent_refusal}
+use Rattle.object_tree.specs.Rows.{is_there}
+use Rattle.thread_model.specs.Acts.{act_refusal, acted, connection, emission, is_queued, pattern, warns_or, with_found}
+use Rattle.thread_model.specs.Connecting.{connection_refusal, fits_at, new_connection}
+use Rattle.thread_model.specs.Doing.{Doing, linked, unlinked, adopted, retitled}
+use Rattle.thread_model.specs.Items.{Delete, Emit, Next, Warn, puts}
+use Rattle.thread_model.specs.Methods.{Found}
+use Rattle.thread_model.specs.Settings.{Settings}
+use Rattle.thread_model.specs.State.{State}
+use Rattle.thread_model.specs.Targets.{evaluated, is_title, object_of, title_evaluated}
+use Rattle.thread_model.proofs.ConnectionLemmas.{IsAllowed, allowed}
+use Rattle.thread_model.proofs.TitleLemmas.{title_text}
+
+-- a connection that is made has the sender and the receiver that were asked for
+pub record Joins (one other : ℕ) (new : NewConnection) : Type 0 where
+  pub sender : new.sender ≡ one
+  pub receiver : new.receiver ≡ other
+
+pub joins : (settings : Settings) (state : State) (sender : ℕ) (signal : Found ℕ) (receiver : ℕ) (method : Found ℕ) (mode : ConnectionType) (single : Bool) (new : NewConnection)
+    → new_connection settings state sender signal receiver method mode single ≡ Ok new → Joins sender receiver new
+joins settings state sender (Err code) receiver method mode single new e = absurd (cc)
+joins settings state sender (Ok s) receiver (Err code) mode single new e = absurd (cc)
+joins settings state sender (Ok s) receiver (Ok m) mode single new e = by (fits_at settings state sender s receiver m) e
+  where
+    made : NewConnection
+    made = record { sender = sender; signal = s; receiver = receiver; callee = Method m; mode = mode; single = single }
+
+    by : (fits : Bool) → cond fits (Ok made) (Err DoesNotFit) ≡ Ok new → Joins sender receiver new
+    by true e = let same : made ≡ new = cc in record { sender = sym (ap (λ (new : NewConnection). new.sender) same); receiver = sym (ap (λ (new : NewConnection). new.receiver) same) }
+    by false e = absurd (cc)
+
+module _ (settings : Settings) (doing : Doing) (self sender : ℕ) (args : List Value) (depth : ℕ) (P : Next → Type 0)
+    (warns : (code : Code) → P (puts (Warn code (Some self) ∷ []) doing))
+    (sends : (target signal : ℕ) (values : List Value) → P (puts (Emit target signal values depth ∷ []) doing))
+    (deletes : (target : ℕ) → P (puts (Delete target depth ∷ []) doing))
+    (titles : (target : ℕ) (title : Value) → is_there doing.state.forest.rows target ≡ true → IsOfKind k.Text title → P (puts [] (retitled doing target title)))
+    (moves : (target : ℕ) (parent : Option ℕ) → set_parent_refusal doing.state.forest target parent ≡ None → P (puts [] (adopted doing target parent)))
+    (connects : (new : NewConnection) → IsAllowed doing.state.connections → object_refusal doing.state.forest.rows new.sender ≡ None → object_refusal doing.state.forest.rows new.receiver ≡ None → P (puts [] (linked doing new)))
+    (breaks : (pattern : Pattern) → P (puts [] (unlinked doing pattern)))
+  where
+    titled_by : (of : ℕ) (declared there : Bool) (found : Found Value) → is_there doing.state.forest.rows of ≡ there → ((title : Value) → found ≡ Ok title → IsOfKind k.Text title)
+        → P (warns_or (cond declared (option_or (cond there None (Some NoSuchObject)) (result_err found)) (Some BadValue)) self doing (with_found found (λ title. puts [] (retitled doing of title)) doing))
+    titled_by of false there found is texts = warns BadValue
+    titled_by of true false found is texts = warns NoSuchObject
+    titled_by of true true (Ok title) is texts = titles of title is (texts title refl)
+    titled_by of true true (Err code) is texts = warns code
+
+    sent_by : (of : ℕ) (there : Bool) (found : Found (ℕ × List Value))
+        → P (warns_or (option_or (cond there None (Some NoSuchObject)) (result_err found)) self doing (with_found found (λ emitted. puts (Emit of emitted.0 emitted.1 depth ∷ []) doing) doing))
+    sent_by of false found = warns NoSuchObject
+    sent_by of true (Ok emitted) = sends of emitted.0 emitted.1
+    sent_by of true (Err code) = warns code
+
+    linked_by : (queued unique : Bool) (a b : Option Code) (found : Found NewConnection)
+        → ((new : NewConnection) → found ≡ Ok new → (a ≡ object_refusal doing.state.forest.rows new.sender) × (b ≡ object_refusal doing.state.forest.rows new.receiver))
+        → P (warns_or (cond queued (Some BadValue) (option_or a (option_or b (connection_refusal doing.state.connections found unique)))) self doing (with_found found (λ new. puts [] (linked doing new)) doing))
+    linked_by true unique a b found ends = warns BadValue
+    linked_by false unique (Some code) b found ends = warns code
+    linked_by false unique None (Some code) found ends = warns code
+    linked_by false unique None None (Err code) ends = warns code
+    linked_by false unique None None (Ok new) ends = by (connect_refusal doing.state.connections new unique) refl
+      where
+        by : (refusal : Option Code) → connect_refusal doing.state.connections new unique ≡ refusal → P (warns_or refusal self doing (puts [] (linked doing new)))
+        by (Some code) e = warns code
+        by None e = connects new (allowed doing.state.connections new unique e) (sym (ends new refl).0) (sym (ends new refl).1)
+
+    broken_by : (there : Bool) (named : Option Code) (found : Found Pattern)
+        → P (warns_or (option_or (cond there None (Some NoSuchObject)) (option_or named (result_err found))) self doing (with_found found (λ broken. puts [] (unlinked doing broken)) doing))
+    broken_by false named found = warns NoSuchObject
+    broken_by true (Some code) found = warns code
+    broken_by true None (Ok broken) = breaks broken
+    broken_by true None (Err code) = warns code
+
+    deleted_by : (target : ℕ) (refusal : Option Code) → P (warns_or refusal self doing (puts (Delete target depth ∷ []) doing))
+    deleted_by target (Some code) = warns code
+    deleted_by target None = deletes target
+
+    moved_by : (target : ℕ) (parent : Option ℕ) (refusal : Option Code) → set_parent_refusal doing.state.forest target parent ≡ refusal → P (warns_or refusal self doing (puts [] (adopted doing target parent)))
+    moved_by target parent (Some code) e = warns code
+    moved_by target parent None e = moves target parent e
+
+    -- an action is refused, or has one of these effects
+    pub acted_cases : (plain : Effect) → P (warns_or (act_refusal settings doing.state self sender args plain) self doing (acted settings doing self sender args depth plain))
+    acted_cases (e.Set of property value) =
+        titled_by (object_of doing.state self sender of) (is_title property) (is_there doing.state.forest.rows (object_of doing.state self sender of)) (title_evaluated doing.state self sender args value) refl
+        (title_text (evaluated doing.state self sender args value))
+    acted_cases (e.Emit of signal sent) = sent_by (object_of doing.state self sender of) (is_there doing.state.forest.rows (object_of doing.state self sender of)) (emission settings doing.state self sender args (object_of doing.state self sender of) signal sent)
+    acted_cases (e.Connect of signal to method mode unique single) =
+        linked_by (is_queued mode) unique _ _ (connection settings doing.state (object_of doing.state self sender of) signal (object_of doing.state self sender to) method mode single)
+        (λ new found. let its = joins settings doing.state _ _ _ _ mode single new found in
+        (ap (object_refusal doing.state.forest.rows) (sym its.sender), ap (object_refusal doing.state.forest.rows) (sym its.receiver)))
+    acted_cases (e.Disconnect of signal to method) =
+        broken_by (is_there doing.state.forest.rows (object_of doing.state self sender of)) _ (pattern settings doing.state (object_of doing.state self sender of) signal _ method)
+    acted_cases (e.Delete target) = deleted_by (object_of doing.state self sender target) (object_refusal doing.state.forest.rows (object_of doing.state self sender target))
+    acted_cases (e.DeleteLater target) = warns BadValue
+    acted_cases (e.Block of on) = warns BadValue
+    acted_cases (e.SetParent of parent) = moved_by _ _ _ refl

@@ -1,0 +1,33 @@
+-- The rules by which an object is deleted: one for each way that it goes.
+use Rattle.std.proofs.Common.{◌≡◌, ℕ, true, false, [], ◌∷◌, refl}
+use Rattle.std.proofs.lemmas.Bool.{cond-false, cond-true}
+use Rattle.thread_model.specs.Agenda.{kins, lives, lives_below, step}
+use Rattle.thread_model.specs.Doing.{Doing, dying, gone, untied}
+use Rattle.thread_model.specs.Items.{Cut, Delete, Gone, Kin, puts}
+use Rattle.thread_model.specs.Settings.{Settings}
+
+module _ (settings : Settings) (target depth : ℕ) (doing : Doing) where
+  -- an object that is gone or dying is left alone
+  pub delete_none : lives doing target ≡ false → step settings (Delete target depth) doing ≡ puts [] doing
+  delete_none absent = cond-false (lives doing target) _ _ absent
+
+  -- an object that lives is dying from now on
+  pub delete_some : lives doing target ≡ true → step settings (Delete target depth) doing ≡ puts (Cut target depth ∷ Gone target depth ∷ []) (dying doing target)
+  delete_some living = cond-true (lives doing target) _ _ living
+
+  -- the connections of a dying object are broken, and then its children are deleted
+  pub cut_kins : step settings (Cut target depth) doing ≡ puts (kins doing target depth) (untied doing target)
+  cut_kins = refl
+
+  -- a dying object goes at last
+  pub gone_now : step settings (Gone target depth) doing ≡ puts [] (gone doing target)
+  gone_now = refl
+
+module _ (settings : Settings) (parent child depth : ℕ) (doing : Doing) where
+  -- a child that is gone, is dying or has another parent is left alone
+  pub kin_none : lives_below doing parent child ≡ false → step settings (Kin parent child depth) doing ≡ puts [] doing
+  kin_none other = cond-false (lives_below doing parent child) _ _ other
+
+  -- a child that lives below its parent is deleted
+  pub kin_some : lives_below doing parent child ≡ true → step settings (Kin parent child depth) doing ≡ puts (Delete child depth ∷ []) doing
+  kin_some living = cond-true (lives_below doing parent child) _ _ living

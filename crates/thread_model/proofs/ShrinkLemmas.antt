@@ -1,0 +1,122 @@
+-- What each change leaves of what bounds a run: turns, objects and connections.
+use Rattle.std.proofs.Common.{◌≡◌, ◌≤◌, ◌+◌, ◌==◌, ℕ, Bool, true, false, not, cond, List, [], ◌∷◌, ◌++◌, length, filter, max, Option, None, arith}
+use Rattle.std.proofs.lemmas.List.{length-append, length-map}
+use Rattle.std.proofs.lemmas.Bool.{cond_both, eqb-false}
+use Rattle.refusals.specs.declared.code.Code.TheVariants.{TurnsUsedUp}
+use Rattle.variant_value.specs.declared.value.Value.{Value}
+use Rattle.connection_list.specs.declared.connection.Connection.{Connection}
+use Rattle.connection_list.specs.declared.connection.NewConnection.{NewConnection}
+use Rattle.connection_list.specs.declared.list.TheConstants.{CONNECTIONS}
+use Rattle.connection_list.specs.declared.pattern.Pattern.{Pattern}
+use Rattle.connection_list.specs.Ends.{matches, touches}
+use Rattle.connection_list.specs.Rows.{has_number, numbered}
+use Rattle.object_tree.specs.Rows.{has_number as has_object}
+use Rattle.object_tree.specs.Changes.{marked, orphaned, removed}
+use Rattle.thread_model.specs.declared.line.Line.{Line}
+use Rattle.thread_model.specs.declared.line.Line.TheVariants.{Warning}
+use Rattle.thread_model.specs.Agenda.{lives}
+use Rattle.thread_model.specs.Doing.{Doing, linked, unlinked, dying, gone, in_state, adopted, retitled, shot, told, turn_taken, untied, used_up}
+use Rattle.thread_model.specs.State.{without_connections}
+use Rattle.thread_model.proofs.ConnectionLemmas.{IsAllowed}
+use Rattle.thread_model.proofs.LivingLemmas.{all_orphaned-living, filter-fewer, filter-living, living_rows, marked-one, reparented-as_many}
+
+-- nothing that bounds the run has grown
+pub record Shrinks (old new : Doing) : Type 0 where
+  pub turns : new.turns ≤ old.turns
+  pub living : living_rows new.state.forest.rows ≤ living_rows old.state.forest.rows
+  pub objects : length new.state.forest.rows ≤ length old.state.forest.rows
+  pub connections : max CONNECTIONS (length new.state.connections.rows) ≤ max CONNECTIONS (length old.state.connections.rows)
+
+pub same : (doing : Doing) → Shrinks doing doing
+same doing = record { turns = omega arith; living = omega arith; objects = omega arith; connections = omega arith }
+
+pub both : (one two three : Doing) → Shrinks one two → Shrinks two three → Shrinks one three
+both one two three first second = record {
+  turns = omega (arith, first.turns, second.turns);
+  living = omega (arith, first.living, second.living);
+  objects = omega (arith, first.objects, second.objects);
+  connections = omega (arith, first.connections, second.connections);
+}
+
+-- fewer rows are no more of them
+kept : (n : ℕ) (test : Connection → Bool) (rows : List Connection) → max n (length (filter test rows)) ≤ max n (length rows)
+kept n test rows = let fewer = filter-fewer test rows in omega (arith, fewer)
+
+pub told_shrinks : (doing : Doing) (said : Line) → Shrinks doing (told doing said)
+unfolding told
+told_shrinks doing said = record { turns = omega arith; living = omega arith; objects = omega arith; connections = omega arith }
+
+pub used_up_shrinks : (doing : Doing) → Shrinks doing (used_up doing)
+unfolding used_up
+used_up_shrinks doing =
+    cond_both doing.spent doing (record doing { spent = true; lines = doing.lines ++ Warning TurnsUsedUp None ∷ [] }) (Shrinks doing)
+    (λ spent. same doing)
+    (λ fresh. record { turns = omega arith; living = omega arith; objects = omega arith; connections = omega arith })
+
+pub turn_shrinks : (doing : Doing) → Shrinks doing (turn_taken doing)
+unfolding turn_taken
+turn_shrinks doing = record { turns = omega arith; living = omega arith; objects = omega arith; connections = omega arith }
+
+pub turn_taken-less : (doing : Doing) → (doing.turns == 0) ≡ false → (turn_taken doing).turns + 1 ≤ doing.turns
+unfolding turn_taken
+turn_taken-less doing some = let more = eqb-false doing.turns 0 some in omega (arith, more)
+
+pub shot_shrinks : (doing : Doing) (row : Connection) → Shrinks doing (shot doing row)
+unfolding shot
+shot_shrinks doing row =
+    cond_both row.single (in_state doing (without_connections doing.state (has_number row.number))) doing (Shrinks doing)
+    (λ single. record { turns = omega arith; living = omega arith; objects = omega arith; connections = kept CONNECTIONS (λ other. not (has_number row.number other)) doing.state.connections.rows })
+    (λ lasting. same doing)
+
+pub untied_shrinks : (doing : Doing) (target : ℕ) → Shrinks doing (untied doing target)
+unfolding untied
+untied_shrinks doing target = record { turns = omega arith; living = omega arith; objects = omega arith; connections = kept CONNECTIONS (λ row. not (touches target row)) doing.state.connections.rows }
+
+pub unlinked_shrinks : (doing : Doing) (pattern : Pattern) → Shrinks doing (unlinked doing pattern)
+unfolding unlinked
+unlinked_shrinks doing pattern = record { turns = omega arith; living = omega arith; objects = omega arith; connections = kept CONNECTIONS (λ row. not (matches pattern row)) doing.state.connections.rows }
+
+pub linked_shrinks : (doing : Doing) (new : NewConnection) → IsAllowed doing.state.connections → Shrinks doing (linked doing new)
+unfolding linked
+linked_shrinks doing new allowed = record {
+  turns = omega arith;
+  living = omega arith;
+  objects = omega arith;
+  connections = omega (arith, allowed.room, length-append doing.state.connections.rows (numbered (doing.state.connections.last_number + 1) new ∷ []));
+}
+
+pub retitled_shrinks : (doing : Doing) (target : ℕ) (title : Value) → Shrinks doing (retitled doing target title)
+unfolding retitled
+retitled_shrinks doing target title = record { turns = omega arith; living = omega arith; objects = omega arith; connections = omega arith }
+
+pub adopted_shrinks : (doing : Doing) (target : ℕ) (parent : Option ℕ) → Shrinks doing (adopted doing target parent)
+unfolding adopted
+adopted_shrinks doing target parent =
+    let many = reparented-as_many doing.state.forest target parent in
+    record { turns = omega arith; living = omega (arith, many.living); objects = omega (arith, many.objects); connections = omega arith }
+
+pub gone_shrinks : (doing : Doing) (target : ℕ) → Shrinks doing (gone doing target)
+unfolding gone removed
+gone_shrinks doing target =
+    let rows = doing.state.forest.rows in
+    let left = filter (λ row. not (has_object target row)) rows in
+    let fewer = filter-fewer (λ row. not (has_object target row)) rows in
+    let mapped = length-map left (orphaned target) in
+    record {
+      turns = omega arith;
+      living = omega (arith, all_orphaned-living target left, filter-living (λ row. not (has_object target row)) rows);
+      objects = omega (arith, fewer, mapped);
+      connections = omega arith;
+    }
+
+-- marking a living object as dying leaves fewer living ones
+pub dying_less : (doing : Doing) (target : ℕ) → lives doing target ≡ true → living_rows (dying doing target).state.forest.rows + 1 ≤ living_rows doing.state.forest.rows
+unfolding dying marked
+dying_less doing target lives = let less = marked-one target doing.state.forest.rows lives in omega (arith, less)
+
+pub dying_shrinks : (doing : Doing) (target : ℕ) → lives doing target ≡ true → Shrinks doing (dying doing target)
+unfolding dying marked
+dying_shrinks doing target lives =
+    let less = marked-one target doing.state.forest.rows lives in
+    let mapped = length-map doing.state.forest.rows (λ row. cond (has_object target row) (record row { dying = true }) row) in
+    record { turns = omega arith; living = omega (arith, less); objects = omega (arith, mapped); connections = omega arith }

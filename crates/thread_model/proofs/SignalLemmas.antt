@@ -1,0 +1,125 @@
+-- The rule of each command for signals and slots: why it is refused, what it does where it is not, and
+-- both together; and each way that it goes.
+use Rattle.std.proofs.Common.{◌≡◌, ◌<◌, ◌+◌, ◌==◌, ℕ, Bool, true, false, List, [], ◌∷◌, Option, Some, None, Ok, count_by, refl, ap, ◌∙◌, arith}
+use Rattle.std.specs.Option.{option_or}
+use Rattle.std.specs.Result.{result_err, result_unwrap_or}
+use Rattle.std.proofs.lemmas.Bool.{cond-false, cond-true}
+use Rattle.std.proofs.lemmas.Bool.Decides.{nat_tests}
+use Rattle.serde_json.specs.Data.{Data}
+use Rattle.variant_value.specs.declared.value.Value.{Value}
+use Rattle.connection_types.specs.declared.connection_type.ConnectionType.{ConnectionType}
+use Rattle.connection_list.specs.declared.connection.NewConnection.{NewConnection}
+use Rattle.connection_list.specs.declared.pattern.Pattern.{Pattern}
+use Rattle.connection_list.specs.Ends.{matches}
+use Rattle.thread_model.specs.declared.line.Answer.TheVariants as a
+use Rattle.thread_model.specs.Absence.{absence, named_absence}
+use Rattle.thread_model.specs.Agenda.{with_turn}
+use Rattle.thread_model.specs.Asked.{Connect, Disconnect, DisconnectOne, Invoke}
+use Rattle.thread_model.specs.Connecting.{connection_refusal}
+use Rattle.thread_model.specs.Doing.{begun, turn_taken, used_up}
+use Rattle.thread_model.specs.Effects.{does_next, replies, unless}
+use Rattle.thread_model.specs.Items.{Emit, Next, Run, puts}
+use Rattle.thread_model.specs.Methods.{is_signal_at, methods_of, signature_in}
+use Rattle.thread_model.specs.Refusing.{refusal, values_refusal}
+use Rattle.thread_model.specs.Signals.{asked_connection, asked_method, asked_pattern, asked_values, connects, disconnects, disconnects_one, invoked, invokes}
+use Rattle.thread_model.specs.State.{State, with_connection, without_connections}
+use Rattle.thread_model.specs.Thread.{Settings, does, performs}
+
+module _ (settings : Settings) (self : List ℕ) (state : State) where
+  module _ (sender : ℕ) (signal : List ℕ) (receiver : ℕ) (method : List ℕ) (mode : ConnectionType) (unique single : Bool) where
+    pub refusal_connect : refusal settings self state (Connect sender signal receiver method mode unique single)
+        ≡ option_or (absence state sender) (option_or (absence state receiver) (connection_refusal state.connections (asked_connection settings state sender signal receiver method mode single) unique))
+    unfolding refusal
+    refusal_connect = refl
+
+    pub performs_connect : performs settings self state (Connect sender signal receiver method mode unique single) ≡ connects state (asked_connection settings state sender signal receiver method mode single)
+    unfolding performs
+    performs_connect = refl
+
+    pub does_connect : does settings self state (Connect sender signal receiver method mode unique single)
+        ≡ unless (option_or (absence state sender) (option_or (absence state receiver) (connection_refusal state.connections (asked_connection settings state sender signal receiver method mode single) unique))) state
+        (connects state (asked_connection settings state sender signal receiver method mode single))
+    unfolding does refusal performs
+    does_connect = refl
+
+    -- the connection that was looked for is made
+    pub connect_made : (new : NewConnection) → asked_connection settings state sender signal receiver method mode single ≡ Ok new
+        → performs settings self state (Connect sender signal receiver method mode unique single) ≡ replies (with_connection state new) (a.Number (state.connections.last_number + 1))
+    connect_made new found = performs_connect ∙ ap (connects state) found
+
+  pub refusal_disconnect_one : (connection : ℕ) → refusal settings self state (DisconnectOne connection) ≡ None
+  unfolding refusal
+  refusal_disconnect_one connection = refl
+
+  pub performs_disconnect_one : (connection : ℕ) → performs settings self state (DisconnectOne connection) ≡ disconnects_one state connection
+  unfolding performs
+  performs_disconnect_one connection = refl
+
+  pub does_disconnect_one : (connection : ℕ) → does settings self state (DisconnectOne connection) ≡ disconnects_one state connection
+  unfolding does refusal performs
+  does_disconnect_one connection = refl
+
+  module _ (sender : ℕ) (signal : Option (List ℕ)) (receiver : Option ℕ) (method : Option (List ℕ)) where
+    pub refusal_disconnect : refusal settings self state (Disconnect sender signal receiver method)
+        ≡ option_or (absence state sender) (option_or (named_absence state receiver) (result_err (asked_pattern settings state sender signal receiver method)))
+    unfolding refusal
+    refusal_disconnect = refl
+
+    pub performs_disconnect : performs settings self state (Disconnect sender signal receiver method) ≡ disconnects state (asked_pattern settings state sender signal receiver method)
+    unfolding performs
+    performs_disconnect = refl
+
+    pub does_disconnect : does settings self state (Disconnect sender signal receiver method)
+        ≡ unless (option_or (absence state sender) (option_or (named_absence state receiver) (result_err (asked_pattern settings state sender signal receiver method)))) state
+        (disconnects state (asked_pattern settings state sender signal receiver method))
+    unfolding does refusal performs
+    does_disconnect = refl
+
+    -- the connections that were looked for are broken
+    pub disconnect_made : (pattern : Pattern) → asked_pattern settings state sender signal receiver method ≡ Ok pattern
+        → performs settings self state (Disconnect sender signal receiver method) ≡ replies (without_connections state (matches pattern)) (a.Number (count_by (matches pattern) state.connections.rows))
+    disconnect_made pattern found = performs_disconnect ∙ ap (disconnects state) found
+
+  module _ (target : ℕ) (method : List ℕ) (args : List Data) where
+    pub refusal_invoke : refusal settings self state (Invoke target method args)
+        ≡ option_or (absence state target) (option_or (result_err (signature_in method)) (values_refusal settings state target args (asked_method settings state target method)))
+    unfolding refusal
+    refusal_invoke = refl
+
+    pub performs_invoke : performs settings self state (Invoke target method args) ≡ invokes settings state target args (asked_method settings state target method)
+    unfolding performs
+    performs_invoke = refl
+
+    pub does_invoke : does settings self state (Invoke target method args)
+        ≡ unless (option_or (absence state target) (option_or (result_err (signature_in method)) (values_refusal settings state target args (asked_method settings state target method)))) state
+        (invokes settings state target args (asked_method settings state target method))
+    unfolding does refusal performs
+    does_invoke = refl
+
+    -- an object that has no such method is told of as false
+    pub invoke_none : asked_method settings state target method ≡ None → performs settings self state (Invoke target method args) ≡ replies state (a.Truth false)
+    invoke_none none = performs_invoke ∙ ap (invokes settings state target args) none
+
+    module _ (index : ℕ) (values : List Value) (found : asked_method settings state target method ≡ Some index) (given : asked_values settings state target index args ≡ Ok values) where
+      comes_to : (next : Next) → invoked settings state target index values ≡ next → performs settings self state (Invoke target method args) ≡ does_next settings next (a.Truth true)
+      comes_to next is =
+          performs_invoke ∙ ap (invokes settings state target args) found
+          ∙ ap (λ given. does_next settings (invoked settings state target index (result_unwrap_or given [])) (a.Truth true)) given
+          ∙ ap (λ next. does_next settings next (a.Truth true)) is
+
+      -- a signal is sent
+      pub invoke_signal : is_signal_at (methods_of settings state target) index ≡ true
+          → performs settings self state (Invoke target method args) ≡ does_next settings (puts (Emit target index values 0 ∷ []) (begun settings state)) (a.Truth true)
+      invoke_signal signal = comes_to _ (cond-true (is_signal_at (methods_of settings state target) index) _ (with_turn (begun settings state) (puts (Run target index 0 values 0 ∷ []))) signal)
+
+      module _ (slot : is_signal_at (methods_of settings state target) index ≡ false) where
+        is_slot : invoked settings state target index values ≡ with_turn (begun settings state) (puts (Run target index 0 values 0 ∷ []))
+        is_slot = cond-false (is_signal_at (methods_of settings state target) index) _ (with_turn (begun settings state) (puts (Run target index 0 values 0 ∷ []))) slot
+
+        -- a slot takes a turn and is run
+        pub invoke_slot : 0 < settings.turns → performs settings self state (Invoke target method args) ≡ does_next settings (puts (Run target index 0 values 0 ∷ []) (turn_taken (begun settings state))) (a.Truth true)
+        invoke_slot some = let is : (settings.turns == 0) ≡ false = grind (arith, nat_tests, some) in comes_to _ (is_slot ∙ cond-false (settings.turns == 0) _ _ is)
+
+        -- a slot is not run where there are no turns
+        pub invoke_spent : settings.turns ≡ 0 → performs settings self state (Invoke target method args) ≡ does_next settings (puts [] (used_up (begun settings state))) (a.Truth true)
+        invoke_spent none = let is : (settings.turns == 0) ≡ true = grind (arith, nat_tests, none) in comes_to _ (is_slot ∙ cond-true (settings.turns == 0) _ _ is)

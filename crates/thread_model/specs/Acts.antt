@@ -1,0 +1,134 @@
+-- What an action of a slot's body does, and why it is refused.
+use Rattle.std.specs.Prelude.{ℕ, Bool, true, false, List, [], ◌∷◌, Option, Some, None, Ok, Err, if◌then◌else◌}
+use Rattle.std.specs.Option.{option_map, option_or}
+use Rattle.std.specs.Result.{result_err}
+use Rattle.refusals.specs.declared.code.Code.{Code}
+use Rattle.refusals.specs.declared.code.Code.TheVariants.{BadValue}
+use Rattle.signature_core.specs.declared.signature.Signature.{Signature}
+use Rattle.variant_value.specs.declared.value.Value.{Value}
+use Rattle.term_core.specs.declared.action.Effect.{Effect}
+use Rattle.term_core.specs.declared.action.Effect.TheVariants as e
+use Rattle.term_core.specs.declared.target.Target.{Target}
+use Rattle.term_core.specs.Act.{Acts, more, nothing}
+use Rattle.term_core.specs.Term.{Term}
+use Rattle.connection_types.specs.declared.connection_type.ConnectionType.{ConnectionType}
+use Rattle.connection_types.specs.declared.connection_type.ConnectionType.TheVariants.{Auto, Direct, Queued}
+use Rattle.connection_list.specs.declared.connection.NewConnection.{NewConnection}
+use Rattle.connection_list.specs.declared.pattern.Pattern.{Pattern}
+use Rattle.object_tree.specs.Refusing.{object_refusal, set_parent_refusal}
+use Rattle.thread_model.specs.Absence.{absence, named_absence}
+use Rattle.thread_model.specs.Connecting.{connection_refusal, new_connection, pattern_with}
+use Rattle.thread_model.specs.Doing.{Doing, linked, unlinked, adopted, retitled}
+use Rattle.thread_model.specs.Items.{Act, Delete, Emit, Item, Next, Warn, puts}
+use Rattle.thread_model.specs.Methods.{Found, ◌>>=◌, kinds_at, method_with, methods_of, signal_with}
+use Rattle.thread_model.specs.Settings.{Settings}
+use Rattle.thread_model.specs.State.{State}
+use Rattle.thread_model.specs.Targets.{all_converted, all_evaluated, is_title, named_object_of, object_of, title_evaluated}
+
+-- the actions of a body or of a branch, each to be done
+abbrev pub acts : Acts → List Value → ℕ → ℕ → ℕ → List Item
+acts nothing args self sender depth = []
+acts (more action rest) args self sender depth = Act action args self sender depth ∷ acts rest args self sender depth
+
+-- no connection is queued yet
+abbrev pub is_queued : ConnectionType → Bool
+is_queued Auto = false
+is_queued Direct = false
+is_queued Queued = true
+
+-- the index of a signal of an object, and what it is sent with: values of the kinds of its parameters
+abbrev pub emission : Settings → State → ℕ → ℕ → List Value → ℕ → Signature → List Term → Found (ℕ × List Value)
+emission settings state self sender args object signal sent =
+    signal_with (methods_of settings state object) signal >>= λ index.
+    all_evaluated state self sender args sent >>= λ values.
+    all_converted (kinds_at (methods_of settings state object) index) values >>= λ converted. Ok (index, converted)
+
+-- the connection of a signal of an object to a method of another
+abbrev pub connection : Settings → State → ℕ → Signature → ℕ → Signature → ConnectionType → Bool → Found NewConnection
+connection settings state object signal receiver method mode single =
+    new_connection settings state
+    object (signal_with (methods_of settings state object) signal)
+    receiver (method_with (methods_of settings state receiver) method)
+    mode single
+
+-- which connections of an object are broken, by signal, receiver and method where they are given
+abbrev pub pattern : Settings → State → ℕ → Option Signature → Option ℕ → Option Signature → Found Pattern
+pattern settings state object signal receiver method =
+    pattern_with
+    object (option_map (signal_with (methods_of settings state object)) signal)
+    receiver (λ receiver. option_map (method_with (methods_of settings state receiver)) method)
+
+module _ (settings : Settings) (state : State) (self sender : ℕ) (args : List Value) where
+  -- the number of the object that a target is; 0 where there is none
+  abbrev object : Target → ℕ
+  object target = object_of state self sender target
+
+  -- why an action of the slot of `self` is refused: the first of these. What this server does not do yet
+  -- is refused at once: queued calls, deferred deletion, blocked signals, and properties other than the
+  -- title
+  abbrev pub act_refusal : Effect → Option Code
+  act_refusal (e.Set of property value) =
+      if is_title property
+      then option_or (absence state (object of)) (result_err (title_evaluated state self sender args value))
+      else Some BadValue
+  act_refusal (e.Emit of signal sent) =
+      option_or (absence state (object of))
+      (result_err (emission settings state self sender args (object of) signal sent))
+  act_refusal (e.Connect of signal to method mode unique single) =
+      if is_queued mode then Some BadValue
+      else (
+      option_or (object_refusal state.forest.rows (object of)) (
+      option_or (object_refusal state.forest.rows (object to))
+      (connection_refusal state.connections (connection settings state (object of) signal (object to) method mode single) unique)))
+  act_refusal (e.Disconnect of signal to method) =
+      option_or (absence state (object of)) (
+      option_or (named_absence state (named_object_of state self sender to))
+      (result_err (pattern settings state (object of) signal (named_object_of state self sender to) method)))
+  act_refusal (e.Delete target) = object_refusal state.forest.rows (object target)
+  act_refusal (e.DeleteLater target) = Some BadValue
+  act_refusal (e.Block of on) = Some BadValue
+  act_refusal (e.SetParent of parent) = set_parent_refusal state.forest (object of) (named_object_of state self sender parent)
+
+-- what comes of something that was looked for; nothing where it was not found
+abbrev pub with_found : {A : Type 0} → Found A → (A → Next) → Doing → Next
+with_found (Ok found) next doing = next found
+with_found (Err code) next doing = puts [] doing
+
+module _ (settings : Settings) (doing : Doing) (self sender : ℕ) (args : List Value) (depth : ℕ) where
+  -- the number of the object that a target is when the action is done
+  abbrev acted_object : Target → ℕ
+  acted_object target = object_of doing.state self sender target
+
+  -- what an action comes to that is not refused
+  abbrev pub acted : Effect → Next
+  acted (e.Set of property value) =
+      with_found (title_evaluated doing.state self sender args value)
+      (λ title. puts [] (retitled doing (acted_object of) title)) doing
+  acted (e.Emit of signal sent) =
+      with_found (emission settings doing.state self sender args (acted_object of) signal sent)
+      (λ emitted. puts (Emit (acted_object of) emitted.0 emitted.1 depth ∷ []) doing) doing
+  acted (e.Connect of signal to method mode unique single) =
+      with_found (connection settings doing.state (acted_object of) signal (acted_object to) method mode single)
+      (λ new. puts [] (linked doing new)) doing
+  acted (e.Disconnect of signal to method) =
+      with_found (pattern settings doing.state (acted_object of) signal (named_object_of doing.state self sender to) method)
+      (λ broken. puts [] (unlinked doing broken)) doing
+  acted (e.Delete target) = puts (Delete (acted_object target) depth ∷ []) doing
+  acted (e.DeleteLater target) = puts [] doing
+  acted (e.Block of on) = puts [] doing
+  acted (e.SetParent of parent) = puts [] (adopted doing (acted_object of) (named_object_of doing.state self sender parent))
+
+-- a refused action warns of its code for the object whose slot is run, and does nothing
+abbrev pub warns_or : Option Code → ℕ → Doing → Next → Next
+warns_or (Some code) self doing next = puts (Warn code (Some self) ∷ []) doing
+warns_or None self doing next = next
+
+-- the branch that is taken, by the truth that the test is
+abbrev pub branch : Bool → Acts → Acts → Acts
+branch true held failed = held
+branch false held failed = failed
+
+-- the branch that is taken is done in place of the choice
+abbrev pub chosen : Found Bool → Acts → Acts → List Value → ℕ → ℕ → ℕ → Doing → Next
+chosen (Ok truth) held failed args self sender depth doing = puts (acts (branch truth held failed) args self sender depth) doing
+chosen (Err code) held failed args self sender depth doing = puts (Warn code (Some self) ∷ []) doing

@@ -1,0 +1,42 @@
+-- Which connection is to be made, and which are to be broken.
+use Rattle.std.specs.Prelude.{ℕ, Bool, Option, Some, None, Ok, Err, if◌then◌else◌}
+use Rattle.std.specs.Option.{option_map_or, option_transpose}
+use Rattle.refusals.specs.declared.code.Code.{Code}
+use Rattle.refusals.specs.declared.code.Code.TheVariants.{DoesNotFit}
+use Rattle.signature_core.specs.Kinds.{fits}
+use Rattle.connection_types.specs.declared.callee.Callee.TheVariants.{Method}
+use Rattle.connection_types.specs.declared.connection_type.ConnectionType.{ConnectionType}
+use Rattle.connection_list.specs.declared.connection.NewConnection.{NewConnection}
+use Rattle.connection_list.specs.declared.pattern.Pattern.{Pattern}
+use Rattle.connection_list.specs.declared.pattern.Receiver.{Receiver}
+use Rattle.connection_list.specs.Rows.{Rows, connect_refusal}
+use Rattle.thread_model.specs.Methods.{Found, ◌>>=◌, kinds_at, methods_of}
+use Rattle.thread_model.specs.Settings.{Settings}
+use Rattle.thread_model.specs.State.{State}
+
+-- the signal's parameters fit those of the method
+abbrev pub fits_at : Settings → State → ℕ → ℕ → ℕ → ℕ → Bool
+fits_at settings state sender signal receiver method = fits (kinds_at (methods_of settings state sender) signal) (kinds_at (methods_of settings state receiver) method)
+
+-- the connection between a signal and a method that were looked for, where they fit
+abbrev pub new_connection : Settings → State → ℕ → Found ℕ → ℕ → Found ℕ → ConnectionType → Bool → Found NewConnection
+new_connection settings state sender signal receiver method mode single =
+    signal >>= λ s. method >>= λ m.
+    if fits_at settings state sender s receiver m
+    then Ok (record { sender = sender; signal = s; receiver = receiver; callee = Method m; mode = mode; single = single })
+    else Err DoesNotFit
+
+-- why a connection is not made: it can't be, or not beside those that stand
+abbrev pub connection_refusal : Rows → Found NewConnection → Bool → Option Code
+connection_refusal place (Ok new) unique = connect_refusal place new unique
+connection_refusal place (Err code) unique = Some code
+
+-- the receiving end of a pattern; a method is looked for only where a receiver is named
+abbrev pub receiver_with : (ℕ → Option (Found ℕ)) → Option ℕ → Found (Option Receiver)
+receiver_with method receiver = option_map_or (λ object. option_transpose (method object) >>= λ m. Ok (Some (record { object = object; method = m }))) receiver (Ok None)
+
+-- the connections of a sender that match a signal, a receiver and a method that were looked for
+abbrev pub pattern_with : ℕ → Option (Found ℕ) → Option ℕ → (ℕ → Option (Found ℕ)) → Found Pattern
+pattern_with sender signal receiver method =
+    option_transpose signal >>= λ s. receiver_with method receiver >>= λ r.
+    Ok (record { sender = sender; signal = s; receiver = r })

@@ -1,0 +1,74 @@
+-- A session while it does a command, and what becomes of it.
+use Rattle.std.specs.Prelude.{◌-◌, ℕ, Bool, true, false, List, [], ◌∷◌, ◌++◌, Option, None, if◌then◌else◌}
+use Rattle.refusals.specs.declared.code.Code.TheVariants.{TurnsUsedUp}
+use Rattle.variant_value.specs.declared.value.Value.{Value}
+use Rattle.object_tree.specs.Changes.{marked}
+use Rattle.connection_list.specs.declared.connection.Connection.{Connection}
+use Rattle.connection_list.specs.declared.connection.NewConnection.{NewConnection}
+use Rattle.connection_list.specs.declared.pattern.Pattern.{Pattern}
+use Rattle.connection_list.specs.Ends.{matches, touches}
+use Rattle.connection_list.specs.Rows.{has_number}
+use Rattle.thread_model.specs.declared.line.Line.{Line}
+use Rattle.thread_model.specs.declared.line.Line.TheVariants.{Warning}
+use Rattle.thread_model.specs.Settings.{Settings}
+use Rattle.thread_model.specs.State.{State, with_connection, with_parent, with_title, without_connections, without_object}
+
+pub record Doing : Type 0 where
+  pub state : State
+  -- how many calls may still be made
+  pub turns : ℕ
+  -- it was told that no turn is left
+  pub spent : Bool
+  -- what it was told so far
+  pub lines : List Line
+
+-- a session at the beginning of a command
+abbrev pub begun : Settings → State → Doing
+begun settings state = record { state = state; turns = settings.turns; spent = false; lines = [] }
+
+abbrev pub in_state : Doing → State → Doing
+in_state doing state = record doing { state = state }
+
+-- one more line is told
+unfoldable pub told : Doing → Line → Doing
+told doing said = record doing { lines = doing.lines ++ said ∷ [] }
+
+-- a turn is taken
+unfoldable pub turn_taken : Doing → Doing
+turn_taken doing = record doing { turns = doing.turns - 1 }
+
+-- a turn is wanted and none is left: that is told once in a command
+unfoldable pub used_up : Doing → Doing
+used_up doing = if doing.spent then doing else record doing { spent = true; lines = doing.lines ++ Warning TurnsUsedUp None ∷ [] }
+
+-- an object is dying
+unfoldable pub dying : Doing → ℕ → Doing
+dying doing target = in_state doing (record doing.state { forest = marked doing.state.forest target })
+
+-- the connections that have an object at either end are broken
+unfoldable pub untied : Doing → ℕ → Doing
+untied doing target = in_state doing (without_connections doing.state (touches target))
+
+-- an object is gone
+unfoldable pub gone : Doing → ℕ → Doing
+gone doing target = in_state doing (without_object doing.state target)
+
+-- an object has another parent
+unfoldable pub adopted : Doing → ℕ → Option ℕ → Doing
+adopted doing target parent = in_state doing (with_parent doing.state target parent)
+
+-- an object has another title
+unfoldable pub retitled : Doing → ℕ → Value → Doing
+retitled doing target title = in_state doing (with_title doing.state target title)
+
+-- one more connection is made
+unfoldable pub linked : Doing → NewConnection → Doing
+linked doing new = in_state doing (with_connection doing.state new)
+
+-- the connections that match are broken
+unfoldable pub unlinked : Doing → Pattern → Doing
+unlinked doing pattern = in_state doing (without_connections doing.state (matches pattern))
+
+-- a single-shot connection is broken before its callee is called
+unfoldable pub shot : Doing → Connection → Doing
+shot doing row = if row.single then in_state doing (without_connections doing.state (has_number row.number)) else doing

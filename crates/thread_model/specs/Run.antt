@@ -1,0 +1,77 @@
+-- The run of an agenda to its end.
+use Rattle.std.specs.Prelude.{◌≡◌, ◌+◌, ◌*◌, ℕ, zero, suc, List, [], ◌∷◌, ◌++◌, length, map, filter, max}
+use Rattle.term_core.specs.Act.{acts_of, count, counts}
+use Rattle.class_table.specs.declared.class.Class.{Class}
+use Rattle.connection_list.specs.declared.list.TheConstants.{CONNECTIONS}
+use Rattle.object_tree.specs.Lines.{greatest}
+use Rattle.thread_model.specs.Agenda.{is_living, step}
+use Rattle.thread_model.specs.Doing.{Doing}
+use Rattle.thread_model.specs.Items.{Act, Call, Cut, Delete, Emit, Gone, Item, Kin, Reply, Run, Warn}
+use Rattle.thread_model.specs.Settings.{Settings}
+
+-- at most so many items done, each with what it puts in front of the others
+abbrev pub steps : Settings → ℕ → List Item → Doing → Doing
+steps settings zero agenda doing = doing
+steps settings (suc most) [] doing = doing
+steps settings (suc most) (item ∷ agenda) doing = steps settings most ((step settings item doing).items ++ agenda) (step settings item doing).doing
+
+-- how many objects are not dying
+unfoldable pub living : Doing → ℕ
+living doing = length (filter is_living doing.state.forest.rows)
+
+-- how many actions the longest body of these classes has, those in branches among them
+abbrev pub longest_body : List Class → ℕ
+longest_body classes = greatest (map (λ class. greatest (map (λ method. counts (acts_of method.body.actions)) class.methods)) classes)
+
+-- how many there are at most while an agenda is done; none of its items makes an object
+pub record Most : Type 0 where
+  pub connections : ℕ
+  pub objects : ℕ
+  pub actions : ℕ
+
+abbrev pub most : Settings → Doing → Most
+most settings doing = record {
+  connections = max CONNECTIONS (length doing.state.connections.rows);
+  objects = length doing.state.forest.rows;
+  actions = longest_body settings.classes;
+}
+
+-- how many items an item comes to at most, where no further call is made and no further object deleted
+abbrev pub weight : Most → Item → ℕ
+weight most (Emit target signal args depth) = most.connections + 2
+weight most (Call connection args depth) = 1
+weight most (Run target method sender args depth) = most.actions * (most.connections + 3) + 1
+weight most (Act action args self sender depth) = count action * (most.connections + 3)
+weight most (Warn code object) = 1
+weight most (Delete target depth) = 1
+weight most (Cut target depth) = 2 * most.objects + 1
+weight most (Kin parent child depth) = 2
+weight most (Gone target depth) = 1
+weight most (Reply answer) = 1
+
+abbrev pub weights : Most → List Item → ℕ
+weights most [] = 0
+weights most (item ∷ agenda) = weight most item + weights most agenda
+
+-- how many items a call comes to at most
+abbrev pub turn_weight : Most → ℕ
+turn_weight most = most.actions * (most.connections + 3) + most.connections + 3
+
+-- how many items a deletion comes to at most
+abbrev pub deletion_weight : Most → ℕ
+deletion_weight most = 2 * most.objects + 2
+
+-- enough steps to come to the end
+unfoldable pub enough : Settings → List Item → Doing → ℕ
+enough settings agenda doing = doing.turns * turn_weight (most settings doing) + living doing * deletion_weight (most settings doing) + weights (most settings doing) agenda
+
+-- an agenda done to its end
+unfoldable pub run : Settings → List Item → Doing → Doing
+run settings agenda doing = steps settings (enough settings agenda doing) agenda doing
+
+-- the run of an agenda is that of its first item, and then of what that comes to and of the others; two
+-- agendas are done one after the other
+pub record RunsToItsEnd : Type 0 where
+  pub at_end : (settings : Settings) (doing : Doing) → run settings [] doing ≡ doing
+  pub at_item : (settings : Settings) (item : Item) (agenda : List Item) (doing : Doing) → run settings (item ∷ agenda) doing ≡ run settings ((step settings item doing).items ++ agenda) (step settings item doing).doing
+  pub in_parts : (settings : Settings) (one other : List Item) (doing : Doing) → run settings (one ++ other) doing ≡ run settings other (run settings one doing)

@@ -1,0 +1,91 @@
+-- What the commands for signals and slots do, where they are not refused.
+use Rattle.std.specs.Prelude.{◌+◌, ℕ, Bool, true, false, List, [], ◌∷◌, Option, Some, None, Ok, Err, count_by, if◌then◌else◌}
+use Rattle.std.specs.List.{list_any}
+use Rattle.std.specs.Option.{option_and_then, option_map}
+use Rattle.std.specs.Result.{result_unwrap_or}
+use Rattle.isolation.specs.Machine.{Effect}
+use Rattle.refusals.specs.declared.code.Code.TheVariants.{BadValue, Limit}
+use Rattle.serde_json.specs.Data.{Data}
+use Rattle.signature_core.specs.declared.kind.Kind.{Kind}
+use Rattle.signature_core.specs.Reading.{signature_of}
+use Rattle.variant_value.specs.declared.value.Value.{Value}
+use Rattle.variant_value.specs.Values.{value_of}
+use Rattle.class_table.specs.Lookup.{method_number}
+use Rattle.connection_types.specs.declared.connection_type.ConnectionType.{ConnectionType}
+use Rattle.connection_list.specs.declared.connection.NewConnection.{NewConnection}
+use Rattle.connection_list.specs.declared.pattern.Pattern.{Pattern}
+use Rattle.connection_list.specs.Ends.{matches}
+use Rattle.connection_list.specs.Rows.{has_number}
+use Rattle.thread_model.specs.declared.line.Answer.TheVariants as a
+use Rattle.thread_model.specs.declared.line.Line.{Line}
+use Rattle.thread_model.specs.declared.post.Post.{Post}
+use Rattle.thread_model.specs.Agenda.{with_turn}
+use Rattle.thread_model.specs.Connecting.{new_connection, pattern_with}
+use Rattle.thread_model.specs.Doing.{begun}
+use Rattle.thread_model.specs.Effects.{does_next, refuses, replies}
+use Rattle.thread_model.specs.Items.{Emit, Next, Run, puts}
+use Rattle.thread_model.specs.Methods.{Found, is_signal_at, kinds_at, method_named, methods_of, signal_named}
+use Rattle.thread_model.specs.Settings.{Settings}
+use Rattle.thread_model.specs.State.{State, with_connection, without_connections}
+
+-- the connection that is asked for
+abbrev pub asked_connection : Settings → State → ℕ → List ℕ → ℕ → List ℕ → ConnectionType → Bool → Found NewConnection
+asked_connection settings state sender signal receiver method mode single =
+    new_connection settings state
+    sender (signal_named (methods_of settings state sender) signal)
+    receiver (method_named (methods_of settings state receiver) method)
+    mode single
+
+-- making a connection replies its number, which is the next one
+abbrev pub connects : State → Found NewConnection → Effect State Line Post
+connects state (Ok new) = replies (with_connection state new) (a.Number (state.connections.last_number + 1))
+connects state (Err code) = refuses state code
+
+-- breaking the connection of a number replies whether it stood
+abbrev pub disconnects_one : State → ℕ → Effect State Line Post
+disconnects_one state number = replies (without_connections state (has_number number)) (a.Truth (list_any (has_number number) state.connections.rows))
+
+-- the connections that are asked to be broken
+abbrev pub asked_pattern : Settings → State → ℕ → Option (List ℕ) → Option ℕ → Option (List ℕ) → Found Pattern
+asked_pattern settings state sender signal receiver method =
+    pattern_with
+    sender (option_map (signal_named (methods_of settings state sender)) signal)
+    receiver (λ object. option_map (method_named (methods_of settings state object)) method)
+
+-- breaking the connections that match replies how many they were
+abbrev pub disconnects : State → Found Pattern → Effect State Line Post
+disconnects state (Ok pattern) = replies (without_connections state (matches pattern)) (a.Number (count_by (matches pattern) state.connections.rows))
+disconnects state (Err code) = refuses state code
+
+-- a value and further ones; of two faults a bad value comes before a text that is too long
+abbrev pub with_value : Found Value → Found (List Value) → Found (List Value)
+with_value (Ok value) (Ok values) = Ok (value ∷ values)
+with_value (Ok value) (Err code) = Err code
+with_value (Err code) (Ok values) = Err code
+with_value (Err Limit) (Err code) = Err code
+with_value (Err other) (Err code) = Err other
+
+-- as many values as there are kinds, each the value of its kind that a piece of JSON is
+abbrev pub values_of : List Kind → List Data → Found (List Value)
+values_of [] [] = Ok []
+values_of (kind ∷ kinds) (json ∷ rest) = with_value (value_of kind json) (values_of kinds rest)
+values_of _ _ = Err BadValue
+
+-- the index of the method of an object that a text names, where the object has it
+abbrev pub asked_method : Settings → State → ℕ → List ℕ → Option ℕ
+asked_method settings state target text = option_and_then (λ signature. method_number signature (methods_of settings state target)) (signature_of text)
+
+-- the values with which a method of an object is to be called
+abbrev pub asked_values : Settings → State → ℕ → ℕ → List Data → Found (List Value)
+asked_values settings state target index args = values_of (kinds_at (methods_of settings state target) index) args
+
+-- a signal is sent; a slot takes a turn, and no object has sent what calls it
+abbrev pub invoked : Settings → State → ℕ → ℕ → List Value → Next
+invoked settings state target index values =
+    if is_signal_at (methods_of settings state target) index then puts (Emit target index values 0 ∷ []) (begun settings state)
+    else with_turn (begun settings state) (puts (Run target index 0 values 0 ∷ []))
+
+-- invoking a method replies true at the end, and false where the object has no such method
+abbrev pub invokes : Settings → State → ℕ → List Data → Option ℕ → Effect State Line Post
+invokes settings state target args (Some index) = does_next settings (invoked settings state target index (result_unwrap_or (asked_values settings state target index args) [])) (a.Truth true)
+invokes settings state target args None = replies state (a.Truth false)

@@ -1,0 +1,19 @@
+//! What clients are told of a call.
+use plain_types::{Items, Text};
+use variant_value::Value;
+
+/// How deep signals are nested at most: one that is sent at this depth calls nothing.
+pub const NESTED_SIGNALS: u32 = 64;
+
+/// A slot as it is called.
+#[derive(Debug, Drop)]
+pub struct Call {
+    /// The normal text of the slot's signature.
+    pub method: Text,
+    /// The object whose slot it is.
+    pub object: u32,
+    /// The object that sent the signal, or 0 where a command calls the slot.
+    pub sender: u32,
+    /// The values of the slot's parameters.
+    pub args: Items<Value>,
+}

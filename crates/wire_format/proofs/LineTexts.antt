@@ -1,0 +1,93 @@
+-- The texts of lines, part by part.
+use Rattle.std.proofs.Common.{◌≡◌, ℕ, true, List, [], ◌∷◌, ◌++◌, Option, Some, None, IsTrue, codes, sym, ap, ap₂, ◌∙◌, append_assoc}
+use Rattle.std.specs.List.{list_all}
+use Rattle.refusals.specs.declared.code.Code.{Code}
+use Rattle.refusals.specs.Codes.{code_text}
+use Rattle.serde_json.specs.Data.{string}
+use Rattle.serde_json.specs.Written.{compact_text}
+use Rattle.serde_json.proofs.OnLiterals.{serde_json_on_literals}
+use Rattle.thread_model.specs.declared.call.Call.{Call}
+use Rattle.thread_model.specs.declared.line.Answer.{Answer}
+use Rattle.thread_model.specs.declared.line.Line.TheVariants as a_line
+use Rattle.thread_model.specs.declared.line.Line.TheVariants.{Reply, Error}
+use Rattle.variant_value.specs.Values.{json_of}
+use Rattle.wire_format.specs.Text.{array_of, is_plain_byte, is_session_text, json_of_answer, json_of_number, text_of_line}
+use Rattle.wire_format.proofs.Plain.{code_is_plain, session_is_plain, text_of_plain}
+
+-- three texts put behind another, one after another
+pub three_behind : (a b c d x y z : List ℕ) → b ≡ a ++ x → c ≡ b ++ y → d ≡ c ++ z → d ≡ a ++ (x ++ (y ++ z))
+three_behind a b c d x y z e f g = rw (g, f, e) (simp append_assoc)
+
+-- what opens a line, what it tells, and its session at the end
+abbrev pub around : List ℕ → List ℕ → List ℕ → List ℕ
+around opening told session = opening ++ (told ++ (codes ",\"session\":" ++ (session ++ codes "}\n")))
+
+with_end : (a b c d : List ℕ) → (a ++ (b ++ (c ++ (d ++ 125 ∷ [])))) ++ 10 ∷ [] ≡ a ++ (b ++ (c ++ (d ++ codes "}\n")))
+with_end a b c d = simp append_assoc
+
+pub error_line : (code : Code) (session : List ℕ) → text_of_line session (Error code) ≡ around (codes "{\"error\":") (compact_text (string (code_text code))) (compact_text (string session))
+unfolding text_of_line serde_json_on_literals
+error_line code session = with_end (codes "{\"error\":") (compact_text (string (code_text code))) (codes ",\"session\":") (compact_text (string session))
+
+pub reply_line : (answer : Answer) (session : List ℕ) → text_of_line session (Reply answer) ≡ around (codes "{\"reply\":") (compact_text (json_of_answer answer)) (compact_text (string session))
+unfolding text_of_line serde_json_on_literals
+reply_line answer session = with_end (codes "{\"reply\":") (compact_text (json_of_answer answer)) (codes ",\"session\":") (compact_text (string session))
+
+call_ended : (a b c d e f g h i j : List ℕ) → (a ++ (b ++ (c ++ (d ++ (e ++ (f ++ (g ++ (h ++ (i ++ (j ++ 125 ∷ [])))))))))) ++ 10 ∷ [] ≡ a ++ (b ++ (c ++ (d ++ (e ++ (f ++ (g ++ (h ++ (i ++ (j ++ codes "}\n")))))))))
+call_ended a b c d e f g h i j = simp append_assoc
+
+pub call_line : (call : Call) (session : List ℕ) → text_of_line session (a_line.Call call) ≡ codes "{\"args\":" ++ (compact_text (array_of json_of call.args) ++ (codes ",\"call\":" ++ (compact_text (string call.method)
+    ++ (codes ",\"object\":" ++ (compact_text (json_of_number call.object) ++ (codes ",\"sender\":" ++ (compact_text (json_of_number call.sender)
+    ++ (codes ",\"session\":" ++ (compact_text (string session) ++ codes "}\n")))))))))
+unfolding text_of_line serde_json_on_literals
+call_line call session =
+    call_ended (codes "{\"args\":") (compact_text (array_of json_of call.args)) (codes ",\"call\":") (compact_text (string call.method))
+    (codes ",\"object\":") (compact_text (json_of_number call.object)) (codes ",\"sender\":") (compact_text (json_of_number call.sender))
+    (codes ",\"session\":") (compact_text (string session))
+
+warning_ended : (a b c d e f : List ℕ) → (a ++ (b ++ (c ++ (d ++ (e ++ (f ++ 125 ∷ [])))))) ++ 10 ∷ [] ≡ (a ++ (b ++ c)) ++ (d ++ (e ++ (f ++ codes "}\n")))
+warning_ended a b c d e f = simp append_assoc
+
+-- what stands in a warning's line before its session
+abbrev pub warning_opening : Option ℕ → List ℕ
+warning_opening None = codes "{\"session\":"
+warning_opening (Some n) = codes "{\"object\":" ++ (compact_text (json_of_number n) ++ codes ",\"session\":")
+
+pub warning_line : (code : Code) (object : Option ℕ) (session : List ℕ) → text_of_line session (a_line.Warning code object)
+    ≡ warning_opening object ++ (compact_text (string session) ++ (codes ",\"warning\":" ++ (compact_text (string (code_text code)) ++ codes "}\n")))
+unfolding text_of_line serde_json_on_literals
+warning_line code None session = with_end (codes "{\"session\":") (compact_text (string session)) (codes ",\"warning\":") (compact_text (string (code_text code)))
+warning_line code (Some n) session =
+    warning_ended (codes "{\"object\":") (compact_text (json_of_number n)) (codes ",\"session\":") (compact_text (string session)) (codes ",\"warning\":") (compact_text (string (code_text code)))
+
+-- a text in which JSON escapes nothing, with the text around it, which brings its quotes
+pub text_between : (before s after : List ℕ) → list_all is_plain_byte s ≡ true → (before ++ 34 ∷ []) ++ (s ++ (34 ∷ after)) ≡ before ++ (compact_text (string s) ++ after)
+text_between before s after plain =
+    let quoted : (before ++ 34 ∷ []) ++ (s ++ (34 ∷ after)) ≡ before ++ ((34 ∷ (s ++ 34 ∷ [])) ++ after) = simp append_assoc in
+    quoted ∙ ap (λ text. before ++ (text ++ after)) (sym (text_of_plain s plain))
+
+around_word : (opening told session : List ℕ) → around opening told (34 ∷ (session ++ 34 ∷ [])) ≡ opening ++ (told ++ (codes ",\"session\":\"" ++ (session ++ codes "\"}\n")))
+around_word opening told session = simp append_assoc
+
+around_text : (opening told session : List ℕ) → around opening (34 ∷ (told ++ 34 ∷ [])) (34 ∷ (session ++ 34 ∷ [])) ≡ (opening ++ 34 ∷ []) ++ (told ++ (codes "\",\"session\":\"" ++ (session ++ codes "\"}\n")))
+around_text opening told session = simp append_assoc
+
+pub text_of_error : (code : Code) (session : List ℕ) → IsTrue (is_session_text session) → text_of_line session (Error code) ≡ codes "{\"error\":\"" ++ (code_text code ++ (codes "\",\"session\":\"" ++ (session ++ codes "\"}\n")))
+text_of_error code session named =
+    error_line code session
+    ∙ ap₂ (around (codes "{\"error\":")) (text_of_plain (code_text code) (code_is_plain code)) (text_of_plain session (session_is_plain session named))
+    ∙ around_text (codes "{\"error\":") (code_text code) session
+
+-- a reply's line, whose answer is written as a word
+pub text_of_word : (answer : Answer) (told session : List ℕ) → IsTrue (is_session_text session) → told ≡ compact_text (json_of_answer answer) → codes "{\"reply\":" ++ (told ++ (codes ",\"session\":\"" ++ (session ++ codes "\"}\n"))) ≡ text_of_line session (Reply answer)
+text_of_word answer told session named shown =
+    sym (reply_line answer session
+    ∙ ap₂ (around (codes "{\"reply\":")) (sym shown) (text_of_plain session (session_is_plain session named))
+    ∙ around_word (codes "{\"reply\":") told session)
+
+-- and as a text in which JSON escapes nothing
+pub text_of_text : (answer : Answer) (told session : List ℕ) → IsTrue (is_session_text session) → list_all is_plain_byte told ≡ true → compact_text (string told) ≡ compact_text (json_of_answer answer) → codes "{\"reply\":\"" ++ (told ++ (codes "\",\"session\":\"" ++ (session ++ codes "\"}\n"))) ≡ text_of_line session (Reply answer)
+text_of_text answer told session named plain shown =
+    sym (reply_line answer session
+    ∙ ap₂ (around (codes "{\"reply\":")) (sym shown ∙ text_of_plain told plain) (text_of_plain session (session_is_plain session named))
+    ∙ around_text (codes "{\"reply\":") told session)
