@@ -40,13 +40,13 @@ use Rattle.thread_model.proofs.RunLemmas.{after_first, at_end, by_change, by_ste
 use Rattle.session_tables.specs.declared.tables.Tables.{Tables}
 use Rattle.session_tables.specs.Tables.{IsPlaced, state_at, with_state}
 use Rattle.session_tables.proofs.TablesLemmas.{state_with}
-use Rattle.session_engine.specs.declared.slot.Slot.{Slot}
+use Rattle.session_effects.specs.declared.slot.Slot.{Slot}
 use Rattle.session_engine.specs.declared.telling.Telling.{Telling}
-use Rattle.session_engine.specs.Actions.{Tries, act_of}
-use Rattle.session_engine.specs.declared.commands.Caller.{Caller}
-use Rattle.session_engine.specs.Setup.{settings_of}
+use Rattle.session_effects.specs.Actions.{Tries, act_of}
+use Rattle.session_effects.specs.declared.caller.Caller.{Caller}
+use Rattle.session_effects.specs.Setup.{settings_of}
 use Rattle.session_engine.specs.Telling.{Warns, doing_at, spent, with_line}
-use Rattle.session_engine.proofs.FoundLemmas.{item_at}
+use Rattle.session_effects.proofs.FoundLemmas.{item_at}
 
 -- how much is left to do: each way round the calls takes a turn, which counts for more than any rank
 abbrev pub left_to_do : Telling → ℕ → ℕ
@@ -138,7 +138,7 @@ module _ (settings : Settings) (slot : Slot) (place : ℕ) (tables : Tables) (be
 -- so an effect that is refused
 pub effect_warned : {T : Type 0} (caller : Caller) (slot : Slot) (plain : Effect) (tables : Tables) (items : T → List Item) (new : Tables) (before after : Telling) (fault : Fault) → Tries caller slot plain tables items new (Err fault) → Warns fault slot.object before after
     → run (settings_of caller.setup.now) (act_of slot (effect plain) ∷ []) (doing_at caller.place tables before) ≡ doing_at caller.place tables after
-effect_warned caller slot plain tables items new before after (Refused code) tried e = warned (settings_of caller.setup.now) slot caller.place tables before after (act_of slot (effect plain)) code (tried before) e
+effect_warned caller slot plain tables items new before after (Refused code) tried e = warned (settings_of caller.setup.now) slot caller.place tables before after (act_of slot (effect plain)) code (tried (doing_at caller.place tables before)) e
 effect_warned caller slot plain tables items new before after Memory tried e = absurd e
 
 module _ (settings : Settings) (slot : Slot) (doing : Doing) (test : Term) (held failed : Acts) where

@@ -4,7 +4,6 @@ pub mod DeletionLemmas
 pub mod CommandsLemmas
 pub mod PropertiesLemmas
 pub mod ClassesLemmas
-pub mod FoundLemmas
-pub mod ActionLemmas
 pub mod AgendaLemmas
+pub mod ValuesLemmas
 pub mod InvocationLemmas

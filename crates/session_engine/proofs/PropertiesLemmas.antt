@@ -14,7 +14,7 @@ use Rattle.thread_model.specs.Asked.{Asked}
 use Rattle.thread_model.specs.Refusing.{title_refusal}
 use Rattle.session_tables.specs.declared.tables.Tables.{Tables}
 use Rattle.session_tables.proofs.TablesLemmas.{changes_same}
-use Rattle.session_engine.specs.declared.commands.Caller.{Caller}
+use Rattle.session_effects.specs.declared.caller.Caller.{Caller}
 use Rattle.session_engine.specs.Commands.{Performs}
 use Rattle.session_engine.proofs.CommandsLemmas.{its_refusal, starved, stopped}
 

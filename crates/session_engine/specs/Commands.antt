@@ -12,10 +12,10 @@ use Rattle.session_tables.specs.declared.tables.Tables.{Tables}
 use Rattle.session_tables.specs.Refused.{OnRefused}
 use Rattle.session_tables.specs.Session.{gone}
 use Rattle.session_tables.specs.Tables.{ChangesOnly, failed_at, session_at, state_at, with_session, with_state}
-use Rattle.session_engine.specs.declared.commands.Caller.{Caller}
+use Rattle.session_effects.specs.declared.caller.Caller.{Caller}
 use Rattle.session_engine.specs.Returning.{Returns}
 use Rattle.session_engine.specs.Sessions.{session_after, session_refusal}
-use Rattle.session_engine.specs.Setup.{settings_of}
+use Rattle.session_effects.specs.Setup.{settings_of}
 
 -- what is told of a reply
 abbrev pub reply_lines : Answer → List Line

@@ -7,9 +7,9 @@ use Rattle.session_tables.specs.declared.tables.Tables.{Tables}
 use Rattle.session_tables.specs.Session.{Session, fresh, gone}
 use Rattle.session_tables.specs.Tables as tables
 use Rattle.session_tables.specs.Tables.{AreEven, session_at, with_session}
-use Rattle.session_engine.specs.declared.setup.Setup.{Setup}
+use Rattle.session_effects.specs.declared.setup.Setup.{Setup}
 use Rattle.session_engine.specs.Sessions.{Sessions}
-use Rattle.session_engine.specs.Setup.{settings_of}
+use Rattle.session_effects.specs.Setup.{settings_of}
 
 pub record Contents : Type 0 where
   -- what is fixed for the whole life of the engine

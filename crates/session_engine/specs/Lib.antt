@@ -1,9 +1,8 @@
-pub mod Setup
-pub mod Methods
 pub mod Returning
 pub mod Sessions
 pub mod Telling
 pub mod Deletion
-pub mod Actions
+pub mod Agenda
+pub mod Invocation
 pub mod Commands
 pub mod Engine

@@ -5,11 +5,10 @@ ghost use Rattle.thread_model.specs.Classes.{class_name};
 ghost use Rattle.session_tables.specs.Tables.{IsPlaced};
 ghost use Rattle.session_engine.specs.Commands.{Performs, reply_lines};
 
-use crate::commands::Caller;
-use crate::setup::Setup;
 use class_table::Class;
 use plain_types::{Items, Text};
 use refusals::Fault;
+use session_effects::{Caller, Setup};
 use session_tables::Tables;
 use std::alloc::{AllocError, Global};
 use thread_model::{Answer, MetaObject};

@@ -7,25 +7,17 @@ ghost use Rattle.session_engine.specs.Telling.{fresh_telling};
 ghost use Rattle.session_engine.specs.Returning.{wants_memory};
 
 use crate::classes::describe;
-use crate::connections::{Options, connect, disconnect, disconnect_one};
+use crate::connections::{connect, disconnect, disconnect_one};
 use crate::invocation::invoke;
 use crate::properties::{set_title, title};
-use crate::setup::Setup;
 use crate::telling::Telling;
 use crate::trees::{children, delete_object, find, new_object, set_parent};
-use plain_types::{Items, Text};
+use plain_types::Items;
 use refusals::{Code, Fault};
+use session_effects::{Caller, Options};
 use session_tables::Tables;
 use std::alloc::{AllocError, Global};
 use thread_model::{Answer, Command, Line};
-
-/// The session that gives a command, and what is fixed for all of them.
-#[derive(Clone, Copy)]
-pub struct Caller<'a> {
-    pub setup: &'a Setup,
-    pub name: &'a Text,
-    pub place: usize,
-}
 
 /// Lets a session do a command. Where memory is wanted and not found, it has failed.
 pub fn obey(caller: &Caller, tables: &mut Tables, command: &Command) -> Result<Items<Line>, Fault>

@@ -11,12 +11,12 @@ ghost use Rattle.session_engine.specs.Returning.{Returns, told};
 ghost use Rattle.session_engine.specs.Sessions.{AreSound, AreWell, Fails, IsStep, session_refusal};
 ghost use Rattle.session_engine.specs.Engine.{IsPlace, OfSession, failed, names, place, seen, sessions, settings, states, was_refused};
 
-use crate::commands::{Caller, obey, one_line, wants_memory};
-use crate::setup::Setup;
+use crate::commands::{obey, one_line, wants_memory};
 use class_table::ClassTable;
 use indexmap::IndexSet;
 use plain_types::{Items, Text};
 use refusals::{Code, Fault};
+use session_effects::{Caller, Setup};
 use session_tables::Tables;
 use std::alloc::{AllocError, Global};
 use std::marker::Model;

@@ -6,14 +6,9 @@ mod classes;
 mod commands;
 mod connections;
 mod deletion;
-mod effects;
 mod engine;
-mod evaluation;
 mod invocation;
-mod methods;
 mod properties;
-mod setup;
-mod slot;
 mod telling;
 mod trees;
 

@@ -4,8 +4,8 @@ ghost use Rattle.thread_model.specs.Asked.{Get, Set};
 ghost use Rattle.session_tables.specs.Tables.{IsPlaced};
 ghost use Rattle.session_engine.specs.Commands.{Performs, reply_lines};
 
-use crate::commands::Caller;
 use refusals::Fault;
+use session_effects::Caller;
 use session_tables::Tables;
 use signature_core::Kind;
 use thread_model::Answer;

@@ -4,11 +4,10 @@ ghost use Rattle.thread_model.specs.declared.line.Line.TheVariants.{Warning};
 ghost use Rattle.thread_model.specs.Agenda.{call_line};
 ghost use Rattle.session_engine.specs.Telling.{Warns, fresh_telling, spent, with_line};
 
-use crate::setup::Setup;
-use crate::slot::Slot;
 use class_table::Method;
 use plain_types::{Items, Text};
 use refusals::{Code, Fault};
+use session_effects::{Setup, Slot};
 use std::alloc::{AllocError, Global};
 use thread_model::{Call, Line};
 use variant_value::Value;

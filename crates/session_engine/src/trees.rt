@@ -3,10 +3,10 @@ ghost use Rattle.thread_model.specs.Asked.{Children, Delete, Find, New, SetParen
 ghost use Rattle.session_tables.specs.Tables.{IsPlaced};
 ghost use Rattle.session_engine.specs.Commands.{Performs, reply_lines};
 
-use crate::commands::Caller;
 use crate::deletion::delete;
 use plain_types::{Items, Text};
 use refusals::Fault;
+use session_effects::Caller;
 use session_tables::Tables;
 use thread_model::Answer;
 

@@ -12,12 +12,12 @@ use Rattle.thread_model.proofs.EmissionLemmas as rule
 use Rattle.thread_model.proofs.NextCallLemmas.{emission_end}
 use Rattle.thread_model.proofs.RunLemmas.{by_change, by_step}
 use Rattle.session_tables.specs.Tables.{state_at}
-use Rattle.session_engine.specs.declared.effects.Emission.{Emission}
-use Rattle.session_engine.specs.Actions.{act_of}
+use Rattle.session_effects.specs.declared.effects.Emission.{Emission}
+use Rattle.session_effects.specs.Actions.{act_of}
 use Rattle.session_engine.specs.Deletion.{Deletes}
-use Rattle.session_engine.specs.Setup.{settings_of}
+use Rattle.session_effects.specs.Setup.{settings_of}
 use Rattle.session_engine.specs.Telling.{doing_at}
-use Rattle.session_engine.proofs.ActionLemmas.{keeps_same, keeps_twice, keeps_with, placed_kept}
+use Rattle.session_effects.proofs.ActionLemmas.{keeps_same, keeps_twice, keeps_with, placed_kept}
 use Rattle.session_engine.proofs.AgendaLemmas.{acts_end, acts_go_on, call_absent, call_functor, call_signal, call_slot, call_spent, effect_done, effect_warned, emission_begins, emission_goes_on, failed_done, found_stands, held_done, last_stays, left_to_do, next_smaller, test_warned, told_is, turns_fall, warn_done}
 use Rattle.session_engine.proofs.DeletionLemmas.{OnOk-map}
 use Rattle.session_engine.proofs.agenda.+agenda.Goals as goal
@@ -111,7 +111,7 @@ effect-returns-in-Ok-clause-does t c =
     let slot = c.args.slot.now in
     let tried = rw c.as_slice.ensures at c.in-Ok.ensures in
     rw c.in-Emit.is (OnOk-map c.emit.result
-    (effect_done c.args.caller.now slot (e.Emit c.in-Emit.of c.in-Emit.signal c.in-Emit.args) c.args.tables.now (Emit c.in-Ok.sent.object c.in-Ok.sent.signal c.in-Ok.sent.args slot.depth ∷ []) c.args.tables.now c.emit.new.tables c.args.telling.now c.emit.new.telling (tried c.args.telling.now))
+    (effect_done c.args.caller.now slot (e.Emit c.in-Emit.of c.in-Emit.signal c.in-Emit.args) c.args.tables.now (Emit c.in-Ok.sent.object c.in-Ok.sent.signal c.in-Ok.sent.args slot.depth ∷ []) c.args.tables.now c.emit.new.tables c.args.telling.now c.emit.new.telling (tried (doing_at place c.args.tables.now c.args.telling.now)))
     (rw c.as_slice-in-Ok.ensures at c.emit.ensures.does))
 
 pub effect-returns-in-Err-clause-does : goal.effect-returns-in-Err-clause-does
@@ -130,7 +130,7 @@ effect-returns-in-Ok-deleted-clause-does t c =
     let slot = c.args.slot.now in
     rw c.in-Delete.is (OnOk-map c.delete.result
     (λ (deleted : Deletes (Delete c.in-Ok-deleted.object slot.depth ∷ []) (state_at c.args.tables.now place) (state_at c.delete.new.tables place)).
-    effect_done c.args.caller.now slot (e.Delete c.in-Delete.target) c.args.tables.now (Delete c.in-Ok-deleted.object slot.depth ∷ []) c.args.tables.now c.delete.new.tables c.args.telling.now c.args.telling.now (c.in-Ok-deleted.ensures c.args.telling.now)
+    effect_done c.args.caller.now slot (e.Delete c.in-Delete.target) c.args.tables.now (Delete c.in-Ok-deleted.object slot.depth ∷ []) c.args.tables.now c.delete.new.tables c.args.telling.now c.args.telling.now (c.in-Ok-deleted.ensures (doing_at place c.args.tables.now c.args.telling.now))
     (deleted.runs settings (doing_at place c.args.tables.now c.args.telling.now)))
     c.delete.ensures.does)
 
@@ -149,7 +149,7 @@ effect-returns-in-Ok-change t c =
     let place = c.args.caller.now.place in
     let slot = c.args.slot.now in
     record {
-      does = by_change settings (act_of slot (effect c.args.plain.now)) (doing_at place c.args.tables.now c.args.telling.now) _ (c.in-Ok-change.ensures.tries c.args.telling.now);
+      does = by_change settings (act_of slot (effect c.args.plain.now)) (doing_at place c.args.tables.now c.args.telling.now) _ (c.in-Ok-change.ensures.tries (doing_at place c.args.tables.now c.args.telling.now));
       keeps = c.change.ensures.keeps;
     }
 

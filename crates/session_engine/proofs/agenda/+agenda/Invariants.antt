@@ -6,8 +6,8 @@ use Rattle.thread_model.specs.Run.{run}
 use Rattle.thread_model.proofs.NextCallLemmas.{calls_to}
 use Rattle.thread_model.proofs.RemainingLemmas.{remaining}
 use Rattle.session_tables.specs.Tables.{IsPlaced, state_at}
-use Rattle.session_engine.specs.Actions.{Keeps}
-use Rattle.session_engine.specs.Setup.{settings_of}
+use Rattle.session_effects.specs.Actions.{Keeps}
+use Rattle.session_effects.specs.Setup.{settings_of}
 use Rattle.session_engine.specs.Telling.{doing_at}
 use Rattle.session_engine.proofs.AgendaLemmas.{left_to_do}
 use Rattle.session_engine.proofs.agenda.+agenda.Given as goal

@@ -8,7 +8,7 @@ use Rattle.thread_model.specs.Refusing.{values_refusal}
 use Rattle.thread_model.specs.Signals.{asked_method, asked_values}
 use Rattle.thread_model.proofs.SignalLemmas.{invoke_none, refusal_invoke}
 use Rattle.session_tables.specs.Tables.{state_at}
-use Rattle.session_engine.specs.Setup.{settings_of}
+use Rattle.session_effects.specs.Setup.{settings_of}
 use Rattle.session_engine.proofs.CommandsLemmas.{found_fault, or_first, or_second, replied_by, silently, stopped}
 use Rattle.session_engine.proofs.InvocationLemmas.{asked_is, method_there, number_is, number_none, performs_invoked}
 use Rattle.session_engine.proofs.invocation.invoke.Goals as goal

@@ -1,0 +1,103 @@
+-- Lists of what is found, one after another.
+use Rattle.std.proofs.Common.{◌≡◌, ◌+◌, ◌<◌, ℕ, Option, Some, None, get_or, Bool, true, false, List, [], ◌∷◌, ◌++◌, Result, Ok, Err, IsErrAnd, subst, if◌then◌else◌, drop, length, refl, sym, ap, ◌∙◌, append_assoc}
+use Rattle.std.proofs.lemmas.List.{append-nil, drop_more}
+use Rattle.std.specs.Option.{ok_or}
+use Rattle.refusals.specs.declared.code.Code.{Code}
+use Rattle.refusals.specs.declared.code.Code.TheVariants.{BadValue, DoesNotFit}
+use Rattle.refusals.specs.Answers.{Answers}
+use Rattle.refusals.specs.declared.fault.Fault.{Fault}
+use Rattle.refusals.specs.declared.fault.Fault.TheVariants.{Refused}
+use Rattle.signature_core.specs.declared.kind.Kind.{Kind}
+use Rattle.variant_value.specs.declared.value.Value.{Value}
+use Rattle.variant_value.specs.Values.{converted}
+use Rattle.term_core.specs.Term.{Term}
+use Rattle.connection_list.specs.declared.connection.NewConnection.{NewConnection}
+use Rattle.connection_types.specs.declared.callee.Callee.TheVariants.{Method}
+use Rattle.connection_types.specs.declared.connection_type.ConnectionType.{ConnectionType}
+use Rattle.thread_model.specs.Connecting.{fits_at, new_connection}
+use Rattle.thread_model.specs.Methods.{Found, ◌>>=◌}
+use Rattle.thread_model.specs.Settings.{Settings}
+use Rattle.thread_model.specs.State.{State}
+use Rattle.thread_model.specs.Targets.{all_converted, all_evaluated, evaluated}
+
+-- what was found before, and then the rest
+abbrev pub behind : {A : Type 0} → List A → Found (List A) → Found (List A)
+behind done (Ok rest) = Ok (done ++ rest)
+behind done (Err code) = Err code
+
+pub behind_more : {A : Type 0} (done : List A) (x : A) (rest : Found (List A)) → behind (done ++ x ∷ []) rest ≡ behind done (rest >>= λ xs. Ok (x ∷ xs))
+behind_more done x (Ok rest) = rw append_assoc
+behind_more done x (Err code) = refl
+
+pub behind_all : {A : Type 0} (done : List A) → behind done (Ok []) ≡ Ok done
+behind_all done = ap Ok (append-nil done)
+
+-- the item at an index, in front of those behind it
+pub item_at : {A : Type 0} (xs : List A) (i : ℕ) (x : A) → i < length xs → x ≡ get_or xs i x → drop i xs ≡ x ∷ drop (i + 1) xs
+item_at xs i x within is = drop_more xs i x within ∙ ap (λ y. y ∷ drop (i + 1) xs) (sym is)
+
+module _ (state : State) (self sender : ℕ) (args : List Value) where
+  -- one more expression is evaluated
+  pub evaluated_more : (done : List Value) (term : Term) (before after : List Term) (value : Value) → before ≡ term ∷ after → evaluated state self sender args term ≡ Ok value
+      → behind (done ++ value ∷ []) (all_evaluated state self sender args after) ≡ behind done (all_evaluated state self sender args before)
+  evaluated_more done term before after value here is =
+      behind_more done value (all_evaluated state self sender args after)
+      ∙ ap (λ (first : Found Value). behind done (first >>= λ value. all_evaluated state self sender args after >>= λ values. Ok (value ∷ values))) (sym is)
+      ∙ ap (λ terms. behind done (all_evaluated state self sender args terms)) (sym here)
+
+  -- the first fault ends it
+  pub evaluated_refused : (done : List Value) (term : Term) (before after : List Term) (code : Code) → before ≡ term ∷ after → evaluated state self sender args term ≡ Err code
+      → behind done (all_evaluated state self sender args before) ≡ Err code
+  evaluated_refused done term before after code here is =
+      ap (λ terms. behind done (all_evaluated state self sender args terms)) here
+      ∙ ap (λ (first : Found Value). behind done (first >>= λ value. all_evaluated state self sender args after >>= λ values. Ok (value ∷ values))) is
+
+-- one more value is converted
+pub converted_more : (done : List Value) (kind : Kind) (kinds kinds' : List Kind) (value new : Value) (values : List Value) → kinds ≡ kind ∷ kinds' → ok_or (converted kind value) value ≡ Ok new
+    → behind (done ++ new ∷ []) (all_converted kinds' values) ≡ behind done (all_converted kinds (value ∷ values))
+converted_more done kind kinds kinds' value new values here is =
+    behind_more done new (all_converted kinds' values)
+    ∙ ap (λ (first : Found Value). behind done (first >>= λ value. all_converted kinds' values >>= λ values. Ok (value ∷ values))) (sym (other_error (converted kind value) value new is))
+    ∙ ap (λ kinds. behind done (all_converted kinds (value ∷ values))) (sym here)
+  where
+    other_error : (found : Option Value) (value new : Value) → ok_or found value ≡ Ok new → ok_or found BadValue ≡ Ok new
+    other_error (Some x) value new is = cc
+    other_error None value new is = absurd (cc)
+
+-- a value that cannot be converted ends it
+pub converted_refused : (done : List Value) (kind : Kind) (kinds kinds' : List Kind) (value old : Value) (values : List Value) → kinds ≡ kind ∷ kinds' → ok_or (converted kind value) value ≡ Err old
+    → behind done (all_converted kinds (value ∷ values)) ≡ Err BadValue
+converted_refused done kind kinds kinds' value old values here is =
+    ap (λ kinds. behind done (all_converted kinds (value ∷ values))) here
+    ∙ ap (λ (first : Found Value). behind done (first >>= λ value. all_converted kinds' values >>= λ values. Ok (value ∷ values))) (other_error (converted kind value) value old is)
+  where
+    other_error : (found : Option Value) (value old : Value) → ok_or found value ≡ Err old → ok_or found BadValue ≡ Err BadValue
+    other_error (Some x) value old is = absurd (cc)
+    other_error None value old is = refl
+
+-- more values than kinds, or fewer
+pub converted_surplus : (done : List Value) (kinds : List Kind) (value : Value) (values : List Value) → kinds ≡ [] → behind done (all_converted kinds (value ∷ values)) ≡ Err BadValue
+converted_surplus done kinds value values none = ap (λ kinds. behind done (all_converted kinds (value ∷ values))) none
+
+pub converted_short : (done : List Value) (kind : Kind) (kinds kinds' : List Kind) (values : List Value) → kinds ≡ kind ∷ kinds' → values ≡ [] → behind done (all_converted kinds values) ≡ Err BadValue
+converted_short done kind kinds kinds' values here none = ap (λ kinds. behind done (all_converted kinds values)) here ∙ ap (λ values. behind done (all_converted (kind ∷ kinds') values)) none
+
+pub converted_all : (done : List Value) (kinds : List Kind) (values : List Value) → kinds ≡ [] → values ≡ [] → behind done (all_converted kinds values) ≡ Ok done
+converted_all done kinds values none empty = ap (λ kinds. behind done (all_converted kinds values)) none ∙ ap (λ values. behind done (all_converted [] values)) empty ∙ behind_all done
+
+-- a refusal of what was asked
+pub answers_refused : {T : Type 0} (wanted : Found T) (code : Code) (result : Result T Fault) → IsErrAnd result (λ fault. fault ≡ Refused code) → wanted ≡ Err code → Answers result wanted
+answers_refused wanted code (Ok value) h is = absurd h
+answers_refused wanted code (Err fault) h is = subst (λ fault. Answers (Err fault) wanted) (sym h) is
+
+-- a signal that does not fit
+pub unfitting : (settings : Settings) (state : State) (sender : ℕ) (signal : Found ℕ) (receiver : ℕ) (method : Found ℕ) (mode : ConnectionType) (single : Bool) (s m : ℕ) (code : Code) → signal ≡ Ok s → method ≡ Ok m
+    → Some code ≡ (if fits_at settings state sender s receiver m then None else Some DoesNotFit) → new_connection settings state sender signal receiver method mode single ≡ Err code
+unfitting settings state sender signal receiver method mode single s m code found found' refused =
+    ap (λ signal. new_connection settings state sender signal receiver method mode single) found
+    ∙ ap (λ method. new_connection settings state sender (Ok s) receiver method mode single) found'
+    ∙ by (record { sender = sender; signal = s; receiver = receiver; callee = Method m; mode = mode; single = single }) (fits_at settings state sender s receiver m) refused
+  where
+    by : (new : NewConnection) (fit : Bool) → Some code ≡ (if fit then None else Some DoesNotFit) → (if fit then Ok new else Err DoesNotFit) ≡ Err code
+    by new true refused = absurd (cc)
+    by new false refused = cc

@@ -1,0 +1,49 @@
+-- What actions come to.
+use Rattle.std.specs.Prelude.{◌≡◌, ℕ, Bool, true, false, List, [], ◌∷◌, Some, Result, Ok, Err}
+use Rattle.refusals.specs.declared.fault.Fault.{Fault}
+use Rattle.refusals.specs.declared.fault.Fault.TheVariants.{Refused, Memory}
+use Rattle.variant_value.specs.declared.value.Value.{Value}
+use Rattle.term_core.specs.declared.action.Effect.{Effect}
+use Rattle.term_core.specs.declared.action.Effect.TheVariants as e
+use Rattle.term_core.specs.Act as term
+use Rattle.term_core.specs.Act.{effect}
+use Rattle.thread_model.specs.Agenda.{step}
+use Rattle.thread_model.specs.Doing.{Doing, in_state}
+use Rattle.thread_model.specs.Items.{Act, Item, Warn, puts}
+use Rattle.thread_model.specs.Methods.{Found}
+use Rattle.session_tables.specs.declared.tables.Tables.{Tables}
+use Rattle.session_tables.specs.Tables.{ChangesOnly, state_at}
+use Rattle.session_effects.specs.declared.caller.Caller.{Caller}
+use Rattle.session_effects.specs.declared.effects.Emission.{Emission}
+use Rattle.session_effects.specs.declared.slot.Slot.{Slot}
+use Rattle.session_effects.specs.Setup.{settings_of}
+
+-- no other session has changed, and none has failed or was mended
+pub record Keeps (place : ℕ) (old new : Tables) : Type 0 where
+  pub only : ChangesOnly place old new
+  pub failed : new.failed ≡ old.failed
+
+-- an action in the body of a slot
+abbrev pub act_of : Slot → term.Act → Item
+act_of slot action = Act action slot.args.now slot.object slot.sender slot.depth
+
+-- does an effect send a signal or delete an object
+abbrev pub is_nested : Effect → Bool
+is_nested (e.Emit of signal args) = true
+is_nested (e.Delete target) = true
+is_nested _ = false
+
+-- an action comes to these items and these tables by what the call returns, or to a warning where it is refused,
+-- whatever was told before and however many turns are left
+abbrev pub Tries : {T : Type 0} → Caller → Slot → Effect → Tables → (T → List Item) → Tables → Result T Fault → Type 0
+Tries caller slot plain old items new (Ok value) = (doing : Doing) →
+    step (settings_of caller.setup.now) (act_of slot (effect plain)) (in_state doing (state_at old caller.place)) ≡ puts (items value) (in_state doing (state_at new caller.place))
+Tries caller slot plain old items new (Err (Refused code)) = (doing : Doing) →
+    step (settings_of caller.setup.now) (act_of slot (effect plain)) (in_state doing (state_at old caller.place)) ≡ puts (Warn code (Some slot.object) ∷ []) (in_state doing (state_at old caller.place))
+Tries caller slot plain old items new (Err Memory) = Unit {0}
+
+-- the call has found exactly this emission of the object, or is refused as it is, unless memory was wanted
+abbrev pub IsSent : ℕ → Found (ℕ × List Value) → Result Emission Fault → Type 0
+IsSent object wanted (Ok sent) = (sent.object ≡ object) × (wanted ≡ Ok (sent.signal, sent.args))
+IsSent object wanted (Err (Refused code)) = wanted ≡ Err code
+IsSent object wanted (Err Memory) = Unit {0}

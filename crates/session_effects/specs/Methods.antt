@@ -1,0 +1,11 @@
+-- The methods of objects, as the session that gives a command stands.
+use Rattle.std.specs.Prelude.{ℕ, List}
+use Rattle.class_table.specs.declared.class.Method.{Method}
+use Rattle.thread_model.specs.Methods.{methods_of}
+use Rattle.session_tables.specs.declared.tables.Tables.{Tables}
+use Rattle.session_tables.specs.Tables.{state_at}
+use Rattle.session_effects.specs.declared.caller.Caller.{Caller}
+use Rattle.session_effects.specs.Setup.{settings_of}
+
+abbrev pub its_methods : Caller → Tables → ℕ → List Method
+its_methods caller tables object = methods_of (settings_of caller.setup.now) (state_at tables caller.place) object

@@ -1,0 +1,239 @@
+//! The connections that commands and actions ask for, and those that they ask to be broken.
+ghost use Rattle.std.specs.Prelude.{◌≡◌, Some, None, if◌then◌else◌};
+ghost use Rattle.std.specs.Option.{option_map, option_transpose};
+ghost use Rattle.std.specs.Result.{result_err};
+ghost use Rattle.refusals.specs.Answers.{Answers};
+ghost use Rattle.refusals.specs.declared.code.Code.TheVariants.{DoesNotFit};
+ghost use Rattle.connection_types.specs.declared.callee.Callee.TheVariants.{Method};
+ghost use Rattle.thread_model.specs.Connecting.{fits_at, receiver_with};
+ghost use Rattle.thread_model.specs.Methods.{method_named, method_with, signal_named, signal_with};
+ghost use Rattle.thread_model.specs.Acts as acts;
+ghost use Rattle.thread_model.specs.Signals.{asked_connection, asked_pattern};
+ghost use Rattle.session_tables.specs.Tables.{IsPlaced, state_at};
+ghost use Rattle.session_effects.specs.Methods.{its_methods};
+ghost use Rattle.session_effects.specs.Setup.{settings_of};
+
+use crate::caller::Caller;
+use crate::methods::{kinds_at, method_named, method_with, signal_named, signal_with};
+use connection_list::{NewConnection, Pattern, Receiver};
+use connection_types::{Callee, ConnectionType};
+use plain_types::Text;
+use refusals::{Code, Fault};
+use session_tables::Tables;
+use signature_core::{Signature, fits};
+
+/// How a connection is asked for.
+#[derive(Clone, Copy)]
+pub struct Options {
+    pub mode: ConnectionType,
+    pub unique: bool,
+    pub single: bool,
+}
+
+/// The connection that a command asks for.
+pub fn asked_connection(
+    caller: &Caller,
+    tables: &Tables,
+    sender: u32,
+    signal: &Text,
+    receiver: u32,
+    method: &Text,
+    options: Options,
+) -> Result<NewConnection, Fault>
+    requires { IsPlaced tables.now caller.now.place }
+    ensures { Answers result (asked_connection (settings_of caller.now.setup.now) (state_at tables.now caller.now.place)
+        sender signal.now receiver method.now options.mode options.single) }
+{
+    let signal = signal_named(caller, tables, sender, signal)?;
+    let method = method_named(caller, tables, receiver, method)?;
+    check_fits(caller, tables, sender, signal, receiver, method)?;
+    Ok(joined(sender, signal, receiver, method, options))
+}
+
+/// The connection that an action asks for.
+pub fn connection(
+    caller: &Caller,
+    tables: &Tables,
+    sender: u32,
+    signal: &Signature,
+    receiver: u32,
+    method: &Signature,
+    options: Options,
+) -> Result<NewConnection, Code>
+    requires { IsPlaced tables.now caller.now.place }
+    ensures { result ≡ acts.connection (settings_of caller.now.setup.now) (state_at tables.now caller.now.place)
+        sender signal.now receiver method.now options.mode options.single }
+{
+    let signal = signal_with(caller, tables, sender, signal)?;
+    let method = method_with(caller, tables, receiver, method)?;
+    check_fits(caller, tables, sender, signal, receiver, method)?;
+    Ok(joined(sender, signal, receiver, method, options))
+}
+
+/// Refuses a signal whose parameters do not fit those of the method.
+fn check_fits(
+    caller: &Caller,
+    tables: &Tables,
+    sender: u32,
+    signal: u32,
+    receiver: u32,
+    method: u32,
+) -> Result<(), Code>
+    requires { IsPlaced tables.now caller.now.place }
+    ensures { result_err result ≡ (if fits_at (settings_of caller.now.setup.now) (state_at tables.now caller.now.place) sender signal receiver method then None else Some DoesNotFit) }
+{
+    let sent = kinds_at(caller, tables, sender, signal);
+    let taken = kinds_at(caller, tables, receiver, method);
+    if fits(sent, taken) {
+        Ok(())
+    } else {
+        Err(Code::DoesNotFit)
+    }
+}
+
+fn joined(sender: u32, signal: u32, receiver: u32, method: u32, options: Options) -> NewConnection
+    ensures { result ≡ record { sender = sender; signal = signal; receiver = receiver; callee = Method method; mode = options.mode; single = options.single } }
+{
+    NewConnection {
+        sender,
+        signal,
+        receiver,
+        callee: Callee::Method(method),
+        mode: options.mode,
+        single: options.single,
+    }
+}
+
+/// The connections that a command asks to be broken.
+pub fn asked_pattern(
+    caller: &Caller,
+    tables: &Tables,
+    sender: u32,
+    signal: &Option<Text>,
+    receiver: Option<u32>,
+    method: &Option<Text>,
+) -> Result<Pattern, Fault>
+    requires { IsPlaced tables.now caller.now.place }
+    ensures { Answers result (asked_pattern (settings_of caller.now.setup.now) (state_at tables.now caller.now.place) sender signal.now receiver method.now) }
+{
+    let signal = optional_signal(caller, tables, sender, signal)?;
+    let receiver = asked_receiver(caller, tables, receiver, method)?;
+    Ok(Pattern {
+        sender,
+        signal,
+        receiver,
+    })
+}
+
+fn optional_signal(
+    caller: &Caller,
+    tables: &Tables,
+    object: u32,
+    text: &Option<Text>,
+) -> Result<Option<u32>, Fault>
+    requires { IsPlaced tables.now caller.now.place }
+    ensures { Answers result (option_transpose (option_map (signal_named (its_methods caller.now tables.now object)) text.now)) }
+{
+    match text {
+        Some(text) => Ok(Some(signal_named(caller, tables, object, text)?)),
+        None => Ok(None),
+    }
+}
+
+fn optional_method(
+    caller: &Caller,
+    tables: &Tables,
+    object: u32,
+    text: &Option<Text>,
+) -> Result<Option<u32>, Fault>
+    requires { IsPlaced tables.now caller.now.place }
+    ensures { Answers result (option_transpose (option_map (method_named (its_methods caller.now tables.now object)) text.now)) }
+{
+    match text {
+        Some(text) => Ok(Some(method_named(caller, tables, object, text)?)),
+        None => Ok(None),
+    }
+}
+
+fn asked_receiver(
+    caller: &Caller,
+    tables: &Tables,
+    receiver: Option<u32>,
+    method: &Option<Text>,
+) -> Result<Option<Receiver>, Fault>
+    requires { IsPlaced tables.now caller.now.place }
+    ensures { Answers result (receiver_with (λ object. option_map (method_named (its_methods caller.now tables.now object)) method.now) receiver) }
+{
+    let Some(object) = receiver else {
+        return Ok(None);
+    };
+    let method = optional_method(caller, tables, object, method)?;
+    Ok(Some(Receiver { object, method }))
+}
+
+/// The connections that an action asks to be broken.
+pub fn pattern(
+    caller: &Caller,
+    tables: &Tables,
+    sender: u32,
+    signal: &Option<Signature>,
+    receiver: Option<u32>,
+    method: &Option<Signature>,
+) -> Result<Pattern, Code>
+    requires { IsPlaced tables.now caller.now.place }
+    ensures { result ≡ acts.pattern (settings_of caller.now.setup.now) (state_at tables.now caller.now.place) sender signal.now receiver method.now }
+{
+    let signal = given_signal(caller, tables, sender, signal)?;
+    let receiver = given_receiver(caller, tables, receiver, method)?;
+    Ok(Pattern {
+        sender,
+        signal,
+        receiver,
+    })
+}
+
+fn given_signal(
+    caller: &Caller,
+    tables: &Tables,
+    object: u32,
+    signature: &Option<Signature>,
+) -> Result<Option<u32>, Code>
+    requires { IsPlaced tables.now caller.now.place }
+    ensures { result ≡ option_transpose (option_map (signal_with (its_methods caller.now tables.now object)) signature.now) }
+{
+    match signature {
+        Some(signature) => Ok(Some(signal_with(caller, tables, object, signature)?)),
+        None => Ok(None),
+    }
+}
+
+fn given_method(
+    caller: &Caller,
+    tables: &Tables,
+    object: u32,
+    signature: &Option<Signature>,
+) -> Result<Option<u32>, Code>
+    requires { IsPlaced tables.now caller.now.place }
+    ensures { result ≡ option_transpose (option_map (method_with (its_methods caller.now tables.now object)) signature.now) }
+{
+    match signature {
+        Some(signature) => Ok(Some(method_with(caller, tables, object, signature)?)),
+        None => Ok(None),
+    }
+}
+
+fn given_receiver(
+    caller: &Caller,
+    tables: &Tables,
+    receiver: Option<u32>,
+    method: &Option<Signature>,
+) -> Result<Option<Receiver>, Code>
+    requires { IsPlaced tables.now caller.now.place }
+    ensures { result ≡ receiver_with (λ object. option_map (method_with (its_methods caller.now tables.now object)) method.now) receiver }
+{
+    let Some(object) = receiver else {
+        return Ok(None);
+    };
+    let method = given_method(caller, tables, object, method)?;
+    Ok(Some(Receiver { object, method }))
+}

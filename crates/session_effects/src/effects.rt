@@ -1,0 +1,267 @@
+//! What actions do that neither send signals nor delete objects, and what those that do come to.
+ghost use Rattle.std.specs.Prelude.{◌≡◌, ◌∷◌, [], OnErr, IsFalse};
+ghost use Rattle.refusals.specs.Answers.{Answers};
+ghost use Rattle.term_core.specs.declared.action.Effect.TheVariants as e;
+ghost use Rattle.thread_model.specs.Acts.{emission, is_queued};
+ghost use Rattle.thread_model.specs.Items.{Delete, Emit};
+ghost use Rattle.thread_model.specs.Targets.{truth_evaluated};
+ghost use Rattle.session_tables.specs.Tables.{IsPlaced, state_at};
+ghost use Rattle.session_effects.specs.Actions.{IsSent, Keeps, Tries, is_nested};
+ghost use Rattle.session_effects.specs.Setup.{settings_of};
+
+use crate::caller::Caller;
+use crate::connections::{Options, connection, pattern};
+use crate::evaluation::{
+    Reader, all_converted, all_evaluated, named_object_of, object_of, title_evaluated,
+    truth_evaluated,
+};
+use crate::methods::{kinds_at, signal_with};
+use crate::slot::Slot;
+use connection_types::ConnectionType;
+use plain_types::{Items, Text};
+use refusals::{Code, Fault};
+use session_tables::Tables;
+use signature_core::Signature;
+use term_core::{Effect, Expr, Target};
+use variant_value::Value;
+
+/// A signal that an action sends.
+#[derive(Drop)]
+pub struct Emission {
+    pub object: u32,
+    pub signal: u32,
+    pub args: Items<Value>,
+}
+
+/// Where the expressions of a slot's body are evaluated.
+fn reader<'a>(caller: &Caller, tables: &'a Tables, slot: &Slot) -> Reader<'a>
+    requires { IsPlaced tables.now caller.now.place }
+    ensures tables { result.tables.now ≡ tables.now }
+    ensures place { result.place ≡ caller.now.place }
+    ensures object { result.object ≡ slot.now.object }
+    ensures sender { result.sender ≡ slot.now.sender }
+{
+    Reader {
+        tables,
+        place: caller.place,
+        object: slot.object,
+        sender: slot.sender,
+    }
+}
+
+/// The signal that an action sends.
+pub fn sent(
+    caller: &Caller,
+    tables: &Tables,
+    slot: &Slot,
+    of: &Target,
+    signal: &Signature,
+    args: &[Expr],
+) -> Result<Emission, Fault>
+    requires { IsPlaced tables.now caller.now.place }
+    ensures { Tries caller.now slot.now (e.Emit of.now signal.now args.now) tables.now (λ sent. Emit sent.object sent.signal sent.args slot.now.depth ∷ []) tables.now result }
+{
+    let reader = reader(caller, tables, slot);
+    let object = object_of(&reader, of)?;
+    tables.check_object(caller.place, object)?;
+    emission_of(caller, &reader, slot, object, signal, args)
+}
+
+/// The signal of an object that an action sends.
+fn emission_of(
+    caller: &Caller,
+    reader: &Reader,
+    slot: &Slot,
+    object: u32,
+    signal: &Signature,
+    args: &[Expr],
+) -> Result<Emission, Fault>
+    requires { reader.now.place ≡ caller.now.place }
+    ensures { IsSent object (emission (settings_of caller.now.setup.now) (state_at reader.now.tables.now caller.now.place) reader.now.object reader.now.sender slot.now.args.now object signal.now args.now) result }
+{
+    let alloc = caller.setup.alloc;
+    let signal = signal_with(caller, reader.tables, object, signal)?;
+    let values = all_evaluated(alloc, reader, slot.args, args)?;
+    let kinds = kinds_at(caller, reader.tables, object, signal);
+    let args = all_converted(alloc, kinds, values)?;
+    Ok(Emission {
+        object,
+        signal,
+        args,
+    })
+}
+
+/// The object that an action deletes.
+pub fn deleted(caller: &Caller, tables: &Tables, slot: &Slot, target: &Target) -> Result<u32, Fault>
+    requires { IsPlaced tables.now caller.now.place }
+    ensures { Tries caller.now slot.now (e.Delete target.now) tables.now (λ object. Delete object slot.now.depth ∷ []) tables.now result }
+{
+    let object = object_of(&reader(caller, tables, slot), target)?;
+    tables.check_living(caller.place, object)?;
+    Ok(object)
+}
+
+/// Does an action that neither sends a signal nor deletes an object. What the server does not do yet is
+/// refused.
+pub fn change(
+    caller: &Caller,
+    tables: &mut Tables,
+    slot: &Slot,
+    effect: &Effect,
+) -> Result<(), Fault>
+    requires placed { IsPlaced tables.old caller.now.place }
+    requires simple { IsFalse (is_nested effect.now) }
+    ensures tries { Tries caller.now slot.now effect.now tables.old (λ _. []) tables.new result }
+    ensures err { OnErr result (tables.new ≡ tables.old) }
+    ensures keeps { Keeps caller.now.place tables.old tables.new }
+{
+    match effect {
+        Effect::Set {
+            of,
+            property,
+            value,
+        } => set(caller, tables, slot, of, property, value),
+        Effect::Connect {
+            of,
+            signal,
+            to,
+            method,
+            mode,
+            unique,
+            single,
+        } => {
+            let options = Options {
+                mode: *mode,
+                unique: *unique,
+                single: *single,
+            };
+            connect(caller, tables, slot, of, signal, to, method, options)
+        }
+        Effect::Disconnect {
+            of,
+            signal,
+            to,
+            method,
+        } => disconnect(caller, tables, slot, of, signal, to, method),
+        Effect::SetParent { of, parent } => set_parent(caller, tables, slot, of, parent),
+        _ => Err(Fault::Refused(Code::BadValue)),
+    }
+}
+
+/// Writes a property.
+fn set(
+    caller: &Caller,
+    tables: &mut Tables,
+    slot: &Slot,
+    of: &Target,
+    property: &Text,
+    value: &Expr,
+) -> Result<(), Fault>
+    requires { IsPlaced tables.old caller.now.place }
+    ensures tries { Tries caller.now slot.now (e.Set of.now property.now value.now) tables.old (λ _. []) tables.new result }
+    ensures err { OnErr result (tables.new ≡ tables.old) }
+    ensures keeps { Keeps caller.now.place tables.old tables.new }
+{
+    if property.as_str() != "objectName" {
+        return Err(Fault::Refused(Code::BadValue));
+    }
+    let reader = reader(caller, tables, slot);
+    let object = object_of(&reader, of)?;
+    tables.check_object(caller.place, object)?;
+    let title = title_evaluated(caller.setup.alloc, &reader, slot.args, value)?;
+    tables.set_title(caller.place, object, title)?;
+    Ok(())
+}
+
+/// Connects a signal to a method.
+fn connect(
+    caller: &Caller,
+    tables: &mut Tables,
+    slot: &Slot,
+    of: &Target,
+    signal: &Signature,
+    to: &Target,
+    method: &Signature,
+    options: Options,
+) -> Result<(), Fault>
+    requires { IsPlaced tables.old caller.now.place }
+    ensures tries { Tries caller.now slot.now (e.Connect of.now signal.now to.now method.now options.mode options.unique options.single) tables.old (λ _. []) tables.new result }
+    ensures err { OnErr result (tables.new ≡ tables.old) }
+    ensures keeps { Keeps caller.now.place tables.old tables.new }
+{
+    if is_queued(options.mode) {
+        return Err(Fault::Refused(Code::BadValue));
+    }
+    let reader = reader(caller, tables, slot);
+    let sender = object_of(&reader, of)?;
+    let receiver = object_of(&reader, to)?;
+    tables.check_living(caller.place, sender)?;
+    tables.check_living(caller.place, receiver)?;
+    let new = connection(caller, tables, sender, signal, receiver, method, options)?;
+    tables.connect(caller.place, new, options.unique)?;
+    Ok(())
+}
+
+/// No connection is queued yet.
+fn is_queued(mode: ConnectionType) -> bool
+    ensures { result ≡ is_queued mode }
+{
+    match mode {
+        ConnectionType::Auto | ConnectionType::Direct => false,
+        ConnectionType::Queued => true,
+    }
+}
+
+/// Breaks the connections that match.
+fn disconnect(
+    caller: &Caller,
+    tables: &mut Tables,
+    slot: &Slot,
+    of: &Target,
+    signal: &Option<Signature>,
+    to: &Option<Target>,
+    method: &Option<Signature>,
+) -> Result<(), Fault>
+    requires { IsPlaced tables.old caller.now.place }
+    ensures tries { Tries caller.now slot.now (e.Disconnect of.now signal.now to.now method.now) tables.old (λ _. []) tables.new result }
+    ensures err { OnErr result (tables.new ≡ tables.old) }
+    ensures keeps { Keeps caller.now.place tables.old tables.new }
+{
+    let reader = reader(caller, tables, slot);
+    let sender = object_of(&reader, of)?;
+    let receiver = named_object_of(&reader, to)?;
+    tables.check_object(caller.place, sender)?;
+    tables.check_named(caller.place, receiver)?;
+    let pattern = pattern(caller, tables, sender, signal, receiver, method)?;
+    tables.disconnect(caller.place, &pattern);
+    Ok(())
+}
+
+/// Gives an object another parent, or makes it a root.
+fn set_parent(
+    caller: &Caller,
+    tables: &mut Tables,
+    slot: &Slot,
+    of: &Target,
+    parent: &Option<Target>,
+) -> Result<(), Fault>
+    requires { IsPlaced tables.old caller.now.place }
+    ensures tries { Tries caller.now slot.now (e.SetParent of.now parent.now) tables.old (λ _. []) tables.new result }
+    ensures err { OnErr result (tables.new ≡ tables.old) }
+    ensures keeps { Keeps caller.now.place tables.old tables.new }
+{
+    let reader = reader(caller, tables, slot);
+    let object = object_of(&reader, of)?;
+    let parent = named_object_of(&reader, parent)?;
+    tables.set_parent(caller.place, object, parent)?;
+    Ok(())
+}
+
+/// The truth that the test of a choice is.
+pub fn truth(caller: &Caller, tables: &Tables, slot: &Slot, test: &Expr) -> Result<bool, Fault>
+    requires { IsPlaced tables.now caller.now.place }
+    ensures { Answers result (truth_evaluated (state_at tables.now caller.now.place) slot.now.object slot.now.sender slot.now.args.now test.now) }
+{
+    let reader = reader(caller, tables, slot);
+    truth_evaluated(caller.setup.alloc, &reader, slot.args, test)
+}

@@ -1,0 +1,19 @@
+//! What single actions do to a session, and what actions and commands look up for it: methods, and the
+//! connections that are asked for. Nothing here calls a slot, sends a signal or deletes an object: of an
+//! action that does, it is said what it comes to.
+#![tactic(auto)]
+
+mod caller;
+mod connections;
+mod effects;
+mod evaluation;
+mod methods;
+mod setup;
+mod slot;
+
+pub use caller::Caller;
+pub use connections::{Options, asked_connection, asked_pattern};
+pub use effects::{Emission, change, deleted, sent, truth};
+pub use methods::{kinds_at, method_at, method_with};
+pub use setup::Setup;
+pub use slot::Slot;

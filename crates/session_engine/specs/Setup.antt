@@ -1,6 +1,0 @@
--- What is fixed for the whole life of an engine, as definitions see it.
-use Rattle.thread_model.specs.Thread.{Settings}
-use Rattle.session_engine.specs.declared.setup.Setup.{Setup}
-
-abbrev pub settings_of : Setup → Settings
-settings_of setup = record { turns = setup.turns; classes = setup.classes }
