@@ -7,7 +7,7 @@ PROGRAM = meta_main
 CRATE = crates/$(PROGRAM)
 CC ?= cc
 
-.PHONY: all run test budget rows examples ends pipes trees classes respelled chance refusals bench clean
+.PHONY: all run test budget rows examples ends pipes trees signals classes respelled chance refusals bench clean
 
 all: bin/metad
 
@@ -26,7 +26,7 @@ test: budget
 	mkdir -p bin
 	cp $(CRATE)/out/$(PROGRAM) bin/metad
 	cp crates/tree_reader/out/tree_reader bin/tree_reader
-	$(MAKE) --no-print-directory rows respelled chance examples ends pipes trees classes refusals
+	$(MAKE) --no-print-directory rows respelled chance examples ends pipes trees signals classes refusals
 
 budget:
 	python3 tools/budget.py .
@@ -53,6 +53,9 @@ pipes:
 
 trees:
 	python3 tools/trees.py bin/metad
+
+signals:
+	python3 tools/signals.py bin/metad
 
 classes:
 	python3 tools/class_files.py bin/metad
