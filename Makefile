@@ -64,7 +64,7 @@ refusals: bin/refuse_growth.so
 	python3 tools/outcomes.py
 	python3 tools/refusals.py bin/metad bin/refuse_growth.so tests/rows
 
-bin/%.so: tools/%.c
+bin/%.so: tools/%.c tools/growth.h
 	mkdir -p bin
 	$(CC) -O2 -Wall -Wextra -shared -fPIC -o $@ $< -ldl
 
