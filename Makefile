@@ -7,7 +7,7 @@ PROGRAM = meta_main
 CRATE = crates/$(PROGRAM)
 CC ?= cc
 
-.PHONY: all run test budget rows examples ends pipes trees classes respelled chance refusals bench clean
+.PHONY: all run test budget rows examples ends pipes trees signals classes respelled chance refusals bench clean
 
 all: bin/metad
 
@@ -26,7 +26,7 @@ test: budget
 	mkdir -p bin
 	cp $(CRATE)/out/$(PROGRAM) bin/metad
 	cp crates/tree_reader/out/tree_reader bin/tree_reader
-	$(MAKE) --no-print-directory rows respelled chance examples ends pipes trees classes refusals
+	$(MAKE) --no-print-directory rows respelled chance examples ends pipes trees signals classes refusals
 
 budget:
 	python3 tools/budget.py .
@@ -54,6 +54,9 @@ pipes:
 trees:
 	python3 tools/trees.py bin/metad
 
+signals:
+	python3 tools/signals.py bin/metad
+
 classes:
 	python3 tools/class_files.py bin/metad
 
@@ -61,7 +64,7 @@ refusals: bin/refuse_growth.so
 	python3 tools/outcomes.py
 	python3 tools/refusals.py bin/metad bin/refuse_growth.so tests/rows
 
-bin/%.so: tools/%.c
+bin/%.so: tools/%.c tools/growth.h
 	mkdir -p bin
 	$(CC) -O2 -Wall -Wextra -shared -fPIC -o $@ $< -ldl
 

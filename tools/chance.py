@@ -23,9 +23,19 @@ DEPTH = 127
 LINES_OF_SESSIONS = 600
 
 SESSIONS = ("a", "b", "\\u0063")
-CLASSES = (*('"QObject"',) * 6, '"QObj\\u0065ct"', '"Probe"', '"Nope"', '"a b"', '""')
-WORDS = (*("new",) * 4, *("setParent", "children", "find", "set", "get") * 2, "delete", "meta", "jump", "n\\u0065w")
-KEYS = ("do", "session", "object", "property", "value", "class", "parent", "name", "x", "d\\u006f", "obj\\u0065ct", "Do", "")
+CLASSES = (*('"Probe"',) * 5, '"QObj\\u0065ct"', '"QObject"', '"Nope"', '"a b"', '""')
+WORDS = (
+    *(*("new",) * 4, *("setParent", "children", "find", "set", "get") * 2, "delete", "meta", "jump", "n\\u0065w"),
+    *(*("connect", "invoke") * 3, "disconnect", "disconnect", "c\\u006fnnect"),
+)
+KEYS = (
+    *("do", "session", "object", "property", "value", "class", "parent", "name", "x", "d\\u006f", "obj\\u0065ct", "Do", ""),
+    *("sender", "signal", "receiver", "method", "type", "unique", "single", "connection", "args", "s\\u0065nder", "typ\\u0065"),
+)
+SIGNALS = (*("ping()",) * 8, "p\\u0069ng()", "ping\\u0028void\\u0029", " ping(\\t)", "destroyed()", "objectNameChanged(QString)", "note()", "ping")
+SLOTS = ("note()", "late()", "swap()", "again()", "kill()", "rescue()", "drop()", "deleteLater()", "not\\u0065()", "note ( void ) ", "nothing()", "note(int)", "")
+TYPES = (*('"auto"', '"direct"') * 4, '"dir\\u0065ct"', '"queued"', '"blocking"', "0")
+TURNS = 20
 NUMBERS = (
     *("1", "2", "3", "0", "-1", "01", "1.0", "1e0", "1E2", "-0", "1.5", "+1", "0x1", "1.", ".5", "-", "--1"),
     *("0.0", "00", "-0.0e-0", "10e-1", "2.50E+01", "0e5", "1e", "1e+", "1.e1", "1e1.5", "1e-400", "-12.75e+2"),
@@ -74,6 +84,29 @@ class Chance(random.Random):
     def object(self):
         return str(self.randint(1, 12))
 
+    def method(self):
+        return f'"{self.choice(SIGNALS if self.is_so(0.4) else SLOTS)}"'
+
+    def members_of_signals(self, word):
+        """The members of a command of signals and slots, most of them in form."""
+        if word == "invoke":
+            method = self.choice((self.method(), '"objectNameChanged( const QString & )"'))
+            values = [self.value() for _ in range(self.choice((0, 0, 0, 1, 2)))] if "Q" not in method else [self.text()]
+            return [("object", self.object()), ("method", method), ("args", f"[{','.join(values)}]")]
+        if word == "disconnect" and self.is_so(0.4):
+            return [("connection", str(self.randint(1, 60)))]
+        members = [("sender", self.object())]
+        if word != "disconnect" or self.is_so(0.5):
+            members.append(("signal", f'"{self.choice(SIGNALS)}"'))
+        if word != "disconnect" or self.is_so(0.5):
+            members.append(("receiver", self.object()))
+        if word != "disconnect" or self.is_so(0.3):
+            members.append(("method", self.method()))
+        if word != "disconnect":
+            further = (("type", TYPES), ("unique", ("true", "false")), ("single", ("true", "false")))
+            members += [(key, self.choice(of)) for key, of in further if self.is_so(0.25)]
+        return members
+
     def members_of(self, word):
         """The members of a command in form, but for its word and its session."""
         if word == "set":
@@ -82,6 +115,8 @@ class Chance(random.Random):
             return [("object", self.object()), ("property", '"objectName"')]
         if word == "setParent":
             return [("object", self.object()), ("parent", self.choice((self.object(), "null")))]
+        if word in ("connect", "c\\u006fnnect", "disconnect", "invoke"):
+            return self.members_of_signals(word)
         members = []
         if word in ("delete", "find") or word == "children" and self.is_so(0.6):
             members.append(("object", self.object()))
@@ -150,16 +185,17 @@ def main():
     seed = sys.argv[3] if len(sys.argv) > 3 else "1"
     lines = lines_of(Chance(seed))
     given = b"\n".join(lines)
-    wrote, wanted = (subprocess.run([it], input=given, capture_output=True, timeout=SECONDS) for it in (program, reader))
-    replies = wanted.stdout.count(b'{"reply":')
-    if wanted.returncode or replies < LINES // 10:
-        print(f"lines by chance, seed {seed}: the second program ended with {wanted.returncode}, after {replies:,} replies")
+    words = ["--turns", str(TURNS)]
+    wrote, wanted = (subprocess.run([it, *words], input=given, capture_output=True, timeout=SECONDS) for it in (program, reader))
+    replies, calls = wanted.stdout.count(b'{"reply":'), wanted.stdout.count(b'"call":')
+    if wanted.returncode or replies < LINES // 10 or calls < LINES // 10:
+        print(f"lines by chance, seed {seed}: the second program ended with {wanted.returncode}, after {replies:,} replies and {calls:,} calls")
         return 1
     if (wrote.returncode, wrote.stdout) != (0, wanted.stdout):
         fault = difference(wrote.stdout, wanted.stdout) or f"status {wrote.returncode}, and not 0"
         print(f"lines by chance, seed {seed}: of the output {fault}")
         return 1
-    print(f"lines by chance: {LINES:,} answered alike, {replies:,} of them by replies")
+    print(f"lines by chance: {LINES:,} answered alike, {replies:,} of them by replies, and {calls:,} calls")
     return 0
 
 

@@ -4,10 +4,11 @@
 For each row the program is run with its Nth request for memory refused, for N = 1, 2, .. until a run
 makes no Nth request. Rows that start alike, by the same words and class files, differ only behind their
 start, so all but the first of them begin there. Where the class file has more than 4 KiB, N grows by a
-fiftieth at each step. A refused growth may
+fiftieth at each step. The answer to a command is all that it prints: calls and warnings, and then its
+reply or its error. A refused growth may
 
 - not show: the run is the row's;
-- fail a session: one command is answered by E21, every later one of its session by E20, and all
+- fail a session: one command is answered by E21 alone, every later one of its session by E20, and all
   others as in the row;
 - lose a line that was being read: it is answered by E21 for the session `-`, and all others as if it
   had not been there;
@@ -36,14 +37,26 @@ PART = 50
 OUT_OF_MEMORY = 5
 COMPLAINT = b"metad: out of memory\n"
 KINDS = ("session failed", "line lost", "session not entered", "program ended")
+LAST = (b'{"reply":', b'{"error":')
 
 
 def line(code, session):
     return json.dumps({"error": code, "session": session}, separators=(",", ":")).encode() + b"\n"
 
 
+def answers_in(text):
+    """The answer to each command: the lines that it prints, of which the last is its reply or its error."""
+    answers, is_whole = [], True
+    for it in text.splitlines(keepends=True):
+        if is_whole:
+            answers.append(b"")
+        answers[-1] += it
+        is_whole = it.startswith(LAST)
+    return answers
+
+
 def session_of(answer):
-    return json.loads(answer)["session"]
+    return json.loads(answer.splitlines()[-1])["session"]
 
 
 def with_failed_session(answers, at):
@@ -73,7 +86,7 @@ class Trial:
     def __init__(self, program, shim, row):
         self.program, self.shim, self.row = program, shim, row
         self.lines = row.given.splitlines(keepends=True)
-        self.answers = row.stdout.splitlines(keepends=True)
+        self.answers = answers_in(row.stdout)
         self.without = {}
 
     def is_plain(self):
@@ -95,7 +108,7 @@ class Trial:
         """The answers to the input without one of its lines."""
         if at not in self.without:
             given = b"".join(self.lines[:at] + self.lines[at + 1 :])
-            self.without[at] = replace(self.row, given=given).run(self.program).stdout.splitlines(keepends=True)
+            self.without[at] = answers_in(replace(self.row, given=given).run(self.program).stdout)
         return self.without[at]
 
     def outcome(self, ran):
@@ -105,7 +118,7 @@ class Trial:
             return "program ended" if is_front and ran.stderr == COMPLAINT else None
         if self.row.fault(ran) is None:
             return "not seen"
-        answers = ran.stdout.splitlines(keepends=True)
+        answers = answers_in(ran.stdout)
         if self.row.status or ran.returncode or ran.stderr or len(answers) != len(self.answers):
             return None
         at = next(at for at, (got, want) in enumerate(zip(answers, self.answers)) if got != want)

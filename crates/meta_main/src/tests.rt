@@ -130,8 +130,106 @@ const DELETIONS: Session = (
 {"reply":4,"session":"a"}"#,
 );
 
+const CONNECTIONS: Session = (
+    r#"{"class":"Probe","do":"new","session":"a"}
+{"class":"Probe","do":"new","session":"a"}
+{"do":"connect","method":"note()","receiver":2,"sender":1,"session":"a","signal":"ping()"}
+{"do":"connect","method":"note()","receiver":2,"sender":1,"session":"a","signal":"ping()"}
+{"do":"connect","method":"note()","receiver":2,"sender":1,"session":"a","signal":"ping()","unique":true}
+{"args":[],"do":"invoke","method":"ping()","object":1,"session":"a"}
+{"do":"disconnect","method":"note()","receiver":2,"sender":1,"session":"a","signal":"ping()"}
+{"args":[],"do":"invoke","method":"ping()","object":1,"session":"a"}
+{"connection":1,"do":"disconnect","session":"a"}"#,
+    r#"{"reply":1,"session":"a"}
+{"reply":2,"session":"a"}
+{"reply":1,"session":"a"}
+{"reply":2,"session":"a"}
+{"error":"E08","session":"a"}
+{"args":[],"call":"note()","object":2,"sender":1,"session":"a"}
+{"args":[],"call":"note()","object":2,"sender":1,"session":"a"}
+{"reply":true,"session":"a"}
+{"reply":2,"session":"a"}
+{"reply":true,"session":"a"}
+{"reply":false,"session":"a"}"#,
+);
+
+const CONNECTED_MEANWHILE: Session = (
+    r#"{"class":"Probe","do":"new","session":"a"}
+{"class":"Probe","do":"new","session":"a"}
+{"do":"connect","method":"swap()","receiver":2,"sender":1,"session":"a","signal":"ping()"}
+{"do":"connect","method":"note()","receiver":2,"sender":1,"session":"a","signal":"ping()"}
+{"args":[],"do":"invoke","method":"ping()","object":1,"session":"a"}
+{"args":[],"do":"invoke","method":"ping()","object":1,"session":"a"}"#,
+    r#"{"reply":1,"session":"a"}
+{"reply":2,"session":"a"}
+{"reply":1,"session":"a"}
+{"reply":2,"session":"a"}
+{"args":[],"call":"swap()","object":2,"sender":1,"session":"a"}
+{"reply":true,"session":"a"}
+{"args":[],"call":"swap()","object":2,"sender":1,"session":"a"}
+{"args":[],"call":"late()","object":2,"sender":1,"session":"a"}
+{"reply":true,"session":"a"}"#,
+);
+
+const SINGLE_SHOT: Session = (
+    r#"{"class":"Probe","do":"new","session":"a"}
+{"class":"Probe","do":"new","session":"a"}
+{"do":"connect","method":"again()","receiver":2,"sender":1,"session":"a","signal":"ping()","single":true}
+{"do":"connect","method":"note()","receiver":2,"sender":1,"session":"a","signal":"ping()"}
+{"args":[],"do":"invoke","method":"ping()","object":1,"session":"a"}"#,
+    r#"{"reply":1,"session":"a"}
+{"reply":2,"session":"a"}
+{"reply":1,"session":"a"}
+{"reply":2,"session":"a"}
+{"args":[],"call":"again()","object":2,"sender":1,"session":"a"}
+{"args":[],"call":"note()","object":2,"sender":1,"session":"a"}
+{"args":[],"call":"note()","object":2,"sender":1,"session":"a"}
+{"reply":true,"session":"a"}"#,
+);
+
+const SENDER_DELETED: Session = (
+    r#"{"class":"Probe","do":"new","session":"a"}
+{"class":"Probe","do":"new","session":"a"}
+{"do":"connect","method":"kill()","receiver":2,"sender":1,"session":"a","signal":"ping()"}
+{"do":"connect","method":"note()","receiver":2,"sender":1,"session":"a","signal":"ping()"}
+{"args":[],"do":"invoke","method":"ping()","object":1,"session":"a"}
+{"do":"get","object":1,"property":"objectName","session":"a"}"#,
+    r#"{"reply":1,"session":"a"}
+{"reply":2,"session":"a"}
+{"reply":1,"session":"a"}
+{"reply":2,"session":"a"}
+{"args":[],"call":"kill()","object":2,"sender":1,"session":"a"}
+{"object":2,"session":"a","warning":"E04"}
+{"reply":true,"session":"a"}
+{"error":"E04","session":"a"}"#,
+);
+
+const SIGNAL_TO_ITSELF: Session = (
+    r#"{"class":"Probe","do":"new","session":"a"}
+{"do":"connect","method":"ping()","receiver":1,"sender":1,"session":"a","signal":"ping()"}
+{"args":[],"do":"invoke","method":"ping()","object":1,"session":"a"}"#,
+    r#"{"reply":1,"session":"a"}
+{"reply":1,"session":"a"}
+{"object":1,"session":"a","warning":"E14"}
+{"reply":true,"session":"a"}"#,
+);
+
+const UNIQUE: Session = (
+    r#"{"class":"Probe","do":"new","session":"a"}
+{"do":"connect","method":"note()","receiver":1,"sender":1,"session":"a","signal":"ping()","single":true,"unique":true}
+{"do":"connect","method":"note()","receiver":1,"sender":1,"session":"a","signal":"ping()","type":"direct","unique":true}
+{"args":[],"do":"invoke","method":"ping()","object":1,"session":"a"}
+{"connection":1,"do":"disconnect","session":"a"}"#,
+    r#"{"reply":1,"session":"a"}
+{"reply":1,"session":"a"}
+{"error":"E08","session":"a"}
+{"args":[],"call":"note()","object":1,"sender":1,"session":"a"}
+{"reply":true,"session":"a"}
+{"reply":false,"session":"a"}"#,
+);
+
 /// Each from a fresh server.
-const SESSIONS: [Session; 8] = [
+const SESSIONS: [Session; 14] = [
     LAMP,
     TWO_SESSIONS,
     ONE_SESSION,
@@ -140,6 +238,12 @@ const SESSIONS: [Session; 8] = [
     CLASSES,
     TREES,
     DELETIONS,
+    CONNECTIONS,
+    CONNECTED_MEANWHILE,
+    SINGLE_SHOT,
+    SENDER_DELETED,
+    SIGNAL_TO_ITSELF,
+    UNIQUE,
 ];
 
 /// What a fresh server with the demonstration classes writes for an input.

@@ -1,7 +1,8 @@
 //! The members of texts, by each way of reading.
 use json::Scratch;
 use json_reading::{
-    Field, Scalar, Stop, plain_members, scan_members, token_members, tree_members, value_at,
+    Field, Scalar, Stop, name_at, plain_members, scan_members, text_at, token_members,
+    tree_members, value_at,
 };
 use serde_json::Value;
 use std::alloc::{AllocError, Global};
@@ -72,14 +73,14 @@ fn texts_are_served(rt: HostRuntime) -> Result<(), Fail> {
 }
 
 /// A text with every kind of value, as each way reads it.
-const TEXT: &str = r#"{"a":7,"text":"é","no":null,"list":[7,"x"],"a":8}"#;
+const TEXT: &str = r#"{"a":7,"text":"é","no":null,"list":[7,"x"],"yes":true,"name":"x","a":8}"#;
 
 fn number(field: Option<&Field<'_>>) -> Option<u64> {
     field?.as_number()
 }
 
-fn text<'a>(field: Option<&Field<'a>>) -> Option<&'a str> {
-    field?.as_text()
+fn truth(field: Option<&Field<'_>>) -> Option<bool> {
+    field?.as_truth()
 }
 
 /// How many elements are copied.
@@ -104,9 +105,13 @@ fn members_are_found(rt: HostRuntime) -> Result<(), Fail> {
     let alloc = rt.alloc();
     let mut scratch = Scratch::new(alloc);
     let members = plain_members(alloc, TEXT, &mut scratch)?.unwrap_or(Vec::new(alloc));
-    assert_eq!(rt; members.len(), 5);
+    assert_eq!(rt; members.len(), 7);
     assert_eq!(rt; number(value_at(&members, "a")), Some(8));
-    assert_eq!(rt; text(value_at(&members, "text")), Some("é"));
+    assert_eq!(rt; text_at(&members, "text"), Some("é"));
+    assert!(rt; name_at(&members, "text").is_none());
+    assert_eq!(rt; name_at(&members, "name"), Some("x"));
+    assert_eq!(rt; truth(value_at(&members, "yes")), Some(true));
+    assert_eq!(rt; truth(value_at(&members, "name")), None);
     assert!(rt; value_at(&members, "no").is_some_and(|field| field.is_null()));
     assert!(rt; value_at(&members, "b").is_none());
     assert!(rt; value_at(&members, "list").is_some_and(is_seven_and_x));
@@ -118,11 +123,12 @@ fn members_are_found(rt: HostRuntime) -> Result<(), Fail> {
 #[test]
 fn members_of_a_tree_are_found(rt: HostRuntime) -> Result<(), Fail> {
     let alloc = rt.alloc();
-    let value = Value::from_str(alloc, r#"{"a":1,"list":[1,[2]],"text":"x"}"#)?;
+    let value = Value::from_str(alloc, r#"{"a":1,"list":[1,[2]],"text":"x","yes":true}"#)?;
     let members = tree_members(alloc, &value)?.unwrap_or(Vec::new(alloc));
-    assert_eq!(rt; members.len(), 3);
+    assert_eq!(rt; members.len(), 4);
     assert_eq!(rt; number(value_at(&members, "a")), Some(1));
-    assert_eq!(rt; text(value_at(&members, "text")), Some("x"));
+    assert_eq!(rt; name_at(&members, "text"), Some("x"));
+    assert_eq!(rt; truth(value_at(&members, "yes")), Some(true));
     assert!(rt; value_at(&members, "list").is_some_and(|field| !field.is_null()));
     assert!(rt; value_at(&members, "list").is_some_and(|field| field.is_list()));
     assert_eq!(rt; copied(alloc, value_at(&members, "list"))?, 2);

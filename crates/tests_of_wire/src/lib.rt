@@ -19,6 +19,8 @@ mod runs;
 #[cfg(test)]
 mod server;
 #[cfg(test)]
+mod tables;
+#[cfg(test)]
 mod words;
 #[cfg(test)]
 mod writings;

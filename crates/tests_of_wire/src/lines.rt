@@ -5,11 +5,15 @@ use std::alloc::{AllocError, Global};
 use thread_model::{Line, Tagged};
 use wire_format::{Scratch, line_text, read_line};
 
-/// A class with two slots and a property, and one below it.
+/// A class with two slots and a property, one below it, and one with two signals.
 const LAMPS: &str =
     r#"{"classes":[{"name":"Lamp","super":"QObject","slots":[{"sig":"on()","body":[]},
     {"sig":"dim( int )","body":[]}],"properties":[{"name":"level","type":"int"}]},
-    {"name":"Torch","super":"Lamp"}]}"#;
+    {"name":"Torch","super":"Lamp"},
+    {"name":"Switch","super":"QObject","signals":["pressed(int)","released()"],
+    "slots":[{"sig":"press(int)","body":[{"emit":"pressed(int)","args":[{"arg":0}]}]},
+    {"sig":"drop()","body":[{"delete":"sender"},
+    {"set":"objectName","of":"sender","to":{"const":"x"}}]}]}]}"#;
 
 pub fn lamps(alloc: Global) -> Result<ClassTable, AllocError> {
     match ClassTable::from_text(alloc, LAMPS.as_bytes()) {
@@ -27,16 +31,22 @@ pub fn given(alloc: Global, line: &str) -> Result<Tagged, AllocError> {
     }
 }
 
-/// Whether a session is told this one line, which stands here without its line feed.
+/// What a session is told, line by line.
+pub fn text_of(alloc: Global, session: &Text, lines: &Items<Line>) -> Result<String, AllocError> {
+    let mut text = String::new(alloc);
+    for line in lines.as_slice() {
+        text.push_str(line_text(alloc, session.as_str(), line)?.as_str())?;
+    }
+    Ok(text)
+}
+
+/// Whether a session is told these lines, which stand here without the last line feed.
 pub fn is_told(
     alloc: Global,
     session: &Text,
     lines: &Items<Line>,
     wanted: &str,
 ) -> Result<bool, AllocError> {
-    let [line] = lines.as_slice() else {
-        return Ok(false);
-    };
-    let text = line_text(alloc, session.as_str(), line)?;
+    let text = text_of(alloc, session, lines)?;
     Ok(text.as_str().strip_suffix('\n') == Some(wanted))
 }

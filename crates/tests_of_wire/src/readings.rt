@@ -1,10 +1,11 @@
 //! Lines that are read.
+use connection_types::ConnectionType;
 use std::test::Fail;
 use thread_model::Command;
 use wire_format::{LINE_BYTES, ReadError, Scratch, fault_text, is_blank, read_line};
 
 /// What a command says, whichever it is: its word, its object, the other number, its text and its
-/// class.
+/// class or method.
 type Parts<'a> = (
     &'a str,
     Option<u32>,
@@ -33,6 +34,65 @@ fn parts(command: &Command) -> Parts<'_> {
         Command::Set { object, value } => ("set", Some(*object), None, value.as_str(), None),
         Command::Get { object } => ("get", Some(*object), None, None, None),
         Command::Meta { class } => ("meta", None, None, None, Some(class.as_str())),
+        Command::DisconnectOne { connection } => {
+            ("disconnect one", Some(*connection), None, None, None)
+        }
+        _ => parts_of_signals(command),
+    }
+}
+
+fn parts_of_signals(command: &Command) -> Parts<'_> {
+    match command {
+        Command::Connect {
+            sender,
+            signal,
+            receiver,
+            method,
+            mode,
+            unique,
+            single,
+        } => (
+            way(*mode, *unique, *single),
+            Some(*sender),
+            Some(*receiver),
+            Some(signal.as_str()),
+            Some(method.as_str()),
+        ),
+        Command::Disconnect {
+            sender,
+            signal,
+            receiver,
+            method,
+        } => (
+            "disconnect",
+            Some(*sender),
+            *receiver,
+            signal.as_ref().map(|signal| signal.as_str()),
+            method.as_ref().map(|method| method.as_str()),
+        ),
+        Command::Invoke {
+            object,
+            method,
+            args,
+        } => (
+            "invoke",
+            Some(*object),
+            u32::try_from(args.len()).ok(),
+            args.get(0).and_then(|arg| arg.as_str()),
+            Some(method.as_str()),
+        ),
+        _ => ("", None, None, None, None),
+    }
+}
+
+/// A word for how a connection is made.
+fn way(mode: ConnectionType, unique: bool, single: bool) -> &'static str {
+    match (mode, unique, single) {
+        (ConnectionType::Auto, false, false) => "connect",
+        (ConnectionType::Direct, false, false) => "connect directly",
+        (ConnectionType::Auto, true, false) => "connect uniquely",
+        (ConnectionType::Auto, false, true) => "connect once",
+        _ => "connect otherwise",
     }
 }
 
@@ -42,15 +102,53 @@ const LINES: &str = r#"{"class":"Cell","do":"new","parent":4294967295,"session":
 {"do":"set","object":1,"property":"objectName","session":"a","value":1,"value":"2"}
 {"do":"set","object":1,"property":"objectName","session":"a","value":[1,"2",null]}
 {"do":"set","object":1,"property":"objectName","session":"a","value":{"a":[-1]}}
- {"do": "g\u0065t", "\u006fbject": 1, "property": "objectName", "session": "\u0061"}"#;
+ {"do": "g\u0065t", "\u006fbject": 1, "property": "objectName", "session": "\u0061"}
+{"do":"connect","method":"f( int )","receiver":2,"sender":4294967295,"session":"a","signal":""}
+{"do":"connect","method":"","receiver":2,"sender":1,"session":"a","signal":"s()","single":false,"type":"direct","unique":false}
+{"do":"connect","method":"f()","receiver":1,"sender":1,"session":"a","signal":"s()","type":"auto","unique":true}
+{"do":"connect","method":"f\u0028)","receiver":1,"sender":1,"session":"a","signal":"s","single":true}
+{"connection":7,"do":"disconnect","session":"a"}
+{"do":"disconnect","sender":1,"session":"a"}
+{"do":"disconnect","sender":1,"session":"a","signal":"s()"}
+{"do":"disconnect","method":"f()","receiver":2,"sender":1,"session":"a"}
+{"args":[],"do":"invoke","method":"f()","object":3,"session":"a"}
+{"args":["x",1,{"a":[null]}],"do":"invoke","method":"f(QString,int)","object":3,"session":"a"}"#;
 
-const PARTS: [Parts<'static>; 6] = [
+const PARTS: [Parts<'static>; 16] = [
     ("new", None, Some(4_294_967_295), None, Some("Cell")),
     ("find", Some(7), None, Some(""), Some("Cell")),
     ("set", Some(1), None, Some("2"), None),
     ("set", Some(1), None, None, None),
     ("set", Some(1), None, None, None),
     ("get", Some(1), None, None, None),
+    (
+        "connect",
+        Some(4_294_967_295),
+        Some(2),
+        Some(""),
+        Some("f( int )"),
+    ),
+    ("connect directly", Some(1), Some(2), Some("s()"), Some("")),
+    (
+        "connect uniquely",
+        Some(1),
+        Some(1),
+        Some("s()"),
+        Some("f()"),
+    ),
+    ("connect once", Some(1), Some(1), Some("s"), Some("f()")),
+    ("disconnect one", Some(7), None, None, None),
+    ("disconnect", Some(1), None, None, None),
+    ("disconnect", Some(1), None, Some("s()"), None),
+    ("disconnect", Some(1), Some(2), None, Some("f()")),
+    ("invoke", Some(3), Some(0), None, Some("f()")),
+    (
+        "invoke",
+        Some(3),
+        Some(3),
+        Some("x"),
+        Some("f(QString,int)"),
+    ),
 ];
 
 #[test]
@@ -97,7 +195,23 @@ E02 a {"do":"get","object":1.0,"property":"objectName","session":"a"}
 E02 a {"do":"get","object":1,"property":"x","session":"a"}
 E02 a {"do":"get","object":1,"property":"objectName","session":"a","value":1}
 E02 a {"do":"set","object":1,"property":"objectName","session":"a"}
-E02 a {"class":"a b","do":"meta","session":"a"}"#;
+E02 a {"class":"a b","do":"meta","session":"a"}
+E02 a {"do":"connect","method":"f()","receiver":2,"session":"a","signal":"s()"}
+E02 a {"do":"connect","method":"f()","receiver":0,"sender":1,"session":"a","signal":"s()"}
+E02 a {"do":"connect","method":"f()","receiver":2,"sender":1,"session":"a","signal":null}
+E02 a {"do":"connect","method":"f()","receiver":2,"sender":1,"session":"a","signal":"s()","type":"queued"}
+E02 a {"do":"connect","method":"f()","receiver":2,"sender":1,"session":"a","signal":"s()","unique":1}
+E02 a {"do":"connect","method":"f()","receiver":2,"sender":1,"session":"a","signal":"s()","single":null}
+E02 a {"do":"disconnect","session":"a"}
+E02 a {"do":"disconnect","receiver":2,"session":"a"}
+E02 a {"connection":0,"do":"disconnect","session":"a"}
+E02 a {"connection":1,"do":"disconnect","sender":1,"session":"a"}
+E02 a {"do":"disconnect","method":"f()","sender":1,"session":"a"}
+E02 a {"do":"disconnect","sender":1,"session":"a","signal":null}
+E02 a {"do":"invoke","method":"f()","object":3,"session":"a"}
+E02 a {"args":{},"do":"invoke","method":"f()","object":3,"session":"a"}
+E02 a {"args":[],"do":"invoke","object":3,"session":"a"}
+E02 a {"args":[],"do":"invoke","method":"f()","object":3,"sender":1,"session":"a"}"#;
 
 #[test]
 fn other_lines_are_refused(rt: HostRuntime) -> Result<(), Fail> {

@@ -6,6 +6,9 @@ use server_world::{
 };
 use std::alloc::{AllocError, Global};
 use std::test::Fail;
+use thread_model::{
+    actions_run_in_place, agenda_runs_to_its_end, commands_keep_sessions_sound, machine_is_lawful,
+};
 
 fn fresh(alloc: Global) -> Result<Server, AllocError> {
     Server::new(alloc, lamps(alloc)?, 1000)
@@ -16,7 +19,7 @@ fn report_of(server: &mut Server, list: &[Tagged]) -> Report {
     server.run(list)
 }
 
-/// Whether the entry at this place tells this one line.
+/// Whether the entry at this place tells these lines.
 fn tells(
     alloc: Global,
     report: &Report,
@@ -48,7 +51,7 @@ fn is_run(alloc: Global, server: &mut Server, run: &[(&str, &str)]) -> Result<bo
     Ok(true)
 }
 
-/// Whether the session that gives a line is told another one.
+/// Whether the session that gives a line is told others.
 fn is_stepped(
     alloc: Global,
     server: &mut Server,
@@ -60,8 +63,8 @@ fn is_stepped(
     is_told(alloc, &given.session, &lines, wanted)
 }
 
-/// Two runs, one after the other on one server.
-const RUNS: [[(&str, &str); 3]; 2] = [
+/// Runs, one after the other on one server.
+const RUNS: [[(&str, &str); 3]; 3] = [
     [
         (
             r#"{"class":"QObject","do":"new","session":"a"}"#,
@@ -90,6 +93,21 @@ const RUNS: [[(&str, &str); 3]; 2] = [
             r#"{"error":"E04","session":"c"}"#,
         ),
     ],
+    [
+        (
+            r#"{"class":"Switch","do":"new","session":"b"}"#,
+            r#"{"reply":2,"session":"b"}"#,
+        ),
+        (
+            r#"{"do":"connect","method":"dim(int)","receiver":1,"sender":2,"session":"b","signal":"pressed(int)"}"#,
+            r#"{"reply":1,"session":"b"}"#,
+        ),
+        (
+            r#"{"args":[5],"do":"invoke","method":"pressed(int)","object":2,"session":"b"}"#,
+            r#"{"args":[5],"call":"dim(int)","object":1,"sender":2,"session":"b"}
+{"reply":true,"session":"b"}"#,
+        ),
+    ],
 ];
 
 #[test]
@@ -106,8 +124,10 @@ fn runs_on_one_server_go_on(rt: HostRuntime) -> Result<(), Fail> {
 fn steps_go_on_after_each_other(rt: HostRuntime) -> Result<(), Fail> {
     let alloc = rt.alloc();
     let mut server = fresh(alloc)?;
-    for (line, wanted) in RUNS[0] {
-        assert!(rt; is_stepped(alloc, &mut server, line, wanted)?, "{line}");
+    for run in RUNS {
+        for (line, wanted) in run {
+            assert!(rt; is_stepped(alloc, &mut server, line, wanted)?, "{line}");
+        }
     }
     assert!(rt; !server.memory_refused());
     server.note_memory_refused();
@@ -120,4 +140,8 @@ fn laws_hold() {
     leaving_out_keeps_sessions();
     slicing_keeps_a_session();
     influence_is_least();
+    machine_is_lawful();
+    agenda_runs_to_its_end();
+    commands_keep_sessions_sound();
+    actions_run_in_place();
 }

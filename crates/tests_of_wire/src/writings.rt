@@ -3,7 +3,7 @@ use plain_types::{Items, Text};
 use refusals::Code;
 use std::alloc::{AllocError, Global};
 use std::test::Fail;
-use thread_model::{Answer, Line, MetaObject};
+use thread_model::{Answer, Call, Line, MetaObject};
 use variant_value::Value;
 use wire_format::{
     Digits, Parts, error_parts, line_parts, line_text, sessions_are_isolated, write_line,
@@ -34,6 +34,34 @@ fn lamp(alloc: Global) -> Result<MetaObject, AllocError> {
     })
 }
 
+/// A call of a slot with a truth, a number and a text.
+fn call(alloc: Global) -> Result<Line, AllocError> {
+    let mut args = Items::new(alloc);
+    args.push(Value::Bool(true))?;
+    args.push(Value::Int(-5))?;
+    args.push(Value::Text(Text::from_str(alloc, "\"ä")?))?;
+    Ok(Line::Call(Call {
+        method: Text::from_str(alloc, "dim(bool,int,QString)")?,
+        object: 4_294_967_295,
+        sender: 0,
+        args,
+    }))
+}
+
+/// A call of a slot without parameters.
+fn bare_call(alloc: Global) -> Result<Line, AllocError> {
+    Ok(Line::Call(Call {
+        method: Text::from_str(alloc, "on()")?,
+        object: 2,
+        sender: 1,
+        args: Items::new(alloc),
+    }))
+}
+
+fn warning(code: Code, object: Option<u32>) -> Line {
+    Line::Warning { code, object }
+}
+
 /// What is written for the lines below.
 const WRITTEN: &str = r#"{"reply":0,"session":"a"}
 {"reply":null,"session":"a"}
@@ -44,7 +72,11 @@ const WRITTEN: &str = r#"{"reply":0,"session":"a"}
 {"reply":"a text of more than 22 bytes, ä","session":"a"}
 {"reply":"\"ä\\\n\u0001/","session":"a"}
 {"reply":[3,1,20],"session":"a"}
-{"reply":{"class":"Lamp","methodOffset":3,"methods":["on()","off()"],"properties":[],"propertyOffset":1,"super":"QObject"},"session":"a"}"#;
+{"reply":{"class":"Lamp","methodOffset":3,"methods":["on()","off()"],"properties":[],"propertyOffset":1,"super":"QObject"},"session":"a"}
+{"args":[true,-5,"\"ä"],"call":"dim(bool,int,QString)","object":4294967295,"sender":0,"session":"a"}
+{"args":[],"call":"on()","object":2,"sender":1,"session":"a"}
+{"object":7,"session":"a","warning":"E14"}
+{"session":"a","warning":"E23"}"#;
 
 /// The parts of a line, put together.
 fn joined(alloc: Global, parts: &Parts<'_>) -> Result<String, AllocError> {
@@ -68,22 +100,25 @@ fn lines_are_written(rt: HostRuntime) -> Result<(), Fail> {
     let alloc = rt.alloc();
     let escaped = Text::from_str(alloc, "\"ä\\\n\u{1}/")?;
     let plain = Text::from_str(alloc, "a text of more than 22 bytes, ä")?;
-    let answers = [
-        (Answer::Number(0), true),
-        (Answer::Found(None), true),
-        (Answer::Found(Some(7)), true),
-        (Answer::Truth(true), true),
-        (Answer::Value(Value::Invalid), true),
-        (Answer::Value(Value::Int(-5)), true),
-        (Answer::Value(Value::Text(plain)), true),
-        (Answer::Value(Value::Text(escaped)), false),
-        (Answer::Numbers(numbers(alloc)?), false),
-        (Answer::Meta(lamp(alloc)?), false),
+    let lines = [
+        (Line::Reply(Answer::Number(0)), true),
+        (Line::Reply(Answer::Found(None)), true),
+        (Line::Reply(Answer::Found(Some(7))), true),
+        (Line::Reply(Answer::Truth(true)), true),
+        (Line::Reply(Answer::Value(Value::Invalid)), true),
+        (Line::Reply(Answer::Value(Value::Int(-5))), true),
+        (Line::Reply(Answer::Value(Value::Text(plain))), true),
+        (Line::Reply(Answer::Value(Value::Text(escaped))), false),
+        (Line::Reply(Answer::Numbers(numbers(alloc)?)), false),
+        (Line::Reply(Answer::Meta(lamp(alloc)?)), false),
+        (call(alloc)?, false),
+        (bare_call(alloc)?, false),
+        (warning(Code::Limit, Some(7)), false),
+        (warning(Code::TurnsUsedUp, None), false),
     ];
     let mut wanted = WRITTEN.lines();
     let mut buffer = String::new(alloc);
-    for (answer, in_parts) in answers {
-        let line = Line::Reply(answer);
+    for (line, in_parts) in lines {
         let text = line_text(alloc, "a", &line)?;
         write_line(alloc, &mut buffer, "a", &line)?;
         let is_line = text.as_str().strip_suffix('\n') == wanted.next();

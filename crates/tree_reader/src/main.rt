@@ -4,8 +4,7 @@
 
 mod reading;
 
-use class_table::ClassTable;
-use program_start::start;
+use program_start::{Beginning, start};
 use reading::read_tree;
 use server_world::Server;
 use std::alloc::{AllocError, Global};
@@ -14,17 +13,15 @@ use std::process::ExitCode;
 use thread_model::Tagged;
 use wire_format::{ReadError, fault_text, is_blank, line_text};
 
-const TURNS: u32 = 10_000;
-
 fn main(rt: HostRuntime) -> ExitCode {
-    let Ok(classes) = start(&rt) else {
+    let Ok(beginning) = start(&rt) else {
         return ExitCode::from(1);
     };
     let mut input = Vec::new(rt.alloc());
     if rt.stdin().read_to_end(&mut input).is_err() {
         return ExitCode::from(3);
     }
-    let Ok(output) = answers(rt.alloc(), classes, &input) else {
+    let Ok(output) = answers(rt.alloc(), beginning, &input) else {
         return ExitCode::from(5);
     };
     match rt.stdout().write_all(output.as_bytes()) {
@@ -34,8 +31,9 @@ fn main(rt: HostRuntime) -> ExitCode {
 }
 
 /// What is answered to all lines.
-fn answers(alloc: Global, classes: ClassTable, input: &[u8]) -> Result<String, AllocError> {
-    let mut server = Server::new(alloc, classes, TURNS)?;
+fn answers(alloc: Global, beginning: Beginning, input: &[u8]) -> Result<String, AllocError> {
+    let Beginning { classes, turns } = beginning;
+    let mut server = Server::new(alloc, classes, turns)?;
     let mut output = String::new(alloc);
     for line in input.split(|byte| *byte == b'\n') {
         if is_blank(line) {

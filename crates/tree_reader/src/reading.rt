@@ -1,5 +1,6 @@
 //! Reading a line as a tree.
-use plain_types::{Text, is_name};
+use connection_types::ConnectionType;
+use plain_types::{Items, Text, is_name};
 use refusals::Code;
 use serde_json::Value;
 use std::alloc::{AllocError, Global};
@@ -43,8 +44,8 @@ fn command_in(alloc: Global, json: &Value) -> Result<Option<Command>, AllocError
         Some(word) if has_keys_of(word, json) => word,
         _ => return Ok(None),
     };
-    let object = json.get("object").and_then(object_of);
-    let parent = json.get("parent").and_then(object_of);
+    let object = number_at(json, "object");
+    let parent = number_at(json, "parent");
     let class = text_at(alloc, json, "class")?;
     let name = text_at(alloc, json, "name")?;
     let value = json.get("value").map(Value::clone).transpose()?;
@@ -63,12 +64,80 @@ fn command_in(alloc: Global, json: &Value) -> Result<Option<Command>, AllocError
             .map(|(object, value)| Command::Set { object, value }),
         "get" => object.map(|object| Command::Get { object }),
         "meta" => class.map(|class| Command::Meta { class }),
+        "connect" => connect_in(alloc, json)?,
+        "disconnect" => disconnect_in(alloc, json)?,
+        "invoke" => invoke_in(alloc, json)?,
         _ => None,
     })
 }
 
-/// The number of an object.
-fn object_of(value: &Value) -> Option<u32> {
+fn connect_in(alloc: Global, json: &Value) -> Result<Option<Command>, AllocError> {
+    let ends = number_at(json, "sender").zip(number_at(json, "receiver"));
+    let methods = text_at(alloc, json, "signal")?.zip(text_at(alloc, json, "method")?);
+    Ok(
+        ends.zip(methods).map(|((sender, receiver), (signal, method))| Command::Connect {
+            sender,
+            signal,
+            receiver,
+            method,
+            mode: mode_in(json),
+            unique: is_true_at(json, "unique"),
+            single: is_true_at(json, "single"),
+        }),
+    )
+}
+
+fn disconnect_in(alloc: Global, json: &Value) -> Result<Option<Command>, AllocError> {
+    if let Some(connection) = number_at(json, "connection") {
+        return Ok(Some(Command::DisconnectOne { connection }));
+    }
+    let signal = text_at(alloc, json, "signal")?;
+    let receiver = number_at(json, "receiver");
+    let method = text_at(alloc, json, "method")?;
+    Ok(number_at(json, "sender").map(|sender| Command::Disconnect {
+        sender,
+        signal,
+        receiver,
+        method,
+    }))
+}
+
+fn invoke_in(alloc: Global, json: &Value) -> Result<Option<Command>, AllocError> {
+    let Some(elements) = json.get("args").and_then(Value::as_array) else {
+        return Ok(None);
+    };
+    let mut args = Items::new(alloc);
+    for element in elements {
+        args.push(element.clone()?)?;
+    }
+    let method = text_at(alloc, json, "method")?;
+    Ok(
+        number_at(json, "object").zip(method).map(|(object, method)| Command::Invoke {
+            object,
+            method,
+            args,
+        }),
+    )
+}
+
+/// How calls are made, `auto` where nothing is said.
+fn mode_in(json: &Value) -> ConnectionType {
+    match json.get("type").and_then(Value::as_str) {
+        Some("direct") => ConnectionType::Direct,
+        _ => ConnectionType::Auto,
+    }
+}
+
+fn is_true_at(json: &Value, key: &str) -> bool {
+    json.get(key).and_then(Value::as_bool) == Some(true)
+}
+
+fn number_at(json: &Value, key: &str) -> Option<u32> {
+    json.get(key).and_then(number_of)
+}
+
+/// The number of an object or of a connection.
+fn number_of(value: &Value) -> Option<u32> {
     match value.as_u64()? {
         0 => None,
         number => u32::try_from(number).ok(),
@@ -87,25 +156,46 @@ fn text_at(alloc: Global, json: &Value, key: &str) -> Result<Option<Text>, Alloc
 enum Kind {
     Name,
     Words,
-    Object,
-    ObjectOrNull,
+    Number,
+    NumberOrNull,
     ObjectName,
+    Truth,
+    Mode,
+    List,
     Json,
 }
 
 type Key = (&'static str, Kind);
 
+const ARGS: Key = ("args", Kind::List);
+
 const CLASS: Key = ("class", Kind::Name);
+
+const CONNECTION: Key = ("connection", Kind::Number);
+
+const METHOD: Key = ("method", Kind::Words);
+
+const MODE: Key = ("type", Kind::Mode);
 
 const NAME: Key = ("name", Kind::Words);
 
-const OBJECT: Key = ("object", Kind::Object);
+const OBJECT: Key = ("object", Kind::Number);
 
-const PARENT: Key = ("parent", Kind::Object);
+const PARENT: Key = ("parent", Kind::Number);
 
-const PARENT_OR_NULL: Key = ("parent", Kind::ObjectOrNull);
+const PARENT_OR_NULL: Key = ("parent", Kind::NumberOrNull);
 
 const PROPERTY: Key = ("property", Kind::ObjectName);
+
+const RECEIVER: Key = ("receiver", Kind::Number);
+
+const SENDER: Key = ("sender", Kind::Number);
+
+const SIGNAL: Key = ("signal", Kind::Words);
+
+const SINGLE: Key = ("single", Kind::Truth);
+
+const UNIQUE: Key = ("unique", Kind::Truth);
 
 const VALUE: Key = ("value", Kind::Json);
 
@@ -120,6 +210,17 @@ fn has_keys_of(word: &str, json: &Value) -> bool {
         "set" => has(json, &[OBJECT, PROPERTY, VALUE], &[]),
         "get" => has(json, &[OBJECT, PROPERTY], &[]),
         "meta" => has(json, &[CLASS], &[]),
+        "connect" => has(
+            json,
+            &[SENDER, SIGNAL, RECEIVER, METHOD],
+            &[MODE, UNIQUE, SINGLE],
+        ),
+        "disconnect" => {
+            has(json, &[CONNECTION], &[])
+                || has(json, &[SENDER], &[SIGNAL])
+                || has(json, &[SENDER, RECEIVER], &[SIGNAL, METHOD])
+        }
+        "invoke" => has(json, &[OBJECT, METHOD, ARGS], &[]),
         _ => false,
     }
 }
@@ -144,9 +245,12 @@ fn is_of(kind: Kind, value: &Value) -> bool {
     match kind {
         Kind::Name => value.as_str().is_some_and(|text| is_name(text)),
         Kind::Words => value.as_str().is_some(),
-        Kind::Object => object_of(value).is_some(),
-        Kind::ObjectOrNull => value.is_null() || object_of(value).is_some(),
+        Kind::Number => number_of(value).is_some(),
+        Kind::NumberOrNull => value.is_null() || number_of(value).is_some(),
         Kind::ObjectName => value.as_str() == Some("objectName"),
+        Kind::Truth => value.is_boolean(),
+        Kind::Mode => matches!(value.as_str(), Some("auto" | "direct")),
+        Kind::List => value.is_array(),
         Kind::Json => true,
     }
 }
