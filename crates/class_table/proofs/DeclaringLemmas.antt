@@ -19,7 +19,7 @@ use Rattle.class_table.specs.declared.class.Class.{Class}
 use Rattle.class_table.specs.declared.class.Method.{Method}
 use Rattle.class_table.specs.declared.class.Property.{Property}
 use Rattle.class_table.specs.declared.fault.ClassFaultKind.TheVariants.{BadNotify}
-use Rattle.class_table.specs.Declaring.{SignedMethod, are_signals, body_in, empty_body, is_declared_once, is_signal_at, method_of, new_names, new_signatures, notify_of, number_of, property_of, signal_named, tells}
+use Rattle.class_table.specs.Declaring.{SignedMethod, are_signals, body_in, is_declared_once, is_signal_at, method_of, new_names, new_signatures, notify_of, number_of, property_of, signal_named, signal_of, slot_of, tells}
 use Rattle.class_table.specs.Lookup.{is_same, methods, names, index_of, properties, signatures}
 use Rattle.class_table.specs.Sound.{IsMethod, is_told, is_told_by, FitsBehind}
 use Rattle.class_table.specs.Steps.{Read, ◌>>=◌, each, provided}
@@ -44,12 +44,12 @@ module _ {A B C : Type 0} (f : A → Read B) (of_a : A → C) (of_b : B → C) (
 method_keeps : (new : SignedMethod) (method : Method) → method_of new ≡ Ok method → method.signature ≡ new.signature
 method_keeps new method e = by new.body e
   where
-    of : (r : Read Body) → (r >>= λ body. Ok (record { signature = new.signature; is_signal = false; body = body })) ≡ Ok method → method.signature ≡ new.signature
-    of (Ok body) h = let is : (record { signature = new.signature; is_signal = false; body = body }) ≡ method = cc in ap (λ (m : Method). m.signature) (sym is)
+    of : (r : Read Body) → (r >>= λ body. Ok (slot_of new.signature body)) ≡ Ok method → method.signature ≡ new.signature
+    of (Ok body) h = let is : (slot_of new.signature body) ≡ method = cc in ap (λ (m : Method). m.signature) (sym is)
     of (Err k) h = absurd (cc)
 
     by : (body : Option Data) → method_of (record { signature = new.signature; body = body }) ≡ Ok method → method.signature ≡ new.signature
-    by None h = let is : (record { signature = new.signature; is_signal = true; body = empty_body (length new.signature.kinds) }) ≡ method = cc in ap (λ (m : Method). m.signature) (sym is)
+    by None h = let is : (signal_of new.signature) ≡ method = cc in ap (λ (m : Method). m.signature) (sym is)
     by (Some json) h = of (body_in (body_of (length new.signature.kinds) json)) h
 
 property_keeps : (base : List Method) (new : List SignedMethod) (written : WrittenProperty) (property : Property) → property_of base new written ≡ Ok property → property.name ≡ written.name
@@ -77,27 +77,27 @@ module _ {A B : Type 0} (f : A → Read B) (P : B → Type 0) (holds : (x : A) (
 method_sound : (new : SignedMethod) (method : Method) → method_of new ≡ Ok method → IsMethod method
 method_sound new method e = by new.body e
   where
-    of : (r : Result Body Code) → IfOk r (IsReadFor (length new.signature.kinds)) → (body_in r >>= λ body. Ok (record { signature = new.signature; is_signal = false; body = body })) ≡ Ok method → IsMethod method
+    of : (r : Result Body Code) → IfOk r (IsReadFor (length new.signature.kinds)) → (body_in r >>= λ body. Ok (slot_of new.signature body)) ≡ Ok method → IsMethod method
     of (Ok body) read h =
-        let is : (record { signature = new.signature; is_signal = false; body = body }) ≡ method = cc in
-        subst IsMethod is (record { params = read.0; body = read.1 })
+        let is : (slot_of new.signature body) ≡ method = cc in
+        subst IsMethod is (record { text = refl; params = read.0; body = read.1 })
     of (Err fault) read h = absurd (cc)
 
     by : (body : Option Data) → method_of (record { signature = new.signature; body = body }) ≡ Ok method → IsMethod method
     by None h =
-        let is : (record { signature = new.signature; is_signal = true; body = empty_body (length new.signature.kinds) }) ≡ method = cc in
-        subst IsMethod is (record { params = refl; body = record { limited = refl; arguments = tt } })
+        let is : (signal_of new.signature) ≡ method = cc in
+        subst IsMethod is (record { text = refl; params = refl; body = record { limited = refl; arguments = tt } })
     by (Some json) h = of (body_of (length new.signature.kinds) json) (body_read (length new.signature.kinds) json) h
 
 signal_keeps : (new : SignedMethod) (method : Method) → method_of new ≡ Ok method → method.is_signal ≡ is_none new.body
 signal_keeps new method e = by new.body e
   where
-    of : (r : Read Body) (json : Data) → (r >>= λ body. Ok (record { signature = new.signature; is_signal = false; body = body })) ≡ Ok method → method.is_signal ≡ false
-    of (Ok body) json h = let is : (record { signature = new.signature; is_signal = false; body = body }) ≡ method = cc in ap (λ (m : Method). m.is_signal) (sym is)
+    of : (r : Read Body) (json : Data) → (r >>= λ body. Ok (slot_of new.signature body)) ≡ Ok method → method.is_signal ≡ false
+    of (Ok body) json h = let is : (slot_of new.signature body) ≡ method = cc in ap (λ (m : Method). m.is_signal) (sym is)
     of (Err k) json h = absurd (cc)
 
     by : (body : Option Data) → method_of (record { signature = new.signature; body = body }) ≡ Ok method → method.is_signal ≡ is_none body
-    by None h = let is : (record { signature = new.signature; is_signal = true; body = empty_body (length new.signature.kinds) }) ≡ method = cc in ap (λ (m : Method). m.is_signal) (sym is)
+    by None h = let is : (signal_of new.signature) ≡ method = cc in ap (λ (m : Method). m.is_signal) (sym is)
     by (Some json) h = of (body_in (body_of (length new.signature.kinds) json)) json h
 
 both_true : (a b : Bool) → (a && b) ≡ true → IsTrue a × IsTrue b

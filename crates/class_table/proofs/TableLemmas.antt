@@ -1,5 +1,5 @@
 -- What the classes of a table have.
-use Rattle.std.proofs.Common.{◌≡◌, ◌⊎◌, inl, inr, ℕ, zero, suc, ◌+◌, ◌<◌, ◌≤◌, Bool, List, [], ◌∷◌, ◌++◌, length, reverse, slice_get, Option, Some, None, true, IsTrue, false, codes, refl, sym, ap, ◌∙◌, subst, arith, length-append, position, bytes_eq}
+use Rattle.std.proofs.Common.{◌≡◌, ◌⊎◌, inl, inr, ℕ, zero, suc, ◌+◌, ◌<◌, ◌≤◌, Bool, List, [], ◌∷◌, ◌++◌, length, reverse, slice_get, Option, Some, None, true, IsTrue, codes, refl, sym, ap, ◌∙◌, subst, arith, length-append, position, bytes_eq}
 use Rattle.std.specs.List.{All}
 use Rattle.std.specs.Option.{option_map, option_map_or, option_or, ForSome}
 use Rattle.std.proofs.lemmas.List.{reverse-append, length-reverse}
@@ -12,7 +12,7 @@ use Rattle.class_table.specs.declared.class.Method.{Method}
 use Rattle.class_table.specs.declared.class.Property.{Property}
 use Rattle.class_table.specs.declared.class.TheConstants.{CLASSES}
 use Rattle.class_table.specs.Lookup.{gathered, of_class, inherited, methods, properties, is_same, method_number, property_number}
-use Rattle.class_table.specs.Declaring.{delete_later_body, empty_body, q_object}
+use Rattle.class_table.specs.Declaring.{delete_later_body, q_object, signal_of, slot_of}
 use Rattle.class_table.specs.Sound.{IsMethod, is_told, is_told_by, IsClassAt, FitsBehind, IsTable}
 use Rattle.class_table.proofs.ListLemmas.{eq_self, eq_other, position-seam}
 
@@ -125,11 +125,11 @@ IsTable-push classes new table room fits = record {
 
 -- the table of `QObject` alone
 
-quiet : (name : List ℕ) (kinds : List Kind) → IsMethod (record { signature = record { name = name; kinds = kinds }; is_signal = true; body = empty_body (length kinds) })
-quiet name kinds = record { params = refl; body = record { limited = refl; arguments = tt } }
+quiet : (name : List ℕ) (kinds : List Kind) → IsMethod (signal_of (record { name = name; kinds = kinds }))
+quiet name kinds = record { text = refl; params = refl; body = record { limited = refl; arguments = tt } }
 
-posts : IsMethod (record { signature = record { name = codes "deleteLater"; kinds = [] }; is_signal = false; body = delete_later_body })
-posts = record { params = refl; body = record { limited = refl; arguments = (tt, tt) } }
+posts : IsMethod (slot_of (record { name = codes "deleteLater"; kinds = [] }) delete_later_body)
+posts = record { text = refl; params = refl; body = record { limited = refl; arguments = (tt, tt) } }
 
 three : (a b c : Method) → IsMethod a → IsMethod b → IsMethod c → All IsMethod (a ∷ b ∷ c ∷ [])
 three a b c first second third = All-cons IsMethod a (b ∷ c ∷ []) first (All-cons IsMethod b (c ∷ []) second (All-cons IsMethod c [] third (All-nil IsMethod)))

@@ -20,7 +20,7 @@ use Rattle.class_table.specs.declared.class.Method.{Method}
 use Rattle.class_table.specs.declared.class.Property.{Property}
 use Rattle.class_table.specs.declared.fault.ClassFaultKind.{ClassFaultKind}
 use Rattle.class_table.specs.declared.fault.ClassFaultKind.TheVariants.{NameTaken, NoSuperclass, BadSignature, DeclaredTwice, BadNotify, BadBody, Limit}
-use Rattle.class_table.specs.Lookup.{is_same, methods, properties, index_of, signatures, names, are_distinct_methods, are_distinct_properties}
+use Rattle.class_table.specs.Lookup.{is_same, methods, properties, index_of, signatures, names, text_of, are_distinct_methods, are_distinct_properties}
 use Rattle.class_table.specs.Steps.{Read, ◌>>=◌, provided, each}
 use Rattle.class_table.specs.Written.{WrittenMethod, WrittenProperty, WrittenClass, class_in}
 
@@ -89,11 +89,19 @@ abbrev pub body_in : Result Body Code → Read Body
 body_in (Ok body) = Ok body
 body_in (Err fault) = Err (body_fault fault)
 
+-- the signal of this signature, which does nothing of itself
+abbrev pub signal_of : Signature → Method
+signal_of signature = record { signature = signature; text = text_of signature; is_signal = true; body = empty_body (length signature.kinds) }
+
+-- the slot of this signature, which does this
+abbrev pub slot_of : Signature → Body → Method
+slot_of signature body = record { signature = signature; text = text_of signature; is_signal = false; body = body }
+
 abbrev pub method_of : SignedMethod → Read Method
 method_of new = option_map_or
-    (λ json. body_in (body_of (length new.signature.kinds) json) >>= λ body. Ok (record { signature = new.signature; is_signal = false; body = body }))
+    (λ json. body_in (body_of (length new.signature.kinds) json) >>= λ body. Ok (slot_of new.signature body))
     new.body
-    (Ok (record { signature = new.signature; is_signal = true; body = empty_body (length new.signature.kinds) }))
+    (Ok (signal_of new.signature))
 
 -- is nothing declared twice, superclasses included
 unfoldable pub is_declared_once : List Method → List SignedMethod → List Property → List WrittenProperty → Bool
@@ -131,8 +139,8 @@ q_object = record {
   method_offset = 0;
   property_offset = 0;
   methods =
-      record { signature = record { name = codes "destroyed"; kinds = [] }; is_signal = true; body = empty_body 0 } ∷
-      record { signature = record { name = codes "objectNameChanged"; kinds = kind.Text ∷ [] }; is_signal = true; body = empty_body 1 } ∷
-      record { signature = record { name = codes "deleteLater"; kinds = [] }; is_signal = false; body = delete_later_body } ∷ [];
+      signal_of (record { name = codes "destroyed"; kinds = [] }) ∷
+      signal_of (record { name = codes "objectNameChanged"; kinds = kind.Text ∷ [] }) ∷
+      slot_of (record { name = codes "deleteLater"; kinds = [] }) delete_later_body ∷ [];
   properties = record { name = codes "objectName"; kind = kind.Text; notify = Some 1; bindable = true } ∷ [];
 }

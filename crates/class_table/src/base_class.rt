@@ -1,9 +1,9 @@
 //! The class that all others are below.
-ghost use Rattle.std.specs.Prelude.{◌≡◌, ◌∷◌, [], true, false, codes, length, IfOk};
+ghost use Rattle.std.specs.Prelude.{◌≡◌, ◌∷◌, [], codes, IfOk};
 ghost use Rattle.signature_core.specs.declared.kind.Kind.TheVariants as kind;
-ghost use Rattle.class_table.specs.Declaring.{delete_later_body, empty_body, q_object};
+ghost use Rattle.class_table.specs.Declaring.{delete_later_body, q_object, signal_of, slot_of};
 
-use crate::class::{Class, Method, Property};
+use crate::class::{Class, Method, Property, normal_text};
 use crate::declare::empty_body;
 use plain_types::{Items, Text};
 use signature_core::{Kind, Signature};
@@ -36,18 +36,16 @@ pub(crate) fn q_object(alloc: Global) -> Result<Class, AllocError>
 }
 
 fn signal(alloc: Global, name: &str, kinds: Items<Kind>) -> Result<Method, AllocError>
-    ensures { IfOk result (λ method. method ≡ record {
-      signature = record { name = name.now; kinds = kinds };
-      is_signal = true;
-      body = empty_body (length kinds);
-    }) }
+    ensures { IfOk result (λ method. method ≡ signal_of (record { name = name.now; kinds = kinds })) }
 {
     let body = empty_body(alloc, kinds.len());
+    let signature = Signature {
+        name: Text::from_str(alloc, name)?,
+        kinds,
+    };
     Ok(Method {
-        signature: Signature {
-            name: Text::from_str(alloc, name)?,
-            kinds,
-        },
+        text: normal_text(alloc, &signature)?,
+        signature,
         is_signal: true,
         body,
     })
@@ -63,21 +61,19 @@ fn text_parameter(alloc: Global) -> Result<Items<Kind>, AllocError>
 
 /// The slot that posts the deletion of its own object.
 fn delete_later(alloc: Global) -> Result<Method, AllocError>
-    ensures { IfOk result (λ method. method ≡ record {
-      signature = record { name = codes "deleteLater"; kinds = [] };
-      is_signal = false;
-      body = delete_later_body;
-    }) }
+    ensures { IfOk result (λ method. method ≡ slot_of (record { name = codes "deleteLater"; kinds = [] }) delete_later_body) }
 {
     let mut actions = Items::new(alloc);
     actions.push(Action {
         step: Step::Effect(Effect::DeleteLater(Target::Itself)),
     })?;
+    let signature = Signature {
+        name: Text::from_str(alloc, "deleteLater")?,
+        kinds: Items::new(alloc),
+    };
     Ok(Method {
-        signature: Signature {
-            name: Text::from_str(alloc, "deleteLater")?,
-            kinds: Items::new(alloc),
-        },
+        text: normal_text(alloc, &signature)?,
+        signature,
         is_signal: false,
         body: Body { params: 0, actions },
     })

@@ -1,10 +1,11 @@
 //! Classes, their methods and their properties.
-ghost use Rattle.std.specs.Prelude.{◌≡◌, ◌+◌, ◌≤◌, ◌<◌, IfSome, length};
+ghost use Rattle.std.specs.Prelude.{◌≡◌, ◌+◌, ◌≤◌, ◌<◌, IfOk, IfSome, length};
 ghost use Rattle.std.specs.Option.{option_map};
-ghost use Rattle.class_table.specs.Lookup.{is_same, method_number, property_number};
+ghost use Rattle.class_table.specs.Lookup.{is_same, method_number, property_number, text_of};
 
 use plain_types::{Items, Text};
 use signature_core::{Kind, Signature};
+use std::alloc::{AllocError, Global};
 use term_core::Body;
 
 /// The most classes that a class file may declare.
@@ -20,6 +21,8 @@ pub const PROPERTIES: usize = 64;
 #[derive(Drop)]
 pub struct Method {
     pub signature: Signature,
+    /// The normal text of the signature.
+    pub text: Text,
     pub is_signal: bool,
     /// What a slot does; that of a signal is empty.
     pub body: Body,
@@ -97,4 +100,12 @@ pub(crate) fn is_same(a: &Signature, b: &Signature) -> bool
     ensures { result ≡ is_same a.now b.now }
 {
     a.name == b.name && a.kinds.as_slice() == b.kinds.as_slice()
+}
+
+/// The normal text of a signature.
+pub(crate) fn normal_text(alloc: Global, signature: &Signature) -> Result<Text, AllocError>
+    ensures { IfOk result (λ text. text ≡ text_of signature.now) }
+{
+    let text = signature.text(alloc)?;
+    Text::from_str(alloc, text.as_str())
 }

@@ -13,7 +13,7 @@ ghost use Rattle.class_table.specs.Sound.{FitsBehind};
 ghost use Rattle.class_table.specs.Signed.{signed_seen};
 ghost use Rattle.class_table.specs.Steps.{each};
 
-use crate::class::{Class, METHODS, Method, PROPERTIES, Property, is_same};
+use crate::class::{Class, METHODS, Method, PROPERTIES, Property, is_same, normal_text};
 use crate::fault::{ClassFaultKind, Stop};
 use crate::form::{ClassForm, MethodForm, PropertyForm};
 use crate::table::ClassTable;
@@ -95,7 +95,7 @@ fn normal_texts(alloc: Global, signed: &[Signed]) -> Result<Vec<Text>, Stop>
 {
     let mut texts = Vec::new(alloc);
     for new in signed {
-        texts.push(Text::from_string(new.signature.text(alloc)?))?;
+        texts.push(normal_text(alloc, &new.signature)?)?;
     }
     Ok(texts)
 }
@@ -294,6 +294,7 @@ fn declared_method(alloc: Global, new: Signed) -> Result<Method, Stop>
         None => empty_body(alloc, params),
     };
     Ok(Method {
+        text: normal_text(alloc, &signature)?,
         signature,
         is_signal,
         body,

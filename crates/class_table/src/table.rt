@@ -126,7 +126,7 @@ impl ClassTable {
             let Some(method) = self.method_row(class, number) else {
                 return Ok(texts);
             };
-            texts.push(method.signature.text(alloc)?)?;
+            texts.push(String::from_str(alloc, method.text.as_str())?)?;
         }
         Ok(texts)
     }

@@ -1,16 +1,16 @@
 //! What a command has told so far, and the turns that it has left.
-ghost use Rattle.std.specs.Prelude.{◌≡◌, IfOk, OnOk};
+ghost use Rattle.std.specs.Prelude.{◌≡◌, OnOk};
 ghost use Rattle.thread_model.specs.declared.line.Line.TheVariants.{Warning};
 ghost use Rattle.thread_model.specs.Agenda.{call_line};
+ghost use Rattle.class_table.specs.Sound.{IsMethod};
 ghost use Rattle.session_engine.specs.Telling.{Warns, fresh_telling, spent, with_line};
 
 use class_table::Method;
-use plain_types::{Items, Text};
+use plain_types::Items;
 use refusals::{Code, Fault};
 use session_effects::{Setup, Slot};
 use std::alloc::{AllocError, Global};
-use thread_model::{Call, Line};
-use variant_value::Value;
+use thread_model::{Args, Call, Line};
 
 /// What a command has told so far, and the turns that it has left for the calls that it causes.
 #[derive(Drop)]
@@ -71,25 +71,15 @@ impl Telling {
 
     /// Tells of a slot that is called.
     pub fn call(&mut self, alloc: Global, method: &Method, slot: &Slot) -> Result<(), AllocError>
+        requires { IsMethod method.now }
         ensures { OnOk result (self.new ≡ with_line self.old (call_line method.now slot.now.object slot.now.sender slot.now.args.now)) }
     {
         let call = Call {
-            method: Text::from_string(method.signature.text(alloc)?),
+            method: method.text.copy(alloc)?,
             object: slot.object,
             sender: slot.sender,
-            args: copies(alloc, slot.args)?,
+            args: Args::copied(alloc, slot.args)?,
         };
         self.tell(Line::Call(call))
     }
-}
-
-/// Copies of values.
-fn copies(alloc: Global, values: &[Value]) -> Result<Items<Value>, AllocError>
-    ensures { IfOk result (λ copies. copies ≡ values.now) }
-{
-    let mut copies = Items::new(alloc);
-    for value in values {
-        copies.push(value.copy(alloc)?)?;
-    }
-    Ok(copies)
 }

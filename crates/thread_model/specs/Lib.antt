@@ -1,3 +1,4 @@
+pub mod Args
 pub mod Settings
 pub mod Asked
 pub mod State

@@ -1,6 +1,6 @@
 //! What clients are told of a call.
-use plain_types::{Items, Text};
-use variant_value::Value;
+use crate::args::Args;
+use plain_types::Text;
 
 /// How deep signals are nested at most: one that is sent at this depth calls nothing.
 pub const NESTED_SIGNALS: u32 = 64;
@@ -15,5 +15,5 @@ pub struct Call {
     /// The object that sent the signal, or 0 where a command calls the slot.
     pub sender: u32,
     /// The values of the slot's parameters.
-    pub args: Items<Value>,
+    pub args: Args,
 }

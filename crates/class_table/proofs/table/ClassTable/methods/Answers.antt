@@ -7,9 +7,9 @@ use Rattle.class_table.proofs.table.ClassTable.methods.Goals as goal
 pub loop-number-preserved : goal.loop-number-preserved
 loop-number-preserved c =
     let rows = methods c.args.self.now c.args.class in
-    let said = c.in_ok-text.ensures.text in
+    let said = c.in_ok-from_str.ensures.ok ∙ c.as_str.ensures ∙ c.in-Some.ensures.sound.text in
     rw c.in_ok-push.ensures.items
-    (map-append (λ text. string_bytes text) c.loop-number.texts.items (c.in_ok-text.field-0 ∷ [])
+    (map-append (λ text. string_bytes text) c.loop-number.texts.items (c.in_ok-from_str.field-0 ∷ [])
     ∙ ((λ i. c.loop-number.invariant i ++ said i ∷ [])
     ∙ sym (map-taken method_text rows c.loop-number.number c.in-Some.method.now c.in-Some.ensures.value)))
 
