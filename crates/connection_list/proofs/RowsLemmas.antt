@@ -1,8 +1,9 @@
 -- Rows whose numbers rise.
-use Rattle.std.proofs.Common.{◌≡◌, ℕ, zero, suc, ◌<◌, ◌≤◌, true, false, not, List, [], ◌∷◌, length, drop, Some, None, nat_le, slice_index_or, arith, refl, ap}
+use Rattle.std.proofs.Common.{◌≡◌, ℕ, zero, suc, ◌<◌, ◌≤◌, ◌-◌, true, false, not, List, [], ◌∷◌, length, drop, Some, None, nat_le, slice_index_or, arith, refl, ap}
 use Rattle.std.specs.List.{filter, find, list_any, remove, AllWithin, All}
 use Rattle.std.specs.List.Sorted.{IsPartitionPoint, IsPartitionedBy}
 use Rattle.std.proofs.lemmas.Bool.Decides.{nat_tests}
+use Rattle.std.proofs.lemmas.List.{get_or_default}
 use Rattle.std.proofs.lemmas.List.Folds.{list_any_none}
 use Rattle.connection_list.specs.declared.connection.Connection.{Connection}
 use Rattle.connection_list.specs.Rows.{IsRising, IsAt, has_number, is_sent, is_next}
@@ -91,3 +92,18 @@ module _ (after : ℕ) (rows : List Connection) (start : ℕ) (parted : IsPartit
   -- and what stands behind
   pub behind_start : AllWithin (λ row. after < row.number) rows start (length rows)
   behind_start k default low high = let fails = parted.1 k default low high in grind (arith, nat_tests)
+
+module _ (rows : List Connection) (rising : IsRising rows) (number count : ℕ) (e : Connection) where
+  -- before a row that is up to a number, all are
+  pub all_up_to : (slice_index_or rows (count - 1) e).number ≤ number → 1 ≤ count → count ≤ length rows → AllWithin (λ row. row.number ≤ number) rows 0 count
+  all_up_to last some within k default low high =
+      let same : (slice_index_or rows (count - 1) default).number ≡ (slice_index_or rows (count - 1) e).number = ap (λ (row : Connection). row.number) (get_or_default rows (count - 1) default e (omega arith)) in
+      let rise : (slice_index_or rows k default).number ≤ (slice_index_or rows (count - 1) default).number = grind (arith, rising k (count - 1) default, λ (at : k ≡ count - 1). ap (λ i. (slice_index_or rows i default).number) at) in
+      omega (arith, last, same, rise)
+
+  -- from a row on that is above it, all are
+  pub all_above : number < (slice_index_or rows count e).number → AllWithin (λ row. number < row.number) rows count (length rows)
+  all_above first k default low high =
+      let same : (slice_index_or rows count default).number ≡ (slice_index_or rows count e).number = ap (λ (row : Connection). row.number) (get_or_default rows count default e (omega arith)) in
+      let rise : (slice_index_or rows count default).number ≤ (slice_index_or rows k default).number = grind (arith, rising count k default, λ (at : count ≡ k). ap (λ i. (slice_index_or rows i default).number) at) in
+      omega (arith, first, same, rise)

@@ -1,3 +1,4 @@
 pub mod Ends
 pub mod Rows
 pub mod Table
+pub mod UpTo

@@ -1,9 +1,10 @@
 //! The connections of one place.
-ghost use Rattle.std.specs.Prelude.{◌≡◌, ◌+◌, false, IfOk, IfSome, IfNone, OnOk, OnErr, count_by, find, length};
+ghost use Rattle.std.specs.Prelude.{◌≡◌, ◌+◌, ◌≤◌, false, IsTrue, IfOk, IfSome, IfNone, OnOk, OnErr, count_by, find, length};
 ghost use Rattle.std.specs.List.{list_any};
 ghost use Rattle.refusals.specs.Answers.{RefusedBy};
 ghost use Rattle.connection_list.specs.Ends.{same_ends, matches, touches};
 ghost use Rattle.connection_list.specs.Rows.{IsRising, IsSound, IsAt, no_rows, connect_refusal, numbered, connected, without, has_number, is_next, is_sent};
+ghost use Rattle.connection_list.specs.UpTo.{AreUpTo};
 
 use crate::connection::{Connection, NewConnection};
 use crate::ends::{calls, matches, same_ends, touches};
@@ -116,7 +117,7 @@ impl ConnectionList {
         ensures next { result ≡ find (is_next sender signal after up_to) self.now.rows }
         ensures sound { IsSound self.now }
     {
-        let start = self.rows.partition_point(|row| row.number <= after);
+        let start = count_up_to(self.rows.as_slice(), after);
         let (_, later) = self.rows.split_at(start);
         first_sent(later, sender, signal, up_to)
     }
@@ -171,6 +172,31 @@ fn numbered(number: u32, new: &NewConnection) -> Connection
         mode: new.mode,
         single: new.single,
     }
+}
+
+/// How many rows have a number up to this one. The number itself is tried first: where no row before
+/// was taken out, it is as many.
+fn count_up_to(rows: &[Connection], number: u32) -> usize
+    requires { IsRising rows.now }
+    ensures { AreUpTo rows.now number result }
+{
+    let tried = rows.len().min(number as usize);
+    if are_up_to(rows, number, tried) {
+        return tried;
+    }
+    rows.partition_point(|row| row.number <= number)
+}
+
+/// Whether the rows up to a number are so many.
+fn are_up_to(rows: &[Connection], number: u32, count: usize) -> bool
+    requires rising { IsRising rows.now }
+    requires within { count ≤ length rows.now }
+    ensures { IsTrue result → AreUpTo rows.now number count }
+{
+    if count > 0 && rows[count - 1].number > number {
+        return false;
+    }
+    count == rows.len() || rows[count].number > number
 }
 
 /// The first of the rows up to a number that a signal calls.
