@@ -20,21 +20,27 @@ LINES = 200_000
 LINE_BYTES = 65_536
 LONG = 100
 DEPTH = 127
-LINES_OF_SESSIONS = 600
+LINES_OF_SESSIONS = 1_200
+OBJECTS = 16
 
 SESSIONS = ("a", "b", "\\u0063")
-CLASSES = (*('"Probe"',) * 5, '"QObj\\u0065ct"', '"QObject"', '"Nope"', '"a b"', '""')
+CLASSES = (*('"Probe"',) * 8, '"QObj\\u0065ct"', '"QObject"', '"Nope"', '"a b"', '""')
 WORDS = (
     *(*("new",) * 4, *("setParent", "children", "find", "set", "get") * 2, "delete", "meta", "jump", "n\\u0065w"),
-    *(*("connect", "invoke") * 3, "disconnect", "disconnect", "c\\u006fnnect"),
+    *(*("connect", "invoke") * 4, "disconnect", "disconnect", "c\\u006fnnect"),
 )
 KEYS = (
     *("do", "session", "object", "property", "value", "class", "parent", "name", "x", "d\\u006f", "obj\\u0065ct", "Do", ""),
     *("sender", "signal", "receiver", "method", "type", "unique", "single", "connection", "args", "s\\u0065nder", "typ\\u0065"),
 )
-SIGNALS = (*("ping()",) * 8, "p\\u0069ng()", "ping\\u0028void\\u0029", " ping(\\t)", "destroyed()", "objectNameChanged(QString)", "note()", "ping")
-SLOTS = ("note()", "late()", "swap()", "again()", "kill()", "rescue()", "drop()", "deleteLater()", "not\\u0065()", "note ( void ) ", "nothing()", "note(int)", "")
+SIGNALS = (*("ping()",) * 16, "p\\u0069ng()", "ping\\u0028void\\u0029", " ping(\\t)", "destroyed()", "objectNameChanged(QString)", "note()", "ping")
+SLOTS = (
+    *(*("note()", "late()", "swap()", "again()") * 4, "kill()", "rescue()", "drop()", "deleteLater()", "ping()"),
+    *("not\\u0065()", "note ( void ) ", "nothing()", "note(int)", ""),
+)
 TYPES = (*('"auto"', '"direct"') * 4, '"dir\\u0065ct"', '"queued"', '"blocking"', "0")
+TRUTHS = ("true", "false")
+CONNECTIONS = 40
 TURNS = 20
 NUMBERS = (
     *("1", "2", "3", "0", "-1", "01", "1.0", "1e0", "1E2", "-0", "1.5", "+1", "0x1", "1.", ".5", "-", "--1"),
@@ -82,30 +88,29 @@ class Chance(random.Random):
         return "{" + ",".join(f"{self.text()}:{self.value(depth + 1)}" for _ in range(self.randrange(4))) + "}"
 
     def object(self):
-        return str(self.randint(1, 12))
+        """The number of an object, of the first ones most times."""
+        return str(min(self.randint(1, OBJECTS) for _ in "abc"))
 
-    def method(self):
-        return f'"{self.choice(SIGNALS if self.is_so(0.4) else SLOTS)}"'
+    def method(self, share):
+        """A signal, by this share, or a slot."""
+        return f'"{self.choice(SIGNALS if self.is_so(share) else SLOTS)}"'
 
-    def members_of_signals(self, word):
-        """The members of a command of signals and slots, most of them in form."""
-        if word == "invoke":
-            method = self.choice((self.method(), '"objectNameChanged( const QString & )"'))
-            values = [self.value() for _ in range(self.choice((0, 0, 0, 1, 2)))] if "Q" not in method else [self.text()]
-            return [("object", self.object()), ("method", method), ("args", f"[{','.join(values)}]")]
-        if word == "disconnect" and self.is_so(0.4):
-            return [("connection", str(self.randint(1, 60)))]
-        members = [("sender", self.object())]
-        if word != "disconnect" or self.is_so(0.5):
-            members.append(("signal", f'"{self.choice(SIGNALS)}"'))
-        if word != "disconnect" or self.is_so(0.5):
-            members.append(("receiver", self.object()))
-        if word != "disconnect" or self.is_so(0.3):
-            members.append(("method", self.method()))
-        if word != "disconnect":
-            further = (("type", TYPES), ("unique", ("true", "false")), ("single", ("true", "false")))
-            members += [(key, self.choice(of)) for key, of in further if self.is_so(0.25)]
-        return members
+    def connection(self):
+        members = [("sender", self.object()), ("signal", self.method(1)), ("receiver", self.object()), ("method", self.method(0.2))]
+        further = (("type", TYPES), ("unique", TRUTHS), ("single", TRUTHS))
+        return members + [(key, self.choice(of)) for key, of in further if self.is_so(0.25)]
+
+    def disconnection(self):
+        if self.is_so(0.4):
+            return [("connection", str(self.randint(1, CONNECTIONS)))]
+        further = [("signal", self.method(1)), ("receiver", self.object()), ("method", self.method(0.2))]
+        return [("sender", self.object()), *(it for it in further if self.is_so(0.5))]
+
+    def invocation(self):
+        method, values = self.method(0.7), [self.value() for _ in range(self.choice((0, 0, 0, 0, 1, 2)))]
+        if self.is_so(0.2):
+            method, values = '"objectNameChanged ( const QString & )"', [self.text()]
+        return [("object", self.object()), ("method", method), ("args", f"[{','.join(values)}]")]
 
     def members_of(self, word):
         """The members of a command in form, but for its word and its session."""
@@ -115,10 +120,16 @@ class Chance(random.Random):
             return [("object", self.object()), ("property", '"objectName"')]
         if word == "setParent":
             return [("object", self.object()), ("parent", self.choice((self.object(), "null")))]
-        if word in ("connect", "c\\u006fnnect", "disconnect", "invoke"):
-            return self.members_of_signals(word)
+        if word in ("connect", "c\\u006fnnect"):
+            return self.connection()
+        if word == "disconnect":
+            return self.disconnection()
+        if word == "invoke":
+            return self.invocation()
+        if word == "delete":
+            return [("object", str(self.randint(1, OBJECTS)))]
         members = []
-        if word in ("delete", "find") or word == "children" and self.is_so(0.6):
+        if word == "find" or word == "children" and self.is_so(0.6):
             members.append(("object", self.object()))
         if word in ("new", "n\\u0065w", "meta") or word == "find" and self.is_so(0.4):
             members.append(("class", self.choice(CLASSES)))
@@ -188,7 +199,7 @@ def main():
     words = ["--turns", str(TURNS)]
     wrote, wanted = (subprocess.run([it, *words], input=given, capture_output=True, timeout=SECONDS) for it in (program, reader))
     replies, calls = wanted.stdout.count(b'{"reply":'), wanted.stdout.count(b'"call":')
-    if wanted.returncode or replies < LINES // 10 or calls < LINES // 10:
+    if wanted.returncode or replies < LINES // 10 or calls < LINES // 200:
         print(f"lines by chance, seed {seed}: the second program ended with {wanted.returncode}, after {replies:,} replies and {calls:,} calls")
         return 1
     if (wrote.returncode, wrote.stdout) != (0, wanted.stdout):

@@ -39,14 +39,3 @@ pub fn text_of(alloc: Global, session: &Text, lines: &Items<Line>) -> Result<Str
     }
     Ok(text)
 }
-
-/// Whether a session is told these lines, which stand here without the last line feed.
-pub fn is_told(
-    alloc: Global,
-    session: &Text,
-    lines: &Items<Line>,
-    wanted: &str,
-) -> Result<bool, AllocError> {
-    let text = text_of(alloc, session, lines)?;
-    Ok(text.as_str().strip_suffix('\n') == Some(wanted))
-}

@@ -1,5 +1,5 @@
 //! The server.
-use crate::lines::{given, is_told, lamps};
+use crate::lines::{given, lamps, text_of};
 use server_world::{
     Entry, Report, Server, Tagged, influence_is_least, leaving_out_keeps_sessions,
     slicing_keeps_a_session,
@@ -19,119 +19,82 @@ fn report_of(server: &mut Server, list: &[Tagged]) -> Report {
     server.run(list)
 }
 
-/// Whether the entry at this place tells these lines.
-fn tells(
-    alloc: Global,
-    report: &Report,
-    at: usize,
-    given: &Tagged,
-    wanted: &str,
-) -> Result<bool, AllocError> {
-    match report.lines.get(at) {
-        Some(Entry::Lines(lines)) => is_told(alloc, &given.session, lines, wanted),
-        _ => Ok(false),
-    }
-}
-
-/// Whether a server reports what it must of these lines.
-fn is_run(alloc: Global, server: &mut Server, run: &[(&str, &str)]) -> Result<bool, AllocError> {
+/// What one server reports to these lines.
+fn reported(alloc: Global, server: &mut Server, lines: &str) -> Result<String, AllocError> {
     let mut list = Vec::new(alloc);
-    for (line, _) in run {
+    for line in lines.lines() {
         list.push(given(alloc, line)?)?;
     }
     let report = report_of(server, list.as_slice());
-    if report.memory_refused || report.lines.len() != run.len() {
-        return Ok(false);
+    if report.memory_refused || report.lines.len() != list.len() {
+        return Err(AllocError);
     }
-    for (at, (given, (_, wanted))) in list.iter().zip(run).enumerate() {
-        if !tells(alloc, &report, at, given, wanted)? {
-            return Ok(false);
+    let mut text = String::new(alloc);
+    for (given, entry) in list.iter().zip(report.lines.as_slice()) {
+        if let Entry::Lines(lines) = entry {
+            text.push_str(text_of(alloc, &given.session, lines)?.as_str())?;
         }
     }
-    Ok(true)
+    Ok(text)
 }
 
-/// Whether the session that gives a line is told others.
-fn is_stepped(
-    alloc: Global,
-    server: &mut Server,
-    line: &str,
-    wanted: &str,
-) -> Result<bool, AllocError> {
-    let given = given(alloc, line)?;
-    let lines = server.step(&given)?;
-    is_told(alloc, &given.session, &lines, wanted)
+/// What is told where these lines are done one by one.
+fn stepped(alloc: Global, server: &mut Server, lines: &str) -> Result<String, AllocError> {
+    let mut text = String::new(alloc);
+    for line in lines.lines() {
+        let given = given(alloc, line)?;
+        let told = server.step(&given)?;
+        text.push_str(text_of(alloc, &given.session, &told)?.as_str())?;
+    }
+    Ok(text)
 }
 
-/// Runs, one after the other on one server.
-const RUNS: [[(&str, &str); 3]; 3] = [
-    [
-        (
-            r#"{"class":"QObject","do":"new","session":"a"}"#,
-            r#"{"reply":1,"session":"a"}"#,
-        ),
-        (
-            r#"{"class":"Lamp","do":"new","session":"b"}"#,
-            r#"{"reply":1,"session":"b"}"#,
-        ),
-        (
-            r#"{"class":"Lamp","do":"new","session":"a"}"#,
-            r#"{"reply":2,"session":"a"}"#,
-        ),
-    ],
-    [
-        (
-            r#"{"do":"children","session":"b"}"#,
-            r#"{"reply":[1],"session":"b"}"#,
-        ),
-        (
-            r#"{"do":"children","session":"a"}"#,
-            r#"{"reply":[1,2],"session":"a"}"#,
-        ),
-        (
-            r#"{"do":"get","object":1,"property":"objectName","session":"c"}"#,
-            r#"{"error":"E04","session":"c"}"#,
-        ),
-    ],
-    [
-        (
-            r#"{"class":"Switch","do":"new","session":"b"}"#,
-            r#"{"reply":2,"session":"b"}"#,
-        ),
-        (
-            r#"{"do":"connect","method":"dim(int)","receiver":1,"sender":2,"session":"b","signal":"pressed(int)"}"#,
-            r#"{"reply":1,"session":"b"}"#,
-        ),
-        (
-            r#"{"args":[5],"do":"invoke","method":"pressed(int)","object":2,"session":"b"}"#,
-            r#"{"args":[5],"call":"dim(int)","object":1,"sender":2,"session":"b"}
-{"reply":true,"session":"b"}"#,
-        ),
-    ],
+/// Runs, one after the other on one server, and what they tell.
+const RUNS: [(&str, &str); 3] = [
+    (
+        r#"{"class":"QObject","do":"new","session":"a"}
+{"class":"Lamp","do":"new","session":"b"}
+{"class":"Lamp","do":"new","session":"a"}"#,
+        r#"{"reply":1,"session":"a"}
+{"reply":1,"session":"b"}
+{"reply":2,"session":"a"}"#,
+    ),
+    (
+        r#"{"do":"children","session":"b"}
+{"do":"children","session":"a"}
+{"do":"get","object":1,"property":"objectName","session":"c"}"#,
+        r#"{"reply":[1],"session":"b"}
+{"reply":[1,2],"session":"a"}
+{"error":"E04","session":"c"}"#,
+    ),
+    (
+        r#"{"class":"Switch","do":"new","session":"b"}
+{"do":"connect","method":"dim(int)","receiver":1,"sender":2,"session":"b","signal":"pressed(int)"}
+{"args":[5],"do":"invoke","method":"pressed(int)","object":2,"session":"b"}
+{"args":[5],"do":"invoke","method":"pressed(int)","object":2,"session":"a"}"#,
+        r#"{"reply":2,"session":"b"}
+{"reply":1,"session":"b"}
+{"args":[5],"call":"dim(int)","object":1,"sender":2,"session":"b"}
+{"reply":true,"session":"b"}
+{"reply":false,"session":"a"}"#,
+    ),
 ];
 
 #[test]
 fn runs_on_one_server_go_on(rt: HostRuntime) -> Result<(), Fail> {
     let alloc = rt.alloc();
-    let mut server = fresh(alloc)?;
-    for run in &RUNS {
-        assert!(rt; is_run(alloc, &mut server, run)?);
+    let (mut server, mut other) = (fresh(alloc)?, fresh(alloc)?);
+    for (lines, wanted) in RUNS {
+        let told = reported(alloc, &mut server, lines)?;
+        let by_step = stepped(alloc, &mut other, lines)?;
+        assert!(rt;
+            told.as_str().trim_end() == wanted && by_step == told,
+            "{told}"
+        );
     }
-    Ok(())
-}
-
-#[test]
-fn steps_go_on_after_each_other(rt: HostRuntime) -> Result<(), Fail> {
-    let alloc = rt.alloc();
-    let mut server = fresh(alloc)?;
-    for run in RUNS {
-        for (line, wanted) in run {
-            assert!(rt; is_stepped(alloc, &mut server, line, wanted)?, "{line}");
-        }
-    }
-    assert!(rt; !server.memory_refused());
-    server.note_memory_refused();
-    assert!(rt; server.memory_refused());
+    assert!(rt; !other.memory_refused());
+    other.note_memory_refused();
+    assert!(rt; other.memory_refused());
     Ok(())
 }
 
