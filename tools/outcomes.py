@@ -24,12 +24,14 @@ GIVEN = [
     text(**{"class": "QObject", "do": "new", "session": "b"}),
     text(do="get", object=1, property="objectName", session="a"),
     text(args=[], do="invoke", method="f()", object=1, session="b"),
+    text(do="jump", session="a"),
 ]
 NUMBER_A, NUMBER_B = text(reply=1, session="a"), text(reply=1, session="b")
 TITLE_A = text(reply="", session="a")
 CALL_B, WARNING_B, TRUTH_B = text(args=[], call="f()", object=1, sender=0, session="b"), text(object=1, session="b", warning="E04"), text(reply=True, session="b")
 CALLS_B = CALL_B + WARNING_B + TRUTH_B
-ROW = Row("made up", b"".join(GIVEN), NUMBER_A + NUMBER_B + TITLE_A + CALLS_B)
+FAULT_A = text(error="E02", session="a")
+ROW = Row("made up", b"".join(GIVEN), NUMBER_A + NUMBER_B + TITLE_A + CALLS_B + FAULT_A)
 
 
 def error(code, session):
@@ -42,11 +44,15 @@ class MadeUp(Row):
     def run(self, program, **more):
         first, later = {"a": NUMBER_A, "b": NUMBER_B}, {"a": TITLE_A, "b": CALLS_B}
         seen, wrote = set(), []
-        for line in self.given.splitlines(keepends=True):
-            session = json.loads(line)["session"]
-            is_new = json.loads(line)["do"] == "new"
-            wrote.append(first[session] if is_new else later[session] if session in seen else error("E04", session))
-            seen |= {session} if is_new else set()
+        for line in map(json.loads, self.given.splitlines()):
+            session = line["session"]
+            if line["do"] == "jump":
+                wrote.append(FAULT_A)
+            elif line["do"] == "new":
+                wrote.append(first[session])
+                seen.add(session)
+            else:
+                wrote.append(later[session] if session in seen else error("E04", session))
         return CompletedProcess(program, 0, b"".join(wrote), b"")
 
 
@@ -54,30 +60,36 @@ def ended(stdout, status=0, stderr=b""):
     return CompletedProcess("made up", status, stdout, stderr)
 
 
+def told(*answers):
+    """The run of a program that tells this to all lines but the last, which is no command."""
+    return ended(b"".join(answers) + FAULT_A)
+
+
 # what a program writes where one growth is refused, and what that is
 CASES = [
     ("the row itself", ended(ROW.stdout), "not seen"),
-    ("a session fails", ended(NUMBER_A + NUMBER_B + error("E21", "a") + CALLS_B), "session failed"),
-    ("a session fails where it calls", ended(NUMBER_A + NUMBER_B + TITLE_A + error("E21", "b")), "session failed"),
-    ("a session fails at its first line", ended(error("E21", "a") + NUMBER_B + error("E20", "a") + CALLS_B), "session failed"),
-    ("a session is not entered", ended(error("E21", "a") + NUMBER_B + error("E04", "a") + CALLS_B), "session not entered"),
-    ("a line is lost", ended(NUMBER_A + NUMBER_B + error("E21", "-") + CALLS_B), "line lost"),
-    ("a lost first line", ended(error("E21", "-") + NUMBER_B + error("E04", "a") + CALLS_B), "line lost"),
+    ("a session fails", told(NUMBER_A, NUMBER_B, error("E21", "a"), CALLS_B), "session failed"),
+    ("a session fails where it calls", told(NUMBER_A, NUMBER_B, TITLE_A, error("E21", "b")), "session failed"),
+    ("a session fails at its first line", told(error("E21", "a"), NUMBER_B, error("E20", "a"), CALLS_B), "session failed"),
+    ("a session is not entered", told(error("E21", "a"), NUMBER_B, error("E04", "a"), CALLS_B), "session not entered"),
+    ("a line is lost", told(NUMBER_A, NUMBER_B, error("E21", "-"), CALLS_B), "line lost"),
+    ("a lost first line", told(error("E21", "-"), NUMBER_B, error("E04", "a"), CALLS_B), "line lost"),
     ("the end with a front of the row", ended(NUMBER_A, OUT_OF_MEMORY, COMPLAINT), "program ended"),
     ("the end behind a call", ended(NUMBER_A + NUMBER_B + TITLE_A + CALL_B, OUT_OF_MEMORY, COMPLAINT), "program ended"),
     ("the end with something else", ended(NUMBER_B, OUT_OF_MEMORY, COMPLAINT), None),
     ("the end without a word", ended(NUMBER_A, OUT_OF_MEMORY), None),
     ("another status", ended(NUMBER_A, 3, COMPLAINT), None),
-    ("a session that is told of its failure and goes on", ended(NUMBER_A + error("E21", "b") + TITLE_A + CALLS_B), None),
-    ("a session that goes on after it had a line", ended(NUMBER_A + NUMBER_B + TITLE_A + error("E21", "b") + CALLS_B), None),
-    ("another session fails too", ended(error("E21", "a") + NUMBER_B + error("E20", "a") + error("E20", "b")), None),
-    ("a call before the failure", ended(NUMBER_A + NUMBER_B + TITLE_A + CALL_B + error("E21", "b")), None),
-    ("a call is missing", ended(NUMBER_A + NUMBER_B + TITLE_A + WARNING_B + TRUTH_B), None),
-    ("the reply behind calls is missing", ended(NUMBER_A + NUMBER_B + TITLE_A + CALL_B + WARNING_B), None),
-    ("a lost line after a call", ended(NUMBER_A + NUMBER_B + TITLE_A + CALL_B + error("E21", "-")), None),
-    ("a reply is missing", ended(NUMBER_A + NUMBER_B + TITLE_A), None),
-    ("a wrong reply", ended(NUMBER_A + NUMBER_B + CALLS_B + TITLE_A), None),
-    ("an answer of its own for want of memory", ended(NUMBER_A + error("E14", "b") + TITLE_A + error("E20", "b")), None),
+    ("a session that is told of its failure and goes on", told(NUMBER_A, error("E21", "b"), TITLE_A, CALLS_B), None),
+    ("a session that goes on after it had a line", told(NUMBER_A, NUMBER_B, TITLE_A, error("E21", "b"), CALLS_B), None),
+    ("another session fails too", told(error("E21", "a"), NUMBER_B, error("E20", "a"), error("E20", "b")), None),
+    ("a failed session whose lines are not read", ended(NUMBER_A + NUMBER_B + error("E21", "a") + CALLS_B + error("E20", "a")), None),
+    ("a call before the failure", told(NUMBER_A, NUMBER_B, TITLE_A, CALL_B, error("E21", "b")), None),
+    ("a call is missing", told(NUMBER_A, NUMBER_B, TITLE_A, WARNING_B, TRUTH_B), None),
+    ("the reply behind calls is missing", told(NUMBER_A, NUMBER_B, TITLE_A, CALL_B, WARNING_B), None),
+    ("a lost line after a call", told(NUMBER_A, NUMBER_B, TITLE_A, CALL_B, error("E21", "-")), None),
+    ("a reply is missing", told(NUMBER_A, NUMBER_B, TITLE_A), None),
+    ("a wrong reply", told(NUMBER_A, NUMBER_B, CALLS_B, TITLE_A), None),
+    ("an answer of its own for want of memory", told(NUMBER_A, error("E14", "b"), TITLE_A, error("E20", "b")), None),
 ]
 
 

@@ -9,7 +9,7 @@ reply or its error. A refused growth may
 
 - not show: the run is the row's;
 - fail a session: one command is answered by E21 alone, every later one of its session by E20, and all
-  others as in the row;
+  others as in the row, also the session's lines that are no commands;
 - lose a line that was being read: it is answered by E21 for the session `-`, and all others as if it
   had not been there;
 - keep a session from being entered, where it had no line before: the command is answered by E21 for
@@ -60,9 +60,10 @@ def session_of(answer):
 
 
 def with_failed_session(answers, at):
-    """The row's answers, where the session of one of them has failed there."""
+    """The row's answers, where the session of one of them has failed there. What is no command stays E02."""
     session = session_of(answers[at])
-    later = [line("E20", session) if session_of(it) == session else it for it in answers[at + 1 :]]
+    is_command = lambda it: session_of(it) == session and it != line("E02", session)
+    later = [line("E20", session) if is_command(it) else it for it in answers[at + 1 :]]
     return answers[:at] + [line("E21", session)] + later
 
 
