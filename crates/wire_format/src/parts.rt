@@ -1,8 +1,9 @@
 //! The text of a line in parts, for where no memory is taken.
 ghost use Rattle.std.specs.Prelude.{◌≡◌, IsTrue, IfSome};
 ghost use Rattle.std.specs.List.{flat_map};
+ghost use Rattle.std.specs.Option.{is_some};
 ghost use Rattle.thread_model.specs.declared.line.Line.TheVariants.{Error};
-ghost use Rattle.wire_format.specs.Parts.{text_of_parts};
+ghost use Rattle.wire_format.specs.Parts.{has_parts, text_of_parts};
 ghost use Rattle.wire_format.specs.Text.{text_of_line, is_session_text};
 
 use crate::shown::{Shown, shown_as};
@@ -38,7 +39,8 @@ impl<'a> Parts<'a> {
 /// escapes something, has none. The digits of a number are lent.
 pub fn line_parts<'a>(session: &'a str, line: &'a Line, digits: &'a mut Digits) -> Option<Parts<'a>>
     requires { IsTrue (is_session_text session.now) }
-    ensures { IfSome result (λ parts. text_of_parts parts ≡ text_of_line session.now line.now) }
+    ensures text { IfSome result (λ parts. text_of_parts parts ≡ text_of_line session.now line.now) }
+    ensures some { is_some result ≡ has_parts line.now }
 {
     match line {
         Line::Error(code) => Some(error_parts(*code, session)),

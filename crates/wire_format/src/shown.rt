@@ -3,7 +3,8 @@ ghost use Rattle.std.specs.Prelude.{◌≡◌};
 ghost use Rattle.serde_json.specs.Data.{boolean};
 ghost use Rattle.serde_json.specs.Written.{compact_text};
 ghost use Rattle.variant_value.specs.Values.{json_of};
-ghost use Rattle.wire_format.specs.Shown.{text_of_shown};
+ghost use Rattle.wire_format.specs.Parts.{is_plain_answer, is_plain_value};
+ghost use Rattle.wire_format.specs.Shown.{is_plain_shown, text_of_shown};
 ghost use Rattle.wire_format.specs.Text.{json_of_answer, json_of_found};
 
 use itoa::Buffer as Digits;
@@ -23,7 +24,8 @@ pub(crate) enum Shown<'a> {
 
 /// What an answer is written as. The digits of a number are lent.
 pub(crate) fn shown_as<'a>(answer: &'a Answer, digits: &'a mut Digits) -> Shown<'a>
-    ensures { text_of_shown result ≡ compact_text (json_of_answer answer.now) }
+    ensures text { text_of_shown result ≡ compact_text (json_of_answer answer.now) }
+    ensures plain { is_plain_shown result ≡ is_plain_answer answer.now }
 {
     match answer {
         Answer::Number(number) => Shown::Word(digits.format(*number)),
@@ -36,7 +38,8 @@ pub(crate) fn shown_as<'a>(answer: &'a Answer, digits: &'a mut Digits) -> Shown<
 }
 
 pub(crate) fn shown_value<'a>(value: &'a Value, digits: &'a mut Digits) -> Shown<'a>
-    ensures { text_of_shown result ≡ compact_text (json_of value.now) }
+    ensures text { text_of_shown result ≡ compact_text (json_of value.now) }
+    ensures plain { is_plain_shown result ≡ is_plain_value value.now }
 {
     match value {
         Value::Invalid => Shown::Word("null"),
