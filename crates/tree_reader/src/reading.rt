@@ -44,6 +44,20 @@ fn command_in(alloc: Global, json: &Value) -> Result<Option<Command>, AllocError
         Some(word) if has_keys_of(word, json) => word,
         _ => return Ok(None),
     };
+    match word {
+        "connect" => connect_in(alloc, json),
+        "disconnect" => disconnect_in(alloc, json),
+        "invoke" => invoke_in(alloc, json),
+        _ => object_command_in(alloc, word, json),
+    }
+}
+
+/// The command of a word that is about objects and classes.
+fn object_command_in(
+    alloc: Global,
+    word: &str,
+    json: &Value,
+) -> Result<Option<Command>, AllocError> {
     let object = number_at(json, "object");
     let parent = number_at(json, "parent");
     let class = text_at(alloc, json, "class")?;
@@ -64,60 +78,70 @@ fn command_in(alloc: Global, json: &Value) -> Result<Option<Command>, AllocError
             .map(|(object, value)| Command::Set { object, value }),
         "get" => object.map(|object| Command::Get { object }),
         "meta" => class.map(|class| Command::Meta { class }),
-        "connect" => connect_in(alloc, json)?,
-        "disconnect" => disconnect_in(alloc, json)?,
-        "invoke" => invoke_in(alloc, json)?,
         _ => None,
     })
 }
 
 fn connect_in(alloc: Global, json: &Value) -> Result<Option<Command>, AllocError> {
-    let ends = number_at(json, "sender").zip(number_at(json, "receiver"));
-    let methods = text_at(alloc, json, "signal")?.zip(text_at(alloc, json, "method")?);
-    Ok(
-        ends.zip(methods).map(|((sender, receiver), (signal, method))| Command::Connect {
-            sender,
-            signal,
-            receiver,
-            method,
-            mode: mode_in(json),
-            unique: is_true_at(json, "unique"),
-            single: is_true_at(json, "single"),
-        }),
-    )
+    let (Some(sender), Some(receiver)) = (number_at(json, "sender"), number_at(json, "receiver"))
+    else {
+        return Ok(None);
+    };
+    let Some(signal) = text_at(alloc, json, "signal")? else {
+        return Ok(None);
+    };
+    let Some(method) = text_at(alloc, json, "method")? else {
+        return Ok(None);
+    };
+    Ok(Some(Command::Connect {
+        sender,
+        signal,
+        receiver,
+        method,
+        mode: mode_in(json),
+        unique: is_true_at(json, "unique"),
+        single: is_true_at(json, "single"),
+    }))
 }
 
 fn disconnect_in(alloc: Global, json: &Value) -> Result<Option<Command>, AllocError> {
     if let Some(connection) = number_at(json, "connection") {
         return Ok(Some(Command::DisconnectOne { connection }));
     }
-    let signal = text_at(alloc, json, "signal")?;
-    let receiver = number_at(json, "receiver");
-    let method = text_at(alloc, json, "method")?;
-    Ok(number_at(json, "sender").map(|sender| Command::Disconnect {
+    let Some(sender) = number_at(json, "sender") else {
+        return Ok(None);
+    };
+    Ok(Some(Command::Disconnect {
         sender,
-        signal,
-        receiver,
-        method,
+        signal: text_at(alloc, json, "signal")?,
+        receiver: number_at(json, "receiver"),
+        method: text_at(alloc, json, "method")?,
     }))
 }
 
 fn invoke_in(alloc: Global, json: &Value) -> Result<Option<Command>, AllocError> {
-    let Some(elements) = json.get("args").and_then(Value::as_array) else {
+    let Some(object) = number_at(json, "object") else {
         return Ok(None);
     };
-    let mut args = Items::new(alloc);
-    for element in elements {
-        args.push(element.clone()?)?;
+    let Some(method) = text_at(alloc, json, "method")? else {
+        return Ok(None);
+    };
+    Ok(Some(Command::Invoke {
+        object,
+        method,
+        args: list_at(alloc, json, "args")?,
+    }))
+}
+
+/// Copies of the elements of an array.
+fn list_at(alloc: Global, json: &Value, key: &str) -> Result<Items<Value>, AllocError> {
+    let mut items = Items::new(alloc);
+    if let Some(elements) = json.get(key).and_then(Value::as_array) {
+        for element in elements {
+            items.push(element.clone()?)?;
+        }
     }
-    let method = text_at(alloc, json, "method")?;
-    Ok(
-        number_at(json, "object").zip(method).map(|(object, method)| Command::Invoke {
-            object,
-            method,
-            args,
-        }),
-    )
+    Ok(items)
 }
 
 /// How calls are made, `auto` where nothing is said.
@@ -215,14 +239,18 @@ fn has_keys_of(word: &str, json: &Value) -> bool {
             &[SENDER, SIGNAL, RECEIVER, METHOD],
             &[MODE, UNIQUE, SINGLE],
         ),
-        "disconnect" => {
-            has(json, &[CONNECTION], &[])
-                || has(json, &[SENDER], &[SIGNAL])
-                || has(json, &[SENDER, RECEIVER], &[SIGNAL, METHOD])
-        }
+        "disconnect" => has_keys_of_disconnect(json),
         "invoke" => has(json, &[OBJECT, METHOD, ARGS], &[]),
         _ => false,
     }
+}
+
+/// Whether the tree has a connection alone, or a sender with what has to match; a method only beside
+/// a receiver.
+fn has_keys_of_disconnect(json: &Value) -> bool {
+    has(json, &[CONNECTION], &[])
+        || has(json, &[SENDER], &[SIGNAL])
+        || has(json, &[SENDER, RECEIVER], &[SIGNAL, METHOD])
 }
 
 /// Whether the needed keys are there, and no others but the further ones and those of every
