@@ -45,41 +45,67 @@ fn command_in(alloc: Global, json: &Value) -> Result<Option<Command>, AllocError
         _ => return Ok(None),
     };
     match word {
+        "new" => new_in(alloc, json),
+        "find" => find_in(alloc, json),
+        "set" => set_in(json),
+        "meta" => meta_in(alloc, json),
         "connect" => connect_in(alloc, json),
         "disconnect" => disconnect_in(alloc, json),
         "invoke" => invoke_in(alloc, json),
-        _ => object_command_in(alloc, word, json),
+        _ => Ok(number_command_in(word, json)),
     }
 }
 
-/// The command of a word that is about objects and classes.
-fn object_command_in(
-    alloc: Global,
-    word: &str,
-    json: &Value,
-) -> Result<Option<Command>, AllocError> {
+/// The command of a word whose keys hold numbers alone.
+fn number_command_in(word: &str, json: &Value) -> Option<Command> {
     let object = number_at(json, "object");
-    let parent = number_at(json, "parent");
-    let class = text_at(alloc, json, "class")?;
-    let name = text_at(alloc, json, "name")?;
-    let value = json.get("value").map(Value::clone).transpose()?;
-    Ok(match word {
-        "new" => class.map(|class| Command::New { class, parent }),
-        "delete" => object.map(|object| Command::Delete { object }),
-        "setParent" => object.map(|object| Command::SetParent { object, parent }),
-        "children" => Some(Command::Children { object }),
-        "find" => object.map(|object| Command::Find {
-            object,
-            name,
-            class,
-        }),
-        "set" => object
-            .zip(value)
-            .map(|(object, value)| Command::Set { object, value }),
-        "get" => object.map(|object| Command::Get { object }),
-        "meta" => class.map(|class| Command::Meta { class }),
+    if word == "children" {
+        return Some(Command::Children { object });
+    }
+    let object = object?;
+    match word {
+        "delete" => Some(Command::Delete { object }),
+        "setParent" => {
+            let parent = number_at(json, "parent");
+            Some(Command::SetParent { object, parent })
+        }
+        "get" => Some(Command::Get { object }),
         _ => None,
-    })
+    }
+}
+
+fn new_in(alloc: Global, json: &Value) -> Result<Option<Command>, AllocError> {
+    let Some(class) = text_at(alloc, json, "class")? else {
+        return Ok(None);
+    };
+    let parent = number_at(json, "parent");
+    Ok(Some(Command::New { class, parent }))
+}
+
+fn find_in(alloc: Global, json: &Value) -> Result<Option<Command>, AllocError> {
+    let Some(object) = number_at(json, "object") else {
+        return Ok(None);
+    };
+    Ok(Some(Command::Find {
+        object,
+        name: text_at(alloc, json, "name")?,
+        class: text_at(alloc, json, "class")?,
+    }))
+}
+
+fn set_in(json: &Value) -> Result<Option<Command>, AllocError> {
+    let (Some(object), Some(value)) = (number_at(json, "object"), json.get("value")) else {
+        return Ok(None);
+    };
+    let value = value.clone()?;
+    Ok(Some(Command::Set { object, value }))
+}
+
+fn meta_in(alloc: Global, json: &Value) -> Result<Option<Command>, AllocError> {
+    let Some(class) = text_at(alloc, json, "class")? else {
+        return Ok(None);
+    };
+    Ok(Some(Command::Meta { class }))
 }
 
 fn connect_in(alloc: Global, json: &Value) -> Result<Option<Command>, AllocError> {
@@ -126,22 +152,15 @@ fn invoke_in(alloc: Global, json: &Value) -> Result<Option<Command>, AllocError>
     let Some(method) = text_at(alloc, json, "method")? else {
         return Ok(None);
     };
+    let args = match json.get("args") {
+        Some(Value::Array(elements)) => Items::from_vec(elements.clone()?),
+        _ => return Ok(None),
+    };
     Ok(Some(Command::Invoke {
         object,
         method,
-        args: list_at(alloc, json, "args")?,
+        args,
     }))
-}
-
-/// Copies of the elements of an array.
-fn list_at(alloc: Global, json: &Value, key: &str) -> Result<Items<Value>, AllocError> {
-    let mut items = Items::new(alloc);
-    if let Some(elements) = json.get(key).and_then(Value::as_array) {
-        for element in elements {
-            items.push(element.clone()?)?;
-        }
-    }
-    Ok(items)
 }
 
 /// How calls are made, `auto` where nothing is said.
@@ -223,6 +242,9 @@ const UNIQUE: Key = ("unique", Kind::Truth);
 
 const VALUE: Key = ("value", Kind::Json);
 
+/// What `connect` needs.
+const CONNECT: [Key; 4] = [SENDER, SIGNAL, RECEIVER, METHOD];
+
 /// Whether the tree has the keys of a word: those that it needs, and those that it may have.
 fn has_keys_of(word: &str, json: &Value) -> bool {
     match word {
@@ -231,14 +253,24 @@ fn has_keys_of(word: &str, json: &Value) -> bool {
         "setParent" => has(json, &[OBJECT, PARENT_OR_NULL], &[]),
         "children" => has(json, &[], &[OBJECT]),
         "find" => has(json, &[OBJECT], &[NAME, CLASS]),
+        "meta" => has(json, &[CLASS], &[]),
+        _ => has_keys_of_property(word, json) || has_keys_of_signal(word, json),
+    }
+}
+
+/// The same for the words that are about properties.
+fn has_keys_of_property(word: &str, json: &Value) -> bool {
+    match word {
         "set" => has(json, &[OBJECT, PROPERTY, VALUE], &[]),
         "get" => has(json, &[OBJECT, PROPERTY], &[]),
-        "meta" => has(json, &[CLASS], &[]),
-        "connect" => has(
-            json,
-            &[SENDER, SIGNAL, RECEIVER, METHOD],
-            &[MODE, UNIQUE, SINGLE],
-        ),
+        _ => false,
+    }
+}
+
+/// The same for the words that are about signals and slots.
+fn has_keys_of_signal(word: &str, json: &Value) -> bool {
+    match word {
+        "connect" => has(json, &CONNECT, &[MODE, UNIQUE, SINGLE]),
         "disconnect" => has_keys_of_disconnect(json),
         "invoke" => has(json, &[OBJECT, METHOD, ARGS], &[]),
         _ => false,
