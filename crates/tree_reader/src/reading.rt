@@ -10,13 +10,24 @@ use wire_format::{LINE_BYTES, LineFault, ReadError};
 /// The command that the line is, read by `serde_json`.
 pub fn read_tree(alloc: Global, line: &[u8]) -> Result<Tagged, ReadError> {
     let json = tree_in(alloc, line)?;
-    let session = text_at(alloc, &json, "session")?;
-    let Some(session) = session.filter(|name| is_name(name.as_str())) else {
+    tagged_in(alloc, &json)
+}
+
+/// The command that the tree is, with the name of its session.
+fn tagged_in(alloc: Global, json: &Value) -> Result<Tagged, ReadError> {
+    let Some(session) = session_in(alloc, json)? else {
         return Err(fault(Code::NotACommand, None));
     };
-    match command_in(alloc, &json)? {
+    match command_in(alloc, json)? {
         Some(command) => Ok(Tagged { session, command }),
         None => Err(fault(Code::NotACommand, Some(session))),
+    }
+}
+
+fn session_in(alloc: Global, json: &Value) -> Result<Option<Text>, AllocError> {
+    match json.get("session").and_then(Value::as_str) {
+        Some(text) if is_name(text) => Ok(Some(Text::from_str(alloc, text)?)),
+        _ => Ok(None),
     }
 }
 
