@@ -35,7 +35,7 @@ FAMILIES = (1_000, 4_000)
 PATIENCE = 1_200
 
 # How many lines a second Python's json reads and writes on a machine that the marks are for, and how many it is given.
-YARDSTICK = 160_000
+YARDSTICK = 120_000
 YARD_LINES = 20_000
 
 # The marks, in lines a second and in milliseconds.
