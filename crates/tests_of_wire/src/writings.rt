@@ -3,7 +3,7 @@ use plain_types::{Items, Text};
 use refusals::Code;
 use std::alloc::{AllocError, Global};
 use std::test::Fail;
-use thread_model::{Answer, Call, Line, MetaObject};
+use thread_model::{Answer, Args, Call, Line, MetaObject};
 use variant_value::Value;
 use wire_format::{
     Digits, Parts, error_parts, line_parts, line_text, sessions_are_isolated, write_line,
@@ -44,7 +44,7 @@ fn call(alloc: Global) -> Result<Line, AllocError> {
         method: Text::from_str(alloc, "dim(bool,int,QString)")?,
         object: 4_294_967_295,
         sender: 0,
-        args,
+        args: Args::copied(alloc, args.as_slice())?,
     }))
 }
 
@@ -54,7 +54,7 @@ fn bare_call(alloc: Global) -> Result<Line, AllocError> {
         method: Text::from_str(alloc, "on()")?,
         object: 2,
         sender: 1,
-        args: Items::new(alloc),
+        args: Args::copied(alloc, &[])?,
     }))
 }
 
