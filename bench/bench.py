@@ -9,8 +9,8 @@ program takes to start with a class file as large as one may be than with a tiny
 ten runs). Inputs and class files are the same in every run, and every reply is compared with what it
 must be. With BEFORE, an earlier program, it also prints how many times as fast as that one the program
 is, by the best run of each in many rounds, since a machine's own speed changes. It ends with 1 where a mark
-is missed. Marks in lines a second and in milliseconds are for a machine of a stated pace, by how fast Python reads and
-writes JSON on it, and are lowered on a slower one.
+is missed. First it prints the machine's pace, by how fast Python reads and writes JSON on it: figures of machines of
+another pace do not compare. No mark goes by it.
 """
 
 import json
@@ -34,7 +34,7 @@ VISITS = 8_000_000
 FAMILIES = (1_000, 4_000)
 PATIENCE = 1_200
 
-# How many lines a second Python's json reads and writes on a machine that the marks are for, and how many it is given.
+# How many lines a second Python's json reads and writes on a machine of pace 1, and how many it is given.
 YARDSTICK = 120_000
 YARD_LINES = 20_000
 
@@ -345,14 +345,14 @@ def measure_visits(name, visit, command, room):
 
 
 def pace_of_machine():
-    """How fast this machine is beside one that the marks are for: 1 at most."""
+    """How fast this machine is."""
     lines, seconds = [line for line, _ in in_turn(1, YARD_LINES)], []
     for _ in range(RUNS):
         begun = time.perf_counter()
         for line in lines:
             json.dumps(json.loads(line), separators=(",", ":"))
         seconds.append(time.perf_counter() - begun)
-    return min(1, len(lines) / min(seconds) / YARDSTICK)
+    return len(lines) / min(seconds) / YARDSTICK
 
 
 def measure(name, lines, command, room, least=0):
@@ -362,7 +362,7 @@ def measure(name, lines, command, room, least=0):
     peak = peak_of(command, given, wrote, len(lines))
     speed = len(lines) / seconds
     shown = f"{speed:,.0f} lines a second, " if len(lines) > 1 else ""
-    missed = f"; under its mark of {least:,.0f} lines a second" if speed < least else ""
+    missed = f"; under its mark of {least:,} lines a second" if speed < least else ""
     print(f"{name}: {shown}peak {peak:,} KiB{missed}")
     return not missed
 
@@ -374,13 +374,13 @@ def seconds_of_rings(command, before, room):
     return seconds_of_lines("calls", command, all_rings, room) - seconds_of_lines("calls", command, made, room)
 
 
-def measure_calls(command, room, pace):
+def measure_calls(command, room):
     """Prints how many calls a second one signal makes, alone and beside others; answers whether the marks are reached."""
     alone = seconds_of_rings(command, (), room)
     beside = seconds_of_rings(command, other_sessions(), room)
     many = seconds_of_rings(command, other_connections(), room)
     calls = EARS * RINGS / alone
-    missed = f"; under its mark of {LEAST_CALLS * pace:,.0f}" if calls < LEAST_CALLS * pace else ""
+    missed = f"; under its mark of {LEAST_CALLS:,}" if calls < LEAST_CALLS else ""
     slower = f"; over its mark of {MOST_BESIDE}" if beside > MOST_BESIDE * alone else ""
     print(f"calls of {EARS:,} receivers of one signal: {calls:,.0f} a second{missed}")
     print(f"the same beside {OTHER_SESSIONS:,} sessions: {beside / alone:.2f} times as long{slower}")
@@ -412,13 +412,12 @@ def seconds_of_start(program, classes):
     return min(seconds_of([program, classes], os.devnull, os.devnull) for _ in range(STARTS))
 
 
-def measure_reading(program, room, pace):
+def measure_reading(program, room):
     """Prints how long a large class file takes over a tiny one; answers whether that is within the mark."""
     tiny = class_file(f"{room}/tiny.json", [])
     large = class_file(f"{room}/large.json", lamps())
     milliseconds = 1_000 * (seconds_of_start(program, large) - seconds_of_start(program, tiny))
-    most = MOST_READING / pace
-    missed = f"; over its mark of {most:.0f} ms" if milliseconds >= most else ""
+    missed = f"; over its mark of {MOST_READING} ms" if milliseconds >= MOST_READING else ""
     print(f"a class file of {CLASSES} classes and {os.path.getsize(large):,} bytes: {milliseconds:.1f} ms{missed}")
     return not missed
 
@@ -428,23 +427,22 @@ def main():
     with tempfile.TemporaryDirectory(prefix="metad-bench-") as room:
         declared, described = panel()
         with_panel = [program, class_file(f"{room}/panel.json", [declared])]
-        pace = pace_of_machine()
-        print(f"pace of this machine beside that of the marks: {pace:.2f}")
+        print(f"pace of this machine: {pace_of_machine():.2f}")
         reached = [
             measure("1 new in 1 session", in_turn(1, 0), [program], room),
-            measure(f"{LINES} set/get lines in 1 session", in_turn(1, LINES), [program], room, LEAST_WRITES * pace),
+            measure(f"{LINES} set/get lines in 1 session", in_turn(1, LINES), [program], room, LEAST_WRITES),
             measure(f"{LINES} set/get lines over 100 sessions", in_turn(100, LINES), [program], room),
             measure(f"{LINES} set/get lines over 10000 sessions", in_turn(10_000, LINES), [program], room),
             measure("one new, set and get in each of 100000 sessions", once_each(100_000), [program], room),
-            measure(f"{ROUNDS} rounds of {OBJECTS} objects in a tree", in_trees(ROUNDS, OBJECTS), [program], room, LEAST_ROUNDS * pace),
-            measure(f"{LINES} lines that make and delete an object beside 1", come_and_go(0, LINES), [program], room, LEAST_ROUNDS * pace),
-            measure(f"the same beside {OBJECTS}", come_and_go(OBJECTS, LINES), [program], room, LEAST_ROUNDS * pace),
+            measure(f"{ROUNDS} rounds of {OBJECTS} objects in a tree", in_trees(ROUNDS, OBJECTS), [program], room, LEAST_ROUNDS),
+            measure(f"{LINES} lines that make and delete an object beside 1", come_and_go(0, LINES), [program], room, LEAST_ROUNDS),
+            measure(f"the same beside {OBJECTS}", come_and_go(OBJECTS, LINES), [program], room, LEAST_ROUNDS),
             measure_allocations(program, counter, room),
-            measure_calls([program, class_file(f"{room}/bell.json", [BELL])], room, pace),
+            measure_calls([program, class_file(f"{room}/bell.json", [BELL])], room),
             measure_visits("children", lambda number: children("a", 1, list(range(2, number + 2))), [program], room),
             measure_visits("find", lambda number: find_none("a", 1), [program], room),
-            measure(f"{METAS} meta lines of {METHODS} methods", [meta("a", described)] * METAS, with_panel, room, LEAST_METAS * pace),
-            measure_reading(program, room, pace),
+            measure(f"{METAS} meta lines of {METHODS} methods", [meta("a", described)] * METAS, with_panel, room, LEAST_METAS),
+            measure_reading(program, room),
             *(it for earlier in before for it in all_beside(program, earlier, room)),
         ]
     return 0 if all(reached) else 1
