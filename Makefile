@@ -7,7 +7,7 @@ PROGRAM = meta_main
 CRATE = crates/$(PROGRAM)
 CC ?= cc
 
-.PHONY: all run test budget rows examples ends pipes trees signals limits classes respelled chance refusals bench clean
+.PHONY: all run test budget rows examples ends pipes trees signals limits sessions classes respelled chance refusals bench clean
 
 all: bin/metad
 
@@ -26,7 +26,7 @@ test: budget
 	mkdir -p bin
 	cp $(CRATE)/out/$(PROGRAM) bin/metad
 	cp crates/tree_reader/out/tree_reader bin/tree_reader
-	$(MAKE) --no-print-directory rows respelled chance examples ends pipes trees signals limits classes refusals
+	$(MAKE) --no-print-directory rows respelled chance examples ends pipes trees signals limits sessions classes refusals
 
 budget:
 	python3 tools/budget.py .
@@ -62,6 +62,9 @@ classes:
 
 limits:
 	python3 tools/limits.py bin/metad
+
+sessions:
+	python3 tools/sessions.py bin/metad
 
 refusals: bin/refuse_growth.so
 	python3 tools/outcomes.py

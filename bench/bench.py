@@ -24,6 +24,7 @@ from itertools import zip_longest
 from pathlib import Path
 
 RUNS = 3
+BESIDE_ROUNDS = 5
 STARTS = 10
 LINES = 200_000
 METAS = 20_000
@@ -41,13 +42,18 @@ YARD_LINES = 20_000
 # The marks, in lines a second and in milliseconds.
 LEAST_WRITES = 500_000
 LEAST_METAS = 20_000
-LEAST_ROUNDS = 300_000
+LEAST_ROUNDS = 700_000
+LEAST_COMINGS = 300_000
 MOST_READING = 100
 
 LEAST_CALLS = 5_000_000
 
-# One that calls beside other sessions may take so many times as long as alone.
+# What is done beside other sessions or connections may take so many times as long as alone.
 MOST_BESIDE = 1.3
+
+# How many bytes one session more may take, one with an object that has a name and one without any.
+MOST_NAMED = 700
+MOST_IDLE = 400
 
 # How often memory may be asked for in a line.
 MOST_ALLOCATIONS = 4
@@ -66,6 +72,8 @@ EARS = 1_000
 RINGS = 1_000
 OTHER_SESSIONS = 10_000
 OTHER_CONNECTIONS = 15_000
+ALL_CONNECTIONS = 16_384
+MANY_SESSIONS = 100_000
 BELL = """{"name":"Bell","super":"QObject","signals":["rang(int)"],"slots":[]},
 {"name":"Ear","super":"QObject","signals":[],"slots":[{"sig":"hear(int)","body":[]}]}"""
 METHODS_OF_QOBJECT = ["destroyed()", "objectNameChanged(QString)", "deleteLater()"]
@@ -222,6 +230,12 @@ def once_each(sessions):
         yield from (new(name, 1), write(name, "lamp"), read(name, "lamp"))
 
 
+def idle(sessions):
+    """A look for objects in each session, which has none."""
+    for number in range(sessions):
+        yield f'{{"do":"children","session":"s{number}"}}\n', reply(f"s{number}", [])
+
+
 def in_trees(rounds, objects):
     """In each round a tree of objects, made from its root down and deleted at once."""
     for root in range(1, rounds * objects + 1, objects):
@@ -273,12 +287,12 @@ def replies_in(path):
         return sum(line.startswith(b'{"reply":') for line in lines)
 
 
-def seconds_of_lines(name, command, lines, room):
+def seconds_of_lines(name, command, lines, room, runs=RUNS):
     """How long the best of some runs with these lines takes, each of which gives all replies."""
     given, wrote = f"{room}/stdin", f"{room}/stdout"
     Path(given).write_text("".join(line for line, _ in lines))
     seconds = []
-    for _ in range(RUNS):
+    for _ in range(runs):
         seconds.append(seconds_of(command, given, wrote))
         told = (text for _, texts in lines for text in texts.splitlines(keepends=True))
         with open(wrote) as replies:
@@ -367,25 +381,60 @@ def measure(name, lines, command, room, least=0):
     return not missed
 
 
-def seconds_of_rings(command, before, room):
-    """How long the rings take alone, behind these lines and those that make the bell and its ears."""
-    made = list(bell_and_ears(0)) + list(before)
-    all_rings = made + [ring("a", 1, range(2, EARS + 2))] * RINGS
-    return seconds_of_lines("calls", command, all_rings, room) - seconds_of_lines("calls", command, made, room)
+def seconds_beside(name, made, done, befores, command, room):
+    """How long some lines take behind those that make what they need, with each of these between; by the best run of each in some rounds."""
+    best = {}
+    for _ in range(BESIDE_ROUNDS):
+        for kind, before in befores.items():
+            for lines in (made + before, made + before + done):
+                seconds = seconds_of_lines(name, command, lines, room, 1)
+                key = kind, len(lines)
+                best[key] = min(seconds, best.get(key, seconds))
+    ends = {kind: len(made + before) for kind, before in befores.items()}
+    return {kind: best[kind, end + len(done)] - best[kind, end] for kind, end in ends.items()}
+
+
+def show_beside(kind, seconds, alone):
+    """Prints how much longer something takes beside others; answers whether that is within the mark."""
+    missed = f"; over its mark of {MOST_BESIDE}" if seconds > MOST_BESIDE * alone else ""
+    print(f"the same beside {kind}: {seconds / alone:.2f} times as long{missed}")
+    return not missed
 
 
 def measure_calls(command, room):
     """Prints how many calls a second one signal makes, alone and beside others; answers whether the marks are reached."""
-    alone = seconds_of_rings(command, (), room)
-    beside = seconds_of_rings(command, other_sessions(), room)
-    many = seconds_of_rings(command, other_connections(), room)
-    calls = EARS * RINGS / alone
+    sessions, connections = f"{OTHER_SESSIONS:,} sessions", f"{OTHER_CONNECTIONS:,} connections of the session"
+    befores = {"nothing": [], sessions: list(other_sessions()), connections: list(other_connections())}
+    rings = [ring("a", 1, range(2, EARS + 2))] * RINGS
+    seconds = seconds_beside("calls", list(bell_and_ears(0)), rings, befores, command, room)
+    calls = EARS * RINGS / seconds["nothing"]
     missed = f"; under its mark of {LEAST_CALLS:,}" if calls < LEAST_CALLS else ""
-    slower = f"; over its mark of {MOST_BESIDE}" if beside > MOST_BESIDE * alone else ""
     print(f"calls of {EARS:,} receivers of one signal: {calls:,.0f} a second{missed}")
-    print(f"the same beside {OTHER_SESSIONS:,} sessions: {beside / alone:.2f} times as long{slower}")
-    print(f"the same beside {OTHER_CONNECTIONS:,} connections of the session: {many / alone:.2f} times as long")
-    return not missed and not slower
+    return all([not missed, *(show_beside(kind, seconds[kind], seconds["nothing"]) for kind in (sessions, connections))])
+
+
+def measure_deletes(command, room):
+    """Prints how long an object takes to come and go beside connections of others; answers whether the mark is reached."""
+    kind = f"{ALL_CONNECTIONS:,} connections of others"
+    made = [(f'{{"class":"{it}","do":"new","session":"a"}}\n', reply("a", at)) for at, it in ((1, "Bell"), (2, "Ear"))]
+    connected = [connect("a", 1, 2, number) for number in range(1, ALL_CONNECTIONS + 1)]
+    lines = [line for number in range(3, LINES // 2) for line in (new("a", number), delete("a", number))]
+    seconds = seconds_beside("deletes", made, lines, {"nothing": [], kind: connected}, command, room)
+    print(f"objects that come and go: {len(lines) / seconds['nothing']:,.0f} lines a second")
+    return show_beside(kind, seconds[kind], seconds["nothing"])
+
+
+def measure_sessions(name, lines, most, command, room):
+    """Prints how much memory one session more takes; answers whether that is within the mark."""
+    lines = list(lines)
+    peaks = []
+    for some in ([lines[0]], lines):
+        Path(f"{room}/stdin").write_text("".join(line for line, _ in some))
+        peaks.append(peak_of(command, f"{room}/stdin", f"{room}/stdout", len(some)))
+    each = 1024 * (peaks[1] - peaks[0]) / MANY_SESSIONS
+    missed = f"; over its mark of {most}" if each > most else ""
+    print(f"one session more, {name}: {each:.0f} bytes{missed}")
+    return not missed
 
 
 def allocations_of(program, counter, lines, room):
@@ -435,10 +484,13 @@ def main():
             measure(f"{LINES} set/get lines over 10000 sessions", in_turn(10_000, LINES), [program], room),
             measure("one new, set and get in each of 100000 sessions", once_each(100_000), [program], room),
             measure(f"{ROUNDS} rounds of {OBJECTS} objects in a tree", in_trees(ROUNDS, OBJECTS), [program], room, LEAST_ROUNDS),
-            measure(f"{LINES} lines that make and delete an object beside 1", come_and_go(0, LINES), [program], room, LEAST_ROUNDS),
-            measure(f"the same beside {OBJECTS}", come_and_go(OBJECTS, LINES), [program], room, LEAST_ROUNDS),
+            measure_sessions("with a named object", once_each(MANY_SESSIONS), MOST_NAMED, [program], room),
+            measure_sessions("without objects", idle(MANY_SESSIONS), MOST_IDLE, [program], room),
+            measure(f"{LINES} lines that make and delete an object beside 1", come_and_go(0, LINES), [program], room, LEAST_COMINGS),
+            measure(f"the same beside {OBJECTS}", come_and_go(OBJECTS, LINES), [program], room, LEAST_COMINGS),
             measure_allocations(program, counter, room),
             measure_calls([program, class_file(f"{room}/bell.json", [BELL])], room),
+            measure_deletes([program, f"{room}/bell.json"], room),
             measure_visits("children", lambda number: children("a", 1, list(range(2, number + 2))), [program], room),
             measure_visits("find", lambda number: find_none("a", 1), [program], room),
             measure(f"{METAS} meta lines of {METHODS} methods", [meta("a", described)] * METAS, with_panel, room, LEAST_METAS),

@@ -521,14 +521,28 @@ COMMANDS = {
 }
 
 
-def lines_of(commands, classes=None, turns=TURNS):
-    """What is told to the commands of several sessions, line by line."""
-    sessions = {}
-    for command in commands:
+class Server:
+    """Sessions by their names, which know nothing of each other."""
+
+    def __init__(self, classes=None, turns=TURNS):
+        self.classes, self.turns, self.sessions = classes, turns, {}
+
+    def session(self, name):
+        return self.sessions.setdefault(name, Session(self.classes, self.turns))
+
+    def step(self, command):
+        """What is told to a command, line by line."""
         name = command["session"]
-        session = sessions.setdefault(name, Session(classes, turns))
+        session = self.session(name)
         try:
             last = {"reply": session.answer(command)}
         except Refused as refused:
             session.lines, last = [], {"error": str(refused)}
-        yield from ({**line, "session": name} for line in (*session.lines, last))
+        return [{**line, "session": name} for line in (*session.lines, last)]
+
+
+def lines_of(commands, classes=None, turns=TURNS):
+    """What is told to the commands of several sessions, line by line."""
+    server = Server(classes, turns)
+    for command in commands:
+        yield from server.step(command)

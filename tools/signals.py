@@ -131,6 +131,10 @@ class Chance(random.Random):
     def command(self, made):
         """A command in a session that has made so many objects."""
         one, other = (self.randint(1, max(made, 1) + (self.is_so(0.1))) for _ in range(2))
+        return self.command_on(one, other)
+
+    def command_on(self, one, other):
+        """A command that names one of these objects or both."""
         kind = self.choices(("new", "connect", "disconnect", "invoke", "delete", "setParent", "set", "get", "children"), (7, 12, 3, 18, 1, 2, 2, 1, 1))[0]
         if kind == "new":
             parent = {"parent": other} if self.is_so(0.5) else {}

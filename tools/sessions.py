@@ -1,0 +1,136 @@
+#!/usr/bin/env python3
+"""Compares sessions that share a server with the same sessions by themselves.
+
+Usage: sessions.py PROGRAM [--long]
+
+A hundred sessions take turns, so that their rows stand among each other; each is told what it is told by a server
+of its own, and what the plain program tells. With --long a million commands by chance, in fifty sessions of one
+server, are compared with the plain program, which takes some minutes.
+"""
+
+import random
+import subprocess
+import sys
+import tempfile
+from pathlib import Path
+
+from plain_session import Classes, Server, lines_of
+from signals import Chance, text_of
+
+SESSIONS = 100
+OBJECTS = 40
+CLASSES = [
+    {"name": "Bell", "super": "QObject", "signals": ["rang(int)"], "slots": [{"sig": "fall()", "body": [{"delete": "self"}]}]},
+    {"name": "Ear", "super": "QObject", "signals": [], "slots": [{"sig": "hear(int)", "body": []}]},
+]
+
+LONG_SESSIONS = 50
+LONG_COMMANDS = 1_000_000
+LONG_OBJECTS = 40
+LONG_TURNS = 20
+SHOWN = 5
+
+
+def life_of(session):
+    """What a session is told to do: its first object calls its others, which come and go in an order of its own."""
+    chance = random.Random(session)
+    ears = range(2, OBJECTS + 1)
+
+    def ring():
+        return {"do": "invoke", "object": 1, "method": "rang(int)", "args": [chance.randrange(1_000)]}
+
+    yield {"do": "new", "class": "Bell"}
+    yield from ({"do": "new", "class": "Ear", "parent": chance.randrange(1, ear)} for ear in ears)
+    yield from ({"do": "connect", "sender": 1, "signal": "rang(int)", "receiver": ear, "method": "hear(int)"} for ear in ears)
+    yield from ({"do": "set", "object": ear, "property": "objectName", "value": f"{session} {ear}"} for ear in chance.sample(ears, 9))
+    yield ring()
+    yield from ({"do": "disconnect", "connection": chance.randrange(1, OBJECTS)} for _ in range(5))
+    yield ring()
+    for ear in chance.sample(ears, 5):
+        yield {"do": "setParent", "object": ear, "parent": chance.choice((None, 1))}
+        yield {"do": "delete", "object": ear}
+        yield {"do": "children", "object": 1}
+    yield ring()
+    yield {"do": "new", "class": "Ear"}
+    yield {"do": "connect", "sender": 1, "signal": "rang(int)", "receiver": OBJECTS + 1, "method": "hear(int)", "unique": True}
+    yield {"do": "disconnect", "sender": 1, "signal": "rang(int)", "receiver": chance.choice(ears)}
+    yield ring()
+    yield {"do": "invoke", "object": 1, "method": "fall()", "args": []}
+    yield from ({"do": "get", "object": number, "property": "objectName"} for number in range(1, OBJECTS + 2))
+
+
+def in_turn():
+    """The commands of all sessions, one of each in turn."""
+    lives = [[{**command, "session": f"s{number}"} for command in life_of(number)] for number in range(SESSIONS)]
+    if len({len(life) for life in lives}) != 1:
+        sys.exit("sessions: not all have as many commands")
+    return [command for turn in zip(*lives) for command in turn]
+
+
+class Program:
+    """The built program with a class file of its own."""
+
+    def __init__(self, path, classes, room, turns=None):
+        Path(room, "classes.json").write_text(text_of({"classes": classes}))
+        self.words = [str(Path(path).resolve()), f"{room}/classes.json", *(["--turns", str(turns)] if turns else [])]
+
+    def lines(self, commands):
+        given = "".join(text_of(command) + "\n" for command in commands)
+        return subprocess.run(self.words, input=given.encode(), capture_output=True, check=True).stdout.decode().splitlines()
+
+
+def compare_in_turn(path, room):
+    """Whether each session in turn is told the same as alone, and as the plain program tells."""
+    program, commands = Program(path, CLASSES, room), in_turn()
+    together = program.lines(commands)
+    failed = int(together != [text_of(line) for line in lines_of(commands, Classes(CLASSES))])
+    if failed:
+        print("sessions: not what the plain program tells")
+    for number in range(SESSIONS):
+        end = f',"session":"s{number}"}}'
+        alone = program.lines(command for command in commands if command["session"] == f"s{number}")
+        if alone != [line for line in together if line.endswith(end)]:
+            failed += 1
+            print(f"s{number}: not what it is told alone")
+    calls = sum('"call":' in line for line in together)
+    print(f"sessions: {SESSIONS + 1 - failed} passed, {failed} failed; {len(commands):,} commands, {calls:,} calls")
+    return not failed and calls > 0
+
+
+def command_by_chance(chance, session):
+    """A command of which most name objects that are there."""
+    living = [row.number for row in session.rows]
+    if len(living) > LONG_OBJECTS and chance.is_so(0.3):
+        return {"do": "delete", "object": chance.choice(living)}
+    one, other = (chance.choice(living) if living and chance.is_so(0.95) else session.last_number + chance.randint(1, 2) for _ in "ab")
+    return chance.command_on(one, other)
+
+
+def compare_by_chance(path, room):
+    """Whether many commands by chance are answered as the plain program answers them."""
+    chance = Chance(1)
+    declared = list(chance.classes())
+    server, given, wanted = Server(Classes(declared), LONG_TURNS), [], []
+    for _ in range(LONG_COMMANDS):
+        name = f"s{chance.randrange(LONG_SESSIONS)}"
+        command = {**command_by_chance(chance, server.session(name)), "session": name}
+        given.append(command)
+        wanted += (text_of(line) for line in server.step(command))
+    told = Program(path, declared, room, LONG_TURNS).lines(given)
+    wrong = [at for at, (line, other) in enumerate(zip(told, wanted)) if line != other]
+    for at in wrong[:SHOWN]:
+        print(f"line {at + 1}: {told[at]}, and not {wanted[at]}")
+    calls = sum('"call":' in line for line in wanted)
+    refused = sum('"error":' in line for line in wanted)
+    print(f"sessions, long: {len(given):,} commands, {calls:,} calls, {refused:,} refusals, {len(wanted):,} lines; {len(wrong)} wrong")
+    return told == wanted and calls > 0
+
+
+def main():
+    with tempfile.TemporaryDirectory(prefix="metad-sessions-") as room:
+        compare = compare_by_chance if "--long" in sys.argv[2:] else compare_in_turn
+        return 0 if compare(sys.argv[1], room) else 1
+
+
+if __name__ == "__main__":
+    sys.exit(main())
