@@ -1,6 +1,6 @@
 -- What is left of a place without the connections that pass a test.
-use Rattle.std.proofs.Common.{◌≡◌, ◌-◌, ◌<◌, ◌≤◌, Bool, false, not, List, [], ◌∷◌, length, arith, refl, ⊎_elim, None}
-use Rattle.std.specs.List.{filter, find, list_any, count_by}
+use Rattle.std.proofs.Common.{◌≡◌, ◌-◌, ◌<◌, ◌≤◌, Bool, true, false, not, ◌||◌, cond, is_some, List, [], ◌∷◌, Some, length, filter, find, refl, arith, ⊎_elim}
+use Rattle.std.specs.List.{list_any, count_by}
 use Rattle.std.proofs.lemmas.Bool.{cases_Bool}
 use Rattle.std.proofs.lemmas.Grind.{common_steps}
 use Rattle.std.proofs.lemmas.List.Elements.{All-filter}
@@ -33,8 +33,11 @@ filter_all test [] none = refl
 filter_all test (row ∷ rows) none =
     ⊎_elim (λ e. grind (arith, e, none)) (λ e. grind (arith, common_steps, e, filter_all test rows (grind (arith, e, none)))) (cases_Bool (test row))
 
--- and none is found
-pub find_none : (test : Connection → Bool) (rows : List Connection) → list_any test rows ≡ false → find test rows ≡ None
-find_none test [] none = refl
-find_none test (row ∷ rows) none =
-    ⊎_elim (λ e. grind (arith, e, none)) (λ e. grind (arith, common_steps, e, find_none test rows (grind (arith, e, none)))) (cases_Bool (test row))
+-- one is found where any passes
+pub any_found : (test : Connection → Bool) (rows : List Connection) → is_some (find test rows) ≡ list_any test rows
+any_found test [] = refl
+any_found test (row ∷ rows) = by (test row) (any_found test rows)
+  where
+    by : (here : Bool) → is_some (find test rows) ≡ list_any test rows → is_some (cond here (Some row) (find test rows)) ≡ (here || list_any test rows)
+    by true later = refl
+    by false later = later

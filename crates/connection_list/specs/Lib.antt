@@ -1,4 +1,4 @@
 pub mod Ends
+pub mod Routes
 pub mod Rows
 pub mod Table
-pub mod UpTo

@@ -1,6 +1,7 @@
 //! A connection.
 
 use connection_types::{Callee, ConnectionType};
+use shared_rows::Numbered;
 
 /// A connection, as `connect` is asked for it.
 #[derive(Clone, Copy, Debug, PartialEq, Eq)]
@@ -30,4 +31,14 @@ pub struct Connection {
     pub mode: ConnectionType,
     /// Taken out before its callee is first called (`Qt::SingleShotConnection`).
     pub single: bool,
+}
+
+impl Numbered for Connection {
+    type Number = u32;
+
+    ghost number = { λ row. row.number };
+
+    fn number(&self) -> u32 {
+        self.number
+    }
 }

@@ -1,6 +1,6 @@
 //! What is asked of a connection's two ends.
 ghost use Rattle.std.specs.Prelude.{◌≡◌};
-ghost use Rattle.connection_list.specs.Ends.{allows, allows_method, allows_receiver, same_ends, matches, touches, calls};
+ghost use Rattle.connection_list.specs.Ends.{allows, allows_method, allows_receiver, same_ends, matches, calls};
 
 use crate::connection::{Connection, NewConnection};
 use crate::pattern::{Pattern, Receiver};
@@ -53,13 +53,6 @@ fn allows_method(wanted: Option<u32>, callee: Callee) -> bool
         (Some(wanted), Callee::Method(index)) => wanted == index,
         (Some(_), Callee::Functor(_)) => false,
     }
-}
-
-/// Whether an object is at either end of a connection.
-pub fn touches(object: u32, row: &Connection) -> bool
-    ensures { result ≡ touches object row.now }
-{
-    row.sender == object || row.receiver == object
 }
 
 /// Whether a signal of an object calls a connection's callee.

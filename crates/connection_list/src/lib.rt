@@ -1,14 +1,17 @@
-//! Connections of signals to methods and functors: for each place a list by rising number. Objects,
-//! signals, methods and functors are numbers here; what they are is not known.
+//! Connections of signals to methods and functors: for each place a list by rising number, found from
+//! both ends without a look at the others. Objects, signals, methods and functors are numbers here; what
+//! they are is not known.
 #![tactic(auto)]
 
 mod connection;
 mod ends;
-mod list;
+mod limit;
+mod link;
 mod pattern;
+mod routes;
 mod table;
 
 pub use connection::{Connection, NewConnection};
-pub use list::CONNECTIONS;
+pub use limit::CONNECTIONS;
 pub use pattern::{Pattern, Receiver};
 pub use table::Connections;

@@ -1,24 +1,28 @@
 //! The connections of all places.
-ghost use Rattle.std.specs.Prelude.{◌≡◌, ◌+◌, ◌≤◌, [], IfOk, OnOk, OnErr, count_by, find, length};
+ghost use Rattle.std.specs.Prelude.{◌≡◌, ◌+◌, ◌≤◌, [], Contains, IfOk, IfSome, OnOk, OnErr, count_by, find, length};
 ghost use Rattle.std.specs.List.{list_any};
 ghost use Rattle.places.specs.Table.{IsPlace, opened};
 ghost use Rattle.refusals.specs.Answers.{RefusedBy};
-ghost use Rattle.connection_list.specs.Ends.{matches, touches};
-ghost use Rattle.connection_list.specs.Rows.{IsSound, no_rows, connect_refusal, connected, without, has_number, is_next};
+ghost use Rattle.connection_list.specs.Ends.{matches, same_ends, touches};
+ghost use Rattle.connection_list.specs.Rows.{IsSound, no_rows, connect_refusal, connected, numbered, without, has_number, is_next};
 ghost use Rattle.connection_list.specs.Table.{rows_at, with_rows};
 
 use crate::connection::{Connection, NewConnection};
-use crate::list::ConnectionList;
+use crate::ends::{calls, same_ends};
+use crate::limit::CONNECTIONS;
 use crate::pattern::Pattern;
+use crate::routes::Routes;
 use places::Places;
-use refusals::Fault;
+use refusals::{Code, Fault};
+use shared_rows::SharedRows;
 use std::alloc::{AllocError, Global};
 use std::marker::Model;
 
 /// The connections of each place. A place is opened by `ready` and then `open`, and is never closed.
-#[derive(Debug, Drop)]
+#[derive(Drop)]
 pub struct Connections {
-    places: Places<ConnectionList>,
+    rows: SharedRows<Connection>,
+    routes: Places<Routes>,
     alloc: Global,
 }
 
@@ -28,7 +32,12 @@ impl Model for Connections {
 
     ghost Value = { Table Rows };
 
-    ghost view = { λ c. c.places };
+    ghost use Rattle.places.specs.Joined.{joined_tables};
+    ghost use Rattle.connection_list.specs.Routes.{AreKept, place_of};
+
+    ghost view = { λ c. joined_tables place_of c.rows c.routes };
+
+    ghost invariant = { λ c. AreKept c.rows.places c.routes.places };
 }
 
 impl Connections {
@@ -37,7 +46,8 @@ impl Connections {
         ensures { result.places ≡ [] }
     {
         Connections {
-            places: Places::new(alloc),
+            rows: SharedRows::new(alloc),
+            routes: Places::new(alloc),
             alloc,
         }
     }
@@ -50,7 +60,8 @@ impl Connections {
         ensures full { OnErr result (self.old.room ≡ 0) }
         ensures err { OnErr result (self.new ≡ self.old) }
     {
-        self.places.ready()
+        self.rows.ready()?;
+        self.routes.ready()
     }
 
     /// Opens the next place, where nothing is connected, and returns its number.
@@ -59,7 +70,8 @@ impl Connections {
         ensures place { result ≡ length self.old.places }
         ensures opened { self.new ≡ opened self.old no_rows }
     {
-        self.places.open(ConnectionList::new(self.alloc))
+        self.rows.open();
+        self.routes.open(Routes::new(self.alloc))
     }
 
     /// Takes out all connections of a place and forgets its numbers, so that they are counted from 1
@@ -68,7 +80,8 @@ impl Connections {
         requires { IsPlace self.old place }
         ensures { self.new ≡ with_rows self.old place no_rows }
     {
-        *self.places.get_mut(place) = ConnectionList::new(self.alloc);
+        self.rows.clear(place);
+        *self.routes.get_mut(place) = Routes::new(self.alloc);
     }
 
     /// Adds a connection behind all others, and returns its number. Where `unique` is asked, it is
@@ -82,7 +95,44 @@ impl Connections {
         ensures ok { OnOk result (self.new ≡ with_rows self.old place (connected (rows_at self.old place) new)) }
         ensures err { OnErr result (self.new ≡ self.old) }
     {
-        self.places.get_mut(place).connect(new, unique)
+        if let Some(code) = self.refusal(place, &new, unique) {
+            return Err(Fault::Refused(code));
+        }
+        let routes = self.routes.get_mut(place);
+        routes.reserve()?;
+        let row = numbered(routes.last_number + 1, &new);
+        let key = self.rows.push(place, row)?;
+        routes.add(&row, key as u32);
+        Ok(row.number)
+    }
+
+    fn refusal(&self, place: usize, new: &NewConnection, unique: bool) -> Option<Code>
+        requires { IsPlace self.now place }
+        ensures refusal { result ≡ connect_refusal (rows_at self.now place) new.now unique }
+    {
+        if unique && self.joins(place, new) {
+            return Some(Code::ConnectedAlready);
+        }
+        if self.count(place) >= CONNECTIONS {
+            return Some(Code::Limit);
+        }
+        if self.last_number(place) == u32::MAX {
+            return Some(Code::NumbersUsedUp);
+        }
+        None
+    }
+
+    fn joins(&self, place: usize, new: &NewConnection) -> bool
+        requires { IsPlace self.now place }
+        ensures { result ≡ list_any (same_ends new.now) (rows_at self.now place).rows }
+    {
+        'positions: for position in 0..self.rows.len(place) {
+            let (_, row) = self.rows.at(place, position);
+            if same_ends(new, row) {
+                return true;
+            }
+        }
+        false
     }
 
     /// Takes out the connection with a number, and returns whether it stood.
@@ -91,7 +141,14 @@ impl Connections {
         ensures stood { result ≡ list_any (has_number number) (rows_at self.old place).rows }
         ensures rows { self.new ≡ with_rows self.old place (without (has_number number) (rows_at self.old place)) }
     {
-        self.places.get_mut(place).disconnect_one(number)
+        match self.rows.find(place, number as u64) {
+            Some(key) => {
+                let routes = self.routes.get_mut(place);
+                routes.take_out(&mut self.rows, place, key);
+                true
+            }
+            None => false,
+        }
     }
 
     /// Takes out the connections that match a pattern, and returns how many.
@@ -100,7 +157,10 @@ impl Connections {
         ensures count { result ≡ count_by (matches pattern.now) (rows_at self.old place).rows }
         ensures rows { self.new ≡ with_rows self.old place (without (matches pattern.now) (rows_at self.old place)) }
     {
-        self.places.get_mut(place).disconnect_matching(pattern)
+        let before = self.rows.len(place);
+        let routes = self.routes.get_mut(place);
+        routes.disconnect_matching(&mut self.rows, place, pattern);
+        (before - self.rows.len(place)) as u32
     }
 
     /// Takes out the connections that have an object at either end.
@@ -108,7 +168,8 @@ impl Connections {
         requires { IsPlace self.old place }
         ensures { self.new ≡ with_rows self.old place (without (touches object) (rows_at self.old place)) }
     {
-        self.places.get_mut(place).drop_object(object);
+        let routes = self.routes.get_mut(place);
+        routes.drop_object(&mut self.rows, place, object);
     }
 
     /// The connection that an emission of `sender`'s `signal` calls next: of those that stand, the one
@@ -126,9 +187,33 @@ impl Connections {
         ensures next { result ≡ find (is_next sender signal after up_to) (rows_at self.now place).rows }
         ensures sound { IsSound (rows_at self.now place) }
     {
-        self.places
+        if let Some(row) = self.right_behind(place, after) {
+            if row.number <= up_to && calls(sender, signal, &row) {
+                return Some(row);
+            }
+        }
+        let key = self
+            .routes
             .get(place)
-            .next_after(sender, signal, after, up_to)
+            .next_sent(sender, signal, after, up_to)?;
+        Some(*self.rows.get(place, key as usize))
+    }
+
+    /// The connection of the next number, where all that were made before it stand.
+    fn right_behind(&self, place: usize, number: u32) -> Option<Connection>
+        requires { IsPlace self.now place }
+        ensures behind { IfSome result (λ row. Contains (rows_at self.now place).rows row × (row.number ≡ number + 1)) }
+        ensures sound { IsSound (rows_at self.now place) }
+    {
+        let position = number as usize;
+        if position >= self.count(place) {
+            return None;
+        }
+        let (_, row) = self.rows.at(place, position);
+        if row.number as usize != position + 1 {
+            return None;
+        }
+        Some(*row)
     }
 
     /// The connection with a number.
@@ -137,7 +222,8 @@ impl Connections {
         ensures row { result ≡ find (has_number number) (rows_at self.now place).rows }
         ensures sound { IsSound (rows_at self.now place) }
     {
-        self.places.get(place).row(number)
+        let key = self.rows.find(place, number as u64)?;
+        Some(*self.rows.get(place, key))
     }
 
     /// The number that was given last, or 0.
@@ -146,7 +232,7 @@ impl Connections {
         ensures number { result ≡ (rows_at self.now place).last_number }
         ensures sound { IsSound (rows_at self.now place) }
     {
-        self.places.get(place).last_number()
+        self.routes.get(place).last_number
     }
 
     /// How many connections stand, at most `CONNECTIONS`.
@@ -155,6 +241,20 @@ impl Connections {
         ensures count { result ≡ length (rows_at self.now place).rows }
         ensures sound { IsSound (rows_at self.now place) }
     {
-        self.places.get(place).count()
+        self.rows.len(place)
+    }
+}
+
+fn numbered(number: u32, new: &NewConnection) -> Connection
+    ensures { result ≡ numbered number new.now }
+{
+    Connection {
+        number,
+        sender: new.sender,
+        signal: new.signal,
+        receiver: new.receiver,
+        callee: new.callee,
+        mode: new.mode,
+        single: new.single,
     }
 }

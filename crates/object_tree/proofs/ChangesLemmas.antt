@@ -1,17 +1,14 @@
 -- Edits of rows at a place, as changes of a forest.
-use Rattle.std.proofs.Common.{◌≡◌, ◌≢◌, ℕ, suc, ◌+◌, ◌<◌, ◌==◌, Bool, true, false, not, cond, List, [], ◌∷◌, ◌++◌, Option, Some, None, length, map, filter, get_or, set, refl, sym, ap, ◌∙◌, arith, ⊎_elim, nat_eq}
-use Rattle.std.specs.List.{All, IsDistinct}
+use Rattle.std.proofs.Common.{◌≡◌, ℕ, suc, ◌<◌, ◌==◌, Bool, true, false, not, cond, List, [], ◌∷◌, Some, None, length, map, filter, get_or, set, refl, sym, ap, ◌∙◌, arith}
 use Rattle.std.specs.Option.{option_and_then, is_some}
 use Rattle.std.specs.Ordering.{nat_cmp}
-use Rattle.std.proofs.lemmas.Bool.{cases_lt, cases_order, cond-true, eq-eqb, eqb-false, eqb-true}
-use Rattle.std.proofs.lemmas.List.{get_or-map, length-map}
-use Rattle.std.proofs.lemmas.Map.Keys.{apart_from_distinct, sorted_head, sorted_tail}
+use Rattle.std.proofs.lemmas.Bool.{cond-true, eq-eqb, eqb-true}
+use Rattle.std.proofs.lemmas.Map.Keys.{sorted_head, sorted_tail}
 use Rattle.object_tree.specs.declared.row.Row.{Row}
-use Rattle.object_tree.specs.Rows.{has_parent, is_same, is_there, numbers, parent_of, row_of, stamps}
+use Rattle.object_tree.specs.Rows.{has_parent, is_same, is_there, numbers, parent_of, row_of}
 use Rattle.object_tree.specs.Forest.{Forest}
-use Rattle.object_tree.specs.Changes.{added, changed, marked, moved, orphaned, removed, with_blocked}
-use Rattle.object_tree.proofs.NumberLemmas.{Rise, absent, at_place, number_of, without}
-use Rattle.object_tree.proofs.KeyedListLemmas.{rise_at}
+use Rattle.object_tree.specs.Changes.{changed, marked, orphaned, removed, with_blocked}
+use Rattle.object_tree.proofs.NumberLemmas.{Rise, absent, at_place, without}
 use Rattle.object_tree.proofs.RowLemmas.{row-number}
 
 -- no row is changed where none has the number
@@ -54,16 +51,6 @@ orphan_none o (row ∷ rest) e = by (has_parent (Some o) row) e (orphan_none o r
     by true e h = absurd (cc)
     by false e h = ap (λ l. row ∷ l) (h e)
 
--- two rows have different stamps
-pub stamps_apart : (rows : List Row) (i j : ℕ) (d e : Row) → IsDistinct nat_eq (stamps rows) → i < length rows → j < length rows → i ≢ j → (get_or rows i d).stamp ≢ (get_or rows j e).stamp
-stamps_apart rows i j d e differ at_i at_j other same =
-    let all = length-map rows (λ (row : Row). row.stamp) in
-    let is : get_or (stamps rows) i 0 ≡ get_or (stamps rows) j 0 = get_or-map (λ (row : Row). row.stamp) rows i d 0 at_i ∙ (same ∙ sym (get_or-map (λ (row : Row). row.stamp) rows j e 0 at_j)) in
-    ⊎_elim
-    (λ lt. eqb-false _ _ (apart_from_distinct nat_eq (stamps rows) i j 0 differ lt (omega arith)) is)
-    (λ ge. eqb-false _ _ (apart_from_distinct nat_eq (stamps rows) j i 0 differ (⊎_elim (λ s. absurd (other s)) (λ o. ⊎_elim (λ lt. absurd (omega arith)) (λ gt. gt) o) (cases_order i j)) (omega arith)) (sym is))
-    (cases_lt i j)
-
 -- a row that is there has a place
 pub there_at : (rows : List Row) (n : ℕ) → is_there rows n ≡ true → (k : ℕ) × (k < length rows) × ((d : Row) → (get_or rows k d).number ≡ n)
 there_at [] n e = absurd (cc)
@@ -72,13 +59,6 @@ there_at (row ∷ rest) n e = by (row.number == n) refl e (there_at rest n)
     by : (b : Bool) → (row.number == n) ≡ b → is_some (cond b (Some row) (row_of rest n)) ≡ true → (is_there rest n ≡ true → (k : ℕ) × (k < length rest) × ((d : Row) → (get_or rest k d).number ≡ n)) → (k : ℕ) × (k < suc (length rest)) × ((d : Row) → (get_or (row ∷ rest) k d).number ≡ n)
     by true is e later = (0, omega arith, λ d. eqb-true row.number n is)
     by false is e later = let h = later e in (suc h.0, omega (arith, h.1), h.2)
-
--- numbers that rise are the same only in one place
-pub same_place : (rows : List Row) (i j : ℕ) (d : Row) → Rise rows → i < length rows → j < length rows → (get_or rows i d).number ≡ (get_or rows j d).number → i ≡ j
-same_place rows i j d rise at_i at_j same = ⊎_elim
-    (λ s. s)
-    (λ order. ⊎_elim (λ lt. absurd (omega (arith, same, rise_at number_of rows i j d rise lt at_j))) (λ gt. absurd (omega (arith, same, rise_at number_of rows j i d rise gt at_i))) order)
-    (cases_order i j)
 
 -- a row that is there
 module _ (rows : List Row) (n : ℕ) (row : Row) (rise : Rise rows) (is : row_of rows n ≡ Some row) where
@@ -90,12 +70,6 @@ module _ (rows : List Row) (n : ℕ) (row : Row) (rise : Rise rows) (is : row_of
   pub row_has : row.number ≡ n
   row_has = row-number rows n row is
 
-  pub own_row : row_of rows row.number ≡ Some row
-  own_row = ap (row_of rows) row_has ∙ is
-
-  pub is_own : is_there rows row.number ≡ true
-  is_own = ap is_some own_row
-
   -- to put it changed is to change it
   pub edited : (f : Row → Row) → changed (λ other. f row) row.number rows ≡ changed f n rows
   edited f =
@@ -103,12 +77,6 @@ module _ (rows : List Row) (n : ℕ) (row : Row) (rise : Rise rows) (is : row_of
       let has : (get_or rows place.0 row).number ≡ n = ap (λ (r : Row). r.number) (place.2 row) ∙ row_has in
       ap (λ m. changed (λ other. f row) m rows) row_has
       ∙ ((at_place (λ other. f row) n rows place.0 row rise place.1 has).1 ∙ (ap (λ r. set rows place.0 (f r)) (sym (place.2 row)) ∙ sym (at_place f n rows place.0 row rise place.1 has).1))
-
-  -- no other row has its stamp
-  pub others_apart : IsDistinct nat_eq (stamps rows) → All (λ (other : Row). other.number ≢ row.number → other.stamp ≢ row.stamp) rows
-  others_apart differ = λ i d within other same.
-      let place = place_of_row in
-      stamps_apart rows i place.0 d d differ within place.1 (λ at. other (ap (λ k. (get_or rows k d).number) at ∙ ap (λ (r : Row). r.number) (place.2 d))) (same ∙ sym (ap (λ (r : Row). r.stamp) (place.2 d)))
 
 -- rows that changed, as a change of the forest
 pub marked_is : (forest : Forest) (n : ℕ) (rows : List Row) → rows ≡ changed (λ row. record row { dying = true }) n forest.rows → record { rows = rows; last_number = forest.last_number; last_stamp = forest.last_stamp } ≡ marked forest n
@@ -122,11 +90,3 @@ blocked_is forest n on rows e = λ i. record { rows = e i; last_number = forest.
 pub removed_is : (forest : Forest) (n : ℕ) (rows : List Row) → rows ≡ map (orphaned n) (without n forest.rows) → record { rows = rows; last_number = forest.last_number; last_stamp = forest.last_stamp } ≡ removed forest n
 unfolding removed
 removed_is forest n rows e = λ i. record { rows = e i; last_number = forest.last_number; last_stamp = forest.last_stamp }
-
-pub moved_is : (forest : Forest) (n : ℕ) (parent : Option ℕ) (rows : List Row) → rows ≡ changed (λ row. record row { parent = parent; stamp = forest.last_stamp + 1 }) n forest.rows → record { rows = rows; last_number = forest.last_number; last_stamp = forest.last_stamp + 1 } ≡ moved forest n parent
-unfolding moved
-moved_is forest n parent rows e = λ i. record { rows = e i; last_number = forest.last_number; last_stamp = forest.last_stamp + 1 }
-
-pub added_at : (forest : Forest) (parent : Option ℕ) (class : ℕ) (rows : List Row) → rows ≡ forest.rows ++ record { number = forest.last_number + 1; class = class; parent = parent; stamp = forest.last_stamp + 1; dying = false; blocked = false } ∷ [] → record { rows = rows; last_number = forest.last_number + 1; last_stamp = forest.last_stamp + 1 } ≡ added forest parent class
-unfolding added
-added_at forest parent class rows e = λ i. record { rows = e i; last_number = forest.last_number + 1; last_stamp = forest.last_stamp + 1 }

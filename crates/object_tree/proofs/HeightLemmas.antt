@@ -1,7 +1,6 @@
 -- How many levels hang at an object.
-use Rattle.std.proofs.Common.{◌≡◌, ℕ, suc, zero, ◌+◌, ◌-◌, ◌<◌, ◌≤◌, Bool, true, false, cond, List, [], ◌∷◌, Some, length, map, filter, max, drop, get_or, refl, ap, ◌∙◌, arith, nat_lt}
-use Rattle.std.proofs.lemmas.List.{drop_all, drop_more}
-use Rattle.object_tree.specs.declared.kin.Kin.{Kin}
+use Rattle.std.proofs.Common.{◌≡◌, ℕ, suc, zero, ◌+◌, ◌-◌, ◌<◌, ◌≤◌, Bool, true, false, cond, List, [], ◌∷◌, Some, length, map, filter, max, refl, ap, ◌∙◌, arith, nat_lt}
+use Rattle.object_tree.specs.declared.child.Child.{Child}
 use Rattle.object_tree.specs.declared.row.Row.{Row}
 use Rattle.object_tree.specs.Rows.{by_stamp, children, has_parent, inserted, numbers}
 use Rattle.object_tree.specs.Lines.{greatest, levels_within}
@@ -19,24 +18,20 @@ greatest-by_stamp : (f : ℕ → ℕ) (rows : List Row) → greatest (map f (num
 greatest-by_stamp f [] = refl
 greatest-by_stamp f (row ∷ rest) = greatest-inserted f row (by_stamp rest) ∙ ap (max (f row.number)) (greatest-by_stamp f rest)
 
-numbers-fused : (f : ℕ → ℕ) (kids : List Kin) → map (λ (kin : Kin). f kin.number) kids ≡ map f (map (λ (kin : Kin). kin.number) kids)
-numbers-fused f [] = refl
-numbers-fused f (kin ∷ rest) = ap (λ l. f kin.number ∷ l) (numbers-fused f rest)
-
 -- the greatest so far and of what is left, one child on
-pub greatest_more : (f : Kin → ℕ) (kids : List Kin) (i : ℕ) (d : Kin) (so_far : ℕ) → i < length kids
-    → max so_far (greatest (map f (drop i kids))) ≡ max (max so_far (f (get_or kids i d))) (greatest (map f (drop (i + 1) kids)))
-greatest_more f kids i d so_far h = rw (drop_more kids i d h) (omega arith)
+pub greatest_more : (f : ℕ → ℕ) (kids rest : List Child) (child : Child) (so_far : ℕ) → kids ≡ child ∷ rest
+    → max so_far (greatest (map f (map (λ (c : Child). c.number) kids))) ≡ max (max so_far (f child.number)) (greatest (map f (map (λ (c : Child). c.number) rest)))
+greatest_more f kids rest child so_far first = rw first (omega arith)
 
 -- the greatest so far, where nothing is left
-pub levels_end : (most : ℕ) (rows : List Row) (number so_far i : ℕ) (kids : List Kin) → (most ≡ 0 → ⊥) → length kids ≤ i → map (λ (kin : Kin). kin.number) kids ≡ children rows (Some number)
-    → max so_far (greatest (map (λ (kin : Kin). levels_within (most - 1) rows kin.number) (drop i kids))) ≡ greatest (map (λ (kin : Kin). levels_within (most - 1) rows kin.number) kids)
+pub levels_end : (most : ℕ) (rows : List Row) (number so_far : ℕ) (kids : List Child) → (most ≡ 0 → ⊥) → length kids ≡ 0
+    → max so_far (greatest (map (levels_within (most - 1) rows) (map (λ (child : Child). child.number) kids))) ≡ greatest (map (levels_within (most - 1) rows) (children rows (Some number)))
     → 1 + so_far ≡ levels_within most rows number
 unfolding children
-levels_end zero rows number so_far i kids some past are all = absurd (some refl)
-levels_end (suc most) rows number so_far i kids some past are all =
+levels_end zero rows number so_far kids some past all = absurd (some refl)
+levels_end (suc most) rows number so_far (kid ∷ kids) some past all = absurd (omega (arith, past))
+levels_end (suc most) rows number so_far [] some past all =
     let e : suc most - 1 ≡ most = omega arith in
     let f : ℕ → ℕ = levels_within most rows in
-    let at_end : max so_far 0 ≡ greatest (map (λ (kin : Kin). f kin.number) kids) = rw (drop_all i kids past, e) at all in
-    let whole : greatest (map (λ (kin : Kin). f kin.number) kids) ≡ greatest (map (λ (row : Row). f row.number) (filter (has_parent (Some number)) rows)) = ap greatest (numbers-fused f kids ∙ ap (map f) are) ∙ greatest-by_stamp f (filter (has_parent (Some number)) rows) in
-    omega (arith, at_end, whole)
+    let at_end : max so_far 0 ≡ greatest (map f (numbers (by_stamp (filter (has_parent (Some number)) rows)))) = rw e at all in
+    omega (arith, at_end, greatest-by_stamp f (filter (has_parent (Some number)) rows))

@@ -16,20 +16,23 @@ use Rattle.object_tree.proofs.ForestLemmas.{sound_added, sound_blocked, sound_em
 nobody : Row
 nobody = record { number = 0; class = 0; parent = None; stamp = 0; dying = false; blocked = false }
 
-sound_by_added : (forest : Forest) (parent : Option ℕ) (class : ℕ) → add_refusal forest parent ≡ None → IsSound forest → IsSound (added forest parent class)
+pub sound_by_added : (forest : Forest) (parent : Option ℕ) (class : ℕ) → add_refusal forest parent ≡ None → IsSound forest → IsSound (added forest parent class)
 sound_by_added forest parent class allowed sound =
     let can = add_allowed forest parent allowed in
     sound_added forest parent class sound can.number can.stamp can.room can.shallow can.above
+
+pub sound_by_moved : (forest : Forest) (object : ℕ) (parent : Option ℕ) → set_parent_refusal forest object parent ≡ None → keeps_parent forest.rows object parent ≡ false → IsSound forest → IsSound (moved forest object parent)
+sound_by_moved forest object parent allowed other sound =
+    let can = move_allowed forest object parent allowed other in
+    let place = there_at forest.rows object can.there in
+    sound_moved forest object parent place.0 nobody sound place.1 (place.2 nobody) can.stamp can.above can.shallow
 
 sound_by_reparented : (forest : Forest) (object : ℕ) (parent : Option ℕ) → set_parent_refusal forest object parent ≡ None → IsSound forest → IsSound (reparented forest object parent)
 sound_by_reparented forest object parent allowed sound = by (keeps_parent forest.rows object parent) refl
   where
     by : (keeps : Bool) → keeps_parent forest.rows object parent ≡ keeps → IsSound (cond keeps forest (moved forest object parent))
     by true is = sound
-    by false is =
-        let can = move_allowed forest object parent allowed is in
-        let place = there_at forest.rows object can.there in
-        sound_moved forest object parent place.0 nobody sound place.1 (place.2 nobody) can.stamp can.above can.shallow
+    by false is = sound_by_moved forest object parent allowed is sound
 
 pub keeps_sound : KeepsSound
 keeps_sound = record {

@@ -1,5 +1,5 @@
 -- The search by levels finds what is nearest.
-use Rattle.std.proofs.Common.{◌≡◌, ℕ, suc, zero, ◌+◌, ◌-◌, ◌<◌, ◌≤◌, ◌==◌, Bool, true, false, ◌&&◌, ◌||◌, cond, List, [], ◌∷◌, ◌++◌, Option, Some, None, length, map, filter, find, drop, get_or, refl, sym, ap, ◌∙◌, arith, subst, inl, inr, ◌⊎◌, ⊎_elim, nat_lt}
+use Rattle.std.proofs.Common.{◌≡◌, ℕ, suc, zero, ◌+◌, ◌-◌, ◌<◌, ◌≤◌, ◌==◌, Bool, true, false, ◌&&◌, ◌||◌, cond, List, [], ◌∷◌, ◌++◌, Option, Some, None, length, filter, find, drop, refl, sym, ap, ◌∙◌, arith, subst, inl, inr, ◌⊎◌, ⊎_elim, nat_lt}
 use Rattle.std.specs.Cmp.{nat_eq_equiv}
 use Rattle.std.specs.List.{flat_map, list_any}
 use Rattle.std.specs.Option.{option_and_then, option_or, is_some}
@@ -10,7 +10,6 @@ use Rattle.std.proofs.lemmas.List.Folds.{list_any-append}
 use Rattle.std.proofs.lemmas.Map.Made.{is_member-filter}
 use Rattle.std.proofs.lemmas.Map.Keys.{sorted_head, sorted_tail}
 use Rattle.std.specs.Ordering.{nat_cmp}
-use Rattle.object_tree.specs.declared.kin.Kin.{Kin}
 use Rattle.object_tree.specs.declared.row.Row.{Row}
 use Rattle.object_tree.specs.Rows.{by_stamp, children, has_parent, inserted, is_same, is_there, numbers, parent_of, row_of}
 use Rattle.object_tree.specs.Lines.{depth, line, line_at, walk}
@@ -222,31 +221,6 @@ child_parent rows n c rise in' =
     by : (p : Option ℕ) → is_same p (Some n) ≡ true → p ≡ Some n
     by None e = absurd (cc)
     by (Some x) e = ap Some (eqb-true x n e)
-
--- no children, and the first of some
-inserted_some : (row : Row) (rows : List Row) → numbers (inserted row rows) ≡ [] → ⊥
-inserted_some row [] e = absurd (cc)
-inserted_some row (first ∷ rest) e = by (nat_lt row.stamp first.stamp) e
-  where
-    by : (b : Bool) → numbers (cond b (row ∷ first ∷ rest) (first ∷ inserted row rest)) ≡ [] → ⊥
-    by true e = absurd (cc)
-    by false e = absurd (cc)
-
-pub children_none : (rows : List Row) (parent : Option ℕ) → children rows parent ≡ [] → filter (has_parent parent) rows ≡ []
-unfolding children
-children_none rows parent e = by (filter (has_parent parent) rows) e
-  where
-    by : (kids : List Row) → numbers (by_stamp kids) ≡ [] → kids ≡ []
-    by [] e = refl
-    by (row ∷ rest) e = absurd (inserted_some row (by_stamp rest) e)
-
-pub no_numbers : (kids : List Kin) → (length kids == 0) ≡ true → map (λ (kin : Kin). kin.number) kids ≡ []
-no_numbers [] e = refl
-no_numbers (kin ∷ rest) e = absurd (let none : suc (length rest) ≡ 0 = eqb-true (suc (length rest)) 0 e in omega (arith, none))
-
-pub first_among : (kids : List Kin) (d : Kin) (ns : List ℕ) → map (λ (kin : Kin). kin.number) kids ≡ ns → (length kids == 0) ≡ false → among ns (get_or kids 0 d).number ≡ true
-first_among [] d ns are e = absurd (cc)
-first_among (kin ∷ rest) d ns are e = subst (λ ms. among ms kin.number ≡ true) are (or_left (kin.number == kin.number) _ (eq-eqb kin.number kin.number refl))
 
 module _ (forest : Forest) (sound : IsSound forest) where
   child_lower : (n c : ℕ) → among (children forest.rows (Some n)) c ≡ true → depth forest.rows c ≡ suc (depth forest.rows n)

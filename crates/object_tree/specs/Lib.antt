@@ -1,4 +1,3 @@
-pub mod Sorting
 pub mod Rows
 pub mod Lines
 pub mod Forest
@@ -6,6 +5,5 @@ pub mod Refusing
 pub mod Changes
 pub mod Finding
 pub mod Table
-pub mod Kin
-pub mod Entries
+pub mod Children
 pub mod Laws

@@ -1,34 +1,49 @@
 //! The children of objects, the search among them, and how many levels hang at them.
-ghost use Rattle.std.specs.Prelude.{◌≡◌, ◌^◌, ◌++◌, ◌≤◌, IfOk, OnOk, ℕ, Bool, find, length, map};
+ghost use Rattle.std.specs.Prelude.{◌≡◌, ◌++◌, ◌≤◌, IfOk, OnOk, ℕ, Bool, find, length, map};
+ghost use Rattle.std.specs.VecDeque.Iter.{deque_iter_rest};
+ghost use Rattle.places.specs.Table.{IsPlace};
 ghost use Rattle.object_tree.specs.Rows.{children};
+ghost use Rattle.object_tree.specs.Forest.{IsSound};
 ghost use Rattle.object_tree.specs.Lines.{height, levels_within};
 ghost use Rattle.object_tree.specs.Finding.{AnswersBy, children_of, found_below};
+ghost use Rattle.object_tree.specs.Table.{forest_at};
 
-use crate::kin::Kin;
+use crate::child::Child;
 use crate::objects::Objects;
 use std::alloc::{AllocError, Global};
+use std::collections::vec_deque::Iter;
 
 impl Objects {
     /// The children of a parent, by age.
     pub(crate) fn children(
         &self,
         alloc: Global,
+        place: usize,
         parent: Option<u32>,
     ) -> Result<Vec<u32>, AllocError>
-        ensures { IfOk result (λ found. found.items ≡ children self.now parent) }
+        requires place { IsPlace self.now place }
+        requires sound { IsSound (forest_at self.now place) }
+        ensures { IfOk result (λ found. found.items ≡ children (forest_at self.now place).rows parent) }
     {
         let mut found = Vec::new(alloc);
-        append_numbers(&mut found, self.kids(parent))?;
+        append_numbers(&mut found, self.kids(place, parent))?;
         Ok(found)
     }
 
     /// The children of all of these, in their order.
-    fn children_of(&self, alloc: Global, level: &[u32]) -> Result<Vec<u32>, AllocError>
-        ensures { IfOk result (λ found. found.items ≡ children_of self.now level.now) }
+    fn children_of(
+        &self,
+        alloc: Global,
+        place: usize,
+        level: &[u32],
+    ) -> Result<Vec<u32>, AllocError>
+        requires place { IsPlace self.now place }
+        requires sound { IsSound (forest_at self.now place) }
+        ensures { IfOk result (λ found. found.items ≡ children_of (forest_at self.now place).rows level.now) }
     {
         let mut found = Vec::new(alloc);
         'numbers: for number in level {
-            append_numbers(&mut found, self.kids(Some(*number)))?;
+            append_numbers(&mut found, self.kids(place, Some(*number)))?;
         }
         Ok(found)
     }
@@ -38,17 +53,20 @@ impl Objects {
     pub(crate) fn find_below<F>(
         &self,
         alloc: Global,
+        place: usize,
         object: u32,
         test: &F,
     ) -> Result<Option<u32>, AllocError>
     where
         F: Fn(u32) -> Result<bool, AllocError>,
-        requires { F.IsAlwaysCallable test.now }
+        requires place { IsPlace self.now place }
+        requires sound { IsSound (forest_at self.now place) }
+        requires callable { F.IsAlwaysCallable test.now }
         ensures { (passes : ℕ → Bool) → AnswersBy (F.post test.now) passes
-            → IfOk result (λ found. found ≡ found_below self.now object passes) }
+            → IfOk result (λ found. found ≡ found_below (forest_at self.now place).rows object passes) }
     {
-        let mut level = self.children(alloc, Some(object))?;
-        'levels: for _step in 0..self.count() {
+        let mut level = self.children(alloc, place, Some(object))?;
+        'levels: for _step in 0..self.count(place) {
             let numbers = level.as_slice();
             if numbers.is_empty() {
                 return Ok(None);
@@ -57,41 +75,45 @@ impl Objects {
             if found.is_some() {
                 return Ok(found);
             }
-            level = self.children_of(alloc, numbers)?;
+            level = self.children_of(alloc, place, numbers)?;
         }
         Ok(None)
     }
 
     /// How many levels hang at an object and below it.
     #[tactic(auto, unfolding(crate::specs::Lines::height))]
-    pub(crate) fn height(&self, number: u32) -> usize
-        ensures value { result ≡ height self.now number }
-        ensures bound { result ≤ length self.now }
+    pub(crate) fn height(&self, place: usize, number: u32) -> usize
+        requires place { IsPlace self.now place }
+        requires sound { IsSound (forest_at self.now place) }
+        ensures value { result ≡ height (forest_at self.now place).rows number }
+        ensures bound { result ≤ length (forest_at self.now place).rows }
     {
-        self.levels_within(self.count(), number)
+        self.levels_within(place, self.count(place), number)
     }
 
     /// How many levels there are, counted to this many.
     #[tactic(auto, using(crate::proofs::HeightLemmas::levels_end, crate::proofs::HeightLemmas::greatest_more))]
-    fn levels_within(&self, most: usize, number: u32) -> usize
-        ensures value { result ≡ levels_within most self.now number }
+    fn levels_within(&self, place: usize, most: usize, number: u32) -> usize
+        requires place { IsPlace self.now place }
+        requires sound { IsSound (forest_at self.now place) }
+        ensures value { result ≡ levels_within most (forest_at self.now place).rows number }
         ensures bound { result ≤ most }
     {
         if most == 0 {
             return 0;
         }
-        let kids = self.kids(Some(number));
+        let kids = self.kids(place, Some(number));
         let mut below = 0;
         'kids: for child in kids {
-            below = below.max(self.levels_within(most - 1, child.number));
+            below = below.max(self.levels_within(place, most - 1, child.number));
         }
         1 + below
     }
 }
 
 /// Appends the numbers of some children.
-fn append_numbers(found: &mut Vec<u32>, kids: &[Kin]) -> Result<(), AllocError>
-    ensures { OnOk result (found.new.items ≡ found.old.items ++ map (λ kin. kin.number) kids.now) }
+fn append_numbers(found: &mut Vec<u32>, kids: Iter<'_, Child>) -> Result<(), AllocError>
+    ensures { OnOk result (found.new.items ≡ found.old.items ++ map (λ child. child.number) (deque_iter_rest kids.entry)) }
 {
     found.reserve(kids.len())?;
     'kids: for child in kids {

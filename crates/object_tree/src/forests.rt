@@ -11,9 +11,8 @@ ghost use Rattle.object_tree.specs.Changes.{added, marked, removed, reparented, 
 ghost use Rattle.object_tree.specs.Finding.{AnswersBy, found_below, IsNearest};
 ghost use Rattle.object_tree.specs.Table.{forest_at, with_forest};
 
+use crate::objects::Objects;
 use crate::row::Row;
-use crate::tree::Tree;
-use places::Places;
 use refusals::{Code, Fault};
 use std::alloc::{AllocError, Global};
 use std::marker::Model;
@@ -21,7 +20,7 @@ use std::marker::Model;
 /// The objects of each session, by place. No call touches another place than the one that it names.
 #[derive(Drop)]
 pub struct Forests {
-    trees: Places<Tree>,
+    objects: Objects,
     alloc: Global,
 }
 
@@ -31,7 +30,11 @@ impl Model for Forests {
 
     ghost Value = { Table Forest };
 
-    ghost view = { λ f. f.trees };
+    ghost use Rattle.object_tree.specs.Children.{AreSound};
+
+    ghost view = { λ f. f.objects };
+
+    ghost invariant = { λ f. AreSound f.objects };
 }
 
 impl Forests {
@@ -40,7 +43,7 @@ impl Forests {
         ensures { result.places ≡ [] }
     {
         Forests {
-            trees: Places::new(alloc),
+            objects: Objects::new(alloc),
             alloc,
         }
     }
@@ -53,7 +56,7 @@ impl Forests {
         ensures full { OnErr result (self.old.room ≡ 0) }
         ensures err { OnErr result (self.new ≡ self.old) }
     {
-        self.trees.ready()
+        self.objects.ready()
     }
 
     /// Opens the next place with no objects, and returns its number.
@@ -62,7 +65,7 @@ impl Forests {
         ensures place { result ≡ length self.old.places }
         ensures opened { self.new ≡ opened self.old empty_forest }
     {
-        self.trees.open(Tree::new(self.alloc))
+        self.objects.open()
     }
 
     /// Takes all objects of a place out, and gives their memory back; their numbers are then given
@@ -71,7 +74,7 @@ impl Forests {
         requires { IsPlace self.old place }
         ensures { self.new ≡ with_forest self.old place empty_forest }
     {
-        *self.trees.get_mut(place) = Tree::new(self.alloc);
+        self.objects.clear(place);
     }
 
     /// Adds an object, and returns its number.
@@ -87,7 +90,10 @@ impl Forests {
             (added (forest_at self.old place) parent class)) }
         ensures err { OnErr result (self.new ≡ self.old) }
     {
-        self.trees.get_mut(place).add(parent, class)
+        if let Some(code) = self.objects.add_refusal(place, parent) {
+            return Err(Fault::Refused(code));
+        }
+        Ok(self.objects.push(place, parent, class)?)
     }
 
     /// Gives an object another parent, or makes it a root, behind all that are there; it takes no memory.
@@ -103,7 +109,13 @@ impl Forests {
             (reparented (forest_at self.old place) object parent)) }
         ensures err { OnErr result (self.new ≡ self.old) }
     {
-        self.trees.get_mut(place).set_parent(object, parent)
+        if let Some(code) = self.objects.set_parent_refusal(place, object, parent) {
+            return Err(code);
+        }
+        if !self.objects.keeps_parent(place, object, parent) {
+            self.objects.move_to(place, object, parent);
+        }
+        Ok(())
     }
 
     /// Marks an object as one that is being deleted.
@@ -111,7 +123,7 @@ impl Forests {
         requires { IsPlace self.old place }
         ensures { self.new ≡ with_forest self.old place (marked (forest_at self.old place) object) }
     {
-        self.trees.get_mut(place).mark_dying(object);
+        self.objects.mark_dying(place, object);
     }
 
     /// Takes an object out. Its children become roots and keep their stamps.
@@ -119,7 +131,7 @@ impl Forests {
         requires { IsPlace self.old place }
         ensures { self.new ≡ with_forest self.old place (removed (forest_at self.old place) object) }
     {
-        self.trees.get_mut(place).remove(object);
+        self.objects.remove(place, object);
     }
 
     /// Blocks the signals of an object, or lets them through, and returns whether they were blocked.
@@ -130,7 +142,7 @@ impl Forests {
         ensures after { self.new ≡ with_forest self.old place
             (with_blocked (forest_at self.old place) object on) }
     {
-        self.trees.get_mut(place).set_blocked(object, on)
+        self.objects.set_blocked(place, object, on)
     }
 
     /// The children of a parent in the order in which they came to it; of no parent, the roots.
@@ -138,7 +150,7 @@ impl Forests {
         requires { IsPlace self.now place }
         ensures { IfOk result (λ found. found.items ≡ children (forest_at self.now place).rows parent) }
     {
-        self.trees.get(place).children(self.alloc, parent)
+        self.objects.children(self.alloc, place, parent)
     }
 
     /// The object below another one at the least depth that passes, among equals the first in
@@ -161,7 +173,7 @@ impl Forests {
         ensures nearest { (passes : ℕ → Bool) → AnswersBy (F.post test) passes
             → IfOk result (λ found. IsNearest (forest_at self.now place).rows object passes found) }
     {
-        self.trees.get(place).find_child(self.alloc, object, test)
+        self.objects.find_below(self.alloc, place, object, &test)
     }
 
     /// The row of an object.
@@ -169,7 +181,7 @@ impl Forests {
         requires { IsPlace self.now place }
         ensures { result ≡ row_of (forest_at self.now place).rows object }
     {
-        self.trees.get(place).row(object)
+        self.objects.row(place, object)
     }
 
     /// Why an object is refused: `NoSuchObject` where it is not there, and `Dying` where it is being
@@ -178,7 +190,7 @@ impl Forests {
         requires { IsPlace self.now place }
         ensures { result ≡ object_refusal (forest_at self.now place).rows object }
     {
-        self.trees.get(place).object_refusal(object)
+        self.objects.object_refusal(place, object)
     }
 
     /// Why a parent is refused: as an object is. Nothing is refused where there is to be none.
@@ -186,7 +198,7 @@ impl Forests {
         requires { IsPlace self.now place }
         ensures { result ≡ parent_refusal (forest_at self.now place).rows parent }
     {
-        self.trees.get(place).parent_refusal(parent)
+        self.objects.parent_refusal(place, parent)
     }
 
     /// How many objects there are.
@@ -194,7 +206,7 @@ impl Forests {
         requires { IsPlace self.now place }
         ensures { result ≡ length (forest_at self.now place).rows }
     {
-        self.trees.get(place).count()
+        self.objects.count(place)
     }
 
     /// What holds of every forest. There is nothing to run: the clause is for the proofs of callers.
@@ -202,6 +214,7 @@ impl Forests {
         requires { IsPlace self.now place }
         ensures { IsSound (forest_at self.now place) }
     {
-        self.trees.get(place).sound();
+        // The loan is for the proof, which then knows what holds of every forest.
+        let _objects = &self.objects;
     }
 }

@@ -2,15 +2,14 @@
 //! age, and the search for an object below another one.
 #![tactic(auto)]
 
+mod child;
 mod children;
 mod forests;
-mod kin;
 mod laws;
 mod lines;
 mod objects;
+mod refusing;
 mod row;
-mod rows;
-mod tree;
 
 pub use forests::Forests;
 pub use laws::changes_keep_forests_sound;

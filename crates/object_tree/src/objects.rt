@@ -1,195 +1,286 @@
-//! The rows of a forest, and an index of the children of each parent.
-ghost use Rattle.std.specs.Prelude.{◌≡◌, ◌≢◌, ◌<◌, ◌≤◌, ◌^◌, ◌++◌, ◌∷◌, ℕ, [], IfNone, IfSome, IsFalse, IsTrue, OnOk, OnErr, Some, None, false, filter, length, map, not, true};
-ghost use Rattle.std.specs.List.{All};
+//! The objects of all places, and an index of the children of each parent.
+ghost use Rattle.std.specs.Prelude.{◌≡◌, ◌+◌, ◌<◌, ◌≤◌, ◌-◌, ◌^◌, [], ℕ, IfNone, IfSome, IfOk, OnOk, OnErr, Some, None, false, length, map};
+ghost use Rattle.std.specs.VecDeque.Iter.{deque_iter_rest};
 ghost use Rattle.std.specs.List.Sorted.{IsStrictlySortedBy};
-ghost use Rattle.std.specs.Option.{option_map_or};
+ghost use Rattle.std.specs.Option.{option_map, option_map_or};
 ghost use Rattle.std.specs.Ordering.{nat_cmp};
-ghost use Rattle.object_tree.specs.Rows.{children, has_number, has_parent, is_there, numbers, parent_of, row_of};
-ghost use Rattle.object_tree.specs.Changes.{changed, orphaned};
+ghost use Rattle.places.specs.Table.{IsPlace, opened};
+ghost use Rattle.object_tree.specs.Rows.{children, numbers, parent_of, row_of};
+ghost use Rattle.object_tree.specs.Forest.{IsSound, empty_forest};
+ghost use Rattle.object_tree.specs.Changes.{added, changed, marked, moved, orphaned, removed, with_blocked};
+ghost use Rattle.object_tree.specs.Table.{forest_at, with_forest};
 
-use crate::kin::{Kin, kids, kin_of, order_of, reseat, seat, unseat};
-use crate::lines::is_same;
+use crate::child::{Child, child_of, group, order_of};
 use crate::row::Row;
-use crate::rows::Rows;
+use places::Places;
+use shared_rows::{Links, SharedRows};
 use std::alloc::{AllocError, Global};
+use std::collections::vec_deque::Iter;
 use std::marker::Model;
 
-/// Rows by rising number, where no two have the same stamp, and no object has number 0.
+/// What a place has beside its rows.
+#[derive(Drop)]
+pub(crate) struct Kinship {
+    last_number: u32,
+    last_stamp: u64,
+    children: Links<Child>,
+}
+
+/// The objects of all places.
 #[derive(Drop)]
 pub(crate) struct Objects {
-    rows: Rows,
-    kin: Vec<Kin>,
+    rows: SharedRows<Row>,
+    kinships: Places<Kinship>,
+    alloc: Global,
 }
 
 impl Model for Objects {
-    ghost use Rattle.std.specs.Prelude.{List};
-    ghost use Rattle.object_tree.specs.declared.row.Row.{Row};
-    ghost use Rattle.object_tree.specs.Kin.{IsKept};
+    ghost use Rattle.places.specs.Table.{Table};
+    ghost use Rattle.object_tree.specs.Forest.{Forest};
 
-    ghost Value = { List Row };
+    ghost Value = { Table Forest };
 
-    ghost view = { λ objects. objects.rows };
+    ghost use Rattle.places.specs.Joined.{joined_tables};
+    ghost use Rattle.object_tree.specs.Children.{IsKept, forest_of};
 
-    ghost invariant = { λ objects. IsKept objects.rows objects.kin.items };
+    ghost view = { λ objects. joined_tables forest_of objects.rows objects.kinships };
+
+    ghost invariant = { λ objects. IsKept objects.rows objects.kinships };
 }
 
 impl Objects {
     pub(crate) fn new(alloc: Global) -> Objects
-        ensures { result ≡ [] }
+        ensures { result.places ≡ [] }
     {
         Objects {
-            rows: Rows::new(alloc),
-            kin: Vec::new(alloc),
+            rows: SharedRows::new(alloc),
+            kinships: Places::new(alloc),
+            alloc,
         }
     }
 
-    pub(crate) fn count(&self) -> usize
-        ensures { result ≡ length self.now }
+    pub(crate) fn ready(&mut self) -> Result<(), AllocError>
+        ensures places { self.new.places ≡ self.old.places }
+        ensures room { OnOk result (1 ≤ self.new.room) }
+        ensures kept { self.old.room ≤ self.new.room }
+        ensures full { OnErr result (self.old.room ≡ 0) }
+        ensures err { OnErr result (self.new ≡ self.old) }
     {
-        self.rows.count()
+        self.rows.ready()?;
+        self.kinships.ready()
+    }
+
+    pub(crate) fn open(&mut self) -> usize
+        requires { 1 ≤ self.old.room }
+        ensures place { result ≡ length self.old.places }
+        ensures opened { self.new ≡ opened self.old empty_forest }
+    {
+        self.rows.open();
+        self.kinships.open(no_kinship(self.alloc))
+    }
+
+    pub(crate) fn clear(&mut self, place: usize)
+        requires { IsPlace self.old place }
+        ensures { self.new ≡ with_forest self.old place empty_forest }
+    {
+        self.rows.clear(place);
+        *self.kinships.get_mut(place) = no_kinship(self.alloc);
+    }
+
+    pub(crate) fn count(&self, place: usize) -> usize
+        requires { IsPlace self.now place }
+        ensures { result ≡ length (forest_at self.now place).rows }
+    {
+        self.rows.len(place)
+    }
+
+    pub(crate) fn last_number(&self, place: usize) -> u32
+        requires { IsPlace self.now place }
+        ensures { result ≡ (forest_at self.now place).last_number }
+    {
+        self.kinships.get(place).last_number
+    }
+
+    pub(crate) fn last_stamp(&self, place: usize) -> u64
+        requires { IsPlace self.now place }
+        ensures { result ≡ (forest_at self.now place).last_stamp }
+    {
+        self.kinships.get(place).last_stamp
     }
 
     /// The row of an object.
-    pub(crate) fn row(&self, number: u32) -> Option<Row>
-        ensures { result ≡ row_of self.now number }
+    pub(crate) fn row(&self, place: usize, number: u32) -> Option<Row>
+        requires { IsPlace self.now place }
+        ensures { result ≡ row_of (forest_at self.now place).rows number }
     {
-        self.rows.get(number)
+        let key = self.rows.find(place, number as u64)?;
+        Some(*self.rows.get(place, key))
     }
 
     /// The children of a parent, by age.
-    pub(crate) fn kids(&self, parent: Option<u32>) -> &[Kin]
-        ensures { map (λ kin. kin.number) result.now ≡ children self.now parent }
+    pub(crate) fn kids(&self, place: usize, parent: Option<u32>) -> Iter<'_, Child>
+        requires place { IsPlace self.now place }
+        requires sound { IsSound (forest_at self.now place) }
+        ensures { map (λ child. child.number) (deque_iter_rest result) ≡ children (forest_at self.now place).rows parent }
     {
-        let list = self.kin.as_slice();
-        if is_same(parent, Some(0)) {
-            return &[];
+        let all = self.kinships.get(place).children.as_deque();
+        if parent == Some(0) {
+            return all.range(0..0);
         }
-        kids(list, order_of(parent))
+        group(all, order_of(parent))
     }
 
-    /// Adds a row of a greater number and of a greater stamp than all, below one that is there or
-    /// none.
-    pub(crate) fn push(&mut self, row: Row) -> Result<(), AllocError>
-        requires begin { 1 ≤ row.number }
-        requires number { All (λ other. other.number < row.number) self.old }
-        requires stamp { All (λ other. other.stamp < row.stamp) self.old }
-        requires fit { row.stamp < 2 ^ 64 }
-        requires parent { (number : ℕ) → row.parent ≡ Some number → IsTrue (is_there self.old number) }
-        ensures ok { OnOk result (self.new ≡ self.old ++ row ∷ []) }
+    /// Adds an object below a parent, and answers its number.
+    pub(crate) fn push(
+        &mut self,
+        place: usize,
+        parent: Option<u32>,
+        class: u32,
+    ) -> Result<u32, AllocError>
+        requires place { IsPlace self.old place }
+        requires sound { IsSound (forest_at self.old place) }
+        requires number { (forest_at self.old place).last_number < 2 ^ 32 - 1 }
+        requires stamp { (forest_at self.old place).last_stamp < 2 ^ 64 - 1 }
+        ensures number { IfOk result (λ number. number ≡ (forest_at self.old place).last_number + 1) }
+        ensures ok { OnOk result (self.new ≡ with_forest self.old place
+            (added (forest_at self.old place) parent class)) }
         ensures err { OnErr result (self.new ≡ self.old) }
     {
-        self.kin.reserve(1)?;
-        self.rows.add(row)?;
-        seat(&mut self.kin, kin_of(row));
-        Ok(())
+        let kinship = self.kinships.get_mut(place);
+        let row = Row {
+            number: kinship.last_number + 1,
+            class,
+            parent,
+            stamp: kinship.last_stamp + 1,
+            dying: false,
+            blocked: false,
+        };
+        kinship.children.reserve()?;
+        self.rows.push(place, row)?;
+        kinship.last_number = row.number;
+        kinship.last_stamp = row.stamp;
+        kinship.children.insert_reserved(child_of(row));
+        Ok(row.number)
     }
 
-    pub(crate) fn mark_dying(&mut self, number: u32)
-        ensures { self.new ≡ changed (λ row. record row { dying = true }) number self.old }
+    pub(crate) fn mark_dying(&mut self, place: usize, number: u32)
+        requires { IsPlace self.old place }
+        ensures { self.new ≡ with_forest self.old place (marked (forest_at self.old place) number) }
     {
-        if let Some(row) = self.rows.get(number) {
-            self.rows.put(Row { dying: true, ..row });
+        if let Some(key) = self.rows.find(place, number as u64) {
+            let row = *self.rows.get(place, key);
+            self.rows.replace(place, key, Row { dying: true, ..row });
         }
     }
 
     /// Answers what was there before.
-    pub(crate) fn set_blocked(&mut self, number: u32, on: bool) -> bool
-        ensures before { result ≡ option_map_or (λ row. row.blocked) (row_of self.old number) false }
-        ensures after { self.new ≡ changed (λ row. record row { blocked = on }) number self.old }
+    pub(crate) fn set_blocked(&mut self, place: usize, number: u32, on: bool) -> bool
+        requires { IsPlace self.old place }
+        ensures before { result ≡ option_map_or (λ row. row.blocked)
+            (row_of (forest_at self.old place).rows number) false }
+        ensures after { self.new ≡ with_forest self.old place
+            (with_blocked (forest_at self.old place) number on) }
     {
-        match self.rows.get(number) {
-            Some(row) => {
-                self.rows.put(Row { blocked: on, ..row });
-                row.blocked
-            }
-            None => false,
-        }
+        let Some(key) = self.rows.find(place, number as u64) else {
+            return false;
+        };
+        let row = *self.rows.get(place, key);
+        self.rows.replace(place, key, Row { blocked: on, ..row });
+        row.blocked
     }
 
-    /// Gives an object a parent that is there or none, and a stamp that is greater than all.
-    pub(crate) fn move_to(&mut self, number: u32, parent: Option<u32>, stamp: u64)
-        requires stamp { All (λ other. other.stamp < stamp) self.old }
-        requires parent { (above : ℕ) → parent ≡ Some above → IsTrue (is_there self.old above) }
-        ensures { self.new ≡ changed (λ row. record row { parent = parent; stamp = stamp }) number self.old }
+    /// Gives an object a parent and the next stamp.
+    pub(crate) fn move_to(&mut self, place: usize, number: u32, parent: Option<u32>)
+        requires place { IsPlace self.old place }
+        requires stamp { (forest_at self.old place).last_stamp < 2 ^ 64 - 1 }
+        ensures { self.new ≡ with_forest self.old place (moved (forest_at self.old place) number parent) }
     {
-        if let Some(row) = self.rows.get(number) {
-            self.put(
-                row,
-                Row {
-                    parent,
-                    stamp,
-                    ..row
-                },
-            );
-        }
+        let kinship = self.kinships.get_mut(place);
+        kinship.last_stamp += 1;
+        let stamp = kinship.last_stamp;
+        self.hang(place, number, parent, stamp);
+    }
+
+    /// Gives an object a parent and a stamp, which takes no memory.
+    fn hang(&mut self, place: usize, number: u32, parent: Option<u32>, stamp: u64)
+        requires { IsPlace self.old place }
+        ensures { self.new ≡ with_forest self.old place (record (forest_at self.old place) {
+          rows = changed (λ row. record row { parent = parent; stamp = stamp }) number (forest_at self.old place).rows;
+        }) }
+    {
+        let Some(key) = self.rows.find(place, number as u64) else {
+            return;
+        };
+        let row = *self.rows.get(place, key);
+        let hung = Row {
+            parent,
+            stamp,
+            ..row
+        };
+        self.rows.replace(place, key, hung);
+        let children = &mut self.kinships.get_mut(place).children;
+        children.replace(child_of(row), child_of(hung));
     }
 
     /// Takes an object out. Its children become roots.
-    pub(crate) fn remove(&mut self, number: u32)
-        ensures { self.new ≡ map (orphaned number) (filter (λ row. not (has_number number row)) self.old) }
+    pub(crate) fn remove(&mut self, place: usize, number: u32)
+        requires place { IsPlace self.old place }
+        requires sound { IsSound (forest_at self.old place) }
+        ensures { self.new ≡ with_forest self.old place (removed (forest_at self.old place) number) }
     {
-        self.take_out(number);
-        self.orphan(number);
-    }
-
-    /// Takes an object out, and leaves its children.
-    fn take_out(&mut self, number: u32)
-        ensures { self.new ≡ filter (λ row. not (has_number number row)) self.old }
-    {
-        if let Some(row) = self.rows.get(number) {
-            unseat(&mut self.kin, kin_of(row));
-            self.rows.remove(number);
+        if let Some(key) = self.rows.find(place, number as u64) {
+            let row = self.rows.remove(place, key);
+            self.kinships.get_mut(place).children.remove(child_of(row));
+            self.orphan(place, number);
         }
     }
 
     /// Lets the children of an object become roots.
-    fn orphan(&mut self, object: u32)
-        ensures { self.new ≡ map (orphaned object) self.old }
+    fn orphan(&mut self, place: usize, object: u32)
+        requires place { IsPlace self.old place }
+        requires object { 1 ≤ object }
+        ensures { self.new ≡ with_forest self.old place (record (forest_at self.old place) {
+          rows = map (orphaned object) (forest_at self.old place).rows;
+        }) }
     {
-        'kids: while let Some(number) = self.first_child(object) {
-            self.free(number);
+        'kids: while let Some(child) = self.first_child(place, object) {
+            self.hang(place, child.number, None, child.stamp);
         }
     }
 
     /// The oldest child of an object.
-    fn first_child(&self, object: u32) -> Option<u32>
-        ensures child { IfSome result (λ number. parent_of self.now number ≡ Some object) }
-        ensures none { IfNone result (map (orphaned object) self.now ≡ self.now) }
-        ensures rise { IsStrictlySortedBy nat_cmp (numbers self.now) }
+    fn first_child(&self, place: usize, object: u32) -> Option<Child>
+        requires place { IsPlace self.now place }
+        requires object { 1 ≤ object }
+        ensures child { IfSome result (λ child. parent_of (forest_at self.now place).rows child.number ≡ Some object) }
+        ensures stamp { IfSome result (λ child. option_map (λ row. row.stamp) (row_of (forest_at self.now place).rows child.number) ≡ Some child.stamp) }
+        ensures none { IfNone result (map (orphaned object) (forest_at self.now place).rows ≡ (forest_at self.now place).rows) }
+        ensures rise { IsStrictlySortedBy nat_cmp (numbers (forest_at self.now place).rows) }
     {
-        // The loan is for the proof, which then knows what holds of the rows.
-        let _rows = &self.rows;
-        let kids = self.kids(Some(object));
-        if kids.is_empty() {
-            return None;
-        }
-        Some(kids[0].number)
-    }
-
-    /// Lets an object become a root.
-    fn free(&mut self, number: u32)
-        ensures { self.new ≡ changed (λ row. record row { parent = None }) number self.old }
-    {
-        if let Some(row) = self.rows.get(number) {
-            self.put(
-                row,
-                Row {
-                    parent: None,
-                    ..row
-                },
-            );
+        // The loan is for the proof, which then knows that numbers rise.
+        let _count = self.rows.len(place);
+        let first = Child {
+            stamp: 0,
+            parent: object,
+            number: 0,
+        };
+        let child = self.kinships.get(place).children.first_from(first)?;
+        if child.parent == object {
+            Some(child)
+        } else {
+            None
         }
     }
+}
 
-    /// Puts a row for the one of its number.
-    fn put(&mut self, old: Row, row: Row)
-        requires there { row_of self.old row.number ≡ Some old }
-        requires stamp { All (λ other. other.number ≢ row.number → other.stamp ≢ row.stamp) self.old }
-        requires fit { row.stamp < 2 ^ 64 }
-        requires parent { IsFalse (has_parent (Some 0) row) }
-        ensures { self.new ≡ changed (λ other. row) row.number self.old }
-    {
-        reseat(&mut self.kin, kin_of(old), kin_of(row));
-        self.rows.put(row);
+fn no_kinship(alloc: Global) -> Kinship
+    ensures number { result.last_number ≡ 0 }
+    ensures stamp { result.last_stamp ≡ 0 }
+    ensures children { result.children.links ≡ [] }
+{
+    Kinship {
+        last_number: 0,
+        last_stamp: 0,
+        children: Links::new(alloc),
     }
 }

@@ -1,4 +1,5 @@
 //! Objects as rows of a table.
+use shared_rows::Numbered;
 
 /// The most objects that a forest holds.
 pub const OBJECTS: usize = 4096;
@@ -21,4 +22,14 @@ pub struct Row {
     pub dying: bool,
     /// Whether its signals are blocked.
     pub blocked: bool,
+}
+
+impl Numbered for Row {
+    type Number = u32;
+
+    ghost number = { λ row. row.number };
+
+    fn number(&self) -> u32 {
+        self.number
+    }
 }

@@ -10,7 +10,8 @@ use plain_types::Items;
 use refusals::{Code, Fault};
 use session_effects::{Setup, Slot};
 use std::alloc::{AllocError, Global};
-use thread_model::{Args, Call, Line};
+use thread_model::{Call, Line};
+use variant_value::Args;
 
 /// What a command has told so far, and the turns that it has left for the calls that it causes.
 #[derive(Drop)]

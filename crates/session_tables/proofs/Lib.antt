@@ -1,1 +1,2 @@
+pub mod TitlesLemmas
 pub mod TablesLemmas

@@ -1,9 +1,9 @@
 -- Tables with another session at a place.
-use Rattle.std.proofs.Common.{◌≡◌, ◌≢◌, ◌<◌, ◌≤◌, ℕ, Bool, false, [], length, get_or, eqb, Result, Ok, Err, OnErr, refl, sym, ap, subst, ◌∙◌, ⊎_elim, arith}
+use Rattle.std.proofs.Common.{◌≡◌, ◌≢◌, ◌<◌, ◌≤◌, ℕ, Bool, false, [], length, get_or, eqb, refl, sym, ap, subst, ◌∙◌, ⊎_elim, arith}
 use Rattle.std.proofs.lemmas.Bool.{cases_Bool}
 use Rattle.std.proofs.lemmas.Grind.{common_steps}
 use Rattle.std.proofs.lemmas.List.{get_or_past, get_or-set_other, length-set}
-use Rattle.places.specs.Table.{Table, with_place}
+use Rattle.places.specs.Table.{Table}
 use Rattle.places.proofs.TableLemmas as column
 use Rattle.connection_list.specs.Rows.{Rows, no_rows}
 use Rattle.object_tree.specs.Forest.{Forest, empty_forest}
@@ -97,14 +97,6 @@ with_state_session tables place state = columns _ _ refl refl refl (sym (column.
 -- a change of one session's state alone
 pub changes_state : (old new : Tables) (place : ℕ) → ChangesOnly place old new → new.failed ≡ old.failed → new ≡ with_state old place (state_at new place)
 changes_state old new place changes kept = columns (with_state old place (state_at new place)) new changes.forests changes.titles changes.connections kept
-
--- a title that could not be put leaves the tables
-pub titles_stay : {T E : Type 0} (result : Result T E) (tables : Tables) (place : ℕ) (before after : Titles) → OnErr result (after ≡ before) → ((default : Titles) → before ≡ get_or tables.titles.places place default)
-    → OnErr result (of_columns tables.forests (with_place tables.titles place after) tables.connections tables.failed ≡ tables)
-titles_stay (Ok value) tables place before after same there = tt
-titles_stay (Err error) tables place before after same there =
-    ap (λ titles. of_columns tables.forests (with_place tables.titles place titles) tables.connections tables.failed) (same ∙ there [])
-    ∙ ap (λ titles. of_columns tables.forests titles tables.connections tables.failed) (column.with_same [] tables.titles place)
 
 -- past the last place every session is as one that has had no command
 pub session_past : (tables : Tables) (place : ℕ) → AreEven tables → length tables.failed.places ≤ place → session_at tables place ≡ fresh

@@ -1,3 +1,4 @@
 pub mod Session
 pub mod Refused
+pub mod Titles
 pub mod Tables

@@ -15,7 +15,7 @@ impl Tables {
             (with_title (state_at self.old place) object title)) }
         ensures err { OnErr result (self.new ≡ self.old) }
     {
-        self.titles.get_mut(place).put(object, title)
+        self.titles.put(place, object, title)
     }
 
     /// A copy of the title of an object.
@@ -23,6 +23,6 @@ impl Tables {
         requires { IsPlaced self.now place }
         ensures { IfOk result (λ title. title ≡ title_of (state_at self.now place).titles object) }
     {
-        self.titles.get(place).get(alloc, object)
+        self.titles.get(alloc, place, object)
     }
 }

@@ -14,7 +14,7 @@ use std::alloc::{AllocError, Global};
 #[derive(Drop)]
 pub struct Tables {
     pub(crate) forests: Forests,
-    pub(crate) titles: Places<Titles>,
+    pub(crate) titles: Titles,
     pub(crate) connections: Connections,
     /// Memory was wanted for the session and not found. Its objects and connections are gone, and
     /// it refuses every command.
@@ -31,7 +31,7 @@ impl Tables {
     {
         Tables {
             forests: Forests::new(alloc),
-            titles: Places::new(alloc),
+            titles: Titles::new(alloc),
             connections: Connections::new(alloc),
             failed: Places::new(alloc),
         }
@@ -55,7 +55,7 @@ impl Tables {
         ensures opened { self.new ≡ opened self.old }
     {
         self.forests.open();
-        self.titles.open(Titles::new(alloc));
+        self.titles.open();
         self.connections.open();
         self.failed.open(false)
     }
@@ -67,7 +67,7 @@ impl Tables {
         ensures { self.new ≡ with_state self.old place empty }
     {
         self.forests.clear(place);
-        self.titles.get_mut(place).clear();
+        self.titles.clear(place);
         self.connections.clear(place);
     }
 

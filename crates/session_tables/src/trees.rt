@@ -42,7 +42,7 @@ impl Tables {
     {
         let number = self.forests.add(place, parent, class)?;
         let title = Value::Text(Text::from_string(String::new(alloc)));
-        self.titles.get_mut(place).put(number, title)?;
+        self.titles.put(place, number, title)?;
         Ok(number)
     }
 
@@ -73,7 +73,7 @@ impl Tables {
         ensures { self.new ≡ with_state self.old place (without_object (state_at self.old place) object) }
     {
         self.forests.remove(place, object);
-        self.titles.get_mut(place).remove(object);
+        self.titles.remove(place, object);
     }
 
     /// The children of an object by age; of none, the roots.
@@ -152,7 +152,7 @@ impl Tables {
             (λ number. is_text title.now (title_of (state_at self.now place).titles number))) }
     {
         self.forests.find_child(place, object, |number| {
-            Ok(self.titles.get(place).is_titled(number, title))
+            Ok(self.titles.is_titled(place, number, title))
         })
     }
 
@@ -208,7 +208,7 @@ impl Tables {
         ensures { result ≡ has_title (state_at self.now place) title.now object }
     {
         match title {
-            Some(wanted) => self.titles.get(place).is_titled(object, wanted.as_str()),
+            Some(wanted) => self.titles.is_titled(place, object, wanted.as_str()),
             None => true,
         }
     }

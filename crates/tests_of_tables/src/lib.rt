@@ -7,4 +7,8 @@ mod base;
 #[cfg(test)]
 mod connections;
 #[cfg(test)]
+mod events;
+#[cfg(test)]
+mod rows;
+#[cfg(test)]
 mod trees;

@@ -3,8 +3,8 @@ use plain_types::{Items, Text};
 use refusals::Code;
 use std::alloc::{AllocError, Global};
 use std::test::Fail;
-use thread_model::{Answer, Args, Call, Line, MetaObject};
-use variant_value::Value;
+use thread_model::{Answer, Call, Line, MetaObject};
+use variant_value::{Args, Value};
 use wire_format::{
     Digits, Parts, error_parts, line_parts, line_text, sessions_are_isolated, write_line,
 };

@@ -12,7 +12,7 @@ use Rattle.object_tree.specs.Rows.{is_there, numbers}
 use Rattle.object_tree.proofs.RowLemmas.{there_among}
 use Rattle.connection_list.specs.declared.connection.Connection.{Connection}
 use Rattle.connection_list.specs.declared.connection.NewConnection.{NewConnection}
-use Rattle.connection_list.specs.declared.list.TheConstants.{CONNECTIONS}
+use Rattle.connection_list.specs.declared.limit.TheConstants.{CONNECTIONS}
 use Rattle.connection_list.specs.Ends.{same_ends}
 use Rattle.connection_list.specs.Rows.{IsRising, IsSound, Rows, connect_refusal, connected, no_rows, numbered}
 use Rattle.connection_list.proofs.RowsLemmas.{rising_head, rising_tail}

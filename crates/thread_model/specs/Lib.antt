@@ -1,4 +1,3 @@
-pub mod Args
 pub mod Settings
 pub mod Asked
 pub mod State

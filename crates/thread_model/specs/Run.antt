@@ -2,7 +2,7 @@
 use Rattle.std.specs.Prelude.{◌≡◌, ◌+◌, ◌*◌, ℕ, zero, suc, List, [], ◌∷◌, ◌++◌, length, map, filter, max}
 use Rattle.term_core.specs.Act.{acts_of, count, counts}
 use Rattle.class_table.specs.declared.class.Class.{Class}
-use Rattle.connection_list.specs.declared.list.TheConstants.{CONNECTIONS}
+use Rattle.connection_list.specs.declared.limit.TheConstants.{CONNECTIONS}
 use Rattle.object_tree.specs.Lines.{greatest}
 use Rattle.thread_model.specs.Agenda.{is_living, step}
 use Rattle.thread_model.specs.Doing.{Doing}

@@ -1,6 +1,6 @@
 //! What clients are told of a call.
-use crate::args::Args;
 use plain_types::Text;
+use variant_value::Args;
 
 /// How deep signals are nested at most: one that is sent at this depth calls nothing.
 pub const NESTED_SIGNALS: u32 = 64;

@@ -7,14 +7,12 @@ ghost use Rattle.thread_model.specs.Machine.{IsMetadLawful};
 ghost use Rattle.thread_model.specs.Run.{RunsToItsEnd};
 ghost use Rattle.thread_model.specs.Laws.{ActsInPlace, KeepsSound, KeepsUnderWay};
 
-mod args;
 mod call;
 mod command;
 mod line;
 mod meta;
 mod post;
 
-pub use args::Args;
 pub use call::{Call, NESTED_SIGNALS};
 pub use command::{Command, Tagged};
 pub use line::{Answer, Line};

@@ -1,6 +1,7 @@
-use Rattle.std.proofs.Common.{◌≡◌, ◌++◌, map, take}
-use Rattle.object_tree.specs.declared.kin.Kin.{Kin}
+use Rattle.std.proofs.Common.{◌≡◌, ◌++◌, map}
+use Rattle.std.specs.VecDeque.Iter.{deque_iter_rest}
+use Rattle.object_tree.specs.declared.child.Child.{Child}
 use Rattle.object_tree.proofs.children.append_numbers.Given as goal
 
 abbrev pub invariant-kids : goal.invariant-kids
-invariant-kids l = l.found.items ≡ l.fn.found.items ++ map (λ (kin : Kin). kin.number) (take l.child-index l.kids)
+invariant-kids l = l.found.items ++ map (λ (child : Child). child.number) (deque_iter_rest l.child-iterator) ≡ l.fn.found.items ++ map (λ (child : Child). child.number) (deque_iter_rest l.fn.kids)

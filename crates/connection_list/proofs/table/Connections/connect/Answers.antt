@@ -1,15 +1,57 @@
-use Rattle.std.proofs.Common.{◌≡◌, ◌∙◌, ap}
-use Rattle.std.proofs.lemmas.List.{set-get_or}
-use Rattle.std.proofs.lemmas.Result.{on_err_weaker}
+use Rattle.std.proofs.Common.{◌≡◌, ◌∙◌, ◌+◌, ◌<◌, None, ap, rules}
+use Rattle.places.specs.Joined.{joined_tables}
 use Rattle.places.specs.Table.{with_place}
-use Rattle.connection_list.specs.Rows.{no_rows}
+use Rattle.connection_list.specs.Rows.{connect_refusal}
+use Rattle.connection_list.specs.Routes.{place_of}
+use Rattle.connection_list.specs.Table.{rows_at}
+use Rattle.connection_list.proofs.AddedLemmas.{connected_kept, connected_view, number_above, number_fits, number_next, reserved_kept, reserved_view}
+use Rattle.connection_list.proofs.SeenLemmas.{routes_place, rows_place}
 use Rattle.connection_list.proofs.table.Connections.connect.Goals as goal
 
--- the place was given back as it was
-pub returns-clause-err : goal.returns-clause-err
-returns-clause-err c =
-    on_err_weaker c.connect.result
-    (λ (same : c.connect.new.self ≡ c.get_mut.result.now).
-    ap (with_place c.self.inside.places c.args.place) (same ∙ c.get_mut.ensures.value no_rows)
-    ∙ (ap (λ places. record { places = places; room = c.self.inside.places.room }) (set-get_or c.self.inside.places.places c.args.place no_rows) ∙ c.self.view_is))
-    c.connect.ensures.err
+pub get_mut-routes-requires : goal.get_mut-routes-requires
+get_mut-routes-requires c = routes_place c.self.inside.rows c.self.inside.routes c.args.self.now c.self.invariant c.self.view_is c.args.place c.requires
+
+pub invariant_of-self : goal.invariant_of-self
+invariant_of-self c = reserved_kept c.self.inside.rows c.self.inside.routes c.args.self.now c.self.invariant c.self.view_is c.args.place c.requires c.get_mut-routes.result.now c.reserve.new.self c.get_mut-routes.ensures.value c.reserve.ensures.same
+
+pub returns-in_err-reserve-clause-err : goal.returns-in_err-reserve-clause-err
+returns-in_err-reserve-clause-err c =
+    let same = reserved_view c.self.inside.rows c.self.inside.routes c.args.self.now c.self.invariant c.self.view_is c.args.place c.requires c.get_mut-routes.result.now c.reserve.new.self c.get_mut-routes.ensures.value c.reserve.ensures.same in
+    search rules
+
+pub overflow_add-routes : goal.overflow_add-routes
+overflow_add-routes c =
+    let none : None ≡ connect_refusal (rows_at c.args.self.now c.args.place) c.args.new c.args.unique = c.in_default.ensures.refusal in
+    let short : c.reserve.new.self.last_number + 1 < 4294967296 = number_fits c.self.inside.rows c.self.inside.routes c.args.self.now c.self.invariant c.self.view_is c.args.place c.requires c.get_mut-routes.result.now c.reserve.new.self c.get_mut-routes.ensures.value c.reserve.ensures.same c.args.new c.args.unique none in
+    search rules
+
+pub push-requires-clause-place : goal.push-requires-clause-place
+push-requires-clause-place c = rows_place c.self.inside.rows c.self.inside.routes c.args.self.now c.self.invariant c.self.view_is c.args.place c.requires
+
+pub push-requires-clause-number : goal.push-requires-clause-number
+push-requires-clause-number c =
+    let none : None ≡ connect_refusal (rows_at c.args.self.now c.args.place) c.args.new c.args.unique = c.in_default.ensures.refusal in
+    number_above c.self.inside.rows c.self.inside.routes c.args.self.now c.self.invariant c.self.view_is c.args.place c.requires c.get_mut-routes.result.now c.reserve.new.self c.get_mut-routes.ensures.value c.reserve.ensures.same c.args.new c.args.unique none c.numbered-row.result c.numbered-row.ensures
+
+pub invariant_of-self-in_err-key : goal.invariant_of-self-in_err-key
+invariant_of-self-in_err-key c = rw c.in_err-key.ensures.err (reserved_kept c.self.inside.rows c.self.inside.routes c.args.self.now c.self.invariant c.self.view_is c.args.place c.requires c.get_mut-routes.result.now c.reserve.new.self c.get_mut-routes.ensures.value c.reserve.ensures.same)
+
+pub returns-in_err-key-clause-err : goal.returns-in_err-key-clause-err
+returns-in_err-key-clause-err c =
+    let same = ap (λ rows. joined_tables place_of rows (with_place c.self.inside.routes c.args.place c.reserve.new.self)) c.in_err-key.ensures.err ∙ reserved_view c.self.inside.rows c.self.inside.routes c.args.self.now c.self.invariant c.self.view_is c.args.place c.requires c.get_mut-routes.result.now c.reserve.new.self c.get_mut-routes.ensures.value c.reserve.ensures.same in
+    search rules
+
+pub invariant_of-self-2 : goal.invariant_of-self-2
+invariant_of-self-2 c =
+    let none : None ≡ connect_refusal (rows_at c.args.self.now c.args.place) c.args.new c.args.unique = c.in_default.ensures.refusal in
+    connected_kept c.self.inside.rows c.self.inside.routes c.args.self.now c.self.invariant c.self.view_is c.args.place c.requires c.get_mut-routes.result.now c.reserve.new.self c.get_mut-routes.ensures.value c.reserve.ensures.same c.args.new c.args.unique none c.numbered-row.result c.numbered-row.ensures c.push.new.self c.add.new.self c.in_ok-key.key c.in_ok-key.ensures.added c.in_ok-key.ensures.vacant c.in_ok-key.ensures.short c.add.ensures.number c.add.ensures.routed
+
+pub returns-clause-number : goal.returns-clause-number
+returns-clause-number c =
+    let none : None ≡ connect_refusal (rows_at c.args.self.now c.args.place) c.args.new c.args.unique = c.in_default.ensures.refusal in
+    number_next c.self.inside.rows c.self.inside.routes c.args.self.now c.self.invariant c.self.view_is c.args.place c.requires c.get_mut-routes.result.now c.reserve.new.self c.get_mut-routes.ensures.value c.reserve.ensures.same c.args.new c.args.unique none c.numbered-row.result c.numbered-row.ensures
+
+pub returns-clause-ok : goal.returns-clause-ok
+returns-clause-ok c =
+    let none : None ≡ connect_refusal (rows_at c.args.self.now c.args.place) c.args.new c.args.unique = c.in_default.ensures.refusal in
+    connected_view c.self.inside.rows c.self.inside.routes c.args.self.now c.self.invariant c.self.view_is c.args.place c.requires c.get_mut-routes.result.now c.reserve.new.self c.get_mut-routes.ensures.value c.reserve.ensures.same c.args.new c.args.unique none c.numbered-row.result c.numbered-row.ensures c.push.new.self c.add.new.self c.in_ok-key.key c.in_ok-key.ensures.added c.in_ok-key.ensures.vacant c.in_ok-key.ensures.short c.add.ensures.number c.add.ensures.routed

@@ -1,10 +1,13 @@
-use Rattle.std.proofs.Common.{◌≡◌, ◌-◌, ◌≤◌, map, drop, max}
-use Rattle.object_tree.specs.declared.kin.Kin.{Kin}
+use Rattle.std.proofs.Common.{◌≡◌, ◌-◌, ◌≤◌, Some, map, max}
+use Rattle.std.specs.VecDeque.Iter.{deque_iter_rest}
+use Rattle.object_tree.specs.declared.child.Child.{Child}
+use Rattle.object_tree.specs.Rows.{children}
 use Rattle.object_tree.specs.Lines.{greatest, levels_within}
+use Rattle.object_tree.specs.Table.{forest_at}
 use Rattle.object_tree.proofs.objects.Objects.+levels_within.Given as goal
 
 abbrev pub decreases-levels_within : goal.decreases-levels_within
 decreases-levels_within l = l.most
 
 abbrev pub invariant-kids : goal.invariant-kids
-invariant-kids l = (max l.below (greatest (map (λ (kin : Kin). levels_within (l.most - 1) l.self kin.number) (drop l.child-index l.kids))) ≡ greatest (map (λ (kin : Kin). levels_within (l.most - 1) l.self kin.number) l.kids)) × (l.below ≤ l.most - 1)
+invariant-kids l = (max l.below (greatest (map (levels_within (l.most - 1) (forest_at l.self l.place).rows) (map (λ (child : Child). child.number) (deque_iter_rest l.child-iterator)))) ≡ greatest (map (levels_within (l.most - 1) (forest_at l.self l.place).rows) (children (forest_at l.self l.place).rows (Some l.number)))) × (l.below ≤ l.most - 1)

@@ -1,22 +1,17 @@
-use Rattle.std.proofs.Common.{◌∙◌, ◌<◌, ◌^◌, map, sym, ap, subst}
-use Rattle.std.specs.List.{All}
-use Rattle.object_tree.specs.declared.kin.Kin.{Kin}
-use Rattle.object_tree.specs.Rows.{children}
-use Rattle.object_tree.specs.Kin.{kids_of, rank_of}
-use Rattle.object_tree.proofs.KeyedListLemmas.{Rises}
-use Rattle.object_tree.proofs.ObjectsLemmas.{kept_fits, kept_kids, kept_none, kept_rises}
+use Rattle.std.proofs.Common.{◌∙◌, ◌==◌, map, filter, sym, ap}
+use Rattle.object_tree.specs.declared.child.Child.{Child}
+use Rattle.object_tree.specs.Table.{forest_at}
+use Rattle.object_tree.proofs.ChildLemmas.{none_below}
+use Rattle.object_tree.proofs.KeptLemmas.{in_kinships, kids_now}
 use Rattle.object_tree.proofs.objects.Objects.kids.Goals as goal
 
-pub kids-requires-clause-rise : goal.kids-requires-clause-rise
-kids-requires-clause-rise c = subst (Rises rank_of) (sym c.as_slice-list.ensures.value) (kept_rises c.self.inside.rows c.self.inside.kin.items c.self.invariant)
+pub returns-then-eq : goal.returns-then-eq
+returns-then-eq c = ap (map (λ (child : Child). child.number)) c.range.ensures.rest ∙ sym (none_below c.args.parent (forest_at c.args.self.now c.args.place) c.requires.sound (sym c.eq.ensures ∙ c.if-eq.true))
 
-pub kids-requires-clause-fit : goal.kids-requires-clause-fit
-kids-requires-clause-fit c = subst (All (λ (kin : Kin). kin.stamp < 2 ^ 64)) (sym c.as_slice-list.ensures.value) (kept_fits c.self.inside.rows c.self.inside.kin.items c.self.invariant)
-
-pub returns-then-is_same : goal.returns-then-is_same
-returns-then-is_same c = sym (kept_none c.self.inside.rows c.self.inside.kin.items c.self.invariant c.args.parent (sym c.is_same.ensures ∙ c.if-is_same.true)) ∙ ap (λ rows. children rows c.args.parent) c.self.view_is
+pub get-requires : goal.get-requires
+get-requires c = in_kinships c.self.inside.rows c.self.inside.kinships c.args.self.now c.args.place c.self.invariant c.self.view_is c.requires.place
 
 pub returns : goal.returns
 returns c =
-    ap (map (λ (kin : Kin). kin.number)) (c.kids.ensures ∙ λ i. kids_of (c.as_slice-list.ensures.value i) (c.order_of.ensures i))
-    ∙ (kept_kids c.self.inside.rows c.self.inside.kin.items c.self.invariant c.args.parent (sym c.is_same.ensures ∙ c.if-is_same.false) ∙ ap (λ rows. children rows c.args.parent) c.self.view_is)
+    ap (map (λ (child : Child). child.number)) (c.group.ensures ∙ λ i. filter (λ (child : Child). child.parent == c.order_of.ensures i) (c.as_deque-all.ensures.links i))
+    ∙ kids_now c.self.inside.rows c.self.inside.kinships c.args.self.now c.args.place c.self.invariant c.self.view_is c.requires.place c.get.result.now c.get.ensures c.requires.sound c.as_deque-all.ensures.sound c.args.parent (sym c.eq.ensures ∙ c.if-eq.false)

@@ -1,22 +1,25 @@
-use Rattle.std.proofs.Common.{◌∙◌, true, refl, sym, ap, subst}
+use Rattle.std.proofs.Common.{◌∙◌, true, refl, sym, ap}
 use Rattle.object_tree.specs.declared.row.Row.{Row}
-use Rattle.object_tree.specs.Kin.{IsKept}
-use Rattle.object_tree.specs.Changes.{changed}
-use Rattle.object_tree.proofs.ChangesLemmas.{edited, is_own, unchanged}
-use Rattle.object_tree.proofs.ObjectsLemmas.{kept_changed}
+use Rattle.object_tree.specs.Table.{forest_at, with_forest}
+use Rattle.object_tree.proofs.ChangesLemmas.{marked_is}
+use Rattle.object_tree.proofs.KeptLemmas.{absent_seen, changed_kept, changed_seen, in_rows}
 use Rattle.object_tree.proofs.objects.Objects.mark_dying.Goals as goal
 
 abbrev mark : Row → Row
 mark row = record row { dying = true }
 
-pub put-requires-clause-there : goal.put-requires-clause-there
-put-requires-clause-there c = is_own c.self.inside.rows c.args.number c.in-Some.row c.self.invariant.numbers_rise (sym c.in-Some.ensures)
+pub find-requires : goal.find-requires
+find-requires c = in_rows c.self.inside.rows c.self.inside.kinships c.args.self.now c.args.place c.self.invariant c.self.view_is c.requires
 
 pub invariant_of-self : goal.invariant_of-self
-invariant_of-self c = subst (λ rows. IsKept rows c.self.inside.kin.items) (sym (c.put.ensures ∙ edited c.self.inside.rows c.args.number c.in-Some.row c.self.invariant.numbers_rise (sym c.in-Some.ensures) mark)) (kept_changed mark (λ row. refl) (λ row. refl) c.args.number c.self.inside.rows c.self.inside.kin.items c.self.invariant)
+invariant_of-self c = changed_kept c.self.inside.rows c.self.inside.kinships c.args.self.now c.args.place c.self.invariant c.self.view_is c.requires c.in-Some.key c.args.number c.get-row.result.now c.get-row.ensures.sound c.get-row.ensures.row c.in-Some.ensures.stands mark c.replace.new.self c.replace.ensures (λ row. refl)
 
 pub returns-in-Some : goal.returns-in-Some
-returns-in-Some c = c.put.ensures ∙ (edited c.self.inside.rows c.args.number c.in-Some.row c.self.invariant.numbers_rise (sym c.in-Some.ensures) mark ∙ ap (changed mark c.args.number) c.self.view_is)
+returns-in-Some c =
+    changed_seen c.self.inside.rows c.self.inside.kinships c.args.self.now c.args.place c.self.invariant c.self.view_is c.requires c.in-Some.key c.args.number c.get-row.result.now c.get-row.ensures.sound c.get-row.ensures.row c.in-Some.ensures.stands mark c.replace.new.self c.replace.ensures
+    ∙ ap (with_forest c.args.self.now c.args.place) (marked_is (forest_at c.args.self.now c.args.place) c.args.number _ refl)
 
 pub returns-in_default : goal.returns-in_default
-returns-in_default c = rw (← c.self.view_is) (sym (unchanged mark c.args.number c.self.inside.rows (sym c.in_default.ensures)).0)
+returns-in_default c =
+    sym (absent_seen c.self.inside.rows c.self.inside.kinships c.args.self.now c.args.place c.self.invariant c.self.view_is c.requires mark c.args.number c.in_default.ensures.found).0
+    ∙ ap (with_forest c.args.self.now c.args.place) (marked_is (forest_at c.args.self.now c.args.place) c.args.number _ refl)

@@ -1,25 +1,27 @@
-use Rattle.std.proofs.Common.{◌≢◌, ◌<◌, ℕ, Option, ◌∙◌, sym, ap, arith}
-use Rattle.std.proofs.lemmas.List.Elements.{All-weaker}
-use Rattle.object_tree.specs.declared.row.Row.{Row}
-use Rattle.object_tree.specs.Rows.{is_there}
-use Rattle.object_tree.proofs.ChangesLemmas.{edited, own_row, unchanged}
-use Rattle.object_tree.proofs.ObjectsLemmas.{kept_parent}
+use Rattle.std.proofs.Common.{◌+◌, ◌∙◌, ap, arith}
+use Rattle.object_tree.specs.Forest.{Forest}
+use Rattle.object_tree.specs.Changes.{changed}
+use Rattle.object_tree.specs.Table.{forest_at, with_forest}
+use Rattle.object_tree.proofs.PlaceLemmas.{changed_twice, still_place}
+use Rattle.object_tree.proofs.KeptLemmas.{in_kinships, last_kept, last_numbers, last_seen, moved_now}
 use Rattle.object_tree.proofs.objects.Objects.move_to.Goals as goal
 
-abbrev moves : Option ℕ → ℕ → Row → Row
-moves parent stamp row = record row { parent = parent; stamp = stamp }
+pub get_mut-kinship-requires : goal.get_mut-kinship-requires
+get_mut-kinship-requires c = in_kinships c.self.inside.rows c.self.inside.kinships c.args.self.now c.args.place c.self.invariant c.self.view_is c.requires.place
 
-pub put-requires-clause-there : goal.put-requires-clause-there
-put-requires-clause-there c = rw (← c.self.view_is) (own_row c.self.inside.rows c.args.number c.in-Some.row c.self.invariant.numbers_rise (sym c.in-Some.ensures))
+pub overflow_add-kinship : goal.overflow_add-kinship
+overflow_add-kinship c = omega (arith, c.requires.stamp, (last_numbers c.self.inside.rows c.self.inside.kinships c.args.self.now c.args.place c.self.invariant c.self.view_is c.requires.place c.get_mut-kinship.result.now c.get_mut-kinship.ensures.value).1)
 
-pub put-requires-clause-stamp : goal.put-requires-clause-stamp
-put-requires-clause-stamp c = All-weaker (λ (other : Row). other.stamp < c.args.stamp) (λ (other : Row). other.number ≢ c.in-Some.row.number → other.stamp ≢ c.args.stamp) (λ other lt apart same. absurd (omega arith)) c.args.self.now c.requires.stamp
+pub invariant_of-self : goal.invariant_of-self
+invariant_of-self c = last_kept c.self.inside.rows c.self.inside.kinships c.args.self.now c.args.place c.self.invariant c.self.view_is c.requires.place c.get_mut-kinship.result.now c.get_mut-kinship.ensures.value c.get_mut-kinship.result.now.last_number (c.get_mut-kinship.result.now.last_stamp + 1)
 
-pub put-requires-clause-parent : goal.put-requires-clause-parent
-put-requires-clause-parent c = kept_parent c.self.inside.rows c.self.inside.kin.items c.self.invariant c.args.parent (λ above is. ap (λ rows. is_there rows above) c.self.view_is ∙ c.requires.parent above is)
+pub hang-requires : goal.hang-requires
+hang-requires c = still_place c.args.self.now _ c.args.place _ c.requires.place (last_seen c.self.inside.rows c.self.inside.kinships c.args.self.now c.args.place c.self.invariant c.self.view_is c.requires.place c.get_mut-kinship.result.now c.get_mut-kinship.ensures.value c.get_mut-kinship.result.now.last_number (c.get_mut-kinship.result.now.last_stamp + 1))
 
-pub returns-in-Some : goal.returns-in-Some
-returns-in-Some c = c.put.ensures ∙ rw (← c.self.view_is) (edited c.self.inside.rows c.args.number c.in-Some.row c.self.invariant.numbers_rise (sym c.in-Some.ensures) (moves c.args.parent c.args.stamp))
-
-pub returns-in_default : goal.returns-in_default
-returns-in_default c = rw (← c.self.view_is) (sym (unchanged (moves c.args.parent c.args.stamp) c.args.number c.self.inside.rows (sym c.in_default.ensures)).0)
+pub returns : goal.returns
+returns c =
+    c.hang.ensures
+    ∙ (changed_twice c.args.self.now _ c.args.place (record (forest_at c.args.self.now c.args.place) { last_number = c.get_mut-kinship.result.now.last_number; last_stamp = c.get_mut-kinship.result.now.last_stamp + 1 })
+    (λ (forest : Forest). record forest { rows = changed (λ row. record row { parent = c.args.parent; stamp = c.get_mut-kinship.result.now.last_stamp + 1 }) c.args.number forest.rows }) c.requires.place
+    (last_seen c.self.inside.rows c.self.inside.kinships c.args.self.now c.args.place c.self.invariant c.self.view_is c.requires.place c.get_mut-kinship.result.now c.get_mut-kinship.ensures.value c.get_mut-kinship.result.now.last_number (c.get_mut-kinship.result.now.last_stamp + 1))
+    ∙ ap (with_forest c.args.self.now c.args.place) (moved_now c.self.inside.rows c.self.inside.kinships c.args.self.now c.args.place c.self.invariant c.self.view_is c.requires.place c.get_mut-kinship.result.now c.get_mut-kinship.ensures.value c.args.number c.args.parent))

@@ -1,15 +1,13 @@
-use Rattle.std.proofs.Common.{◌∙◌, Some, length, map, filter, ap, arith}
-use Rattle.object_tree.specs.Rows.{has_parent}
-use Rattle.object_tree.specs.Changes.{orphaned}
-use Rattle.object_tree.proofs.ChangesLemmas.{orphan_step}
+use Rattle.std.proofs.Common.{◌∙◌}
+use Rattle.object_tree.proofs.PlaceLemmas.{step_orphaned, step_place, step_smaller, step_still}
 use Rattle.object_tree.proofs.objects.Objects.orphan.Goals as goal
 
 pub kids-smaller : goal.kids-smaller
-kids-smaller c =
-    let step = orphan_step c.args.object c.in-Some.number c.kids.self c.in-Some.ensures.rise c.in-Some.ensures.child in
-    omega (arith, step.1, ap (λ rows. length (filter (has_parent (Some c.args.object)) rows)) c.free.ensures)
+kids-smaller c = step_smaller c.args.self.now c.kids.self c.hang.new.self c.args.place c.args.object c.in-Some.child.number c.in-Some.child.stamp c.requires.place c.kids.invariant.still c.hang.ensures c.in-Some.ensures.rise c.in-Some.ensures.child c.in-Some.ensures.stamp
 
 pub kids-preserved : goal.kids-preserved
-kids-preserved c =
-    let step = orphan_step c.args.object c.in-Some.number c.kids.self c.in-Some.ensures.rise c.in-Some.ensures.child in
-    ap (map (orphaned c.args.object)) c.free.ensures ∙ (step.0 ∙ c.kids.invariant)
+kids-preserved c = record {
+  place = step_place c.args.self.now c.kids.self c.hang.new.self c.args.place c.args.object c.in-Some.child.number c.in-Some.child.stamp c.requires.place c.kids.invariant.still c.hang.ensures;
+  still = step_still c.args.self.now c.kids.self c.hang.new.self c.args.place c.args.object c.in-Some.child.number c.in-Some.child.stamp c.requires.place c.kids.invariant.still c.hang.ensures;
+  orphaned = step_orphaned c.args.self.now c.kids.self c.hang.new.self c.args.place c.args.object c.in-Some.child.number c.in-Some.child.stamp c.requires.place c.kids.invariant.still c.hang.ensures c.in-Some.ensures.rise c.in-Some.ensures.child c.in-Some.ensures.stamp ∙ c.kids.invariant.orphaned;
+}

@@ -1,26 +1,32 @@
-use Rattle.std.proofs.Common.{◌∙◌, Bool, false, refl, sym, ap, subst}
+use Rattle.std.proofs.Common.{◌∙◌, Bool, false, refl, sym, ap}
 use Rattle.std.specs.Option.{option_map_or}
 use Rattle.object_tree.specs.declared.row.Row.{Row}
-use Rattle.object_tree.specs.Kin.{IsKept}
-use Rattle.object_tree.specs.Changes.{changed}
-use Rattle.object_tree.proofs.ChangesLemmas.{edited, is_own, unchanged}
-use Rattle.object_tree.proofs.ObjectsLemmas.{kept_changed}
+use Rattle.object_tree.specs.Table.{forest_at, with_forest}
+use Rattle.object_tree.proofs.ChangesLemmas.{blocked_is}
+use Rattle.object_tree.proofs.KeptLemmas.{absent_seen, changed_kept, changed_seen, in_rows, is_row}
 use Rattle.object_tree.proofs.objects.Objects.set_blocked.Goals as goal
 
 abbrev block : Bool → Row → Row
 block on row = record row { blocked = on }
 
-pub put-requires-clause-there : goal.put-requires-clause-there
-put-requires-clause-there c = is_own c.self.inside.rows c.args.number c.in-Some.row c.self.invariant.numbers_rise (sym c.in-Some.ensures)
+pub find-requires : goal.find-requires
+find-requires c = in_rows c.self.inside.rows c.self.inside.kinships c.args.self.now c.args.place c.self.invariant c.self.view_is c.requires
+
+pub returns-in_default-clause-before : goal.returns-in_default-clause-before
+returns-in_default-clause-before c = ap (λ found. option_map_or (λ (row : Row). row.blocked) found false) (sym (absent_seen c.self.inside.rows c.self.inside.kinships c.args.self.now c.args.place c.self.invariant c.self.view_is c.requires (block c.args.on) c.args.number c.in_default.ensures.found).1)
+
+pub returns-in_default-clause-after : goal.returns-in_default-clause-after
+returns-in_default-clause-after c =
+    sym (absent_seen c.self.inside.rows c.self.inside.kinships c.args.self.now c.args.place c.self.invariant c.self.view_is c.requires (block c.args.on) c.args.number c.in_default.ensures.found).0
+    ∙ ap (with_forest c.args.self.now c.args.place) (blocked_is (forest_at c.args.self.now c.args.place) c.args.number c.args.on _ refl)
 
 pub invariant_of-self : goal.invariant_of-self
-invariant_of-self c = subst (λ rows. IsKept rows c.self.inside.kin.items) (sym (c.put.ensures ∙ edited c.self.inside.rows c.args.number c.in-Some.row c.self.invariant.numbers_rise (sym c.in-Some.ensures) (block c.args.on))) (kept_changed (block c.args.on) (λ row. refl) (λ row. refl) c.args.number c.self.inside.rows c.self.inside.kin.items c.self.invariant)
+invariant_of-self c = changed_kept c.self.inside.rows c.self.inside.kinships c.args.self.now c.args.place c.self.invariant c.self.view_is c.requires c.in-Some.key c.args.number c.get-row.result.now c.get-row.ensures.sound c.get-row.ensures.row c.in-Some.ensures.stands (block c.args.on) c.replace.new.self c.replace.ensures (λ row. refl)
 
-pub returns-in-Some-clause-before : goal.returns-in-Some-clause-before
-returns-in-Some-clause-before c = rw (← c.self.view_is) (ap (λ r. option_map_or (λ (r : Row). r.blocked) r false) c.in-Some.ensures)
+pub returns-clause-before : goal.returns-clause-before
+returns-clause-before c = ap (λ found. option_map_or (λ (row : Row). row.blocked) found false) (sym (is_row c.self.inside.rows c.self.inside.kinships c.args.self.now c.args.place c.self.invariant c.self.view_is c.requires c.in-Some.key c.args.number c.get-row.result.now c.get-row.ensures.sound c.get-row.ensures.row c.in-Some.ensures.stands))
 
-pub returns-in-Some-clause-after : goal.returns-in-Some-clause-after
-returns-in-Some-clause-after c = c.put.ensures ∙ (edited c.self.inside.rows c.args.number c.in-Some.row c.self.invariant.numbers_rise (sym c.in-Some.ensures) (block c.args.on) ∙ ap (changed (block c.args.on) c.args.number) c.self.view_is)
-
-pub returns-in-None-clause-after : goal.returns-in-None-clause-after
-returns-in-None-clause-after c = rw (← c.self.view_is) (sym (unchanged (block c.args.on) c.args.number c.self.inside.rows (sym c.in-None.ensures)).0)
+pub returns-clause-after : goal.returns-clause-after
+returns-clause-after c =
+    changed_seen c.self.inside.rows c.self.inside.kinships c.args.self.now c.args.place c.self.invariant c.self.view_is c.requires c.in-Some.key c.args.number c.get-row.result.now c.get-row.ensures.sound c.get-row.ensures.row c.in-Some.ensures.stands (block c.args.on) c.replace.new.self c.replace.ensures
+    ∙ ap (with_forest c.args.self.now c.args.place) (blocked_is (forest_at c.args.self.now c.args.place) c.args.number c.args.on _ refl)

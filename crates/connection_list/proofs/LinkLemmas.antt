@@ -1,0 +1,82 @@
+-- Links by object, signal and number.
+use Rattle.std.proofs.Common.{◌≡◌, ◌≢◌, ◌∙◌, ℕ, ◌≤◌, false, List, Some, None, refl, sym, ap, arith}
+use Rattle.std.specs.Cmp.{IsTotalOrder}
+use Rattle.std.specs.List.{All, Any}
+use Rattle.std.specs.Ordering.{is_lt, nat_cmp, ordering_then}
+use Rattle.std.specs.declared.cmp.Ordering.{Ordering}
+use Rattle.std.specs.declared.cmp.Ordering.TheVariants.{Less, Equal, Greater}
+use Rattle.std.proofs.lemmas.Bool.Decides.{nat_tests}
+use Rattle.std.proofs.lemmas.Cmp.{nat_cmp_total, on_total, ranked, then_total}
+use Rattle.shared_rows.specs.Links.{IsInOrder, first_from}
+use Rattle.shared_rows.proofs.LinkedLemmas.{all_from, any_of, first_none, first_some}
+use Rattle.connection_list.specs.declared.link.Link.{Link}
+
+-- links stand by object, then by signal, by number and by key
+abbrev pub link_cmp : Link → Link → Ordering
+link_cmp x y = ordering_then (nat_cmp x.object y.object) (ordering_then (nat_cmp x.signal y.signal) (ordering_then (nat_cmp x.number y.number) (nat_cmp x.key y.key)))
+
+pub link_total : IsTotalOrder link_cmp
+link_total = then_total (on_total (λ (link : Link). link.object) nat_cmp_total) (then_total (on_total (λ (link : Link). link.signal) nat_cmp_total) (then_total (on_total (λ (link : Link). link.number) nat_cmp_total) (on_total (λ (link : Link). link.key) nat_cmp_total)))
+
+-- links that stand in one place are one
+pub link_same : (x y : Link) → link_cmp x y ≡ Equal → x ≡ y
+link_same x y e = by (nat_cmp x.object y.object) (nat_cmp x.signal y.signal) (nat_cmp x.number y.number) (nat_cmp x.key y.key) refl refl refl refl e
+  where
+    by : (o s n k : Ordering) → o ≡ nat_cmp x.object y.object → s ≡ nat_cmp x.signal y.signal → n ≡ nat_cmp x.number y.number → k ≡ nat_cmp x.key y.key → ordering_then o (ordering_then s (ordering_then n k)) ≡ Equal → x ≡ y
+    by Equal Equal Equal Equal object signal number key e =
+        let same_object : x.object ≡ y.object = ranked x.object y.object Equal object in
+        let same_signal : x.signal ≡ y.signal = ranked x.signal y.signal Equal signal in
+        let same_number : x.number ≡ y.number = ranked x.number y.number Equal number in
+        let same_key : x.key ≡ y.key = ranked x.key y.key Equal key in
+        ap (λ i. record { object = i; signal = x.signal; number = x.number; key = x.key }) same_object
+        ∙ (ap (λ i. record { object = y.object; signal = i; number = x.number; key = x.key }) same_signal
+        ∙ (ap (λ i. record { object = y.object; signal = y.signal; number = i; key = x.key }) same_number
+        ∙ ap (λ i. record { object = y.object; signal = y.signal; number = y.number; key = i }) same_key))
+    by Less s n k object signal number key e = absurd (cc)
+    by Greater s n k object signal number key e = absurd (cc)
+    by Equal Less n k object signal number key e = absurd (cc)
+    by Equal Greater n k object signal number key e = absurd (cc)
+    by Equal Equal Less k object signal number key e = absurd (cc)
+    by Equal Equal Greater k object signal number key e = absurd (cc)
+    by Equal Equal Equal Less object signal number key e = absurd (cc)
+    by Equal Equal Equal Greater object signal number key e = absurd (cc)
+
+-- where a search begins
+abbrev pub from : ℕ → ℕ → ℕ → Link
+from object signal number = record { object = object; signal = signal; number = number; key = 0 }
+
+-- what it says in numbers that the first link is not below the second
+pub record IsAtLeast (x y : Link) : Type 0 where
+  pub object : y.object ≤ x.object
+  pub signal : y.object ≡ x.object → y.signal ≤ x.signal
+  pub number : y.object ≡ x.object → y.signal ≡ x.signal → y.number ≤ x.number
+
+pub at_least : (x y : Link) → is_lt (link_cmp x y) ≡ false → IsAtLeast x y
+at_least x y e = record { object = grind (arith, nat_tests, e); signal = λ same. grind (arith, nat_tests, e, same); number = λ same other. grind (arith, nat_tests, e, same, other) }
+
+pub not_below : (x : Link) (number : ℕ) → number ≤ x.number → is_lt (link_cmp x (from x.object x.signal number)) ≡ false
+not_below x number within = grind (arith, nat_tests)
+
+-- no link of an object is below the first that it can have
+pub not_below_first : (x : Link) → is_lt (link_cmp x (from x.object 0 0)) ≡ false
+not_below_first x = grind (arith, nat_tests)
+
+module _ (links : List Link) (order : IsInOrder link_cmp links) (object : ℕ) where
+  -- where no link is at least the first of an object, none is the object's
+  pub none_of : first_from link_cmp links (from object 0 0) ≡ None → All (λ link. link.object ≢ object) links
+  none_of none = all_from (λ link. link.object ≢ object) links (λ link there same.
+      let below = first_none link_total link_same links (from object 0 0) none link there in
+      let above = ap (λ o. is_lt (link_cmp link (from o 0 0))) (sym same) ∙ not_below_first link in
+      absurd (cc (below, above)))
+
+  -- nor where the least of those is another's
+  pub others_of : (least : Link) → first_from link_cmp links (from object 0 0) ≡ Some least → least.object ≢ object → All (λ link. link.object ≢ object) links
+  others_of least found differs = all_from (λ link. link.object ≢ object) links (λ link there same.
+      let first = first_some link_total link_same links order (from object 0 0) least found in
+      let low = at_least least (from object 0 0) first.1 in
+      let above = at_least link least (first.2 link there (ap (λ o. is_lt (link_cmp link (from o 0 0))) (sym same) ∙ not_below_first link)) in
+      differs (omega (arith, low.object, above.object, same)))
+
+  -- else that one leads to a connection of the object
+  pub one_of : (least : Link) → first_from link_cmp links (from object 0 0) ≡ Some least → least.object ≡ object → Any (λ link. (link.object ≡ object) × (link.key ≡ least.key)) links
+  one_of least found same = any_of (λ link. (link.object ≡ object) × (link.key ≡ least.key)) links least (first_some link_total link_same links order (from object 0 0) least found).0 (same, refl)

@@ -1,0 +1,188 @@
+-- What contracts see of rows and routes.
+use Rattle.std.proofs.Common.{◌≡◌, ◌≢◌, ◌∙◌, ℕ, ◌-◌, ◌<◌, ◌≤◌, ◌^◌, ◌==◌, Bool, not, List, [], ◌∷◌, ◌++◌, Option, Some, None, length, map, filter, get_or, set, min, refl, sym, ap, subst, arith, ⊎_elim}
+use Rattle.std.specs.List.{All, Contains, count_by}
+use Rattle.std.specs.Option.{option_map}
+use Rattle.std.proofs.lemmas.Bool.{cases_eq, cases_lt, eq-eqb}
+use Rattle.std.proofs.lemmas.Bool.Decides.{nat_tests}
+use Rattle.std.proofs.lemmas.List.{get_or-map, get_or-set_same, get_or-set_other, get_or_append_left, get_or_default, get_or_push, length-map, length-set, length_push}
+use Rattle.std.proofs.lemmas.List.Sums.{length-filter, count_by-le-length}
+use Rattle.places.specs.Joined.{joined, joined_tables}
+use Rattle.places.specs.Table.{IsPlace, Table, with_place, opened}
+use Rattle.places.proofs.TableLemmas.{changes_open}
+use Rattle.shared_rows.proofs.LinkedLemmas.{all_from}
+use Rattle.places.proofs.JoinedLemmas.{joined_at, joined_push, joined_set, length-joined}
+use Rattle.shared_rows.specs.Rows.{IsAtPosition, Keyed, row_under}
+use Rattle.shared_rows.specs.Rows as shared
+use Rattle.connection_list.specs.declared.connection.Connection.{Connection}
+use Rattle.connection_list.specs.declared.routes.Routes.{Routes}
+use Rattle.connection_list.specs.Rows.{IsSound, Rows, has_number, no_rows, without}
+use Rattle.connection_list.specs.Table.{rows_at, with_rows}
+use Rattle.connection_list.specs.Routes.{AreGone, AreKept, IsPlaceKept, IsRouted, place_of}
+use Rattle.connection_list.proofs.KeyedLemmas.{filter_alike, filter_map, only_under, stands_under}
+use Rattle.connection_list.proofs.RoutesLemmas.{rising_keyed}
+use Rattle.connection_list.proofs.WithoutLemmas.{length-without}
+
+-- a place, seen from its rows and routes
+pub record IsSeen (rows : Table (List (Keyed Connection))) (routes : Table Routes) (table : Table Rows) (place : ℕ) (at : Routes) : Type 0 where
+  pub is_place : IsPlace rows place
+  pub kept : IsPlaceKept (shared.rows_at rows place) at
+  pub shows : rows_at table place ≡ place_of (shared.rows_at rows place) at
+
+-- what a look past the places gives
+abbrev blank : Routes
+blank = record { last_number = 0; sent = record { links = []; capacity = 0 }; received = record { links = []; capacity = 0 } }
+
+module _ (rows : Table (List (Keyed Connection))) (routes : Table Routes) (table : Table Rows) (kept : AreKept rows.places routes.places) (view_is : joined_tables place_of rows routes ≡ table) (place : ℕ) (is_place : IsPlace table place) where
+  pub rows_place : IsPlace rows place
+  rows_place = omega (arith, is_place, ap (λ (t : Table Rows). length t.places) view_is, length-joined place_of rows.places routes.places kept.same)
+
+  pub routes_place : IsPlace routes place
+  routes_place = omega (arith, rows_place, kept.same)
+
+  pub seen : (at : Routes) → ((default : Routes) → at ≡ get_or routes.places place default) → IsSeen rows routes table place at
+  seen at is = record {
+    is_place = rows_place;
+    kept = subst (IsPlaceKept (shared.rows_at rows place)) (sym (is at)) (kept.each place at rows_place);
+    shows =
+        ap (λ (t : Table Rows). rows_at t place) (sym view_is)
+        ∙ (joined_at place_of rows.places routes.places place [] at no_rows kept.same rows_place ∙ ap (place_of (shared.rows_at rows place)) (sym (is at)));
+  }
+
+  -- also where nothing was read there
+  pub seen_anyhow : IsSeen rows routes table place (get_or routes.places place blank)
+  seen_anyhow = seen (get_or routes.places place blank) (λ default. get_or_default routes.places place blank default routes_place)
+
+  -- as many rows are seen as stand there, and the same at each position
+  pub shown_count : length (rows_at table place).rows ≡ length (shared.rows_at rows place)
+  shown_count = ap (λ (p : Rows). length p.rows) seen_anyhow.shows ∙ length-map (shared.rows_at rows place) (λ keyed. keyed.row)
+
+  pub shown_row : (position key : ℕ) (row default : Connection) → position < length (shared.rows_at rows place) → IsAtPosition (shared.rows_at rows place) position key row → get_or (rows_at table place).rows position default ≡ row
+  shown_row position key row default within is =
+      let keyed : Keyed Connection = record { key = key; row = row } in
+      ap (λ (p : Rows). get_or p.rows position default) seen_anyhow.shows
+      ∙ (get_or-map (λ (k : Keyed Connection). k.row) (shared.rows_at rows place) position keyed default within ∙ ap (λ (k : Keyed Connection). k.row) (is keyed))
+
+  -- both changed at the place
+  module _ (list : List (Keyed Connection)) (at : Routes) (place_kept : IsPlaceKept list at) where
+    pub kept_changed : AreKept (with_place rows place list).places (with_place routes place at).places
+    kept_changed = record {
+      same = omega (arith, kept.same, length-set rows.places place list, length-set routes.places place at);
+      each = λ other default within. ⊎_elim
+          (λ (here : other ≡ place).
+          let there : IsPlaceKept (get_or (set rows.places place list) place []) (get_or (set routes.places place at) place default) =
+          rw (get_or-set_same rows.places place list [] rows_place, get_or-set_same routes.places place at default routes_place) place_kept in
+          subst (λ p. IsPlaceKept (get_or (set rows.places place list) p []) (get_or (set routes.places place at) p default)) (sym here) there)
+          (λ (elsewhere : other ≢ place).
+          let inside : other < length rows.places = omega (arith, within, length-set rows.places place list) in
+          rw (get_or-set_other rows.places place other list [] elsewhere, get_or-set_other routes.places place other at default elsewhere) (kept.each other default inside))
+          (cases_eq other place);
+    }
+
+    pub view_changed : joined_tables place_of (with_place rows place list) (with_place routes place at) ≡ with_rows table place (place_of list at)
+    view_changed =
+        ap (λ places. record { places = places; room = min rows.room routes.room }) (joined_set place_of rows.places routes.places place list at kept.same)
+        ∙ ap (λ t. with_place t place (place_of list at)) view_is
+
+-- a place where rows are gone
+module _ (rows new : Table (List (Keyed Connection))) (routes : Table Routes) (table : Table Rows) (kept : AreKept rows.places routes.places) (view_is : joined_tables place_of rows routes ≡ table) (place : ℕ) (is_place : IsPlace table place) (at after : Routes) (is : (default : Routes) → at ≡ get_or routes.places place default) (gone : Keyed Connection → Bool) (out : AreGone gone place rows new at after) where
+  pub gone_kept : AreKept new.places (set routes.places place after)
+  gone_kept = subst (λ (t : Table (List (Keyed Connection))). AreKept t.places (set routes.places place after)) (sym out.elsewhere) (kept_changed rows routes table kept view_is place is_place (shared.rows_at new place) after out.kept)
+
+  pub gone_place : IsPlace new place
+  gone_place = changes_open [] rows new place out.elsewhere (rows_place rows routes table kept view_is place is_place)
+
+  module _ (test : Connection → Bool) (alike : All (λ keyed. gone keyed ≡ test keyed.row) (shared.rows_at rows place)) where
+    gone_rows : map (λ keyed. keyed.row) (shared.rows_at new place) ≡ filter (λ row. not (test row)) (rows_at table place).rows
+    gone_rows =
+        ap (map (λ (keyed : Keyed Connection). keyed.row)) (out.rows ∙ filter_alike gone (λ keyed. test keyed.row) (shared.rows_at rows place) alike)
+        ∙ (sym (filter_map (λ row. not (test row)) (shared.rows_at rows place))
+        ∙ ap (λ (p : Rows). filter (λ row. not (test row)) p.rows) (sym (seen rows routes table kept view_is place is_place at is).shows))
+
+    pub gone_view : joined_tables place_of new (with_place routes place after) ≡ with_rows table place (without test (rows_at table place))
+    gone_view =
+        let numbers : after.last_number ≡ (rows_at table place).last_number = out.last_number ∙ ap (λ (p : Rows). p.last_number) (sym (seen rows routes table kept view_is place is_place at is).shows) in
+        ap (λ (t : Table (List (Keyed Connection))). joined_tables place_of t (with_place routes place after)) out.elsewhere
+        ∙ (view_changed rows routes table kept view_is place is_place (shared.rows_at new place) after out.kept
+        ∙ (ap (λ list. with_rows table place (record { rows = list; last_number = after.last_number })) gone_rows
+        ∙ ap (λ n. with_rows table place (record { rows = filter (λ row. not (test row)) (rows_at table place).rows; last_number = n })) numbers))
+
+    -- as many went as passed
+    pub gone_count : (before left : ℕ) → before ≡ length (shared.rows_at rows place) → left ≡ length (shared.rows_at new place) → (left ≤ before) × (before < 2 ^ 32) × (before - left ≡ count_by test (rows_at table place).rows)
+    gone_count before left before_is left_is =
+        let at_place = seen rows routes table kept view_is place is_place at is in
+        let first : length (rows_at table place).rows ≡ before = ap (λ (p : Rows). length p.rows) at_place.shows ∙ (length-map (shared.rows_at rows place) (λ keyed. keyed.row) ∙ sym before_is) in
+        let last : left ≡ length (filter (λ row. not (test row)) (rows_at table place).rows) = left_is ∙ (sym (length-map (shared.rows_at new place) (λ keyed. keyed.row)) ∙ ap length gone_rows) in
+        let few = at_place.kept.sound.few in (
+          omega (arith, first, last, length-filter (λ row. not (test row)) (rows_at table place).rows, count_by-le-length (λ row. not (test row)) (rows_at table place).rows),
+          omega (arith, few, before_is, length-map (shared.rows_at rows place) (λ (keyed : Keyed Connection). keyed.row)),
+          omega (arith, first, last, length-without test (rows_at table place).rows),
+        )
+
+-- rows of one number are one
+only_numbered : (rows : List (Keyed Connection)) (routes : Routes) → IsSound (place_of rows routes) → (x y : Keyed Connection) → Contains rows x → Contains rows y → x.row.number ≡ y.row.number → x ≡ y
+only_numbered rows routes sound x y there also same =
+    let first : get_or rows there.0 x ≡ x = there.2 in
+    let second : get_or rows also.0 x ≡ y = get_or_default rows also.0 x y also.1 ∙ also.2 in
+    let number_of = λ (k : Keyed Connection). k.row.number in
+    ⊎_elim
+    (λ (less : there.0 < also.0). absurd (omega (arith, rising_keyed rows routes sound there.0 also.0 x less also.1, ap number_of first, ap number_of second, same)))
+    (λ (more : also.0 ≤ there.0). ⊎_elim
+    (λ (here : also.0 ≡ there.0). sym first ∙ (ap (λ i. get_or rows i x) (sym here) ∙ second))
+    (λ (differ : also.0 ≢ there.0). absurd (omega (arith, more, differ, rising_keyed rows routes sound also.0 there.0 x (omega (arith, more, differ)) there.1, ap number_of first, ap number_of second, same)))
+    (cases_eq also.0 there.0))
+    (cases_lt there.0 also.0)
+
+-- the row under the key of a number is the one with that number
+pub numbered_alike : (rows : List (Keyed Connection)) (routes : Routes) (number key : ℕ) → IsPlaceKept rows routes → option_map (λ row. row.number) (row_under rows key) ≡ Some number → All (λ keyed. (keyed.key == key) ≡ has_number number keyed.row) rows
+numbered_alike rows routes number key kept stands = by (row_under rows key) refl stands
+  where
+    by : (o : Option Connection) → o ≡ row_under rows key → option_map (λ (row : Connection). row.number) o ≡ Some number → All (λ keyed. (keyed.key == key) ≡ has_number number keyed.row) rows
+    by None is stands = absurd (cc)
+    by (Some row) is stands =
+        let numbered : row.number ≡ number = cc in
+        all_from (λ keyed. (keyed.key == key) ≡ has_number number keyed.row) rows (λ keyed there. ⊎_elim
+        (λ (same : keyed.key ≡ key).
+        let same_row : keyed.row ≡ row = only_under rows key row kept.apart (sym is) keyed there same in
+        let same_number : keyed.row.number ≡ number = ap (λ (r : Connection). r.number) same_row ∙ numbered in
+        eq-eqb keyed.key key same ∙ sym (eq-eqb keyed.row.number number same_number))
+        (λ (differ : keyed.key ≢ key).
+        let other : keyed.row.number ≢ number = λ same_number. differ (ap (λ (k : Keyed Connection). k.key) (only_numbered rows routes kept.sound keyed (record { key = key; row = row }) there (stands_under rows key row (sym is)) (same_number ∙ sym numbered))) in
+        grind (arith, nat_tests, differ, other))
+        (cases_eq keyed.key key))
+
+-- a place where nothing was ever connected
+pub empty_kept : (routes : Routes) → routes.last_number ≡ 0 → IsRouted [] routes → IsPlaceKept [] routes
+empty_kept routes none routed = record {
+  sound = record { rising = λ i j d below within. absurd (omega (arith, within)); from_one = λ k d within. absurd (omega (arith, within)); given = λ k d within. absurd (omega (arith, within)); fits = omega (arith, none); few = omega arith };
+  apart = λ i j d below within. absurd (omega (arith, within));
+  short = λ k d within. absurd (omega (arith, within));
+  routed = routed;
+}
+
+pub empty_shows : (routes : Routes) → routes.last_number ≡ 0 → place_of [] routes ≡ no_rows
+empty_shows routes none = ap (λ n. record { rows = []; last_number = n }) none
+
+-- one more place
+module _ (rows : Table (List (Keyed Connection))) (routes : Table Routes) (table : Table Rows) (kept : AreKept rows.places routes.places) (view_is : joined_tables place_of rows routes ≡ table) (at : Routes) (none : at.last_number ≡ 0) (routed : IsRouted [] at) where
+  pub kept_opened : AreKept (rows.places ++ [] ∷ []) (routes.places ++ at ∷ [])
+  kept_opened = record {
+    same = omega (arith, kept.same, length_push rows.places [], length_push routes.places at);
+    each = λ place default within. ⊎_elim
+        (λ (old : place < length rows.places). rw (get_or_append_left rows.places ([] ∷ []) [] place old, get_or_append_left routes.places (at ∷ []) default place (omega (arith, old, kept.same))) (kept.each place default old))
+        (λ (last : length rows.places ≤ place).
+        let here : length rows.places ≡ place = omega (arith, last, within, length_push rows.places []) in
+        rw (get_or_push rows.places [] [] place here, get_or_push routes.places at default place (sym kept.same ∙ here)) (empty_kept at none routed))
+        (cases_lt place (length rows.places));
+  }
+
+  pub view_opened : joined_tables place_of (opened rows []) (opened routes at) ≡ opened table no_rows
+  view_opened =
+      ap (λ places. record { places = places; room = min (rows.room - 1) (routes.room - 1) }) (joined_push place_of rows.places routes.places [] at kept.same ∙ ap (λ p. joined place_of rows.places routes.places ++ p ∷ []) (empty_shows at none))
+      ∙ (ap (λ room. record { places = joined place_of rows.places routes.places ++ no_rows ∷ []; room = room }) rooms
+      ∙ ap (λ t. opened t no_rows) view_is)
+    where
+      rooms : min (rows.room - 1) (routes.room - 1) ≡ min rows.room routes.room - 1
+      rooms = omega arith
+
+  pub opened_count : length routes.places ≡ length table.places
+  opened_count = sym (ap (λ (t : Table Rows). length t.places) (sym view_is) ∙ (length-joined place_of rows.places routes.places kept.same ∙ kept.same))

@@ -1,0 +1,54 @@
+-- How the connections of a place are found from their ends. No public clause cites this module.
+use Rattle.std.specs.Prelude.{◌≡◌, ◌≢◌, ℕ, ◌<◌, ◌^◌, not, Bool, List, [], All, AllPairs, filter, length, map, slice_index_or}
+use Rattle.places.specs.Table.{Table, ChangesAt}
+use Rattle.shared_rows.specs.Links.{AreLinked, HasRoom}
+use Rattle.shared_rows.specs.Rows.{Keyed, rows_at}
+use Rattle.connection_list.specs.Rows.{IsSound, Rows}
+use Rattle.connection_list.specs.declared.connection.Connection.{Connection}
+use Rattle.connection_list.specs.declared.link.Link.{Link}
+use Rattle.connection_list.specs.declared.routes.Routes.{Routes}
+
+-- the links to a connection from its sender and from its receiver
+abbrev pub sent_of : Keyed Connection → Link
+sent_of keyed = record { object = keyed.row.sender; signal = keyed.row.signal; number = keyed.row.number; key = keyed.key }
+
+abbrev pub received_of : Keyed Connection → Link
+received_of keyed = record { object = keyed.row.receiver; signal = 0; number = keyed.row.number; key = keyed.key }
+
+-- each connection is found from both ends, and nothing else is
+pub record IsRouted (rows : List (Keyed Connection)) (routes : Routes) : Type 0 where
+  pub sent : AreLinked sent_of rows routes.sent.links
+  pub received : AreLinked received_of rows routes.received.links
+
+-- one more connection takes no memory
+pub record HaveRoom (routes : Routes) : Type 0 where
+  pub sent : HasRoom routes.sent
+  pub received : HasRoom routes.received
+
+-- the same connections are found
+pub record AreSame (old new : Routes) : Type 0 where
+  pub last_number : new.last_number ≡ old.last_number
+  pub sent : new.sent.links ≡ old.sent.links
+  pub received : new.received.links ≡ old.received.links
+
+-- what contracts see of a place
+abbrev pub place_of : List (Keyed Connection) → Routes → Rows
+place_of rows routes = record { rows = map (λ keyed. keyed.row) rows; last_number = routes.last_number }
+
+-- what is true of every place
+pub record IsPlaceKept (rows : List (Keyed Connection)) (routes : Routes) : Type 0 where
+  pub sound : IsSound (place_of rows routes)
+  pub apart : AllPairs (λ earlier later. earlier.key ≢ later.key) rows
+  pub short : All (λ keyed. keyed.key < 2 ^ 32) rows
+  pub routed : IsRouted rows routes
+
+pub record AreKept (places : List (List (Keyed Connection))) (routes : List Routes) : Type 0 where
+  pub same : length places ≡ length routes
+  pub each : (place : ℕ) (default : Routes) → place < length places → IsPlaceKept (slice_index_or places place []) (slice_index_or routes place default)
+
+-- the rows of a place that pass a test are gone, with what led to them
+pub record AreGone (gone : Keyed Connection → Bool) (place : ℕ) (old new : Table (List (Keyed Connection))) (before after : Routes) : Type 0 where
+  pub elsewhere : ChangesAt [] place old new
+  pub rows : rows_at new place ≡ filter (λ keyed. not (gone keyed)) (rows_at old place)
+  pub last_number : after.last_number ≡ before.last_number
+  pub kept : IsPlaceKept (rows_at new place) after

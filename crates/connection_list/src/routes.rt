@@ -1,0 +1,183 @@
+//! How the connections of a place are found from both ends.
+ghost use Rattle.std.specs.Prelude.{◌≡◌, ◌≢◌, ◌<◌, ◌^◌, ◌==◌, [], All, Any, IfNone, IfSome, IsSome, List, OnOk, false, find, true};
+ghost use Rattle.std.specs.Option.{option_map};
+ghost use Rattle.places.specs.Table.{IsPlace};
+ghost use Rattle.shared_rows.specs.Rows.{Keyed, added, row_under, rows_at};
+ghost use Rattle.connection_list.specs.declared.connection.Connection.{Connection};
+ghost use Rattle.connection_list.specs.Ends.{matches, touches};
+ghost use Rattle.connection_list.specs.Rows.{is_next};
+ghost use Rattle.connection_list.specs.Routes.{AreGone, AreSame, HaveRoom, IsPlaceKept, IsRouted, received_of, sent_of};
+
+use crate::connection::Connection;
+use crate::ends::matches;
+use crate::link::Link;
+use crate::pattern::Pattern;
+use shared_rows::{Links, SharedRows};
+use std::alloc::{AllocError, Global};
+
+/// What a place keeps beside its connections.
+#[derive(Debug, Drop)]
+pub(crate) struct Routes {
+    pub(crate) last_number: u32,
+    /// From the senders.
+    pub(crate) sent: Links<Link>,
+    /// From the receivers.
+    pub(crate) received: Links<Link>,
+}
+
+impl Routes {
+    /// What a place keeps where nothing was ever connected.
+    pub(crate) fn new(alloc: Global) -> Routes
+        ensures number { result.last_number ≡ 0 }
+        ensures routed { IsRouted [] result }
+    {
+        Routes {
+            last_number: 0,
+            sent: Links::new(alloc),
+            received: Links::new(alloc),
+        }
+    }
+
+    /// Makes room for one more connection.
+    pub(crate) fn reserve(&mut self) -> Result<(), AllocError>
+        ensures same { AreSame self.old self.new }
+        ensures room { OnOk result (HaveRoom self.new) }
+    {
+        self.sent.reserve()?;
+        self.received.reserve()
+    }
+
+    /// Adds a connection of the next number.
+    pub(crate) fn add(&mut self, row: &Connection, key: u32)
+        requires { HaveRoom self.old }
+        ensures number { self.new.last_number ≡ row.now.number }
+        ensures routed { (rows : List (Keyed Connection)) → IsRouted rows self.old → IsRouted (added rows key row.now) self.new }
+    {
+        self.sent.insert_reserved(sent_link(row, key));
+        self.received.insert_reserved(received_link(row, key));
+        self.last_number = row.number;
+    }
+
+    /// Takes out the connection under a key.
+    pub(crate) fn take_out(&mut self, rows: &mut SharedRows<Connection>, place: usize, key: usize)
+        requires place { IsPlace rows.old place }
+        requires kept { IsPlaceKept (rows_at rows.old place) self.old }
+        requires stands { IsSome (row_under (rows_at rows.old place) key) }
+        ensures { AreGone (λ keyed. keyed.key == key) place rows.old rows.new self.old self.new }
+    {
+        let row = rows.remove(place, key);
+        self.sent.remove(sent_link(&row, key as u32));
+        self.received.remove(received_link(&row, key as u32));
+    }
+
+    /// Takes out the connections that have an object at either end.
+    pub(crate) fn drop_object(
+        &mut self,
+        rows: &mut SharedRows<Connection>,
+        place: usize,
+        object: u32,
+    )
+        requires place { IsPlace rows.old place }
+        requires kept { IsPlaceKept (rows_at rows.old place) self.old }
+        ensures { AreGone (λ keyed. touches object keyed.row) place rows.old rows.new self.old self.new }
+    {
+        'keys: while let Some(key) = self.first_touching(object) {
+            self.take_out(rows, place, key as usize);
+        }
+    }
+
+    /// Takes out the connections that match a pattern.
+    pub(crate) fn disconnect_matching(
+        &mut self,
+        rows: &mut SharedRows<Connection>,
+        place: usize,
+        pattern: &Pattern,
+    )
+        requires place { IsPlace rows.old place }
+        requires kept { IsPlaceKept (rows_at rows.old place) self.old }
+        ensures { AreGone (λ keyed. matches pattern.now keyed.row) place rows.old rows.new self.old self.new }
+    {
+        let mut left = rows.len(place);
+        'rows: while left > 0 {
+            left -= 1;
+            let (key, row) = rows.at(place, left);
+            if matches(pattern, row) {
+                self.take_out(rows, place, key);
+            }
+        }
+    }
+
+    /// The key of the connection that an emission calls next.
+    pub(crate) fn next_sent(&self, sender: u32, signal: u32, after: u32, up_to: u32) -> Option<u32>
+        ensures { (rows : List (Keyed Connection)) → IsPlaceKept rows self.now
+            → result ≡ option_map (λ keyed. keyed.key) (find (λ keyed. is_next sender signal after up_to keyed.row) rows) }
+    {
+        if after == u32::MAX {
+            return None;
+        }
+        let start = Link {
+            object: sender,
+            signal,
+            number: after + 1,
+            key: 0,
+        };
+        let link = self.sent.first_from(start)?;
+        if link.object != sender || link.signal != signal || link.number > up_to {
+            return None;
+        }
+        Some(link.key)
+    }
+
+    /// The key of some connection that has an object at either end.
+    fn first_touching(&self, object: u32) -> Option<u32>
+        ensures found { (rows : List (Keyed Connection)) → IsRouted rows self.now
+            → IfSome result (λ key. Any (λ keyed. (keyed.key ≡ key) × (touches object keyed.row ≡ true)) rows) }
+        ensures none { (rows : List (Keyed Connection)) → IsRouted rows self.now
+            → IfNone result (All (λ keyed. touches object keyed.row ≡ false) rows) }
+    {
+        match first_of(&self.sent, object) {
+            Some(key) => Some(key),
+            None => first_of(&self.received, object),
+        }
+    }
+}
+
+fn sent_link(row: &Connection, key: u32) -> Link
+    ensures { result ≡ sent_of (record { key = key; row = row.now }) }
+{
+    Link {
+        object: row.sender,
+        signal: row.signal,
+        number: row.number,
+        key,
+    }
+}
+
+fn received_link(row: &Connection, key: u32) -> Link
+    ensures { result ≡ received_of (record { key = key; row = row.now }) }
+{
+    Link {
+        object: row.receiver,
+        signal: 0,
+        number: row.number,
+        key,
+    }
+}
+
+/// The key that the first link of an object leads to.
+fn first_of(links: &Links<Link>, object: u32) -> Option<u32>
+    ensures found { IfSome result (λ key. Any (λ link. (link.object ≡ object) × (link.key ≡ key)) links.now.links) }
+    ensures none { IfNone result (All (λ link. link.object ≢ object) links.now.links) }
+{
+    let start = Link {
+        object,
+        signal: 0,
+        number: 0,
+        key: 0,
+    };
+    let link = links.first_from(start)?;
+    if link.object != object {
+        return None;
+    }
+    Some(link.key)
+}

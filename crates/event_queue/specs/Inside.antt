@@ -1,0 +1,48 @@
+-- How the queues stand in rows and logs. No public clause cites this module.
+use Rattle.std.specs.Prelude.{◌≡◌, ℕ, ◌^◌, ◌<◌, ◌≤◌, ◌==◌, if◌then◌else◌, List, [], length, map, count_by, slice_index_or}
+use Rattle.std.specs.Option.{unwrap_or}
+use Rattle.std.specs.Ordering.{nat_cmp}
+use Rattle.std.specs.BTreeMap.{get}
+use Rattle.places.specs.Table.{ChangesAt, Table}
+use Rattle.shared_rows.specs.Rows.{Keyed, rows_at}
+use Rattle.event_queue.specs.declared.event.Event.{Event}
+use Rattle.event_queue.specs.declared.event.Posted.{Posted}
+use Rattle.event_queue.specs.declared.object_counts.ObjectCounts.{ObjectCounts}
+use Rattle.event_queue.specs.declared.table.Log.{Log}
+use Rattle.event_queue.specs.declared.table.TheConstants.{EVENTS}
+use Rattle.event_queue.specs.Queue.{Queue, object_of}
+
+-- how many events are counted for an object
+abbrev pub count_of : ObjectCounts → ℕ → ℕ
+count_of objects object = unwrap_or (get nat_cmp objects.counts object) 0
+
+-- so many are counted for one object now, and for others what was
+abbrev pub IsCounted : ObjectCounts → ObjectCounts → ℕ → ℕ → Type 0
+IsCounted old new object count = (other : ℕ) → count_of new other ≡ (if object == other then count else count_of old other)
+
+abbrev pub events_of : List (Keyed Posted) → List Event
+events_of rows = map (λ keyed. keyed.row.event) rows
+
+abbrev pub events_at : Table (List (Keyed Posted)) → ℕ → List Event
+events_at rows place = events_of (rows_at rows place)
+
+-- a place has these events, and other places have what they had
+pub record HasEvents (old new : Table (List (Keyed Posted))) (place : ℕ) (events : List Event) : Type 0 where
+  pub changed : ChangesAt [] place old new
+  pub now : events_at new place ≡ events
+
+-- what contracts see of a place
+abbrev pub queue_of : List (Keyed Posted) → Log → Queue
+queue_of rows log = record { events = events_of rows; lost = log.lost; mismatched = log.mismatched }
+
+-- the log belongs to these events
+pub record IsLogged (events : List Event) (log : Log) : Type 0 where
+  pub few : length events ≤ EVENTS
+  pub counted : (object : ℕ) → count_of log.objects object ≡ count_by (λ event. object_of event == object) events
+  pub lost : log.lost < 2 ^ 64
+  pub mismatched : log.mismatched < 2 ^ 64
+
+-- each place has its log
+pub record AreLogged (rows : Table (List (Keyed Posted))) (logs : Table Log) : Type 0 where
+  pub same : length rows.places ≡ length logs.places
+  pub each : (place : ℕ) (default : Log) → place < length rows.places → IsLogged (events_at rows place) (slice_index_or logs.places place default)

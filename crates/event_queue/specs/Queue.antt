@@ -1,0 +1,62 @@
+-- What contracts see of a queue.
+use Rattle.std.specs.Prelude.{ℕ, ◌+◌, ◌-◌, ◌^◌, ◌<◌, ◌≤◌, ◌==◌, Bool, not, nat_lt, min, if◌then◌else◌, List, [], ◌∷◌, ◌++◌, length, filter, drop}
+use Rattle.event_queue.specs.declared.event.Event.{Event}
+use Rattle.event_queue.specs.declared.event.Event.TheVariants.{Call, Deletion}
+use Rattle.event_queue.specs.declared.table.Counts.{Counts}
+use Rattle.event_queue.specs.declared.table.TheConstants.{EVENTS}
+
+pub record Queue : Type 0 where
+  -- the events that wait, in the order of posting
+  pub events : List Event
+  pub lost : ℕ
+  pub mismatched : ℕ
+
+abbrev pub empty_queue : Queue
+empty_queue = record { events = []; lost = 0; mismatched = 0 }
+
+-- the object that an event names
+abbrev pub object_of : Event → ℕ
+object_of (Call call) = call.object
+object_of (Deletion object) = object
+
+-- the events that do not name the object
+abbrev pub others : ℕ → List Event → List Event
+others object events = filter (λ event. not (object_of event == object)) events
+
+-- one more is counted, up to what 64 bits hold
+abbrev pub noted : ℕ → ℕ
+noted count = min (count + 1) (2 ^ 64 - 1)
+
+-- what is true of the queue of every place
+pub record IsSound (queue : Queue) : Type 0 where
+  pub few : length queue.events ≤ EVENTS
+  pub lost : queue.lost < 2 ^ 64
+  pub mismatched : queue.mismatched < 2 ^ 64
+
+-- does the queue take one more event
+abbrev pub has_room : Queue → Bool
+has_room queue = nat_lt (length queue.events) EVENTS
+
+-- with an event behind all others, where it takes one
+abbrev pub posted : Queue → Event → Queue
+posted queue event = if has_room queue then record queue { events = queue.events ++ event ∷ [] } else queue
+
+-- without its first event
+abbrev pub taken : Queue → Queue
+taken queue = record queue { events = drop 1 queue.events }
+
+-- without the events that name an object
+abbrev pub dropped : ℕ → Queue → Queue
+dropped object queue = record queue { events = others object queue.events }
+
+-- with one more lost event
+abbrev pub with_lost : Queue → Queue
+with_lost queue = record queue { lost = noted queue.lost }
+
+-- with one more mismatched event
+abbrev pub with_mismatched : Queue → Queue
+with_mismatched queue = record queue { mismatched = noted queue.mismatched }
+
+-- what is told of the queue
+abbrev pub counts_of : Queue → Counts
+counts_of queue = record { queued = length queue.events; lost = queue.lost; mismatched = queue.mismatched }

@@ -1,0 +1,192 @@
+//! The queues of all places.
+ghost use Rattle.std.specs.Prelude.{◌≡◌, ◌≤◌, [], IfOk, OnOk, OnErr, length};
+ghost use Rattle.std.specs.List.{slice_get};
+ghost use Rattle.places.specs.Table.{IsPlace, opened};
+ghost use Rattle.event_queue.specs.Queue.{IsSound, counts_of, dropped, empty_queue, has_room, posted, taken, with_lost, with_mismatched};
+ghost use Rattle.event_queue.specs.Table.{queue_at, with_queue};
+ghost use Rattle.event_queue.specs.Inside.{IsLogged};
+
+use crate::event::{Event, Posted};
+use crate::object_counts::ObjectCounts;
+use crate::order::{append, drop_events, take_first};
+use places::Places;
+use shared_rows::SharedRows;
+use std::alloc::{AllocError, Global};
+use std::marker::Model;
+
+/// How many events a place holds at most.
+pub const EVENTS: usize = 16384;
+
+/// What is told of a queue.
+#[derive(Clone, Copy, Debug, PartialEq, Eq)]
+pub struct Counts {
+    /// How many events wait.
+    pub queued: usize,
+    /// How many events were lost, as `note_lost` was told; no more than 2^64 - 1 are counted.
+    pub lost: u64,
+    /// How many events did not match, as `note_mismatched` was told; no more than 2^64 - 1 are counted.
+    pub mismatched: u64,
+}
+
+/// What a place keeps besides its events.
+#[derive(Drop)]
+struct Log {
+    lost: u64,
+    mismatched: u64,
+    objects: ObjectCounts,
+}
+
+impl Log {
+    fn new(alloc: Global) -> Log
+        ensures lost { result.lost ≡ 0 }
+        ensures mismatched { result.mismatched ≡ 0 }
+        ensures logged { IsLogged [] result }
+    {
+        Log {
+            lost: 0,
+            mismatched: 0,
+            objects: ObjectCounts::new(alloc),
+        }
+    }
+}
+
+/// The queue of each place. A place is opened by `ready` and then `open`, and is never closed.
+#[derive(Drop)]
+pub struct Queues {
+    rows: SharedRows<Posted>,
+    logs: Places<Log>,
+    alloc: Global,
+}
+
+impl Model for Queues {
+    ghost use Rattle.places.specs.Table.{Table};
+    ghost use Rattle.places.specs.Joined.{joined_tables};
+    ghost use Rattle.event_queue.specs.Queue.{Queue};
+    ghost use Rattle.event_queue.specs.Inside.{AreLogged, queue_of};
+
+    ghost Value = { Table Queue };
+
+    ghost view = { λ queues. joined_tables queue_of queues.rows queues.logs };
+
+    ghost invariant = { λ queues. AreLogged queues.rows queues.logs };
+}
+
+impl Queues {
+    /// A table with no place, which takes no memory yet.
+    pub fn new(alloc: Global) -> Queues
+        ensures { result.places ≡ [] }
+    {
+        Queues {
+            rows: SharedRows::new(alloc),
+            logs: Places::new(alloc),
+            alloc,
+        }
+    }
+
+    /// Makes room for one more place at least.
+    pub fn ready(&mut self) -> Result<(), AllocError>
+        ensures places { self.new.places ≡ self.old.places }
+        ensures room { OnOk result (1 ≤ self.new.room) }
+        ensures kept { self.old.room ≤ self.new.room }
+        ensures full { OnErr result (self.old.room ≡ 0) }
+        ensures err { OnErr result (self.new ≡ self.old) }
+    {
+        self.rows.ready()?;
+        self.logs.ready()
+    }
+
+    /// Opens the next place, with an empty queue, and returns its number.
+    pub fn open(&mut self) -> usize
+        requires { 1 ≤ self.old.room }
+        ensures place { result ≡ length self.old.places }
+        ensures opened { self.new ≡ opened self.old empty_queue }
+    {
+        self.logs.open(Log::new(self.alloc));
+        self.rows.open()
+    }
+
+    /// Drops all events of a place, and counts what is lost and mismatched from 0 again.
+    pub fn clear(&mut self, place: usize)
+        requires { IsPlace self.old place }
+        ensures { self.new ≡ with_queue self.old place empty_queue }
+    {
+        self.rows.clear(place);
+        *self.logs.get_mut(place) = Log::new(self.alloc);
+    }
+
+    /// Puts an event behind all others, and returns whether it did: a queue of `EVENTS` takes no more.
+    /// It fails where memory is short, and besides where 2^32 events wait at all places, or where 2^64 - 1
+    /// were posted at this one since its queue was last empty.
+    pub fn post(&mut self, place: usize, event: Event) -> Result<bool, AllocError>
+        requires { IsPlace self.old place }
+        ensures answer { IfOk result (λ answer. answer ≡ has_room (queue_at self.old place)) }
+        ensures ok { OnOk result (self.new ≡ with_queue self.old place (posted (queue_at self.old place) event)) }
+        ensures err { OnErr result (self.new ≡ self.old) }
+    {
+        if self.rows.len(place) >= EVENTS {
+            return Ok(false);
+        }
+        let object = event.object();
+        self.logs.get_mut(place).objects.add(object)?;
+        if let Err(error) = append(&mut self.rows, place, event) {
+            self.logs.get_mut(place).objects.subtract(object);
+            return Err(error);
+        }
+        Ok(true)
+    }
+
+    /// The first event, which is taken out.
+    pub fn take(&mut self, place: usize) -> Option<Event>
+        requires { IsPlace self.old place }
+        ensures first { result ≡ slice_get (queue_at self.old place).events 0 }
+        ensures rest { self.new ≡ with_queue self.old place (taken (queue_at self.old place)) }
+    {
+        let event = take_first(&mut self.rows, place)?;
+        self.logs.get_mut(place).objects.subtract(event.object());
+        Some(event)
+    }
+
+    /// Drops the events that name an object. A call names its receiver, and not its sender. The queue is
+    /// walked only where there are any.
+    pub fn drop_object(&mut self, place: usize, object: u32)
+        requires { IsPlace self.old place }
+        ensures { self.new ≡ with_queue self.old place (dropped object (queue_at self.old place)) }
+    {
+        if self.logs.get(place).objects.count(object) > 0 {
+            drop_events(&mut self.rows, place, object);
+            self.logs.get_mut(place).objects.forget(object);
+        }
+    }
+
+    /// How many events wait, and how many were noted as lost and as mismatched.
+    pub fn counts(&self, place: usize) -> Counts
+        requires { IsPlace self.now place }
+        ensures counts { result ≡ counts_of (queue_at self.now place) }
+        ensures sound { IsSound (queue_at self.now place) }
+    {
+        let log = self.logs.get(place);
+        Counts {
+            queued: self.rows.len(place),
+            lost: log.lost,
+            mismatched: log.mismatched,
+        }
+    }
+
+    /// Counts one more event as lost.
+    pub fn note_lost(&mut self, place: usize)
+        requires { IsPlace self.old place }
+        ensures { self.new ≡ with_queue self.old place (with_lost (queue_at self.old place)) }
+    {
+        let log = self.logs.get_mut(place);
+        log.lost = log.lost.saturating_add(1);
+    }
+
+    /// Counts one more event as mismatched.
+    pub fn note_mismatched(&mut self, place: usize)
+        requires { IsPlace self.old place }
+        ensures { self.new ≡ with_queue self.old place (with_mismatched (queue_at self.old place)) }
+    {
+        let log = self.logs.get_mut(place);
+        log.mismatched = log.mismatched.saturating_add(1);
+    }
+}

@@ -1,0 +1,12 @@
+use Rattle.std.proofs.Common.{◌∙◌, sym}
+use Rattle.object_tree.proofs.KeptLemmas.{as_many, open_kept, open_seen}
+use Rattle.object_tree.proofs.objects.Objects.open.Goals as goal
+
+pub invariant_of-self : goal.invariant_of-self
+invariant_of-self c = open_kept c.self.inside.rows c.self.inside.kinships c.args.self.now c.self.invariant c.self.view_is c.open.new.self c.open-2.new.self c.no_kinship.result c.open.ensures.opened c.open-2.ensures.opened c.no_kinship.ensures.children
+
+pub returns-clause-place : goal.returns-clause-place
+returns-clause-place c = c.open-2.ensures.place ∙ sym (as_many c.self.inside.rows c.self.inside.kinships c.args.self.now 0 c.self.invariant c.self.view_is)
+
+pub returns-clause-opened : goal.returns-clause-opened
+returns-clause-opened c = open_seen c.self.inside.rows c.self.inside.kinships c.args.self.now c.self.invariant c.self.view_is c.open.new.self c.open-2.new.self c.no_kinship.result c.open.ensures.opened c.open-2.ensures.opened c.no_kinship.ensures.number c.no_kinship.ensures.stamp

@@ -1,0 +1,41 @@
+-- How the objects of the places are kept. No public clause cites this module.
+use Rattle.std.specs.Prelude.{ℕ, ◌≡◌, ◌<◌, List, Option, None, Some, length, map, slice_index_or}
+use Rattle.std.specs.Ordering.{nat_cmp, on, then_cmp}
+use Rattle.std.specs.declared.cmp.Ordering.{Ordering}
+use Rattle.places.specs.Table.{Table}
+use Rattle.shared_rows.specs.Rows.{Keyed, rows_at}
+use Rattle.shared_rows.specs.Links.{AreLinked}
+use Rattle.object_tree.specs.declared.row.Row.{Row}
+use Rattle.object_tree.specs.declared.child.Child.{Child}
+use Rattle.object_tree.specs.declared.objects.Kinship.{Kinship}
+use Rattle.object_tree.specs.Forest.{Forest, IsSound}
+use Rattle.object_tree.specs.Table.{forest_at}
+
+-- the number of a parent, and 0 where there is none, since no object has number 0
+abbrev pub order_of : Option ℕ → ℕ
+order_of None = 0
+order_of (Some number) = number
+
+-- where a row stands among the children of all parents
+abbrev pub child_of : Row → Child
+child_of row = record { stamp = row.stamp; parent = order_of row.parent; number = row.number }
+
+-- by parent, and then by age
+abbrev pub child_cmp : Child → Child → Ordering
+child_cmp = then_cmp (then_cmp (on (λ child. child.parent) nat_cmp) (on (λ child. child.stamp) nat_cmp)) (on (λ child. child.number) nat_cmp)
+
+-- rows, whatever their keys
+abbrev pub rows_of : List (Keyed Row) → List Row
+rows_of keyed = map (λ (k : Keyed Row). k.row) keyed
+
+abbrev pub forest_of : List (Keyed Row) → Kinship → Forest
+forest_of keyed kinship = record { rows = rows_of keyed; last_number = kinship.last_number; last_stamp = kinship.last_stamp }
+
+-- both tables have the same places, and at each one the children of all parents are those of its rows
+pub record IsKept (rows : Table (List (Keyed Row))) (kinships : Table Kinship) : Type 0 where
+  pub same : length rows.places ≡ length kinships.places
+  pub linked : (place : ℕ) (default : Kinship) → place < length kinships.places → AreLinked child_of (rows_of (rows_at rows place)) (slice_index_or kinships.places place default).children.links
+
+-- every forest is sound
+abbrev pub AreSound : Table Forest → Type 0
+AreSound table = (place : ℕ) → place < length table.places → IsSound (forest_at table place)

@@ -1,0 +1,175 @@
+-- Links in order.
+use Rattle.std.proofs.Common.{◌≡◌, ◌∙◌, ℕ, zero, suc, ◌+◌, ◌<◌, ◌≤◌, Bool, true, false, not, List, [], ◌∷◌, ◌++◌, Some, None, Option, IsSome, OnSome, Result, Ok, Err, OnOk, OnErr, ◌↔◌, deque_len, length, filter, find, get_or, take, drop, set, slice_get, refl, subst, sym, ap, arith, ⊎_elim}
+use Rattle.std.specs.VecDeque.{deque_capacity}
+use Rattle.std.specs.declared.collections.VecDeque.{VecDeque}
+use Rattle.std.specs.Cmp.{IsTotalOrder, alike_right}
+use Rattle.std.specs.List.{AllWithin, insert, remove}
+use Rattle.std.specs.List.Sorted.{IsBinarySearchResult, IsSearchInRange, IsSortedBy}
+use Rattle.std.specs.Ordering.{is_eq, is_lt, ordering_reverse}
+use Rattle.std.specs.declared.cmp.Ordering.{Ordering}
+use Rattle.std.specs.declared.cmp.Ordering.TheVariants.{Less, Equal, Greater}
+use Rattle.std.proofs.lemmas.Bool.{cases_lt}
+use Rattle.std.proofs.lemmas.List.{set_split, take_all}
+use Rattle.std.proofs.lemmas.List.Edits.{length-remove}
+use Rattle.std.proofs.lemmas.List.Quantifiers.{all_pairs_remove}
+use Rattle.std.proofs.lemmas.List.Sorted.{searchable_from_sorted}
+use Rattle.std.proofs.lemmas.Option.{slice_get-get_or}
+use Rattle.shared_rows.specs.Links.{HasMemory, HasRoom, IsBetween, Linked, IsInOrder, IsSeat, first_from, with_link, without_link}
+
+-- a filter whose test the front passes and the rest fails
+pub filter_front : {X : Type 0} (p : X → Bool) (xs : List X) (n : ℕ) → AllWithin (λ x. p x ≡ true) xs 0 n → AllWithin (λ x. p x ≡ false) xs n (length xs) → filter p xs ≡ take n xs
+filter_front p [] zero passes fails = refl
+filter_front p [] (suc n) passes fails = refl
+filter_front p (x ∷ xs) zero passes fails =
+    let here : p x ≡ false = fails 0 x (omega arith) (omega arith) in
+    rw here (filter_front p xs 0 (λ k d low high. absurd (omega arith)) (λ k d low high. fails (suc k) d (omega arith) (omega arith)))
+filter_front p (x ∷ xs) (suc n) passes fails =
+    let here : p x ≡ true = passes 0 x (omega arith) (omega arith) in
+    rw here (ap (λ rest. x ∷ rest) (filter_front p xs n (λ k d low high. passes (suc k) d (omega arith) (omega arith)) (λ k d low high. fails (suc k) d (omega arith) (omega arith))))
+
+-- and the other way
+pub filter_back : {X : Type 0} (p : X → Bool) (xs : List X) (n : ℕ) → AllWithin (λ x. p x ≡ false) xs 0 n → AllWithin (λ x. p x ≡ true) xs n (length xs) → filter p xs ≡ drop n xs
+filter_back p [] zero fails passes = refl
+filter_back p [] (suc n) fails passes = refl
+filter_back p (x ∷ xs) zero fails passes =
+    let here : p x ≡ true = passes 0 x (omega arith) (omega arith) in
+    rw here (ap (λ rest. x ∷ rest) (filter_back p xs 0 (λ k d low high. absurd (omega arith)) (λ k d low high. passes (suc k) d (omega arith) (omega arith))))
+filter_back p (x ∷ xs) (suc n) fails passes =
+    let here : p x ≡ false = fails 0 x (omega arith) (omega arith) in
+    rw here (filter_back p xs n (λ k d low high. fails (suc k) d (omega arith) (omega arith)) (λ k d low high. passes (suc k) d (omega arith) (omega arith)))
+
+-- a filter whose test one element fails
+filter_out : {X : Type 0} (p : X → Bool) (xs : List X) (n : ℕ) (d : X) → n < length xs → AllWithin (λ x. p x ≡ true) xs 0 n → p (get_or xs n d) ≡ false → AllWithin (λ x. p x ≡ true) xs (n + 1) (length xs) → filter p xs ≡ remove xs n
+filter_out p [] n d within before at behind = absurd (omega arith)
+filter_out p (x ∷ xs) zero d within before at behind =
+    rw at (filter_back p xs 0 (λ k e low high. absurd (omega arith)) (λ k e low high. behind (suc k) e (omega arith) (omega arith)))
+filter_out p (x ∷ xs) (suc n) d within before at behind =
+    let here : p x ≡ true = before 0 x (omega arith) (omega arith) in
+    rw here (ap (λ rest. x ∷ rest) (filter_out p xs n d (omega arith) (λ k e low high. before (suc k) e (omega arith) (omega arith)) at (λ k e low high. behind (suc k) e (omega arith) (omega arith))))
+
+-- the first that passes, where those before fail
+find_at : {X : Type 0} (p : X → Bool) (xs : List X) (n : ℕ) → AllWithin (λ x. p x ≡ false) xs 0 n → AllWithin (λ x. p x ≡ true) xs n (length xs) → find p xs ≡ slice_get xs n
+find_at p [] zero fails passes = refl
+find_at p [] (suc n) fails passes = refl
+find_at p (x ∷ xs) zero fails passes = let here : p x ≡ true = passes 0 x (omega arith) (omega arith) in rw here refl
+find_at p (x ∷ xs) (suc n) fails passes =
+    let here : p x ≡ false = fails 0 x (omega arith) (omega arith) in
+    rw here (find_at p xs n (λ k d low high. fails (suc k) d (omega arith) (omega arith)) (λ k d low high. passes (suc k) d (omega arith) (omega arith)))
+
+module _ {K : Type 0} {cmp : K → K → Ordering} (total : IsTotalOrder cmp) where
+  below_back : (x y : K) → cmp x y ≡ Less → cmp y x ≡ Greater
+  below_back x y e = total.antisymm y x ∙ ap ordering_reverse e
+
+  above_back : (x y : K) → cmp x y ≡ Greater → cmp y x ≡ Less
+  above_back x y e = total.antisymm y x ∙ ap ordering_reverse e
+
+  module _ (links : List K) (order : IsInOrder cmp links) (link : K) where
+    in_sorted : IsSortedBy (λ a b. is_lt (cmp a b)) links
+    in_sorted = λ k d low high. ap is_lt (below_back (get_or links k d) (get_or links (k + 1) d) (order k (k + 1) d (omega arith) high))
+
+    -- what a binary search finds
+    pub seat_found : (r : Result ℕ ℕ) → IsSearchInRange r (length links) → IsBinarySearchResult (λ other. cmp other link) links r → IsSeat cmp links link r
+    seat_found (Ok at) within equal = (
+      within,
+      equal,
+      record {
+        below = λ k d low high. sym (alike_right total (get_or links at d) link (get_or links k d) (equal d)) ∙ order k at d high within;
+        above = λ k d low high. sym (total.congr (get_or links at d) link (get_or links k d) (equal d)) ∙ order at k d (omega arith) high;
+      },
+    )
+    seat_found (Err at) within parted =
+        let parts = parted (searchable_from_sorted total (λ (other : K). other) links link in_sorted) in
+        (within, record { below = parts.0; above = λ k d low high. above_back (get_or links k d) link (parts.1 k d low high) })
+
+    module _ (before from : ℕ) (upto : before ≤ from) (within : from ≤ length links) (between : IsBetween cmp links link before from) (middle : AllWithin (λ other. cmp other link ≡ Equal) links before from) where
+      not_below : AllWithin (λ other. is_lt (cmp other link) ≡ false) links before (length links)
+      not_below = λ k d low high. ⊎_elim
+          (λ (mid : k < from). ap is_lt (middle k d low mid))
+          (λ (behind : from ≤ k). ap is_lt (below_back link (get_or links k d) (between.above k d behind high)))
+          (cases_lt k from)
+
+      not_above : AllWithin (λ other. is_lt (cmp link other) ≡ false) links 0 from
+      not_above = λ k d low high. ⊎_elim
+          (λ (front : k < before). ap is_lt (below_back (get_or links k d) link (between.below k d low front)))
+          (λ (mid : before ≤ k). ap is_lt (total.antisymm link (get_or links k d) ∙ ap ordering_reverse (middle k d mid high)))
+          (cases_lt k before)
+
+      with_between : with_link cmp links link ≡ take before links ++ link ∷ drop from links
+      with_between =
+          let front : filter (λ other. is_lt (cmp other link)) links ≡ take before links = filter_front (λ other. is_lt (cmp other link)) links before (λ k d low high. ap is_lt (between.below k d low high)) not_below in
+          let back : filter (λ other. is_lt (cmp link other)) links ≡ drop from links = filter_back (λ other. is_lt (cmp link other)) links from not_above (λ k d low high. ap is_lt (between.above k d low high)) in
+          rw (front, back) refl
+
+    pub set_link : (at : ℕ) → IsSeat cmp links link (Ok at) → set links at link ≡ with_link cmp links link
+    set_link at seat =
+        let next : suc at ≡ at + 1 = omega arith in
+        set_split links at link seat.0
+        ∙ (ap (λ from. take at links ++ link ∷ drop from links) next
+        ∙ sym (with_between at (at + 1) (omega arith) (omega (arith, seat.0)) seat.2 (λ k d low high. let here : k ≡ at = omega arith in ap (λ i. cmp (get_or links i d) link) here ∙ seat.1 d)))
+
+    pub insert_link : (at : ℕ) → IsSeat cmp links link (Err at) → insert links at link ≡ with_link cmp links link
+    insert_link at seat = sym (with_between at at (omega arith) seat.0 seat.1 (λ k d low high. absurd (omega arith)))
+
+    pub remove_link : (at : ℕ) (d : K) → IsSeat cmp links link (Ok at) → remove links at ≡ without_link cmp links link
+    remove_link at d seat =
+        sym (filter_out (λ other. not (is_eq (cmp other link))) links at d seat.0
+        (λ k e low high. ap (λ o. not (is_eq o)) (seat.2.below k e low high))
+        (ap (λ o. not (is_eq o)) (seat.1 d))
+        (λ k e low high. ap (λ o. not (is_eq o)) (below_back link (get_or links k e) (seat.2.above k e low high))))
+
+    pub without_absent : (at : ℕ) → IsSeat cmp links link (Err at) → links ≡ without_link cmp links link
+    without_absent at seat =
+        sym (filter_front (λ other. not (is_eq (cmp other link))) links (length links)
+        (λ k d low high. ⊎_elim
+        (λ (below : k < at). ap (λ o. not (is_eq o)) (seat.1.below k d low below))
+        (λ (above : at ≤ k). ap (λ o. not (is_eq o)) (below_back link (get_or links k d) (seat.1.above k d above high)))
+        (cases_lt k at))
+        (λ k d low high. absurd (omega arith)) ∙ take_all (length links) links (omega arith))
+
+    pub first_there : (at : ℕ) (d : K) → IsSeat cmp links link (Ok at) → Some (get_or links at d) ≡ first_from cmp links link
+    first_there at d seat =
+        sym (find_at (λ other. not (is_lt (cmp other link))) links at (λ k e low high. ap (λ o. not (is_lt o)) (seat.2.below k e low high))
+        (λ k e low high. ⊎_elim
+        (λ (here : k < at + 1). let same : k ≡ at = omega arith in ap (λ o. not (is_lt o)) (ap (λ i. cmp (get_or links i e) link) same ∙ seat.1 e))
+        (λ (above : at + 1 ≤ k). ap (λ o. not (is_lt o)) (below_back link (get_or links k e) (seat.2.above k e above high)))
+        (cases_lt k (at + 1)))
+        ∙ slice_get-get_or links at d seat.0)
+
+    pub first_above : (at : ℕ) → IsSeat cmp links link (Err at) → slice_get links at ≡ first_from cmp links link
+    first_above at seat =
+        sym (find_at (λ other. not (is_lt (cmp other link))) links at (λ k e low high. ap (λ o. not (is_lt o)) (seat.1.below k e low high))
+        (λ k e low high. ap (λ o. not (is_lt o)) (below_back link (get_or links k e) (seat.1.above k e low high))))
+
+-- a change of what contracts see
+abbrev pub linked : {K : Type 0} → List K → ℕ → Linked K
+linked links capacity = record { links = links; capacity = capacity }
+
+pub relinked : {K : Type 0} (change : List K → List K) (old : Linked K) (links new : List K) (capacity size : ℕ) → linked links capacity ≡ old → new ≡ change links → size ≡ capacity → linked new size ≡ linked (change old.links) old.capacity
+relinked {K} change old links new capacity size view_is new_is same =
+    ap (λ (list : List K). linked list size) new_is
+    ∙ (ap (λ (c : ℕ). linked (change links) c) same ∙ ap (λ (l : Linked K). linked (change l.links) l.capacity) view_is)
+
+-- a queue with memory for so many has room for one more than it holds, if those are more
+pub has_room : {K A : Type 0} (items : VecDeque K A) (capacity : ℕ) (old : Linked K) → linked items.items capacity ≡ old → HasMemory capacity items → HasRoom old → deque_len items < deque_capacity items
+has_room {K} items capacity old view_is memory room = omega (arith, items.ok.0, memory.1, ap (λ (l : Linked K). length l.links) view_is, ap (λ (l : Linked K). l.capacity) view_is, room)
+
+-- where there is room an insertion is done
+pub inserted_items : {T E : Type 0} {P : Type 0} {size capacity : ℕ} (result : Result T E) → size < capacity → OnErr result (capacity ≤ size) → OnOk result P → P
+inserted_items (Ok done) room full items = items
+inserted_items (Err error) room full items = absurd (omega (arith, room, full))
+
+pub on_some : {X : Type 0} {P : Type 0} (o : Option X) → IsSome o → OnSome o P → P
+on_some None none holds = absurd (cc)
+on_some (Some x) some holds = holds
+
+-- and what stands in a queue is taken out
+pub removed_items : {K A : Type 0} {P : Type 0} (gone : Option K) (items : VecDeque K A) (at : ℕ) → (IsSome gone ↔ (at < deque_len items)) → at < length items.items → OnSome gone P → P
+removed_items gone items at there within same = on_some gone (there.1 (omega (arith, within, items.ok.0))) same
+
+-- and the others stay in order
+pub order_kept : {K : Type 0} (cmp : K → K → Ordering) (links : List K) (at : ℕ) → at < length links → IsInOrder cmp links → (left : List K) → left ≡ remove links at → IsInOrder cmp left
+order_kept {K} cmp links at within ordered left same = subst (λ (list : List K). IsInOrder cmp list) (sym same) (all_pairs_remove (λ (x y : K). cmp x y ≡ Less) links at within ordered)
+
+-- and so does what memory there is
+pub memory_kept : {K A : Type 0} (capacity : ℕ) (items : VecDeque K A) (at : ℕ) → at < length items.items → HasMemory capacity items → (left : VecDeque K A) → left.items ≡ remove items.items at → deque_capacity left ≡ deque_capacity items → HasMemory capacity left
+memory_kept {K} capacity items at within memory left same size = (omega (arith, memory.0, ap (λ (list : List K). length list) same, length-remove items.items at within), omega (arith, memory.1, size))

@@ -1,0 +1,276 @@
+-- Rows and their links: what a link that comes or goes changes, and what the least link tells.
+use Rattle.std.proofs.Common.{◌≡◌, ◌≢◌, ◌∙◌, ◌⊎◌, ℕ, zero, suc, ◌<◌, Bool, true, false, not, cond, List, [], ◌∷◌, ◌++◌, Some, None, length, filter, map, get_or, refl, sym, ap, subst, arith, ⊎_elim, inl, inr}
+use Rattle.std.specs.Cmp.{IsTotalOrder, tied_itself}
+use Rattle.std.specs.List.{All, Any, Contains}
+use Rattle.std.specs.Ordering.{is_eq, is_lt, ordering_reverse}
+use Rattle.std.specs.declared.cmp.Ordering.{Ordering}
+use Rattle.std.specs.declared.cmp.Ordering.TheVariants.{Less, Equal, Greater}
+use Rattle.std.proofs.lemmas.Bool.{cases_Bool}
+use Rattle.std.proofs.lemmas.List.Elements.{All-contains, All-contains_itself, All-filter, All-map, All-push, Contains-append_cases, Contains-append_left, Contains-append_right, Contains-get_or, filter_passes}
+use Rattle.std.proofs.lemmas.List.Quantifiers.{Any-push}
+use Rattle.std.proofs.lemmas.List.Sums.{length-filter, count_by-le-length}
+use Rattle.shared_rows.specs.Links.{AreLinked, IsInOrder, first_from, with_link, without_link}
+
+module _ {X : Type 0} where
+  pub contains_first : (x : X) (xs : List X) → Contains (x ∷ xs) x
+  contains_first x xs = (0, omega arith, refl)
+
+  pub contains_later : (first x : X) (xs : List X) → Contains xs x → Contains (first ∷ xs) x
+  contains_later first x xs there = (suc there.0, omega (arith, there.1), there.2)
+
+  pub contains_cases : (first x : X) (xs : List X) → Contains (first ∷ xs) x → (first ≡ x) ⊎ Contains xs x
+  contains_cases first x xs there = by there.0 there.1 there.2
+    where
+      by : (at : ℕ) → at < length (first ∷ xs) → get_or (first ∷ xs) at x ≡ x → (first ≡ x) ⊎ Contains xs x
+      by zero within is = inl is
+      by (suc at) within is = inr (at, omega arith, is)
+
+  -- what a filter keeps
+  pub contains_kept : (p : X → Bool) (xs : List X) (x : X) → Contains xs x → p x ≡ true → Contains (filter p xs) x
+  contains_kept p [] x there passes = absurd (omega (arith, there.1))
+  contains_kept p (first ∷ xs) x there passes =
+      ⊎_elim
+      (λ (here : first ≡ x). let test : p first ≡ true = ap p here ∙ passes in rw test (subst (Contains (first ∷ filter p xs)) here (contains_first first (filter p xs))))
+      (λ (later : Contains xs x). by (p first) (contains_kept p xs x later passes))
+      (contains_cases first x xs there)
+    where
+      by : (kept : Bool) → Contains (filter p xs) x → Contains (cond kept (first ∷ filter p xs) (filter p xs)) x
+      by true there = contains_later first x (filter p xs) there
+      by false there = there
+
+  pub contains_from : (p : X → Bool) (xs : List X) (x : X) → Contains (filter p xs) x → Contains xs x × (p x ≡ true)
+  contains_from p xs x there = (
+    All-contains (Contains xs) (filter p xs) x (All-filter p (Contains xs) xs (All-contains_itself xs)) there,
+    All-contains (λ y. p y ≡ true) (filter p xs) x (filter_passes p xs) there,
+  )
+
+  -- a fact of what a list contains, and an element of which a fact holds
+  pub all_from : (P : X → Type 0) (xs : List X) → ((x : X) → Contains xs x → P x) → All P xs
+  all_from P xs holds = λ k d within. holds (get_or xs k d) (Contains-get_or xs k d within)
+
+  pub any_of : (P : X → Type 0) (xs : List X) (x : X) → Contains xs x → P x → Any P xs
+  any_of P xs x there holds = (there.0, x, there.1, there.2, holds)
+
+  pub any_more : (P : X → Type 0) (xs : List X) (y : X) → Any P xs → Any P (xs ++ y ∷ [])
+  any_more P xs y any = any_of P (xs ++ y ∷ []) any.1 (Contains-append_left xs (y ∷ []) any.1 (any.0, any.2, any.3)) any.4
+
+pub contains_map : {X Y : Type 0} (f : X → Y) (xs : List X) (x : X) → Contains xs x → Contains (map f xs) (f x)
+contains_map f [] x there = absurd (omega (arith, there.1))
+contains_map f (first ∷ xs) x there = ⊎_elim
+    (λ (here : first ≡ x). subst (λ y. Contains (f first ∷ map f xs) (f y)) here (contains_first (f first) (map f xs)))
+    (λ (later : Contains xs x). contains_later (f first) (f x) (map f xs) (contains_map f xs x later))
+    (contains_cases first x xs there)
+
+pub contains_mapped : {X Y : Type 0} (f : X → Y) (xs : List X) (y : Y) → Contains (map f xs) y → (x : X) × Contains xs x × (f x ≡ y)
+contains_mapped {X} {Y} f xs y there =
+    let any : Any (λ x. f x ≡ y) xs = All-contains (λ z. Any (λ x. f x ≡ z) xs) (map f xs) y (All-map (λ z. Any (λ x. f x ≡ z) xs) f xs (all_from (λ x. Any (λ w. f w ≡ f x) xs) xs (λ x stood. any_of (λ w. f w ≡ f x) xs x stood refl))) there in
+    (any.1, (any.0, any.2, any.3), any.4)
+
+-- a change that keeps each link
+pub linked_same : {R K : Type 0} (link_of : R → K) (change : R → R) → ((row : R) → link_of (change row) ≡ link_of row) → (rows : List R) (links : List K) → AreLinked link_of rows links → AreLinked link_of (map change rows) links
+linked_same {R} {K} link_of change keeps rows links linked = record {
+  each = All-map (λ row. Contains links (link_of row)) change rows (all_from (λ row. Contains links (link_of (change row))) rows (λ row there. subst (Contains links) (sym (keeps row)) (All-contains (λ r. Contains links (link_of r)) rows row linked.each there)));
+  all = all_from (λ link. Any (λ row. link_of row ≡ link) (map change rows)) links (λ link there.
+      let any : Any (λ r. link_of r ≡ link) rows = All-contains (λ link. Any (λ r. link_of r ≡ link) rows) links link linked.all there in
+      any_of (λ r. link_of r ≡ link) (map change rows) (change any.1) (contains_map change rows any.1 (any.0, any.2, any.3)) (keeps any.1 ∙ any.4));
+}
+
+module _ {K : Type 0} {cmp : K → K → Ordering} (total : IsTotalOrder cmp) where
+  -- a link that is there, gone
+  pub length-without : (links : List K) (link : K) → Contains links link → length (without_link cmp links link) < length links
+  length-without [] link there = absurd (omega (arith, there.1))
+  length-without (first ∷ links) link there = ⊎_elim
+      (λ (here : first ≡ link). let tied : is_eq (cmp first link) ≡ true = ap (λ x. is_eq (cmp x link)) here ∙ ap is_eq (tied_itself total link) in
+      rw tied (omega (arith, length-filter (λ other. not (is_eq (cmp other link))) links, count_by-le-length (λ other. not (is_eq (cmp other link))) links)))
+      (λ (later : Contains links link). by (is_eq (cmp first link)) (length-without links link later))
+      (contains_cases first link links there)
+    where
+      by : (tied : Bool) → length (without_link cmp links link) < length links → length (cond (not tied) (first ∷ without_link cmp links link) (without_link cmp links link)) < length (first ∷ links)
+      by true less = omega (arith, less)
+      by false less = omega (arith, less)
+
+module _ {K : Type 0} {cmp : K → K → Ordering} (total : IsTotalOrder cmp) (same : (x y : K) → cmp x y ≡ Equal → x ≡ y) where
+  -- links in order are known by what they contain
+  pub same_links : (xs ys : List K) → IsInOrder cmp xs → IsInOrder cmp ys → ((x : K) → Contains xs x → Contains ys x) → ((x : K) → Contains ys x → Contains xs x) → xs ≡ ys
+  same_links [] [] in_xs in_ys to from = refl
+  same_links [] (y ∷ ys) in_xs in_ys to from = absurd (omega (arith, (from y (contains_first y ys)).1))
+  same_links (x ∷ xs) [] in_xs in_ys to from = absurd (omega (arith, (to x (contains_first x xs)).1))
+  same_links (x ∷ xs) (y ∷ ys) in_xs in_ys to from = λ i. heads i ∷ same_links xs ys (tail x xs in_xs) (tail y ys in_ys) to_tail from_tail i
+    where
+      tail : (z : K) (zs : List K) → IsInOrder cmp (z ∷ zs) → IsInOrder cmp zs
+      tail z zs order = λ i j d lt within. order (suc i) (suc j) d (omega arith) (omega arith)
+
+      above : (z : K) (zs : List K) → IsInOrder cmp (z ∷ zs) → (w : K) → Contains zs w → cmp z w ≡ Less
+      above z zs order w there = ap (cmp z) (sym there.2) ∙ order 0 (suc there.0) w (omega arith) (omega (arith, there.1))
+
+      not_both : (z w : K) → cmp z w ≡ Less → cmp w z ≡ Less → ⊥
+      not_both z w less back = let turned : cmp w z ≡ Greater = total.antisymm w z ∙ ap ordering_reverse less in absurd (cc (turned, back))
+
+      not_itself : (z w : K) → z ≡ w → cmp z w ≡ Less → ⊥
+      not_itself z w e less = let tied : cmp z w ≡ Equal = ap (cmp z) (sym e) ∙ tied_itself total z in absurd (cc (tied, less))
+
+      heads : x ≡ y
+      heads = ⊎_elim
+          (λ (here : y ≡ x). sym here)
+          (λ (later : Contains ys x). ⊎_elim
+          (λ (here : x ≡ y). here)
+          (λ (back : Contains xs y). absurd (not_both x y (above x xs in_xs y back) (above y ys in_ys x later)))
+          (contains_cases x y xs (from y (contains_first y ys))))
+          (contains_cases y x ys (to x (contains_first x xs)))
+
+      to_tail : (z : K) → Contains xs z → Contains ys z
+      to_tail z there = ⊎_elim
+          (λ (here : y ≡ z). absurd (not_itself x z (heads ∙ here) (above x xs in_xs z there)))
+          (λ (later : Contains ys z). later)
+          (contains_cases y z ys (to z (contains_later x z xs there)))
+
+      from_tail : (z : K) → Contains ys z → Contains xs z
+      from_tail z there = ⊎_elim
+          (λ (here : x ≡ z). absurd (not_itself y z (sym heads ∙ here) (above y ys in_ys z there)))
+          (λ (later : Contains xs z). later)
+          (contains_cases x z xs (from z (contains_later y z ys there)))
+
+  -- the links with one more
+  pub with_itself : (links : List K) (link : K) → Contains (with_link cmp links link) link
+  with_itself links link = Contains-append_right (filter (λ other. is_lt (cmp other link)) links) (link ∷ filter (λ other. is_lt (cmp link other)) links) link (contains_first link (filter (λ other. is_lt (cmp link other)) links))
+
+  pub with_others : (links : List K) (link x : K) → Contains links x → Contains (with_link cmp links link) x
+  with_others links link x there = by (cmp x link) refl
+    where
+      front : List K
+      front = filter (λ other. is_lt (cmp other link)) links
+
+      back : List K
+      back = filter (λ other. is_lt (cmp link other)) links
+
+      by : (o : Ordering) → cmp x link ≡ o → Contains (with_link cmp links link) x
+      by Less e = Contains-append_left (filter (λ other. is_lt (cmp other link)) links) (link ∷ filter (λ other. is_lt (cmp link other)) links) x (contains_kept (λ other. is_lt (cmp other link)) links x there (ap is_lt e))
+      by Equal e = subst (Contains (with_link cmp links link)) (sym (same x link e)) (with_itself links link)
+      by Greater e =
+          Contains-append_right (filter (λ other. is_lt (cmp other link)) links) (link ∷ filter (λ other. is_lt (cmp link other)) links) x
+          (contains_later link x (filter (λ other. is_lt (cmp link other)) links) (contains_kept (λ other. is_lt (cmp link other)) links x there (ap is_lt (total.antisymm link x ∙ ap ordering_reverse e))))
+
+  pub with_cases : (links : List K) (link x : K) → Contains (with_link cmp links link) x → Contains links x ⊎ (link ≡ x)
+  with_cases links link x there =
+      ⊎_elim
+      (λ (front : Contains (filter (λ other. is_lt (cmp other link)) links) x). inl (contains_from (λ other. is_lt (cmp other link)) links x front).0)
+      (λ (back : Contains (link ∷ filter (λ other. is_lt (cmp link other)) links) x). ⊎_elim
+      (λ (here : link ≡ x). inr here)
+      (λ (later : Contains (filter (λ other. is_lt (cmp link other)) links) x). inl (contains_from (λ other. is_lt (cmp link other)) links x later).0)
+      (contains_cases link x (filter (λ other. is_lt (cmp link other)) links) back))
+      (Contains-append_cases (filter (λ other. is_lt (cmp other link)) links) (link ∷ filter (λ other. is_lt (cmp link other)) links) x there)
+
+  -- and with one fewer
+  pub without_others : (links : List K) (link x : K) → Contains links x → x ≢ link → Contains (without_link cmp links link) x
+  without_others links link x there differ = contains_kept (λ other. not (is_eq (cmp other link))) links x there (by (cmp x link) refl)
+    where
+      by : (o : Ordering) → cmp x link ≡ o → not (is_eq (cmp x link)) ≡ true
+      by Less e = ap (λ o. not (is_eq o)) e
+      by Equal e = absurd (differ (same x link e))
+      by Greater e = ap (λ o. not (is_eq o)) e
+
+  pub without_from : (links : List K) (link x : K) → Contains (without_link cmp links link) x → Contains links x × (x ≢ link)
+  without_from links link x there =
+      let kept = contains_from (λ other. not (is_eq (cmp other link))) links x there in
+      (kept.0, λ e. let tied : not (is_eq (cmp x link)) ≡ false = ap (λ o. not (is_eq o)) (ap (λ y. cmp x y) (sym e) ∙ tied_itself total x) in absurd (cc (kept.1, tied)))
+
+  module _ {R : Type 0} (link_of : R → K) where
+    pub linked_push : (rows : List R) (links : List K) (row : R) → AreLinked link_of rows links → AreLinked link_of (rows ++ row ∷ []) (with_link cmp links (link_of row))
+    linked_push rows links row linked =
+        let new : List K = with_link cmp links (link_of row) in
+        record {
+          each = All-push (λ r. Contains new (link_of r)) rows row (λ k d within. with_others links (link_of row) (link_of (get_or rows k d)) (linked.each k d within)) (with_itself links (link_of row));
+          all = all_from (λ link. Any (λ r. link_of r ≡ link) (rows ++ row ∷ [])) new (λ link there. ⊎_elim
+              (λ (old : Contains links link). any_more (λ r. link_of r ≡ link) rows row (All-contains (λ link. Any (λ r. link_of r ≡ link) rows) links link linked.all old))
+              (λ (here : link_of row ≡ link). Any-push (λ r. link_of r ≡ link) rows row here)
+              (with_cases links (link_of row) link there));
+        }
+
+    -- rows go that have one link
+    pub linked_filter : (keep : R → Bool) (rows : List R) (links : List K) (gone : K) → AreLinked link_of rows links → All (λ row. keep row ≡ true → link_of row ≢ gone) rows → All (λ row. keep row ≡ false → link_of row ≡ gone) rows
+        → AreLinked link_of (filter keep rows) (without_link cmp links gone)
+    linked_filter keep rows links gone linked stay go =
+        let new : List K = without_link cmp links gone in
+        record {
+          each = all_from (λ row. Contains new (link_of row)) (filter keep rows) (λ row there.
+              let kept = contains_from keep rows row there in
+              without_others links gone (link_of row) (All-contains (λ r. Contains links (link_of r)) rows row linked.each kept.0) (All-contains (λ r. keep r ≡ true → link_of r ≢ gone) rows row stay kept.0 kept.1));
+          all = all_from (λ link. Any (λ r. link_of r ≡ link) (filter keep rows)) new (λ link there.
+              let kept = without_from links gone link there in
+              let any : Any (λ r. link_of r ≡ link) rows = All-contains (λ link. Any (λ r. link_of r ≡ link) rows) links link linked.all kept.0 in
+              let stood : Contains rows any.1 = (any.0, any.2, any.3) in
+              ⊎_elim
+              (λ (keeps : keep any.1 ≡ true). any_of (λ r. link_of r ≡ link) (filter keep rows) any.1 (contains_kept keep rows any.1 stood keeps) any.4)
+              (λ (goes : keep any.1 ≡ false). absurd (kept.1 (sym any.4 ∙ All-contains (λ r. keep r ≡ false → link_of r ≡ gone) rows any.1 go stood goes)))
+              (cases_Bool (keep any.1)));
+        }
+
+    -- rows that change keep their links, but for those of one link, which get another one
+    pub linked_map : (change : R → R) (rows : List R) (links : List K) (gone come : K) → AreLinked link_of rows links
+        → All (λ row. ((link_of row ≡ gone) × (link_of (change row) ≡ come)) ⊎ ((link_of row ≢ gone) × (link_of (change row) ≡ link_of row))) rows → Any (λ row. link_of row ≡ gone) rows
+        → AreLinked link_of (map change rows) (with_link cmp (without_link cmp links gone) come)
+    linked_map change rows links gone come linked cases some =
+        let rest : List K = without_link cmp links gone in
+        let new : List K = with_link cmp rest come in
+        let Each : R → Type 0 = λ row. ((link_of row ≡ gone) × (link_of (change row) ≡ come)) ⊎ ((link_of row ≢ gone) × (link_of (change row) ≡ link_of row)) in
+        record {
+          each = All-map (λ row. Contains new (link_of row)) change rows (all_from (λ row. Contains new (link_of (change row))) rows (λ row there. ⊎_elim
+              (λ moves. subst (Contains new) (sym moves.1) (with_itself rest come))
+              (λ stays. subst (Contains new) (sym stays.1) (with_others rest come (link_of row) (without_others links gone (link_of row) (All-contains (λ r. Contains links (link_of r)) rows row linked.each there) stays.0)))
+              (All-contains Each rows row cases there)));
+          all = all_from (λ link. Any (λ r. link_of r ≡ link) (map change rows)) new (λ link there. ⊎_elim
+              (λ (old : Contains rest link).
+              let kept = without_from links gone link old in
+              let any : Any (λ r. link_of r ≡ link) rows = All-contains (λ link. Any (λ r. link_of r ≡ link) rows) links link linked.all kept.0 in
+              let stood : Contains rows any.1 = (any.0, any.2, any.3) in
+              ⊎_elim
+              (λ moves. absurd (kept.1 (sym any.4 ∙ moves.0)))
+              (λ stays. any_of (λ r. link_of r ≡ link) (map change rows) (change any.1) (contains_map change rows any.1 stood) (stays.1 ∙ any.4))
+              (All-contains Each rows any.1 cases stood))
+              (λ (here : come ≡ link).
+              let stood : Contains rows some.1 = (some.0, some.2, some.3) in
+              ⊎_elim
+              (λ moves. any_of (λ r. link_of r ≡ link) (map change rows) (change some.1) (contains_map change rows some.1 stood) (moves.1 ∙ here))
+              (λ stays. absurd (stays.0 some.4))
+              (All-contains Each rows some.1 cases stood))
+              (with_cases rest come link there));
+        }
+
+  -- the least link from one on: it is there, not below that one, and no other that is not below that one is below it
+  pub first_some : (links : List K) → IsInOrder cmp links → (from link : K) → first_from cmp links from ≡ Some link
+      → Contains links link × (is_lt (cmp link from) ≡ false) × ((other : K) → Contains links other → is_lt (cmp other from) ≡ false → is_lt (cmp other link) ≡ false)
+  first_some [] order from link found = absurd (cc)
+  first_some (first ∷ links) order from link found = ⊎_elim
+      (λ (below : is_lt (cmp first from) ≡ true).
+      let rest = first_some links (λ i j d lt within. order (suc i) (suc j) d (omega arith) (omega arith)) from link (rw below at found) in (
+        contains_later first link links rest.0,
+        rest.1,
+        λ other there above. ⊎_elim
+            (λ (here : first ≡ other). let low : is_lt (cmp other from) ≡ true = ap (λ k. is_lt (cmp k from)) (sym here) ∙ below in absurd (cc (low, above)))
+            (λ (later : Contains links other). rest.2 other later above)
+            (contains_cases first other links there),
+      ))
+      (λ (least : is_lt (cmp first from) ≡ false).
+      let is_first : Some first ≡ Some link = rw least at found in
+      let here : first ≡ link = cc in (
+        subst (Contains (first ∷ links)) here (contains_first first links),
+        ap (λ k. is_lt (cmp k from)) (sym here) ∙ least,
+        λ other there above. ⊎_elim
+            (λ (same_one : first ≡ other). ap is_lt (ap (λ k. cmp k link) (sym same_one ∙ here) ∙ tied_itself total link))
+            (λ (later : Contains links other).
+            let less : cmp first other ≡ Less = ap (cmp first) (sym later.2) ∙ order 0 (suc later.0) other (omega arith) (omega (arith, later.1)) in
+            ap is_lt (ap (cmp other) (sym here) ∙ (total.antisymm other first ∙ ap ordering_reverse less)))
+            (contains_cases first other links there),
+      ))
+      (cases_Bool (is_lt (cmp first from)))
+
+  -- where there is none, all are below
+  pub first_none : (links : List K) → (from : K) → first_from cmp links from ≡ None → (other : K) → Contains links other → is_lt (cmp other from) ≡ true
+  first_none [] from none other there = absurd (omega (arith, there.1))
+  first_none (first ∷ links) from none other there = ⊎_elim
+      (λ (below : is_lt (cmp first from) ≡ true). ⊎_elim
+      (λ (here : first ≡ other). ap (λ k. is_lt (cmp k from)) (sym here) ∙ below)
+      (λ (later : Contains links other). first_none links from (rw below at none) other later)
+      (contains_cases first other links there))
+      (λ (least : is_lt (cmp first from) ≡ false). let some : Some first ≡ None = rw least at none in absurd (cc))
+      (cases_Bool (is_lt (cmp first from)))

@@ -1,0 +1,15 @@
+use Rattle.std.proofs.Common.{◌∙◌, [], refl, sym}
+use Rattle.shared_rows.proofs.KeptLemmas.{none_there, seen_by, unchanged}
+use Rattle.places.proofs.TableLemmas.{with_same}
+use Rattle.shared_rows.proofs.rows.SharedRows.drop_index.Goals as goal
+
+pub invariant_of-self : goal.invariant_of-self
+invariant_of-self g c =
+    let seen = seen_by c.self.invariant c.self.inside.indexes.room c.args.self.now c.self.view_is c.args.place c.requires.place c.get_mut.result.now c.get_mut.ensures.value in
+    (unchanged c.self.invariant seen c.self.inside.indexes.room c.self.view_is c.self.inside.slab.slots c.new.result refl (c.new.ensures.items ∙ sym (none_there seen c.requires.empty))).kept
+
+pub returns : goal.returns
+returns g c =
+    let seen = seen_by c.self.invariant c.self.inside.indexes.room c.args.self.now c.self.view_is c.args.place c.requires.place c.get_mut.result.now c.get_mut.ensures.value in
+    (unchanged c.self.invariant seen c.self.inside.indexes.room c.self.view_is c.self.inside.slab.slots c.new.result refl (c.new.ensures.items ∙ sym (none_there seen c.requires.empty))).view
+    ∙ with_same [] c.args.self.now c.args.place

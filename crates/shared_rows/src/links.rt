@@ -1,0 +1,144 @@
+//! Small keys in order, which lead to rows from another side.
+ghost use Rattle.std.specs.Prelude.{◌≡◌, ◌≤◌, ◌↔◌, [], IsTrue, OnOk, OnErr, length};
+ghost use Rattle.std.specs.List.{Contains};
+ghost use Rattle.shared_rows.specs.Links.{HasRoom, IsInOrder, IsSeat, first_from, with_link, without_link};
+
+use std::alloc::{AllocError, Global};
+use std::collections::VecDeque;
+use std::marker::Model;
+
+/// Keys by rising order, each once. Where one comes in or goes out, the shorter side of the others
+/// moves.
+#[derive(Debug, Drop)]
+pub struct Links<K: Ord + Copy> {
+    items: VecDeque<K>,
+    /// For so many at least there is memory.
+    capacity: usize,
+}
+
+impl<K: Ord + Copy> Model for Links<K> {
+    ghost use Rattle.shared_rows.specs.Links.{HasMemory, IsInOrder, Linked, linked_code};
+
+    ghost Value = { Linked K };
+
+    ghost coded = { linked_code K.code };
+
+    ghost view = { λ list. record { links = list.items.items; capacity = list.capacity } };
+
+    ghost invariant = { λ list. IsInOrder K.cmp list.items.items × HasMemory list.capacity list.items };
+}
+
+impl<K: Ord + Copy> Links<K> {
+    /// No link, which takes no memory yet.
+    pub fn new(alloc: Global) -> Links<K>
+        ensures { result.links ≡ [] }
+    {
+        Links {
+            items: VecDeque::new(alloc),
+            capacity: 0,
+        }
+    }
+
+    pub fn len(&self) -> usize
+        ensures { result ≡ length self.now.links }
+    {
+        self.items.len()
+    }
+
+    pub fn is_empty(&self) -> bool
+        ensures { IsTrue result ↔ (self.now.links ≡ []) }
+    {
+        self.items.is_empty()
+    }
+
+    /// Makes room for one more link.
+    pub fn reserve(&mut self) -> Result<(), AllocError>
+        ensures links { self.new.links ≡ self.old.links }
+        ensures room { OnOk result (HasRoom self.new) }
+        ensures kept { self.old.capacity ≤ self.new.capacity }
+        ensures err { OnErr result (self.new ≡ self.old) }
+    {
+        self.items.reserve(1)?;
+        self.capacity = self.capacity.max(self.items.len() + 1);
+        Ok(())
+    }
+
+    /// Adds a link where it is not there yet.
+    pub fn insert(&mut self, link: K) -> Result<(), AllocError>
+        ensures ok { OnOk result (self.new.links ≡ with_link K.cmp self.old.links link) }
+        ensures err { OnErr result (self.new ≡ self.old) }
+    {
+        self.reserve()?;
+        self.insert_reserved(link);
+        Ok(())
+    }
+
+    /// The same where there is room, which takes no memory.
+    pub fn insert_reserved(&mut self, link: K)
+        requires { HasRoom self.old }
+        ensures { self.new ≡ record self.old { links = with_link K.cmp self.old.links link } }
+    {
+        match seat(&self.items, link) {
+            Ok(at) => self.items[at] = link,
+            Err(at) => {
+                if self.items.insert(at, link).is_err() {
+                    unreachable!()
+                }
+            }
+        }
+    }
+
+    /// Takes out a link where it is there.
+    pub fn remove(&mut self, link: K)
+        ensures { self.new ≡ record self.old { links = without_link K.cmp self.old.links link } }
+    {
+        if let Ok(at) = seat(&self.items, link) {
+            self.items.remove(at);
+        }
+    }
+
+    /// Puts a link for another one that is there, which takes no memory.
+    pub fn replace(&mut self, old: K, new: K)
+        requires { Contains self.old.links old }
+        ensures { self.new ≡ record self.old { links = with_link K.cmp (without_link K.cmp self.old.links old) new } }
+    {
+        // The loan is for the proof, which then knows how many links have room.
+        let _items = &self.items;
+        self.remove(old);
+        self.insert_reserved(new);
+    }
+
+    /// The links in their order.
+    pub fn as_deque(&self) -> &VecDeque<K>
+        ensures links { result.now.items ≡ self.now.links }
+        ensures sound { IsInOrder K.cmp self.now.links }
+    {
+        &self.items
+    }
+
+    /// The least link that is this one or above it.
+    pub fn first_from(&self, link: K) -> Option<K>
+        ensures first { result ≡ first_from K.cmp self.now.links link }
+        ensures sound { IsInOrder K.cmp self.now.links }
+    {
+        match seat(&self.items, link) {
+            Ok(at) => Some(self.items[at]),
+            Err(at) => self.items.get(at).copied(),
+        }
+    }
+
+    /// Takes out all links, and keeps the memory for others.
+    pub fn clear(&mut self)
+        ensures { self.new ≡ record self.old { links = [] } }
+    {
+        self.items.clear();
+    }
+}
+
+/// Where a link stands, or where it would stand.
+fn seat<K: Ord + Copy>(links: &VecDeque<K>, link: K) -> Result<usize, usize>
+    requires { IsInOrder K.cmp links.now.items }
+    ensures { IsSeat K.cmp links.now.items link result }
+{
+    links.binary_search(&link)
+}

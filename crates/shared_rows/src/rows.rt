@@ -1,0 +1,220 @@
+//! The rows of all places.
+ghost use Rattle.std.specs.Prelude.{◌≡◌, ◌≢◌, ◌^◌, ◌<◌, ◌≤◌, [], All, IfOk, IfSome, IsSome, None, OnOk, OnErr, Some, length, slice_index_or};
+ghost use Rattle.std.specs.Option.{option_map};
+ghost use Rattle.places.specs.Table.{IsPlace, opened, with_place};
+ghost use Rattle.shared_rows.specs.Rows.{IsSound, added, inserted, key_of, row_under, rows_at, with_row, without, IsAtPosition};
+
+use crate::index::{Entry, Slot, count_below, position};
+use crate::number::{Number, Numbered};
+use places::Places;
+use slab::Slab;
+use std::alloc::{AllocError, Global};
+use std::collections::VecDeque;
+use std::marker::Model;
+
+/// The rows of each place. A place is opened by `ready` and then `open`, and is never closed.
+#[derive(Drop)]
+pub struct SharedRows<R: Numbered> {
+    slab: Slab<Slot<R>>,
+    indexes: Places<VecDeque<Entry<R::Number>>>,
+    alloc: Global,
+}
+
+impl<R: Numbered> Model for SharedRows<R> {
+    ghost use Rattle.std.specs.Prelude.{List, map};
+    ghost use Rattle.places.specs.Table.{Table, table_code};
+    ghost use Rattle.std.specs.Coded.{coded_list};
+    ghost use Rattle.shared_rows.specs.Rows.{Keyed, keyed_code};
+
+    ghost Value = { Table (List (Keyed R)) };
+
+    ghost coded = { table_code (coded_list (keyed_code R.code)) };
+
+    ghost use Rattle.shared_rows.specs.Index.{rows_of, IsKept};
+
+    ghost view = { λ shared. record {
+      places = map (λ index. rows_of shared.slab.slots index.items) shared.indexes.places;
+      room = shared.indexes.room;
+    } };
+
+    ghost invariant = { λ shared. IsKept R.number R.Number.value shared.slab.slots shared.indexes.places };
+}
+
+impl<R: Numbered> SharedRows<R> {
+    /// A table with no place, which takes no memory yet.
+    pub fn new(alloc: Global) -> SharedRows<R>
+        ensures { result.places ≡ [] }
+    {
+        SharedRows {
+            slab: Slab::new(alloc),
+            indexes: Places::new(alloc),
+            alloc,
+        }
+    }
+
+    /// Makes room for one more place at least.
+    pub fn ready(&mut self) -> Result<(), AllocError>
+        ensures places { self.new.places ≡ self.old.places }
+        ensures room { OnOk result (1 ≤ self.new.room) }
+        ensures kept { self.old.room ≤ self.new.room }
+        ensures full { OnErr result (self.old.room ≡ 0) }
+        ensures err { OnErr result (self.new ≡ self.old) }
+    {
+        self.indexes.ready()
+    }
+
+    /// Opens the next place, with no row, and answers its number.
+    pub fn open(&mut self) -> usize
+        requires { 1 ≤ self.old.room }
+        ensures place { result ≡ length self.old.places }
+        ensures opened { self.new ≡ opened self.old [] }
+    {
+        self.indexes.open(VecDeque::new(self.alloc))
+    }
+
+    /// The key of the row with a number.
+    pub fn find(&self, place: usize, number: u64) -> Option<usize>
+        requires { IsPlace self.now place }
+        ensures found { result ≡ key_of R.number (rows_at self.now place) number }
+        ensures stands { IfSome result (λ key. option_map R.number (row_under (rows_at self.now place) key) ≡ Some number) }
+        ensures sound { IsSound R.number (rows_at self.now place) }
+    {
+        let entries = self.indexes.get(place);
+        match position(entries, number) {
+            Some(at) => Some(entries[at].key as usize),
+            None => None,
+        }
+    }
+
+    /// The row under a key of the place.
+    pub fn get(&self, place: usize, key: usize) -> &R
+        requires place { IsPlace self.now place }
+        requires stands { IsSome (row_under (rows_at self.now place) key) }
+        ensures row { row_under (rows_at self.now place) key ≡ Some result.now }
+        ensures sound { IsSound R.number (rows_at self.now place) }
+    {
+        let slot = &self.slab[key];
+        prove!(slot.place == place);
+        &slot.row
+    }
+
+    /// How many rows stand at the place.
+    pub fn len(&self, place: usize) -> usize
+        requires { IsPlace self.now place }
+        ensures len { result ≡ length (rows_at self.now place) }
+        ensures sound { IsSound R.number (rows_at self.now place) }
+    {
+        self.indexes.get(place).len()
+    }
+
+    /// The key and the row at a position, of which the least number has 0.
+    pub fn at(&self, place: usize, position: usize) -> (usize, &R)
+        requires place { IsPlace self.now place }
+        requires stands { position < length (rows_at self.now place) }
+        ensures { IsAtPosition (rows_at self.now place) position result.0 result.1.now }
+    {
+        let key = self.indexes.get(place)[position].key as usize;
+        (key, &self.slab[key].row)
+    }
+
+    /// Adds a row of a greater number than all of its place, and answers its key. It fails where memory
+    /// is short, or where rows stand under all keys of 32 bits.
+    pub fn push(&mut self, place: usize, row: R) -> Result<usize, AllocError>
+    where
+        R: Drop,
+        requires place { IsPlace self.old place }
+        requires number { All (λ keyed. R.number keyed.row < R.number row) (rows_at self.old place) }
+        ensures added { IfOk result (λ key. self.new ≡ with_place self.old place (added (rows_at self.old place) key row)) }
+        ensures short { IfOk result (λ key. key < 2 ^ 32) }
+        ensures vacant { IfOk result (λ key. row_under (rows_at self.old place) key ≡ None) }
+        ensures err { OnErr result (self.new ≡ self.old) }
+    {
+        self.slab.reserve(1)?;
+        let key = self.slab.vacant_key();
+        let Ok(short) = u32::try_from(key) else {
+            return Err(AllocError);
+        };
+        let index = self.indexes.get_mut(place);
+        index.reserve(1)?;
+        index.push_back_reserved(Entry {
+            number: row.number(),
+            key: short,
+        });
+        self.slab.insert_reserved(Slot { place, row });
+        Ok(key)
+    }
+
+    /// Adds a row of a number that its place does not have yet, and answers its key. It fails as
+    /// [`push`](SharedRows::push) does.
+    pub fn insert(&mut self, place: usize, row: R) -> Result<usize, AllocError>
+    where
+        R: Drop,
+        requires place { IsPlace self.old place }
+        requires absent { key_of R.number (rows_at self.old place) (R.number row) ≡ None }
+        ensures added { IfOk result (λ key. self.new ≡ with_place self.old place (inserted R.number (rows_at self.old place) key row)) }
+        ensures short { IfOk result (λ key. key < 2 ^ 32) }
+        ensures vacant { IfOk result (λ key. row_under (rows_at self.old place) key ≡ None) }
+        ensures err { OnErr result (self.new ≡ self.old) }
+    {
+        self.slab.reserve(1)?;
+        let key = self.slab.vacant_key();
+        let Ok(short) = u32::try_from(key) else {
+            return Err(AllocError);
+        };
+        let number = row.number();
+        let index = self.indexes.get_mut(place);
+        let at = count_below(index, number.value());
+        index.insert(at, Entry { number, key: short })?;
+        self.slab.insert_reserved(Slot { place, row });
+        Ok(key)
+    }
+
+    /// Puts a row for the one under a key, which has the same number.
+    pub fn replace(&mut self, place: usize, key: usize, row: R)
+    where
+        R: Drop,
+        requires place { IsPlace self.old place }
+        requires number { option_map R.number (row_under (rows_at self.old place) key) ≡ Some (R.number row) }
+        ensures { self.new ≡ with_place self.old place (with_row (rows_at self.old place) key row) }
+    {
+        self.slab[key] = Slot { place, row };
+    }
+
+    /// Takes out the row under a key.
+    pub fn remove(&mut self, place: usize, key: usize) -> R
+        requires place { IsPlace self.old place }
+        requires stands { IsSome (row_under (rows_at self.old place) key) }
+        ensures row { row_under (rows_at self.old place) key ≡ Some result }
+        ensures rest { self.new ≡ with_place self.old place (without (rows_at self.old place) key) }
+    {
+        let Slot { place: _, row } = self.slab.remove(key);
+        let index = self.indexes.get_mut(place);
+        let at = position(index, row.number().value()).unwrap();
+        index.remove(at);
+        row
+    }
+
+    /// Takes out all rows of the place, and gives back the memory of its index. What its rows stood in
+    /// serves the next rows of any place.
+    pub fn clear(&mut self, place: usize)
+    where
+        R: Drop,
+        requires { IsPlace self.old place }
+        ensures { self.new ≡ with_place self.old place [] }
+    {
+        'rows: while self.len(place) > 0 {
+            let (key, _) = self.at(place, self.len(place) - 1);
+            self.remove(place, key);
+        }
+        self.drop_index(place);
+    }
+
+    /// Gives back the memory of an index that has no entry.
+    fn drop_index(&mut self, place: usize)
+        requires place { IsPlace self.old place }
+        requires empty { rows_at self.old place ≡ [] }
+        ensures { self.new ≡ self.old }
+    {
+        *self.indexes.get_mut(place) = VecDeque::new(self.alloc);
+    }
+}

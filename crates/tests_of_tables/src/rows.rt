@@ -1,0 +1,238 @@
+//! Rows of two places in one slab, call by call, and links in order.
+ghost use Rattle.std.specs.Prelude.{◌≡◌, ◌<◌, All, IsTrue, length};
+ghost use Rattle.shared_rows.specs.Rows.{rows_at};
+
+use shared_rows::{Links, Numbered, SharedRows};
+use std::alloc::{AllocError, Global};
+use std::test::Fail;
+
+/// A row that says besides its number how large it is.
+#[derive(Clone, Copy, Debug)]
+struct Item {
+    number: u32,
+    size: u32,
+}
+
+impl Numbered for Item {
+    type Number = u32;
+
+    ghost number = { λ item. item.number };
+
+    fn number(&self) -> u32 {
+        self.number
+    }
+}
+
+/// What is asked of a table.
+#[derive(Clone, Copy)]
+enum Call {
+    /// A number and a size.
+    Push(u32, u32),
+    Insert(u32, u32),
+    Replace(u32, u32),
+    Remove(u32),
+    /// The size of the row with a number.
+    Size(u32),
+    /// The numbers that stand, as the digits of one number.
+    Left,
+    Clear,
+}
+
+use Call::*;
+
+/// A table with two places.
+#[derive(Drop)]
+struct Bench {
+    table: SharedRows<Item>,
+    ghost two: { length table.places ≡ 2 },
+}
+
+impl Bench {
+    fn new(alloc: Global) -> Result<Bench, AllocError> {
+        let mut table = SharedRows::new(alloc);
+        table.ready()?;
+        table.open();
+        table.ready()?;
+        table.open();
+        Ok(Bench { table })
+    }
+
+    fn call(&mut self, place: usize, call: Call) -> Result<u64, AllocError> {
+        let place = place.min(1);
+        match call {
+            Push(number, size) => self.push(place, Item { number, size }),
+            Insert(number, size) => self.insert(place, Item { number, size }),
+            Replace(number, size) => Ok(self.replace(place, Item { number, size }) as u64),
+            Remove(number) => Ok(self.remove(place, number) as u64),
+            Size(number) => Ok(self.size(place, number) as u64),
+            Left => Ok(self.left(place) as u64),
+            Clear => {
+                self.table.clear(place);
+                Ok(0)
+            }
+        }
+    }
+
+    /// Adds a row above all others, and answers how many stand then.
+    fn push(&mut self, place: usize, item: Item) -> Result<u64, AllocError>
+        requires { place < length self.old.table.places }
+    {
+        if self.is_above(place, item.number) {
+            self.table.push(place, item)?;
+        }
+        Ok(self.table.len(place) as u64)
+    }
+
+    /// Adds a row of a number that does not stand, and answers how many stand then.
+    fn insert(&mut self, place: usize, item: Item) -> Result<u64, AllocError>
+        requires { place < length self.old.table.places }
+    {
+        if self.table.find(place, item.number as u64).is_none() {
+            self.table.insert(place, item)?;
+        }
+        Ok(self.table.len(place) as u64)
+    }
+
+    fn is_above(&self, place: usize, number: u32) -> bool
+        requires { place < length self.now.table.places }
+        ensures { IsTrue result → All (λ keyed. keyed.row.number < number) (rows_at self.now.table place) }
+    {
+        let len = self.table.len(place);
+        if len == 0 {
+            return true;
+        }
+        let (_, last) = self.table.at(place, len - 1);
+        last.number < number
+    }
+
+    fn replace(&mut self, place: usize, item: Item) -> u32
+        requires { place < length self.old.table.places }
+    {
+        if let Some(key) = self.table.find(place, item.number as u64) {
+            self.table.replace(place, key, item);
+        }
+        self.size(place, item.number)
+    }
+
+    fn remove(&mut self, place: usize, number: u32) -> u32
+        requires { place < length self.old.table.places }
+    {
+        match self.table.find(place, number as u64) {
+            Some(key) => self.table.remove(place, key).size,
+            None => 0,
+        }
+    }
+
+    fn size(&self, place: usize, number: u32) -> u32
+        requires { place < length self.now.table.places }
+    {
+        match self.table.find(place, number as u64) {
+            Some(key) => self.table.get(place, key).size,
+            None => 0,
+        }
+    }
+
+    fn left(&self, place: usize) -> u32
+        requires { place < length self.now.table.places }
+    {
+        let mut digits = 0u32;
+        for position in 0..self.table.len(place) {
+            let (_, item) = self.table.at(place, position);
+            digits = digits.wrapping_mul(10).wrapping_add(item.number);
+        }
+        digits
+    }
+}
+
+#[test]
+fn places_see_their_own_rows(rt: HostRuntime) -> Result<(), Fail> {
+    let cases = [
+        (0, Size(1), 0),
+        (0, Push(1, 10), 1),
+        (1, Push(1, 20), 1),
+        (0, Push(3, 30), 2),
+        (1, Push(2, 40), 2),
+        (0, Left, 13),
+        (1, Left, 12),
+        (0, Size(1), 10),
+        (1, Size(1), 20),
+        (1, Size(3), 0),
+        (0, Replace(1, 11), 11),
+        (1, Size(1), 20),
+        (0, Remove(1), 11),
+        (0, Size(1), 0),
+        (0, Size(3), 30),
+        (1, Left, 12),
+        // The freed slot serves the other place.
+        (1, Push(5, 50), 3),
+        (0, Size(5), 0),
+        (0, Left, 3),
+        (1, Left, 125),
+        (1, Size(5), 50),
+        (1, Clear, 0),
+        (1, Left, 0),
+        (0, Size(3), 30),
+        (0, Push(4, 60), 2),
+        (1, Push(1, 70), 1),
+        (0, Size(4), 60),
+        (1, Size(1), 70),
+        (1, Size(4), 0),
+        // In front, between two, behind all, and a number that stands.
+        (0, Insert(1, 80), 3),
+        (0, Insert(2, 90), 4),
+        (0, Insert(6, 15), 5),
+        (0, Insert(2, 25), 5),
+        (0, Left, 12346),
+        (0, Size(2), 90),
+        (0, Size(3), 30),
+        (0, Size(6), 15),
+        (1, Left, 1),
+        (1, Size(1), 70),
+    ];
+    let mut bench = Bench::new(rt.alloc())?;
+    for (place, call, wanted) in cases {
+        assert!(rt; bench.call(place, call)? == wanted);
+    }
+    Ok(())
+}
+
+/// Puts a link for the least one.
+fn replace_first(links: &mut Links<(u32, u32)>, link: (u32, u32)) {
+    if !links.is_empty() {
+        let first = links.as_deque()[0];
+        links.replace(first, link);
+    }
+}
+
+#[test]
+fn links_stand_in_order_and_once(rt: HostRuntime) -> Result<(), Fail> {
+    let mut links: Links<(u32, u32)> = Links::new(rt.alloc());
+    assert!(rt; links.is_empty() && links.first_from((0, 0)).is_none());
+    for link in [(2, 1), (1, 9), (2, 3), (2, 1), (1, 2)] {
+        links.insert(link)?;
+    }
+    assert!(rt; links.len() == 4);
+    for (from, wanted) in [
+        ((0, 0), Some((1, 2))),
+        ((1, 2), Some((1, 2))),
+        ((1, 3), Some((1, 9))),
+        ((2, 2), Some((2, 3))),
+        ((2, 4), None),
+    ] {
+        assert!(rt; links.first_from(from) == wanted);
+    }
+    links.remove((1, 9));
+    links.remove((1, 8));
+    links.reserve()?;
+    links.insert_reserved((2, 2));
+    assert!(rt; links.len() == 4 && links.first_from((1, 3)) == Some((2, 1)));
+    assert!(rt; links.first_from((2, 2)) == Some((2, 2)));
+    replace_first(&mut links, (2, 4));
+    assert!(rt; links.len() == 4);
+    for (at, wanted) in [(0, (2, 1)), (1, (2, 2)), (2, (2, 3)), (3, (2, 4))] {
+        assert!(rt; links.as_deque().get(at).copied() == Some(wanted));
+    }
+    links.clear();
+    assert!(rt; links.is_empty());
+    Ok(())
+}
