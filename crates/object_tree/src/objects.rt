@@ -130,7 +130,7 @@ impl Objects {
         group(all, order_of(parent))
     }
 
-    /// Adds an object below a parent, and answers its number.
+    /// Adds an object below a parent, and returns its number.
     pub(crate) fn push(
         &mut self,
         place: usize,
@@ -173,7 +173,7 @@ impl Objects {
         }
     }
 
-    /// Answers what was there before.
+    /// Returns what was there before.
     pub(crate) fn set_blocked(&mut self, place: usize, number: u32, on: bool) -> bool
         requires { IsPlace self.old place }
         ensures before { result ≡ option_map_or (λ row. row.blocked)

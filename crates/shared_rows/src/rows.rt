@@ -63,7 +63,7 @@ impl<R: Numbered> SharedRows<R> {
         self.indexes.ready()
     }
 
-    /// Opens the next place, with no row, and answers its number.
+    /// Opens the next place, with no row, and returns its number.
     pub fn open(&mut self) -> usize
         requires { 1 ≤ self.old.room }
         ensures place { result ≡ length self.old.places }
@@ -117,7 +117,7 @@ impl<R: Numbered> SharedRows<R> {
         (key, &self.slab[key].row)
     }
 
-    /// Adds a row of a greater number than all of its place, and answers its key. It fails where memory
+    /// Adds a row of a greater number than all of its place, and returns its key. It fails where memory
     /// is short, or where rows stand under all keys of 32 bits.
     pub fn push(&mut self, place: usize, row: R) -> Result<usize, AllocError>
     where
@@ -144,7 +144,7 @@ impl<R: Numbered> SharedRows<R> {
         Ok(key)
     }
 
-    /// Adds a row of a number that its place does not have yet, and answers its key. It fails as
+    /// Adds a row of a number that its place does not have yet, and returns its key. It fails as
     /// [`push`](SharedRows::push) does.
     pub fn insert(&mut self, place: usize, row: R) -> Result<usize, AllocError>
     where
