@@ -6,3 +6,4 @@ pub mod RoutesLemmas
 pub mod GoneLemmas
 pub mod SeenLemmas
 pub mod AddedLemmas
+pub mod LazyLemmas

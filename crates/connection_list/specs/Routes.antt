@@ -1,5 +1,7 @@
 -- How the connections of a place are found from their ends. No public clause cites this module.
-use Rattle.std.specs.Prelude.{◌≡◌, ◌≢◌, ℕ, ◌<◌, ◌^◌, not, Bool, List, [], All, AllPairs, filter, length, map, slice_index_or}
+use Rattle.std.specs.Prelude.{◌≡◌, ◌≢◌, ℕ, ◌<◌, ◌^◌, not, Bool, List, [], All, AllPairs, filter, length, map, slice_index_or, Option, Some, None}
+use Rattle.std.specs.declared.alloc.Global.{Global}
+use Rattle.std.specs.declared.boxed.Box.{Box}
 use Rattle.places.specs.Table.{Table, ChangesAt}
 use Rattle.shared_rows.specs.Links.{AreLinked, HasRoom}
 use Rattle.shared_rows.specs.Rows.{Keyed, rows_at}
@@ -14,6 +16,15 @@ sent_of keyed = record { object = keyed.row.sender; signal = keyed.row.signal; n
 
 abbrev pub received_of : Keyed Connection → Link
 received_of keyed = record { object = keyed.row.receiver; signal = 0; number = keyed.row.number; key = keyed.key }
+
+-- nothing was ever connected
+abbrev pub no_routes : Routes
+no_routes = record { last_number = 0; sent = record { links = []; capacity = 0 }; received = record { links = []; capacity = 0 } }
+
+-- what was made, or else where nothing was connected
+abbrev pub routes_in : Option (Box Routes Global) → Routes
+routes_in None = no_routes
+routes_in (Some routes) = routes.value
 
 -- each connection is found from both ends, and nothing else is
 pub record IsRouted (rows : List (Keyed Connection)) (routes : Routes) : Type 0 where

@@ -1,5 +1,5 @@
 -- What contracts see of the connections of a place.
-use Rattle.std.specs.Prelude.{◌≡◌, ℕ, ◌+◌, ◌-◌, ◌^◌, ◌<◌, ◌≤◌, Bool, not, nat_lt, nat_le, ◌==◌, ◌&&◌, if◌then◌else◌, List, [], ◌∷◌, ◌++◌, length, filter, All, AllPairs, slice_index_or, Option, Some, None}
+use Rattle.std.specs.Prelude.{ℕ, ◌+◌, ◌-◌, ◌^◌, ◌<◌, ◌≤◌, Bool, not, nat_lt, nat_le, ◌==◌, ◌&&◌, if◌then◌else◌, List, [], ◌∷◌, ◌++◌, length, filter, All, AllPairs, Option, Some, None}
 use Rattle.std.specs.List.{list_any}
 use Rattle.refusals.specs.declared.code.Code.{Code}
 use Rattle.refusals.specs.declared.code.Code.TheVariants.{ConnectedAlready, Limit, NumbersUsedUp}
@@ -53,11 +53,6 @@ without test place = record { rows = filter (λ row. not (test row)) place.rows;
 -- is this its number
 abbrev pub has_number : ℕ → Connection → Bool
 has_number number row = row.number == number
-
--- the row at this index has the number
-pub record IsAt (rows : List Connection) (number at : ℕ) : Type 0 where
-  pub in_range : at < length rows
-  pub is : (default : Connection) → (slice_index_or rows at default).number ≡ number
 
 -- does this signal of this object call the connection's callee, and is its number at most `up_to`
 abbrev pub is_sent : ℕ → ℕ → ℕ → Connection → Bool

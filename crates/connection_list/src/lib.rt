@@ -5,6 +5,7 @@
 
 mod connection;
 mod ends;
+mod lazy_routes;
 mod limit;
 mod link;
 mod pattern;

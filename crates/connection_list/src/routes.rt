@@ -1,12 +1,12 @@
 //! How the connections of a place are found from both ends.
-ghost use Rattle.std.specs.Prelude.{◌≡◌, ◌≢◌, ◌<◌, ◌^◌, ◌==◌, [], All, Any, IfNone, IfSome, IsSome, List, OnOk, false, find, true};
+ghost use Rattle.std.specs.Prelude.{◌≡◌, ◌≢◌, ◌<◌, ◌^◌, ◌==◌, All, Any, IfNone, IfSome, IsSome, List, OnOk, false, find, true};
 ghost use Rattle.std.specs.Option.{option_map};
 ghost use Rattle.places.specs.Table.{IsPlace};
 ghost use Rattle.shared_rows.specs.Rows.{Keyed, added, row_under, rows_at};
 ghost use Rattle.connection_list.specs.declared.connection.Connection.{Connection};
 ghost use Rattle.connection_list.specs.Ends.{matches, touches};
 ghost use Rattle.connection_list.specs.Rows.{is_next};
-ghost use Rattle.connection_list.specs.Routes.{AreGone, AreSame, HaveRoom, IsPlaceKept, IsRouted, received_of, sent_of};
+ghost use Rattle.connection_list.specs.Routes.{AreGone, AreSame, HaveRoom, IsPlaceKept, IsRouted, no_routes, received_of, sent_of};
 
 use crate::connection::Connection;
 use crate::ends::matches;
@@ -28,8 +28,7 @@ pub(crate) struct Routes {
 impl Routes {
     /// What a place keeps where nothing was ever connected.
     pub(crate) fn new(alloc: Global) -> Routes
-        ensures number { result.last_number ≡ 0 }
-        ensures routed { IsRouted [] result }
+        ensures { AreSame no_routes result }
     {
         Routes {
             last_number: 0,

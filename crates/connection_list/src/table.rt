@@ -9,9 +9,9 @@ ghost use Rattle.connection_list.specs.Table.{rows_at, with_rows};
 
 use crate::connection::{Connection, NewConnection};
 use crate::ends::{calls, same_ends};
+use crate::lazy_routes::LazyRoutes;
 use crate::limit::CONNECTIONS;
 use crate::pattern::Pattern;
-use crate::routes::Routes;
 use places::Places;
 use refusals::{Code, Fault};
 use shared_rows::SharedRows;
@@ -22,7 +22,7 @@ use std::marker::Model;
 #[derive(Drop)]
 pub struct Connections {
     rows: SharedRows<Connection>,
-    routes: Places<Routes>,
+    routes: Places<LazyRoutes>,
     alloc: Global,
 }
 
@@ -71,7 +71,7 @@ impl Connections {
         ensures opened { self.new ≡ opened self.old no_rows }
     {
         self.rows.open();
-        self.routes.open(Routes::new(self.alloc))
+        self.routes.open(LazyRoutes::new())
     }
 
     /// Takes out all connections of a place and forgets its numbers, so that they are counted from 1
@@ -81,7 +81,7 @@ impl Connections {
         ensures { self.new ≡ with_rows self.old place no_rows }
     {
         self.rows.clear(place);
-        *self.routes.get_mut(place) = Routes::new(self.alloc);
+        *self.routes.get_mut(place) = LazyRoutes::new();
     }
 
     /// Adds a connection behind all others, and returns its number. Where `unique` is asked, it is
@@ -99,8 +99,8 @@ impl Connections {
             return Err(Fault::Refused(code));
         }
         let routes = self.routes.get_mut(place);
-        routes.reserve()?;
-        let row = numbered(routes.last_number + 1, &new);
+        routes.reserve(self.alloc)?;
+        let row = numbered(routes.last_number() + 1, &new);
         let key = self.rows.push(place, row)?;
         routes.add(&row, key as u32);
         Ok(row.number)
@@ -232,7 +232,7 @@ impl Connections {
         ensures number { result ≡ (rows_at self.now place).last_number }
         ensures sound { IsSound (rows_at self.now place) }
     {
-        self.routes.get(place).last_number
+        self.routes.get(place).last_number()
     }
 
     /// How many connections stand, at most `CONNECTIONS`.

@@ -1,12 +1,12 @@
 -- The queues in rows and logs.
-use Rattle.std.proofs.Common.{◌≡◌, ◌≢◌, ◌∙◌, ℕ, suc, ◌+◌, ◌-◌, ◌^◌, ◌<◌, ◌≤◌, ◌==◌, List, [], ◌∷◌, ◌++◌, length, drop, true, false, None, Some, min, get_or, set, refl, sym, ap, subst, arith, ⊎_elim}
+use Rattle.std.proofs.Common.{◌≡◌, ◌≢◌, ◌∙◌, ℕ, ◌+◌, ◌-◌, ◌^◌, ◌<◌, ◌≤◌, ◌==◌, List, [], ◌∷◌, ◌++◌, length, drop, true, false, None, Some, min, get_or, set, refl, sym, ap, subst, arith, ⊎_elim}
 use Rattle.std.specs.List.{slice_get}
 use Rattle.std.proofs.lemmas.Bool.{cases_eq, cases_lt}
 use Rattle.std.proofs.lemmas.Bool.Decides.{nat_tests}
 use Rattle.std.proofs.lemmas.List.Sums.{count_by-le-length}
 use Rattle.std.proofs.lemmas.List.{get_or-set_same, get_or-set_other, get_or_default, get_or_append_left, get_or_push, length-map, length-set, length_push}
 use Rattle.places.specs.Joined.{joined, joined_tables}
-use Rattle.places.specs.Table.{ChangesAt, IsPlace, Table, opened, with_place}
+use Rattle.places.specs.Table.{IsPlace, Table, opened, with_place}
 use Rattle.places.proofs.JoinedLemmas.{joined_at, joined_push, joined_set, length-joined}
 use Rattle.places.proofs.TableLemmas.{changes_length, changes_same, with_same, with_twice}
 use Rattle.shared_rows.specs.Rows.{Keyed, rows_at}

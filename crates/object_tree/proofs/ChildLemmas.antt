@@ -10,6 +10,7 @@ use Rattle.std.specs.declared.cmp.Ordering.TheVariants.{Less, Equal, Greater}
 use Rattle.std.proofs.lemmas.Bool.{cases_Bool, cases_eq, cases_lt, cond-true, cond-false, eqb-true, eqb-false, eq-eqb, ne_eqb, ltb-true, ltb-false, false≢true}
 use Rattle.std.proofs.lemmas.Bool.Decides.{nat_tests}
 use Rattle.std.proofs.lemmas.Cmp.{nat_cmp_total, on_total, then_total}
+use Rattle.std.proofs.lemmas.List.{get_or_default}
 use Rattle.std.proofs.lemmas.List.Elements.{All-contains, All-contains_itself, All-from_recursion, All-weaker, recursion_from_All}
 use Rattle.std.proofs.lemmas.List.Sorted.{IsPartitionedBy-ltb}
 use Rattle.std.proofs.lemmas.List.Kept.{AllPairs-cons, AllPairs-filter}
@@ -308,6 +309,12 @@ parents_rise list order i j d le within = ⊎_elim
 
 pub parted : (list : List Child) → IsInOrder child_cmp list → (parent : ℕ) → IsPartitionedBy (λ (c : Child). nat_lt c.parent parent) list
 parted list order parent = IsPartitionedBy-ltb (λ (c : Child). c.parent) list parent (parents_rise list order)
+
+-- where the last one has a parent below this one, all have
+pub all_before : (list : List Child) → IsInOrder child_cmp list → (parent count : ℕ) (last : Child) → count ≡ length list → last ≡ get_or list (count - 1) last → last.parent < parent → (k : ℕ) (d : Child) → k < count → (get_or list k d).parent < parent
+all_before list order parent count last all is low k d lt =
+    let at_last : last.parent ≡ (get_or list (count - 1) d).parent = ap (λ (c : Child). c.parent) (is ∙ get_or_default list (count - 1) last d (omega (arith, all))) in
+    omega (arith, at_last, low, parents_rise list order k (count - 1) d (omega (arith, all)) (omega (arith, all)))
 
 nobody : Child
 nobody = record { stamp = 0; parent = 0; number = 0 }

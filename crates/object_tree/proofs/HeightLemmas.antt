@@ -1,5 +1,5 @@
 -- How many levels hang at an object.
-use Rattle.std.proofs.Common.{◌≡◌, ℕ, suc, zero, ◌+◌, ◌-◌, ◌<◌, ◌≤◌, Bool, true, false, cond, List, [], ◌∷◌, Some, length, map, filter, max, refl, ap, ◌∙◌, arith, nat_lt}
+use Rattle.std.proofs.Common.{◌≡◌, ℕ, suc, zero, ◌+◌, ◌-◌, Bool, true, false, cond, List, [], ◌∷◌, Some, length, map, filter, max, refl, ap, ◌∙◌, arith, nat_lt}
 use Rattle.object_tree.specs.declared.child.Child.{Child}
 use Rattle.object_tree.specs.declared.row.Row.{Row}
 use Rattle.object_tree.specs.Rows.{by_stamp, children, has_parent, inserted, numbers}

@@ -87,5 +87,8 @@ fn first_of(children: &VecDeque<Child>, parent: u64) -> usize
     ensures behind { (k : ℕ) (d : Child) → result ≤ k → k < length children.now.items
         → parent ≤ (slice_index_or children.now.items k d).parent }
 {
-    children.partition_point(|child| (child.parent as u64) < parent)
+    match children.back() {
+        Some(last) if (last.parent as u64) < parent => children.len(),
+        _ => children.partition_point(|child| (child.parent as u64) < parent),
+    }
 }

@@ -1,5 +1,5 @@
 -- Links in order.
-use Rattle.std.proofs.Common.{◌≡◌, ◌∙◌, ℕ, zero, suc, ◌+◌, ◌<◌, ◌≤◌, Bool, true, false, not, List, [], ◌∷◌, ◌++◌, Some, None, Option, IsSome, OnSome, Result, Ok, Err, OnOk, OnErr, ◌↔◌, deque_len, length, filter, find, get_or, take, drop, set, slice_get, refl, subst, sym, ap, arith, ⊎_elim}
+use Rattle.std.proofs.Common.{◌≡◌, ◌∙◌, ℕ, zero, suc, ◌+◌, ◌-◌, ◌<◌, ◌≤◌, Bool, true, false, not, List, [], ◌∷◌, ◌++◌, Some, None, Option, IsSome, OnSome, Result, Ok, Err, OnOk, OnErr, ◌↔◌, deque_len, length, filter, find, get_or, take, drop, set, slice_get, refl, subst, sym, ap, arith, ⊎_elim}
 use Rattle.std.specs.VecDeque.{deque_capacity}
 use Rattle.std.specs.declared.collections.VecDeque.{VecDeque}
 use Rattle.std.specs.Cmp.{IsTotalOrder, alike_right}
@@ -9,7 +9,7 @@ use Rattle.std.specs.Ordering.{is_eq, is_lt, ordering_reverse}
 use Rattle.std.specs.declared.cmp.Ordering.{Ordering}
 use Rattle.std.specs.declared.cmp.Ordering.TheVariants.{Less, Equal, Greater}
 use Rattle.std.proofs.lemmas.Bool.{cases_lt}
-use Rattle.std.proofs.lemmas.List.{set_split, take_all}
+use Rattle.std.proofs.lemmas.List.{get_or_default, set_split, take_all}
 use Rattle.std.proofs.lemmas.List.Edits.{length-remove}
 use Rattle.std.proofs.lemmas.List.Quantifiers.{all_pairs_remove}
 use Rattle.std.proofs.lemmas.List.Sorted.{searchable_from_sorted}
@@ -56,6 +56,11 @@ find_at p (x ∷ xs) (suc n) fails passes =
     let here : p x ≡ false = fails 0 x (omega arith) (omega arith) in
     rw here (find_at p xs n (λ k d low high. fails (suc k) d (omega arith) (omega arith)) (λ k d low high. passes (suc k) d (omega arith) (omega arith)))
 
+less_from : (o : Ordering) → is_lt o ≡ true → o ≡ Less
+less_from Less low = refl
+less_from Equal low = absurd (cc)
+less_from Greater low = absurd (cc)
+
 module _ {K : Type 0} {cmp : K → K → Ordering} (total : IsTotalOrder cmp) where
   below_back : (x y : K) → cmp x y ≡ Less → cmp y x ≡ Greater
   below_back x y e = total.antisymm y x ∙ ap ordering_reverse e
@@ -80,6 +85,22 @@ module _ {K : Type 0} {cmp : K → K → Ordering} (total : IsTotalOrder cmp) wh
     seat_found (Err at) within parted =
         let parts = parted (searchable_from_sorted total (λ (other : K). other) links link in_sorted) in
         (within, record { below = parts.0; above = λ k d low high. above_back (get_or links k d) link (parts.1 k d low high) })
+
+    -- behind all others where the last one is below
+    pub seat_behind : (count : ℕ) (last : K) → count ≡ length links → 0 < count → last ≡ get_or links (count - 1) last → is_lt (cmp last link) ≡ true → IsSeat cmp links link (Err count)
+    seat_behind count last all some is low =
+        let below_last : cmp last link ≡ Less = less_from (cmp last link) low in (
+          omega (arith, all),
+          record {
+            below = λ k d from upto.
+                let same : last ≡ get_or links (count - 1) d = is ∙ get_or_default links (count - 1) last d (omega (arith, all)) in
+                ⊎_elim
+                (λ (before : k < count - 1). total.trans (get_or links k d) last link (subst (λ (l : K). cmp (get_or links k d) l ≡ Less) (sym same) (order k (count - 1) d before (omega (arith, all)))) below_last)
+                (λ (at : count - 1 ≤ k). let here : k ≡ count - 1 = omega arith in ap (λ i. cmp (get_or links i d) link) here ∙ (ap (λ l. cmp l link) (sym same) ∙ below_last))
+                (cases_lt k (count - 1));
+            above = λ k d from upto. absurd (omega (arith, all));
+          },
+        )
 
     module _ (before from : ℕ) (upto : before ≤ from) (within : from ≤ length links) (between : IsBetween cmp links link before from) (middle : AllWithin (λ other. cmp other link ≡ Equal) links before from) where
       not_below : AllWithin (λ other. is_lt (cmp other link) ≡ false) links before (length links)

@@ -38,6 +38,18 @@ module _ {N : Type 0} (value : N → ℕ) (entries : List (Entry N)) (rising : I
   numbers_rise : IsNonDecreasingBy (λ entry. value entry.number) entries
   numbers_rise i j default upto in_range = grind (arith, rising i j default, λ (same : i ≡ j). ap (λ k. number_at k default) same)
 
+  -- none has a number below the first one
+  pub none_before : (first : Entry N) → first ≡ slice_index_or entries 0 first → number < value first.number → HasNot value entries number
+  none_before first is low k d within same =
+      let at_first : value first.number ≡ number_at 0 d = ap (λ (entry : Entry N). value entry.number) (is ∙ get_or_default entries 0 first d (omega arith)) in
+      omega (arith, at_first, low, same, numbers_rise 0 k d (omega arith) within)
+
+  -- nor above the last one
+  pub none_behind : (count : ℕ) (last : Entry N) → count ≡ length entries → last ≡ slice_index_or entries (count - 1) last → value last.number < number → HasNot value entries number
+  none_behind count last all is low k d within same =
+      let at_last : value last.number ≡ number_at (count - 1) d = ap (λ (entry : Entry N). value entry.number) (is ∙ get_or_default entries (count - 1) last d (omega (arith, all))) in
+      omega (arith, at_last, low, same, numbers_rise k (count - 1) d (omega (arith, all)) (omega (arith, all)))
+
   -- what a split by a number counts
   pub parted : IsPartitionedBy (λ entry. nat_lt (value entry.number) number) entries
   parted = IsPartitionedBy-ltb (λ entry. value entry.number) entries number numbers_rise

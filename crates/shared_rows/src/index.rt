@@ -1,5 +1,5 @@
 //! Where the rows of one place stand.
-ghost use Rattle.std.specs.Prelude.{IfSome, IfNone};
+ghost use Rattle.std.specs.Prelude.{IfSome, IfNone, IsTrue};
 ghost use Rattle.shared_rows.specs.Index.{IsAt, IsCountBelow, IsRisingIndex, HasNot};
 
 use crate::number::Number;
@@ -19,31 +19,41 @@ pub(crate) struct Entry<N> {
     pub(crate) key: u32,
 }
 
-/// Where the entry with a number stands.
+/// Where the entry with a number stands. Where no row between it and the first one was taken out, or
+/// none between it and the last one, it is as far from that one as their numbers differ.
 pub(crate) fn position<N: Number>(entries: &VecDeque<Entry<N>>, number: u64) -> Option<usize>
     requires { IsRisingIndex N.value entries.now.items }
     ensures found { IfSome result (IsAt N.value entries.now.items number) }
     ensures absent { IfNone result (HasNot N.value entries.now.items number) }
 {
-    if let Some(at) = farthest(entries, number) {
-        return Some(at);
+    let first = entries.front()?.number.value();
+    let last = entries.back()?.number.value();
+    if number < first || last < number {
+        return None;
+    }
+    let ahead = (number - first) as usize;
+    if is_at(entries, ahead, number) {
+        return Some(ahead);
+    }
+    let behind = (last - number) as usize;
+    if behind < entries.len() {
+        let at = entries.len() - 1 - behind;
+        if is_at(entries, at, number) {
+            return Some(at);
+        }
     }
     entries
         .binary_search_by_key(&number, |entry| entry.number.value())
         .ok()
 }
 
-/// Where the entry with a number stands, if that is as far from the first entry as the two numbers
-/// differ, as where no row between them was taken out. Numbers rise, so it never stands farther.
-fn farthest<N: Number>(entries: &VecDeque<Entry<N>>, number: u64) -> Option<usize>
-    ensures { IfSome result (IsAt N.value entries.now.items number) }
+/// Whether an entry with a number stands at a position.
+fn is_at<N: Number>(entries: &VecDeque<Entry<N>>, at: usize, number: u64) -> bool
+    ensures { IsTrue result → IsAt N.value entries.now.items number at }
 {
-    let first = entries.front()?.number.value();
-    let at = number.checked_sub(first)? as usize;
-    if entries.get(at)?.number.value() == number {
-        Some(at)
-    } else {
-        None
+    match entries.get(at) {
+        Some(entry) => entry.number.value() == number,
+        None => false,
     }
 }
 

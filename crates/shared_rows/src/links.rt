@@ -135,10 +135,13 @@ impl<K: Ord + Copy> Links<K> {
     }
 }
 
-/// Where a link stands, or where it would stand.
+/// Where a link stands, or where it would stand: most come behind all others.
 fn seat<K: Ord + Copy>(links: &VecDeque<K>, link: K) -> Result<usize, usize>
     requires { IsInOrder K.cmp links.now.items }
     ensures { IsSeat K.cmp links.now.items link result }
 {
-    links.binary_search(&link)
+    match links.back() {
+        Some(last) if last.cmp(&link).is_lt() => Err(links.len()),
+        _ => links.binary_search(&link),
+    }
 }

@@ -1,7 +1,7 @@
 use Rattle.std.proofs.Common.{◌∙◌, ◌-◌, sym, arith}
 use Rattle.shared_rows.specs.Rows.{rows_at}
 use Rattle.shared_rows.proofs.RowsLemmas.{some_at}
-use Rattle.event_queue.proofs.OrderLemmas.{place_there, row_there, way_begins, way_drops, way_ends, way_on, way_passes}
+use Rattle.event_queue.proofs.OrderLemmas.{place_there, row_there, way_begins, way_drops, way_on, way_passes}
 use Rattle.event_queue.proofs.order.drop_events.Goals as goal
 
 pub rows-init : goal.rows-init

@@ -1,4 +1,4 @@
-use Rattle.std.proofs.Common.{◌≡◌, ◌∙◌, ◌+◌, ◌<◌, length, arith, sym, ap, refl}
+use Rattle.std.proofs.Common.{arith}
 use Rattle.shared_rows.specs.Rows.{rows_at, without}
 use Rattle.shared_rows.proofs.RowsLemmas.{some_at}
 use Rattle.event_queue.specs.declared.event.Posted.{Posted}

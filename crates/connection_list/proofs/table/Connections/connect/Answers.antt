@@ -1,7 +1,7 @@
-use Rattle.std.proofs.Common.{◌≡◌, ◌∙◌, ◌+◌, ◌<◌, None, ap, rules}
+use Rattle.std.proofs.Common.{arith, ◌≡◌, ◌∙◌, ◌+◌, ◌<◌, None, ap, rules}
 use Rattle.places.specs.Joined.{joined_tables}
 use Rattle.places.specs.Table.{with_place}
-use Rattle.connection_list.specs.Rows.{connect_refusal}
+use Rattle.connection_list.specs.Rows.{connect_refusal, numbered}
 use Rattle.connection_list.specs.Routes.{place_of}
 use Rattle.connection_list.specs.Table.{rows_at}
 use Rattle.connection_list.proofs.AddedLemmas.{connected_kept, connected_view, number_above, number_fits, number_next, reserved_kept, reserved_view}
@@ -19,10 +19,10 @@ returns-in_err-reserve-clause-err c =
     let same = reserved_view c.self.inside.rows c.self.inside.routes c.args.self.now c.self.invariant c.self.view_is c.args.place c.requires c.get_mut-routes.result.now c.reserve.new.self c.get_mut-routes.ensures.value c.reserve.ensures.same in
     search rules
 
-pub overflow_add-routes : goal.overflow_add-routes
-overflow_add-routes c =
+pub overflow_add-last_number : goal.overflow_add-last_number
+overflow_add-last_number c =
     let none : None ≡ connect_refusal (rows_at c.args.self.now c.args.place) c.args.new c.args.unique = c.in_default.ensures.refusal in
-    let short : c.reserve.new.self.last_number + 1 < 4294967296 = number_fits c.self.inside.rows c.self.inside.routes c.args.self.now c.self.invariant c.self.view_is c.args.place c.requires c.get_mut-routes.result.now c.reserve.new.self c.get_mut-routes.ensures.value c.reserve.ensures.same c.args.new c.args.unique none in
+    let short : c.last_number.result + 1 < 4294967296 = omega (arith, c.last_number.ensures, number_fits c.self.inside.rows c.self.inside.routes c.args.self.now c.self.invariant c.self.view_is c.args.place c.requires c.get_mut-routes.result.now c.reserve.new.self c.get_mut-routes.ensures.value c.reserve.ensures.same c.args.new c.args.unique none) in
     search rules
 
 pub push-requires-clause-place : goal.push-requires-clause-place
@@ -31,7 +31,7 @@ push-requires-clause-place c = rows_place c.self.inside.rows c.self.inside.route
 pub push-requires-clause-number : goal.push-requires-clause-number
 push-requires-clause-number c =
     let none : None ≡ connect_refusal (rows_at c.args.self.now c.args.place) c.args.new c.args.unique = c.in_default.ensures.refusal in
-    number_above c.self.inside.rows c.self.inside.routes c.args.self.now c.self.invariant c.self.view_is c.args.place c.requires c.get_mut-routes.result.now c.reserve.new.self c.get_mut-routes.ensures.value c.reserve.ensures.same c.args.new c.args.unique none c.numbered-row.result c.numbered-row.ensures
+    number_above c.self.inside.rows c.self.inside.routes c.args.self.now c.self.invariant c.self.view_is c.args.place c.requires c.get_mut-routes.result.now c.reserve.new.self c.get_mut-routes.ensures.value c.reserve.ensures.same c.args.new c.args.unique none c.numbered-row.result (c.numbered-row.ensures ∙ ap (λ n. numbered (n + 1) c.args.new) c.last_number.ensures)
 
 pub invariant_of-self-in_err-key : goal.invariant_of-self-in_err-key
 invariant_of-self-in_err-key c = rw c.in_err-key.ensures.err (reserved_kept c.self.inside.rows c.self.inside.routes c.args.self.now c.self.invariant c.self.view_is c.args.place c.requires c.get_mut-routes.result.now c.reserve.new.self c.get_mut-routes.ensures.value c.reserve.ensures.same)
@@ -44,14 +44,14 @@ returns-in_err-key-clause-err c =
 pub invariant_of-self-2 : goal.invariant_of-self-2
 invariant_of-self-2 c =
     let none : None ≡ connect_refusal (rows_at c.args.self.now c.args.place) c.args.new c.args.unique = c.in_default.ensures.refusal in
-    connected_kept c.self.inside.rows c.self.inside.routes c.args.self.now c.self.invariant c.self.view_is c.args.place c.requires c.get_mut-routes.result.now c.reserve.new.self c.get_mut-routes.ensures.value c.reserve.ensures.same c.args.new c.args.unique none c.numbered-row.result c.numbered-row.ensures c.push.new.self c.add.new.self c.in_ok-key.key c.in_ok-key.ensures.added c.in_ok-key.ensures.vacant c.in_ok-key.ensures.short c.add.ensures.number c.add.ensures.routed
+    connected_kept c.self.inside.rows c.self.inside.routes c.args.self.now c.self.invariant c.self.view_is c.args.place c.requires c.get_mut-routes.result.now c.reserve.new.self c.get_mut-routes.ensures.value c.reserve.ensures.same c.args.new c.args.unique none c.numbered-row.result (c.numbered-row.ensures ∙ ap (λ n. numbered (n + 1) c.args.new) c.last_number.ensures) c.push.new.self c.add.new.self c.in_ok-key.key c.in_ok-key.ensures.added c.in_ok-key.ensures.vacant c.in_ok-key.ensures.short c.add.ensures.number c.add.ensures.routed
 
 pub returns-clause-number : goal.returns-clause-number
 returns-clause-number c =
     let none : None ≡ connect_refusal (rows_at c.args.self.now c.args.place) c.args.new c.args.unique = c.in_default.ensures.refusal in
-    number_next c.self.inside.rows c.self.inside.routes c.args.self.now c.self.invariant c.self.view_is c.args.place c.requires c.get_mut-routes.result.now c.reserve.new.self c.get_mut-routes.ensures.value c.reserve.ensures.same c.args.new c.args.unique none c.numbered-row.result c.numbered-row.ensures
+    number_next c.self.inside.rows c.self.inside.routes c.args.self.now c.self.invariant c.self.view_is c.args.place c.requires c.get_mut-routes.result.now c.reserve.new.self c.get_mut-routes.ensures.value c.reserve.ensures.same c.args.new c.args.unique none c.numbered-row.result (c.numbered-row.ensures ∙ ap (λ n. numbered (n + 1) c.args.new) c.last_number.ensures)
 
 pub returns-clause-ok : goal.returns-clause-ok
 returns-clause-ok c =
     let none : None ≡ connect_refusal (rows_at c.args.self.now c.args.place) c.args.new c.args.unique = c.in_default.ensures.refusal in
-    connected_view c.self.inside.rows c.self.inside.routes c.args.self.now c.self.invariant c.self.view_is c.args.place c.requires c.get_mut-routes.result.now c.reserve.new.self c.get_mut-routes.ensures.value c.reserve.ensures.same c.args.new c.args.unique none c.numbered-row.result c.numbered-row.ensures c.push.new.self c.add.new.self c.in_ok-key.key c.in_ok-key.ensures.added c.in_ok-key.ensures.vacant c.in_ok-key.ensures.short c.add.ensures.number c.add.ensures.routed
+    connected_view c.self.inside.rows c.self.inside.routes c.args.self.now c.self.invariant c.self.view_is c.args.place c.requires c.get_mut-routes.result.now c.reserve.new.self c.get_mut-routes.ensures.value c.reserve.ensures.same c.args.new c.args.unique none c.numbered-row.result (c.numbered-row.ensures ∙ ap (λ n. numbered (n + 1) c.args.new) c.last_number.ensures) c.push.new.self c.add.new.self c.in_ok-key.key c.in_ok-key.ensures.added c.in_ok-key.ensures.vacant c.in_ok-key.ensures.short c.add.ensures.number c.add.ensures.routed

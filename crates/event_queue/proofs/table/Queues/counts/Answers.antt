@@ -1,7 +1,3 @@
-use Rattle.std.proofs.Common.{◌∙◌, ap, sym, arith, length}
-use Rattle.std.proofs.lemmas.List.{length-map}
-use Rattle.shared_rows.specs.Rows.{rows_at}
-use Rattle.event_queue.specs.Queue.{IsSound, counts_of}
 use Rattle.event_queue.proofs.QueueLemmas.{counts_told, of_logs, of_rows, sound_at}
 use Rattle.event_queue.proofs.table.Queues.counts.Goals as goal
 

@@ -1,6 +1,4 @@
-use Rattle.std.proofs.Common.{◌≡◌, ◌∙◌, ◌<◌, ◌≤◌, length, arith, sym}
-use Rattle.shared_rows.specs.Rows.{rows_at}
-use Rattle.event_queue.specs.declared.table.TheConstants.{EVENTS}
+use Rattle.std.proofs.Common.{◌∙◌, arith, sym}
 use Rattle.event_queue.proofs.QueueLemmas.{back_again, count_fits, full_stays, of_logs, of_rows, one_posted, some_log, taken_back, takes_more, unposted}
 use Rattle.std.proofs.lemmas.List.{length-set}
 use Rattle.shared_rows.proofs.KeptLemmas.{on_err}

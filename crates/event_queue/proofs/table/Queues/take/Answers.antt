@@ -1,7 +1,7 @@
 use Rattle.std.proofs.Common.{◌∙◌, ap, sym}
 use Rattle.event_queue.specs.Queue.{Queue}
 use Rattle.std.specs.List.{slice_get}
-use Rattle.event_queue.proofs.QueueLemmas.{first_taken, none_taken, of_logs, of_rows, seen, some_log}
+use Rattle.event_queue.proofs.QueueLemmas.{first_taken, none_taken, of_rows, seen, some_log}
 use Rattle.event_queue.proofs.table.Queues.take.Goals as goal
 
 pub take_first-requires : goal.take_first-requires
