@@ -7,7 +7,7 @@ PROGRAM = meta_main
 CRATE = crates/$(PROGRAM)
 CC ?= cc
 
-.PHONY: all run test budget rows examples ends pipes trees signals limits sessions classes respelled chance refusals bench clean
+.PHONY: all run test budget rows plain examples ends pipes trees signals limits sessions classes respelled chance refusals bench clean
 
 all: bin/metad
 
@@ -26,7 +26,7 @@ test: budget
 	mkdir -p bin
 	cp $(CRATE)/out/$(PROGRAM) bin/metad
 	cp crates/tree_reader/out/tree_reader bin/tree_reader
-	$(MAKE) --no-print-directory rows respelled chance examples ends pipes trees signals limits sessions classes refusals
+	$(MAKE) --no-print-directory rows plain respelled chance examples ends pipes trees signals limits sessions classes refusals
 
 budget:
 	python3 tools/budget.py .
@@ -34,6 +34,10 @@ budget:
 # these take bin/metad as it is
 rows:
 	python3 tools/rows.py bin/metad tests/rows
+
+# the plain program, which the built one is compared with, answers the rows too
+plain:
+	python3 tools/plain_rows.py tests/rows
 
 respelled:
 	python3 tools/respelled.py bin/metad tests/rows

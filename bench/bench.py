@@ -7,9 +7,11 @@ for memory in a line that writes or reads, which COUNTER, preloaded, counts; how
 and `find` take for each object that they visit, among few and among many, and how much longer the
 program takes to start with a class file as large as one may be than with a tiny one (each the best of
 ten runs). Inputs and class files are the same in every run, and every reply is compared with what it
-must be. With BEFORE, an earlier program, it also prints how many times as fast as that one the program
-is, by the best run of each in many rounds, since a machine's own speed changes. It ends with 1 where a mark
-is missed. First it prints the machine's pace, by how fast Python reads and writes JSON on it: figures of machines of
+must be. Events are posted by a signal that has so many queued connections, and taken by one `spin`, again and again;
+each is posted and taken once, and told by the line of its call. Twice as many of them in the queue may take 2.4 times
+as long, posted and taken. With BEFORE, an earlier program, it also prints how many times as fast as that one the
+program is where no events are posted, by the best run of each in many rounds, since a machine's own speed changes.
+It ends with 1 where a mark is missed. First it prints the machine's pace, by how fast Python reads and writes JSON on it: figures of machines of
 another pace do not compare. No mark goes by it.
 """
 
@@ -47,6 +49,10 @@ LEAST_COMINGS = 300_000
 MOST_READING = 100
 
 LEAST_CALLS = 5_000_000
+LEAST_EVENTS = 2_000_000
+
+# Twice as many events may take so many times as long.
+MOST_DOUBLED = 2.4
 
 # What is done beside other sessions or connections may take so many times as long as alone.
 MOST_BESIDE = 1.3
@@ -58,9 +64,9 @@ MOST_IDLE = 400
 # How often memory may be asked for in a line.
 MOST_ALLOCATIONS = 4
 
-# How many times as fast as before, and in how many rounds.
-TIMES = {"plain": 2.5, "many sessions": 2, "spaces and escapes": 1.8, "lists": 2, "trees": 1}
-TURNS = 30
+# A line may take so many times as long as before, by the best of so many rounds.
+MOST_OF_BEFORE = 1.1
+ROUNDS_BESIDE = 30
 
 # A visit among many may take so many times as long as one among few.
 MOST_GROWTH = 2
@@ -73,6 +79,8 @@ RINGS = 1_000
 OTHER_SESSIONS = 10_000
 OTHER_CONNECTIONS = 15_000
 ALL_CONNECTIONS = 16_384
+ALL_EVENTS = 16_384
+FILLINGS = 40
 MANY_SESSIONS = 100_000
 BELL = """{"name":"Bell","super":"QObject","signals":["rang(int)"],"slots":[]},
 {"name":"Ear","super":"QObject","signals":[],"slots":[{"sig":"hear(int)","body":[]}]}"""
@@ -188,24 +196,41 @@ def with_lists(lines):
         yield line.replace('"#"', f'[{number},"lamp",true]'), '{"error":"E22","session":"s0"}\n'
 
 
-def connect(session, sender, receiver, number):
-    line = f'{{"do":"connect","method":"hear(int)","receiver":{receiver},"sender":{sender},"session":"{session}","signal":"rang(int)"}}\n'
-    return line, reply(session, number)
+def connect(session, sender, receiver, number, kind="auto"):
+    ends = f'"receiver":{receiver},"sender":{sender},"session":"{session}","signal":"rang(int)"'
+    named = "" if kind == "auto" else f',"type":"{kind}"'
+    return f'{{"do":"connect","method":"hear(int)",{ends}{named}}}\n', reply(session, number)
+
+
+def called(session, bell, ears):
+    """What is told of a bell that rings for these ears."""
+    return "".join(f'{{"args":[5],"call":"hear(int)","object":{ear},"sender":{bell},"session":"{session}"}}\n' for ear in ears)
 
 
 def ring(session, bell, ears):
     """A bell rings, and each ear is told."""
-    called = (f'{{"args":[5],"call":"hear(int)","object":{ear},"sender":{bell},"session":"{session}"}}\n' for ear in ears)
-    return f'{{"args":[5],"do":"invoke","method":"rang(int)","object":{bell},"session":"{session}"}}\n', "".join(called) + reply(session, True)
+    return f'{{"args":[5],"do":"invoke","method":"rang(int)","object":{bell},"session":"{session}"}}\n', called(session, bell, ears) + reply(session, True)
 
 
-def bell_and_ears(rings):
-    """A bell that rings so many times for all ears."""
+def ring_later(session, bell, ears):
+    """A bell rings for ears that are told when events are taken, and then they are."""
+    taken = reply(session, {"events": len(ears), "left": 0, "lost": 0, "mismatched": 0})
+    return [ring(session, bell, []), (f'{{"do":"spin","session":"{session}"}}\n', called(session, bell, ears) + taken)]
+
+
+def bell_and_ears(rings=0, ears=EARS, kind="auto"):
+    """A bell that rings so many times for so many ears."""
     yield f'{{"class":"Bell","do":"new","session":"a"}}\n', reply("a", 1)
-    ears = range(2, EARS + 2)
+    ears = range(2, ears + 2)
     yield from ((f'{{"class":"Ear","do":"new","session":"a"}}\n', reply("a", ear)) for ear in ears)
-    yield from (connect("a", 1, ear, ear - 1) for ear in ears)
+    yield from (connect("a", 1, ear, ear - 1, kind) for ear in ears)
     yield from (ring("a", 1, ears) for _ in range(rings))
+
+
+def bell_and_one_ear(events):
+    """A bell that is connected to one ear so many times, to be told later."""
+    yield from ((f'{{"class":"{it}","do":"new","session":"a"}}\n', reply("a", at)) for at, it in ((1, "Bell"), (2, "Ear")))
+    yield from (connect("a", 1, 2, number, "queued") for number in range(1, events + 1))
 
 
 def other_sessions():
@@ -307,7 +332,7 @@ class Beside:
 
     def __init__(self, name, lines, programs, room):
         lines = list(lines)
-        self.name, self.count, self.programs = name, len(lines), programs
+        self.name, self.count, self.programs = name, len(lines), programs  # each with its words
         self.given, self.wrote = f"{room}/{name} in", f"{room}/{name} out"
         self.wanted = "".join(wanted for _, wanted in lines)
         self.best = dict.fromkeys(programs, float("inf"))
@@ -315,14 +340,14 @@ class Beside:
 
     def run(self):
         for program in self.programs:
-            self.best[program] = min(self.best[program], seconds_of([program], self.given, self.wrote))
+            self.best[program] = min(self.best[program], seconds_of(program, self.given, self.wrote))
             if Path(self.wrote).read_text() != self.wanted:
-                sys.exit(f"{self.name}: {program} gives other replies")
+                sys.exit(f"{self.name}: {program[0]} gives other replies")
 
     def is_reached(self):
-        """Prints how many times as fast as before the program is; answers whether that reaches the mark."""
+        """Prints how many times as fast as before the program is; answers whether that is within the mark."""
         before, now = self.best.values()
-        missed = f"; under its mark of {TIMES[self.name]} times" if before / now < TIMES[self.name] else ""
+        missed = f"; over its mark of {MOST_OF_BEFORE} times as long" if now > MOST_OF_BEFORE * before else ""
         print(f"{self.name}: {self.count / now:,.0f} lines a second, {before / now:.2f} times as fast as before{missed}")
         return not missed
 
@@ -335,9 +360,11 @@ def all_beside(program, before, room):
         "spaces and escapes": spelled(in_turn(1, LINES)),
         "lists": with_lists(LINES),
         "trees": in_trees(ROUNDS, OBJECTS),
+        "calls": bell_and_ears(ROUNDS),
     }
-    besides = [Beside(name, lines, (before, program), room) for name, lines in inputs.items()]
-    for _ in range(TURNS):
+    words = (class_file(f"{room}/bells.json", [BELL]),)
+    besides = [Beside(name, lines, ((before, *words), (program, *words)), room) for name, lines in inputs.items()]
+    for _ in range(ROUNDS_BESIDE):
         for it in besides:
             it.run()
     return [it.is_reached() for it in besides]
@@ -406,11 +433,33 @@ def measure_calls(command, room):
     sessions, connections = f"{OTHER_SESSIONS:,} sessions", f"{OTHER_CONNECTIONS:,} connections of the session"
     befores = {"nothing": [], sessions: list(other_sessions()), connections: list(other_connections())}
     rings = [ring("a", 1, range(2, EARS + 2))] * RINGS
-    seconds = seconds_beside("calls", list(bell_and_ears(0)), rings, befores, command, room)
+    seconds = seconds_beside("calls", list(bell_and_ears()), rings, befores, command, room)
     calls = EARS * RINGS / seconds["nothing"]
     missed = f"; under its mark of {LEAST_CALLS:,}" if calls < LEAST_CALLS else ""
     print(f"calls of {EARS:,} receivers of one signal: {calls:,.0f} a second{missed}")
     return all([not missed, *(show_beside(kind, seconds[kind], seconds["nothing"]) for kind in (sessions, connections))])
+
+
+def measure_events(command, room):
+    """Prints how many events a second are posted by one signal after another and taken; answers whether the mark is reached."""
+    rings = ring_later("a", 1, range(2, EARS + 2)) * RINGS
+    seconds = seconds_beside("events", list(bell_and_ears(kind="queued")), rings, {"nothing": []}, command, room)["nothing"]
+    events = EARS * RINGS / seconds
+    missed = f"; under its mark of {LEAST_EVENTS:,}" if events < LEAST_EVENTS else ""
+    print(f"events of {EARS:,} receivers of one signal, posted and taken: {events:,.0f} a second{missed}")
+    return not missed
+
+
+def measure_full_queue(command, room):
+    """Prints how much longer twice as many events take in a queue, up to a full one; answers whether that is within the mark."""
+    command, seconds = [*command, "--turns", str(ALL_EVENTS)], []
+    for count in (ALL_EVENTS // 2, ALL_EVENTS):
+        rings = ring_later("a", 1, [2] * count) * FILLINGS
+        seconds.append(seconds_beside("full queue", list(bell_and_one_ear(count)), rings, {"nothing": []}, command, room)["nothing"])
+    times = seconds[1] / seconds[0]
+    missed = f"; over its mark of {MOST_DOUBLED}" if times > MOST_DOUBLED else ""
+    print(f"{ALL_EVENTS:,} events at once, posted and taken: {times:.2f} times as long as half as many{missed}")
+    return not missed
 
 
 def measure_deletes(command, room):
@@ -490,6 +539,8 @@ def main():
             measure(f"the same beside {OBJECTS}", come_and_go(OBJECTS, LINES), [program], room, LEAST_COMINGS),
             measure_allocations(program, counter, room),
             measure_calls([program, class_file(f"{room}/bell.json", [BELL])], room),
+            measure_events([program, f"{room}/bell.json"], room),
+            measure_full_queue([program, f"{room}/bell.json"], room),
             measure_deletes([program, f"{room}/bell.json"], room),
             measure_visits("children", lambda number: children("a", 1, list(range(2, number + 2))), [program], room),
             measure_visits("find", lambda number: find_none("a", 1), [program], room),

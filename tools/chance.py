@@ -28,17 +28,19 @@ CLASSES = (*('"Probe"',) * 8, '"QObj\\u0065ct"', '"QObject"', '"Nope"', '"a b"',
 WORDS = (
     *(*("new",) * 4, *("setParent", "children", "find", "set", "get") * 2, "delete", "meta", "jump", "n\\u0065w"),
     *(*("connect", "invoke") * 4, "disconnect", "disconnect", "c\\u006fnnect"),
+    *("spin", "spin", "deleteLater", "block", "status", "sp\\u0069n", "delete\\u004cater"),
 )
 KEYS = (
     *("do", "session", "object", "property", "value", "class", "parent", "name", "x", "d\\u006f", "obj\\u0065ct", "Do", ""),
-    *("sender", "signal", "receiver", "method", "type", "unique", "single", "connection", "args", "s\\u0065nder", "typ\\u0065"),
+    *("sender", "signal", "receiver", "method", "type", "unique", "single", "connection", "args", "on"),
+    *("s\\u0065nder", "typ\\u0065", "\\u006fn"),
 )
 SIGNALS = (*("ping()",) * 16, "p\\u0069ng()", "ping\\u0028void\\u0029", " ping(\\t)", "destroyed()", "objectNameChanged(QString)", "note()", "ping")
 SLOTS = (
     *(*("note()", "late()", "swap()", "again()") * 4, "kill()", "rescue()", "drop()", "deleteLater()", "ping()"),
     *("not\\u0065()", "note ( void ) ", "nothing()", "note(int)", ""),
 )
-TYPES = (*('"auto"', '"direct"') * 4, '"dir\\u0065ct"', '"queued"', '"blocking"', "0")
+TYPES = (*('"auto"', '"direct"', '"queued"') * 4, '"dir\\u0065ct"', '"Queued"', '"blocking"', "0")
 TRUTHS = ("true", "false")
 CONNECTIONS = 40
 TURNS = 20
@@ -110,7 +112,8 @@ class Chance(random.Random):
         method, values = self.method(0.7), [self.value() for _ in range(self.choice((0, 0, 0, 0, 1, 2)))]
         if self.is_so(0.2):
             method, values = '"objectNameChanged ( const QString & )"', [self.text()]
-        return [("object", self.object()), ("method", method), ("args", f"[{','.join(values)}]")]
+        further = [("type", self.choice(TYPES))] if self.is_so(0.25) else []
+        return [("object", self.object()), ("method", method), ("args", f"[{','.join(values)}]"), *further]
 
     def members_of(self, word):
         """The members of a command in form, but for its word and its session."""
@@ -126,7 +129,9 @@ class Chance(random.Random):
             return self.disconnection()
         if word == "invoke":
             return self.invocation()
-        if word == "delete":
+        if word == "block":
+            return [("object", self.object()), ("on", "true" if self.is_so(0.2) else "false")]
+        if word in ("delete", "deleteLater", "delete\\u004cater"):
             return [("object", str(self.randint(1, OBJECTS)))]
         members = []
         if word == "find" or word == "children" and self.is_so(0.6):

@@ -1,5 +1,5 @@
 #!/usr/bin/env python3
-"""Takes the built program to the limits of signals and slots, on a stack of 8 MiB, and compares what it writes.
+"""Takes the built program to the limits of signals, slots and events, on a stack of 8 MiB, and compares what it writes.
 
 What has to be written is worked out here from the rules. The runs that nest deep are also made on smaller
 stacks, to tell how much they need. Usage: limits.py PROGRAM
@@ -17,10 +17,12 @@ from row import Row
 KIB = 1024
 STACK = 8 * KIB * KIB
 CONNECTIONS = 16_384
+EVENTS = 16_384
 TURNS = 10_000
 LEVELS = 64
 TEXT_BYTES = 4_096
 E07, E08, E14, E22 = ({"error": code} for code in ("E07", "E08", "E14", "E22"))
+SPIN, STATUS, CHILDREN = ({"do": word} for word in ("spin", "status", "children"))
 
 
 def text_of(value):
@@ -58,8 +60,25 @@ def connect(sender, signal, receiver, method, **more):
     return {"do": "connect", "sender": sender, "signal": signal, "receiver": receiver, "method": method, **more}
 
 
-def invoke(number, method, *args):
-    return {"do": "invoke", "object": number, "method": method, "args": args}
+def invoke(number, method, *args, **more):
+    return {"do": "invoke", "object": number, "method": method, "args": args, **more}
+
+
+def delete(number):
+    return {"do": "delete", "object": number}
+
+
+def delete_later(number):
+    return {"do": "deleteLater", "object": number}
+
+
+def spun(events, left=0, lost=0):
+    return reply({"events": events, "left": left, "lost": lost, "mismatched": 0})
+
+
+def counted(**there):
+    """The reply of `status`."""
+    return reply(dict.fromkeys(("bindings", "connections", "group", "joins", "lost", "mismatched", "objects", "publications", "queued"), 0) | there)
 
 
 def deep_sum(levels):
@@ -72,9 +91,11 @@ def behind_choices(actions, count):
     return [{"when": test, "then": behind_choices(actions, count - 1)}] if count else actions
 
 
-FALL = [{"emit": "down()", "args": []}, {"delete": "self"}]
+DROP = [{"delete": "self"}]
+FALL = [{"emit": "down()", "args": []}, *DROP]
 MORE = [{"connect": "down()", "to": "self", "method": it, "unique": it == "fall()"} for it in ("hear(QString,int)", "fall()", "note()")]
 SLOTS = {"note()": [], "hear(QString,int)": [], "more()": MORE, "fall()": FALL, "fallDeep()": behind_choices(FALL, 30)}
+SLOTS |= {"drop()": DROP, "dropDeep()": behind_choices(DROP, 31), "dropFirst()": [{"delete": 1}], "ask()": [{"deleteLater": "self"}]}
 CLASS = {
     "name": "A",
     "super": "QObject",
@@ -112,19 +133,86 @@ def texts():
         yield invoke(1, "told(QString,int)", longest + "x", 1), E14
         yield invoke(1, "told(QString,int)", longest + "x", "1"), E22
         yield invoke(1, "told(QString,int)", longest + "x"), E22
+        yield invoke(1, "hear(QString,int)", longest + "x", 1, type="queued"), E14
+        yield invoke(1, "hear(QString,int)", longest + "x", "1", type="queued"), E22
+        yield invoke(1, "hear(QString,int)", longest, 1, type="queued"), reply(True)
+        yield SPIN, call("hear(QString,int)", 1, 0, longest, 1), spun(1)
 
 
 def falls(slot):
     """A ring of trees, each as deep as may be: the signal of a root calls the next root's slot, which sends on and deletes."""
     roots = [LEVELS * at + 1 for at in range(LEVELS)]
     after = roots[1:] + roots[:1]
+    too_deep = [warning("E14", number) for number in (1, *range(1, LEVELS + 1))]
     for number in range(1, LEVELS * LEVELS + 1):
         yield new(None if number in roots else number - 1), reply(number)
     yield new(), E14
     yield from ((connect(root, "down()", other, slot), reply(at)) for at, (root, other) in enumerate(zip(roots, after), 1))
-    yield invoke(1, "down()"), *[call(slot, other, root) for root, other in zip(roots, after)], warning("E14", 1), reply(True)
-    yield {"do": "children"}, reply([])
+    yield invoke(1, "down()"), *[call(slot, other, root) for root, other in zip(roots, after)], *too_deep, reply(True)
+    yield CHILDREN, reply([])
     yield new(), reply(LEVELS * LEVELS + 1)
+
+
+def chain(slot):
+    """Objects each of whose ends deletes the next one, as far as signals may be nested; then the next one, and so on."""
+    count = LEVELS * LEVELS
+    yield from ((new(), reply(number)) for number in range(1, count + 1))
+    yield from ((connect(number, "destroyed()", number + 1, slot), reply(number)) for number in range(1, count))
+    for first in range(1, count + 1, LEVELS + 1):
+        last = min(first + LEVELS, count)
+        too_deep = [warning("E14", last)] if last == first + LEVELS else []
+        yield delete(first), *(call(slot, number + 1, number) for number in range(first, last)), *too_deep, reply(True)
+        yield STATUS, counted(objects=count - last, connections=max(0, count - last - 1))
+    yield CHILDREN, reply([])
+
+
+def ends(slot, later):
+    """Trees as deep as may be: the end of each one's deepest object deletes the next tree, and that of the last one tries the first."""
+    count = LEVELS * LEVELS
+    roots = range(1, count + 1, LEVELS)
+    deepest = [root + LEVELS - 1 for root in roots]
+    yield from ((new(None if number in roots else number - 1), reply(number)) for number in range(1, count + 1))
+    yield from ((connect(end, "destroyed()", root, slot), reply(at)) for at, (end, root) in enumerate(zip(deepest, roots[1:]), 1))
+    yield connect(count, "destroyed()", count, "dropFirst()"), reply(LEVELS)
+    calls = [*(call(slot, root, end) for end, root in zip(deepest, roots[1:])), call("dropFirst()", count, count), warning("E13", count)]
+    if later:
+        yield delete_later(1), reply(True)
+        yield SPIN, *calls, spun(1)
+    else:
+        yield delete(1), *calls, reply(True)
+    yield STATUS, counted()
+
+
+def deletions():
+    """As many events as there may be, which all go with the object that they are to delete."""
+    yield new(), reply(1)
+    yield from ((delete_later(1), reply(True)) for _ in range(EVENTS))
+    yield delete_later(1), E14
+    yield invoke(1, "note()", type="queued"), E14
+    yield invoke(1, "nothing()", type="queued"), reply(False)
+    yield invoke(1, "note()", 1, type="queued"), E22
+    yield invoke(1, "ask()"), call("ask()", 1, 0), warning("E14", 1), reply(True)
+    yield STATUS, counted(objects=1, queued=EVENTS)
+    yield SPIN, spun(1)
+    yield STATUS, counted()
+
+
+def lost_calls():
+    """Calls that meet as many events as there may be, with one turn less than that."""
+    turns, spent = EVENTS - 1, warning("E23")
+    yield from ((new(), reply(number)) for number in (1, 2))
+    yield from ((connect(1, "down()", 2, "note()", type="queued"), reply(number)) for number in range(1, EVENTS))
+    yield connect(1, "down()", 2, "note()", type="queued", single=True), reply(EVENTS)
+    yield invoke(1, "down()"), spent, reply(True)
+    yield STATUS, counted(connections=EVENTS, objects=2, queued=turns)
+    yield invoke(1, "down()"), spent, reply(True)
+    yield STATUS, counted(connections=EVENTS, lost=turns - 1, objects=2, queued=EVENTS)
+    yield {"do": "disconnect", "connection": 1}, reply(True)
+    yield invoke(1, "down()"), reply(True)
+    yield {"do": "disconnect", "connection": EVENTS}, reply(False)
+    yield STATUS, counted(connections=turns - 1, lost=2 * turns - 1, objects=2, queued=EVENTS)
+    yield SPIN, *[call("note()", 2, 1)] * turns, spent, spun(turns, 1, 2 * turns - 1)
+    yield SPIN, call("note()", 2, 1), spun(1, 0, 2 * turns - 1)
 
 
 def wide_rows():
@@ -132,11 +220,18 @@ def wide_rows():
         words = ("--turns", str(turns)) if turns else ()
         yield row_of(f"{CONNECTIONS} connections, turns {turns or 'by default'}", connections(turns or TURNS), *words)
     yield row_of(f"texts of {TEXT_BYTES} bytes", texts())
+    yield row_of(f"{EVENTS} deletions of one object", deletions())
+    yield row_of(f"calls that meet {EVENTS} events", lost_calls(), "--turns", str(EVENTS - 1))
 
 
 def deep_rows():
     yield row_of("trees deleted in nested signals", falls("fall()"))
     yield row_of("trees deleted in nested signals behind choices", falls("fallDeep()"))
+    yield row_of("objects whose ends delete the next one", chain("drop()"))
+    yield row_of("objects whose ends delete the next one behind choices", chain("dropDeep()"))
+    yield row_of("trees whose ends delete the next one", ends("drop()", False))
+    yield row_of("trees whose ends delete the next one behind choices", ends("dropDeep()", False))
+    yield row_of("trees whose ends delete the next one behind choices, in an event", ends("dropDeep()", True))
 
 
 def fault_of(program, row, stack=STACK):

@@ -3,14 +3,18 @@
 Nothing here is quick, and nothing is kept beside the rows: whatever is asked is looked for by going through them.
 """
 
+import re
 from dataclasses import dataclass, field
 
 OBJECTS = 4_096
 DEPTH = 64
 CONNECTIONS = 16_384
+EVENTS = 16_384
 NESTED_SIGNALS = 64
 TEXT_BYTES = 4_096
 TURNS = 10_000
+
+DESTROYED = 0  # the index of this signal in every class
 
 RANGES = {
     "int": (-(2**31), 2**31 - 1),
@@ -19,6 +23,13 @@ RANGES = {
     "qulonglong": (0, 2**64 - 1),
 }
 NUMBERS = (-(2**63), 2**64 - 1)
+
+NAME = r"[A-Za-z_][A-Za-z0-9_]{0,63}"
+TYPE = "(bool|int|uint|qlonglong|qulonglong|QString)"
+SPACE = r"[ \t\n\r]"
+PARAMETER = re.compile(rf"{TYPE}|const{SPACE}+{TYPE}(?:{SPACE}*&)?|{TYPE}{SPACE}+const(?:{SPACE}*&)?", re.ASCII)
+SIGNATURE = re.compile(rf"{SPACE}*({NAME}){SPACE}*\(([^()]*)\){SPACE}*", re.ASCII)
+PARAMETERS = 10
 
 
 class Refused(Exception):
@@ -43,6 +54,24 @@ def is_long(value):
     return isinstance(value, str) and len(value.encode()) > TEXT_BYTES
 
 
+def signature_of(text):
+    """The name and the kinds of a signature, however it is spelled."""
+    found = SIGNATURE.fullmatch(text) or refuse("E06")
+    inside = found[2].strip(" \t\n\r")
+    if inside in ("", "void"):
+        return found[1], []
+    parts = [PARAMETER.fullmatch(part.strip(" \t\n\r")) or refuse("E06") for part in inside.split(",")]
+    if len(parts) > PARAMETERS:
+        refuse("E06")
+    return found[1], [part[part.lastindex] for part in parts]
+
+
+def normal(text):
+    """A signature in its normal form."""
+    name, kinds = signature_of(text)
+    return f"{name}({','.join(kinds)})"
+
+
 @dataclass
 class Method:
     name: str
@@ -56,13 +85,12 @@ class Method:
 
 
 def method_of(text, is_signal, body=()):
-    """A method, whose signature is written in its normal form."""
-    name, _, kinds = text[:-1].partition("(")
-    return Method(name, kinds.split(",") if kinds else [], is_signal, list(body))
+    """A method with this signature."""
+    return Method(*signature_of(text), is_signal, list(body))
 
 
 class Classes:
-    """The classes of a class file, whose signatures are in their normal form."""
+    """The classes of a class file."""
 
     def __init__(self, declared=()):
         self.above = {"QObject": None}
@@ -101,19 +129,31 @@ class Row:
     stamp: int
     name: str = ""
     dying: bool = False
+    blocked: bool = False
 
 
-@dataclass
+@dataclass(eq=False)
 class Connection:
     number: int
     sender: int
     signal: int
     receiver: int
     method: int
+    queued: bool
     single: bool
 
     def ends(self):
         return self.sender, self.signal, self.receiver, self.method
+
+
+@dataclass
+class Event:
+    """What waits in the queue for an object: a call of its method, or where there is none its deletion."""
+
+    number: int
+    method: int | None = None
+    sender: int = 0
+    args: list = field(default_factory=list)
 
 
 @dataclass
@@ -134,8 +174,13 @@ class Session:
         self.most_turns = turns
         self.rows = []
         self.connections = []
-        self.last_number = self.last_stamp = self.last_connection = 0
-        self.turns, self.spent, self.lines = turns, False, []
+        self.queue = []
+        self.last_number = self.last_stamp = self.last_connection = self.lost = 0
+        self.begin()
+
+    def begin(self):
+        """The beginning of a command."""
+        self.turns, self.spent, self.taken, self.lines = self.most_turns, False, 0, []
 
     # Objects.
 
@@ -221,7 +266,8 @@ class Session:
     def methods(self, number):
         return self.classes.methods(self.row(number).class_name)
 
-    def index(self, number, text):
+    def index(self, number, signature):
+        text = normal(signature)
         texts = [method.text for method in self.methods(number)]
         return texts.index(text) if text in texts else refuse("E05")
 
@@ -229,18 +275,19 @@ class Session:
         index = self.index(number, text)
         return index if self.methods(number)[index].is_signal else refuse("E05")
 
-    def connect(self, sender, signal, receiver, method, unique, single):
-        """Connects two ends that are there, and answers the number."""
+    def connect(self, sender, signal, receiver, method, asked):
+        """Connects two ends that are there, in the way that is asked for, and answers the number."""
         sent, called = self.methods(sender)[signal].kinds, self.methods(receiver)[method].kinds
         if sent[: len(called)] != called:
             refuse("E07")
         ends = sender, signal, receiver, method
-        if unique and any(row.ends() == ends for row in self.connections):
+        if asked.get("unique") and any(row.ends() == ends for row in self.connections):
             refuse("E08")
         if len(self.connections) >= CONNECTIONS:
             refuse("E14")
         self.last_connection += 1
-        self.connections.append(Connection(self.last_connection, *ends, single))
+        queued, single = asked.get("type") == "queued", asked.get("single", False)
+        self.connections.append(Connection(self.last_connection, *ends, queued, single))
         return self.last_connection
 
     def disconnect(self, is_meant):
@@ -257,6 +304,26 @@ class Session:
             and receiver in (None, row.receiver)
             and method in (None, row.method)
         )
+
+    # Events.
+
+    def post(self, event):
+        """Puts an event behind all others, and answers whether there was room for it."""
+        has_room = len(self.queue) < EVENTS
+        if has_room:
+            self.queue.append(event)
+        return has_room
+
+    def delete_later(self, number):
+        return self.post(Event(number)) or refuse("E14")
+
+    def delivered(self, event):
+        """What an event comes to."""
+        if event.method is None:
+            return [("delete", event.number, 0)]
+        if self.methods(event.number)[event.method].is_signal:
+            return [("emit", event.number, event.method, event.args, 0)]
+        return [("slot", event.number, event.method, event.sender, event.args, 0)]
 
     # What a slot names and computes.
 
@@ -325,7 +392,8 @@ class Session:
         return False
 
     def do_emit(self, number, signal, args, depth):
-        if self.row(number) is None:
+        row = self.row(number)
+        if row is None or row.blocked and signal != DESTROYED:
             return None
         if depth >= NESTED_SIGNALS:
             return self.warn("E14", number)
@@ -339,6 +407,9 @@ class Session:
             self.connections.remove(connection)
         method = self.methods(connection.receiver)[connection.method]
         given = args[: len(method.kinds)]
+        if connection.queued:
+            self.lost += not self.post(Event(connection.receiver, connection.method, connection.sender, given))
+            return None
         if method.is_signal:
             return [("emit", connection.receiver, connection.method, given, depth + 1)]
         return [("slot", connection.receiver, connection.method, connection.sender, given, depth)]
@@ -365,10 +436,11 @@ class Session:
         if row is None or row.dying:
             return None
         row.dying = True
-        return [("cut", number, depth), ("gone", number)]
+        return [("emit", number, DESTROYED, [], depth), ("cut", number, depth), ("gone", number)]
 
     def do_cut(self, number, depth):
         self.disconnect(lambda row: number in (row.sender, row.receiver))
+        self.queue = [event for event in self.queue if event.number != number]
         return [("kin", number, child.number, depth) for child in self.children(number)]
 
     def do_kin(self, parent, number, depth):
@@ -379,6 +451,12 @@ class Session:
         self.rows.remove(self.row(number))
         for child in self.children(number):
             child.parent = None
+
+    def do_spin(self):
+        if not self.queue or not self.takes_turn():
+            return None
+        self.taken += 1
+        return [*self.delivered(self.queue.pop(0)), ("spin",)]
 
     # Actions of a slot.
 
@@ -406,14 +484,12 @@ class Session:
         return [("emit", number, signal, values, frame.depth)]
 
     def act_connect(self, action, frame):
-        if action.get("type") == "queued":
-            refuse("E22")
         sender, receiver = (self.target(frame, it) for it in (action.get("of", "self"), action["to"]))
         self.alive(sender)
         self.alive(receiver)
         signal = self.signal(sender, action["connect"])
         method = self.index(receiver, action["method"])
-        self.connect(sender, signal, receiver, method, action.get("unique", False), action.get("single", False))
+        self.connect(sender, signal, receiver, method, action)
 
     def act_disconnect(self, action, frame):
         sender = self.target(frame, action.get("of", "self"))
@@ -432,14 +508,17 @@ class Session:
         parent = action["setParent"]
         self.set_parent(self.target(frame, action.get("of", "self")), parent and self.target(frame, parent))
 
-    def act_of_later(self, action, frame):
-        refuse("E22")
+    def act_delete_later(self, action, frame):
+        self.delete_later(self.alive(self.target(frame, action["deleteLater"])).number)
+
+    def act_block(self, action, frame):
+        self.known(self.target(frame, action.get("of", "self"))).blocked = action["block"]
 
     # Commands.
 
     def answer(self, command):
         """What is replied to a command; the lines of what it sets off stand in `lines`."""
-        self.turns, self.spent, self.lines = self.most_turns, False, []
+        self.begin()
         return COMMANDS[command["do"]](self, command)
 
     def command_delete(self, command):
@@ -456,9 +535,9 @@ class Session:
         sender, receiver = command["sender"], command["receiver"]
         self.known(sender)
         self.known(receiver)
-        signal = self.signal(sender, spelled(command["signal"]))
-        method = self.index(receiver, spelled(command["method"]))
-        return self.connect(sender, signal, receiver, method, command.get("unique", False), command.get("single", False))
+        signal = self.signal(sender, command["signal"])
+        method = self.index(receiver, command["method"])
+        return self.connect(sender, signal, receiver, method, command)
 
     def command_disconnect(self, command):
         if "connection" in command:
@@ -467,15 +546,15 @@ class Session:
         self.known(sender)
         if receiver is not None:
             self.known(receiver)
-        signal = self.signal(sender, spelled(command["signal"])) if "signal" in command else None
-        method = self.index(receiver, spelled(command["method"])) if "method" in command else None
+        signal = self.signal(sender, command["signal"]) if "signal" in command else None
+        method = self.index(receiver, command["method"]) if "method" in command else None
         return self.disconnect_pattern(sender, signal, receiver, method)
 
     def command_invoke(self, command):
         number, args = command["object"], command["args"]
         self.known(number)
         try:
-            index = self.index(number, spelled(command["method"]))
+            index = self.index(number, command["method"])
         except Refused as refused:
             return False if str(refused) == "E05" else refuse(str(refused))
         method = self.methods(number)[index]
@@ -483,16 +562,29 @@ class Session:
             refuse("E22")
         if any(map(is_long, args)):
             refuse("E14")
+        if command.get("type") == "queued":
+            return self.post(Event(number, index, args=args)) or refuse("E14")
         if method.is_signal:
             self.run([("emit", number, index, args, 0)])
         elif self.takes_turn():
             self.run([("slot", number, index, 0, args, 0)])
         return True
 
+    def command_delete_later(self, command):
+        return self.delete_later(self.known(command["object"]).number)
 
-def spelled(text):
-    """A text in its normal form; one without brackets is no signature."""
-    return text if text.endswith(")") and "(" in text else refuse("E06")
+    def command_block(self, command):
+        row = self.known(command["object"])
+        before, row.blocked = row.blocked, command["on"]
+        return before
+
+    def command_spin(self, command):
+        self.run([("spin",)])
+        return {"events": self.taken, "left": len(self.queue), "lost": self.lost, "mismatched": 0}
+
+    def command_status(self, command):
+        there = {"connections": len(self.connections), "lost": self.lost, "objects": len(self.rows), "queued": len(self.queue)}
+        return dict.fromkeys(("bindings", "group", "joins", "mismatched", "publications"), 0) | there
 
 
 ACTIONS = {
@@ -501,9 +593,9 @@ ACTIONS = {
     "emit": Session.act_emit,
     "connect": Session.act_connect,
     "disconnect": Session.act_disconnect,
-    "deleteLater": Session.act_of_later,
+    "deleteLater": Session.act_delete_later,
     "delete": Session.act_delete,
-    "block": Session.act_of_later,
+    "block": Session.act_block,
     "setParent": Session.act_set_parent,
 }
 
@@ -518,6 +610,10 @@ COMMANDS = {
     "connect": Session.command_connect,
     "disconnect": Session.command_disconnect,
     "invoke": Session.command_invoke,
+    "deleteLater": Session.command_delete_later,
+    "block": Session.command_block,
+    "spin": Session.command_spin,
+    "status": Session.command_status,
 }
 
 

@@ -20,13 +20,17 @@ from signals import Chance, text_of
 SESSIONS = 100
 OBJECTS = 40
 CLASSES = [
-    {"name": "Bell", "super": "QObject", "signals": ["rang(int)"], "slots": [{"sig": "fall()", "body": [{"delete": "self"}]}]},
+    {
+        "name": "Bell",
+        "super": "QObject",
+        "signals": ["rang(int)"],
+        "slots": [{"sig": "tell()", "body": []}, {"sig": "fall()", "body": [{"delete": "self"}]}],
+    },
     {"name": "Ear", "super": "QObject", "signals": [], "slots": [{"sig": "hear(int)", "body": []}]},
 ]
 
 LONG_SESSIONS = 50
 LONG_COMMANDS = 1_000_000
-LONG_OBJECTS = 40
 LONG_TURNS = 20
 SHOWN = 5
 
@@ -39,23 +43,36 @@ def life_of(session):
     def ring():
         return {"do": "invoke", "object": 1, "method": "rang(int)", "args": [chance.randrange(1_000)]}
 
+    def connect(ear):
+        ends = {"sender": 1, "signal": "rang(int)", "receiver": ear, "method": "hear(int)"}
+        return {"do": "connect", **ends, "type": chance.choice(("auto", "queued"))}
+
     yield {"do": "new", "class": "Bell"}
     yield from ({"do": "new", "class": "Ear", "parent": chance.randrange(1, ear)} for ear in ears)
-    yield from ({"do": "connect", "sender": 1, "signal": "rang(int)", "receiver": ear, "method": "hear(int)"} for ear in ears)
+    yield from map(connect, ears)
     yield from ({"do": "set", "object": ear, "property": "objectName", "value": f"{session} {ear}"} for ear in chance.sample(ears, 9))
     yield ring()
     yield from ({"do": "disconnect", "connection": chance.randrange(1, OBJECTS)} for _ in range(5))
+    yield from ({"do": "connect", "sender": ear, "signal": "destroyed()", "receiver": 1, "method": "tell()"} for ear in chance.sample(ears, 9))
     yield ring()
+    yield {"do": "spin"}
     for ear in chance.sample(ears, 5):
         yield {"do": "setParent", "object": ear, "parent": chance.choice((None, 1))}
-        yield {"do": "delete", "object": ear}
+        yield {"do": chance.choice(("delete", "deleteLater")), "object": ear}
         yield {"do": "children", "object": 1}
+    yield {"do": "block", "object": 1, "on": chance.choice((False, True))}
     yield ring()
+    yield {"do": "status"}
+    yield {"do": "spin"}
+    yield {"do": "block", "object": 1, "on": False}
     yield {"do": "new", "class": "Ear"}
     yield {"do": "connect", "sender": 1, "signal": "rang(int)", "receiver": OBJECTS + 1, "method": "hear(int)", "unique": True}
     yield {"do": "disconnect", "sender": 1, "signal": "rang(int)", "receiver": chance.choice(ears)}
     yield ring()
+    yield {"do": "spin"}
+    yield ring()
     yield {"do": "invoke", "object": 1, "method": "fall()", "args": []}
+    yield {"do": "spin"}
     yield from ({"do": "get", "object": number, "property": "objectName"} for number in range(1, OBJECTS + 2))
 
 
@@ -97,15 +114,6 @@ def compare_in_turn(path, room):
     return not failed and calls > 0
 
 
-def command_by_chance(chance, session):
-    """A command of which most name objects that are there."""
-    living = [row.number for row in session.rows]
-    if len(living) > LONG_OBJECTS and chance.is_so(0.3):
-        return {"do": "delete", "object": chance.choice(living)}
-    one, other = (chance.choice(living) if living and chance.is_so(0.95) else session.last_number + chance.randint(1, 2) for _ in "ab")
-    return chance.command_on(one, other)
-
-
 def compare_by_chance(path, room):
     """Whether many commands by chance are answered as the plain program answers them."""
     chance = Chance(1)
@@ -113,7 +121,7 @@ def compare_by_chance(path, room):
     server, given, wanted = Server(Classes(declared), LONG_TURNS), [], []
     for _ in range(LONG_COMMANDS):
         name = f"s{chance.randrange(LONG_SESSIONS)}"
-        command = {**command_by_chance(chance, server.session(name)), "session": name}
+        command = {**chance.command(server.session(name)), "session": name}
         given.append(command)
         wanted += (text_of(line) for line in server.step(command))
     told = Program(path, declared, room, LONG_TURNS).lines(given)

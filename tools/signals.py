@@ -1,10 +1,11 @@
 #!/usr/bin/env python3
-"""Compares the built program with a plain one on sessions with signals and slots.
+"""Compares the built program with a plain one on sessions with signals, slots and events.
 
 Usage: signals.py PROGRAM [SEED]
 
-Each session has a class file of its own, whose slots emit, connect, disconnect, delete, reparent, choose and write
-by chance, and few turns. The commands are by chance too; most name objects and methods that are there.
+Each session has a class file of its own, whose slots emit, connect, disconnect, delete at once or later, block,
+reparent, choose and write by chance, and few turns. The commands are by chance too; most name objects and methods
+that are there. Connections of each type are made, many of them of `destroyed()`, and events are taken now and then.
 """
 
 import json
@@ -14,16 +15,22 @@ import sys
 import tempfile
 from pathlib import Path
 
-from plain_session import Classes, lines_of
+from plain_session import Classes, Server
 
 SESSIONS = 500
-COMMANDS = 60
+COMMANDS = 80
 ACTIONS = 6
+OBJECTS = 40
 TURNS = (1, 2, 5, 20, 60)
 
 SIGNALS = ("fired()", "moved(int)", "named(QString)", "told(int,QString)")
+END = "destroyed()"
 SLOTS = ("fire()", "move(int)", "name(QString)", "tell(int,QString)", "clear()", "follow()")
 TEXTS = ("x", "y", "z", "ä", "")
+COMMANDS_MADE = {
+    **{"new": 7, "connect": 14, "disconnect": 2, "invoke": 20, "delete": 1, "setParent": 2, "set": 2, "get": 1, "children": 1},
+    **{"deleteLater": 1, "block": 1, "spin": 6, "status": 1},
+}
 NUMBERS = (0, 1, -1, 7, 2**31 - 1, 2**31, 2**63)
 
 
@@ -40,6 +47,14 @@ class Chance(random.Random):
 
     def is_so(self, share):
         return self.random() < share
+
+    def signal(self, share=0.1):
+        """A signal, by this share the one that tells of an object's end."""
+        return END if self.is_so(share) else self.choice(SIGNALS)
+
+    def type(self, share):
+        """The type of a connection or an invocation, which is named by this share."""
+        return {"type": self.choice(("auto", "direct", "queued", "queued"))} if self.is_so(share) else {}
 
     # Expressions and actions.
 
@@ -75,7 +90,7 @@ class Chance(random.Random):
         return [self.action(kinds, depth) for _ in range(self.randrange(ACTIONS if depth == 0 else 3))]
 
     def action(self, kinds, depth):
-        signal = self.choice(SIGNALS)
+        signal = self.signal()
         made = {
             "emit": lambda: {"emit": signal, "args": [self.expression(kinds, it) for it in kinds_of(signal)], **self.of()},
             "connect": lambda: self.connection(signal),
@@ -84,21 +99,20 @@ class Chance(random.Random):
             "setParent": lambda: {"setParent": self.target() if self.is_so(0.7) else None, **self.of()},
             "set": lambda: {"set": "objectName", "to": self.expression(kinds, "QString"), **self.of()},
             "when": lambda: self.choice_of(kinds, depth),
-            "block": lambda: {"block": True, **self.of()},
+            "block": lambda: {"block": self.is_so(0.3), **self.of()},
             "deleteLater": lambda: {"deleteLater": self.target()},
         }
-        weights = (8, 5, 3, 1, 2, 3, 0 if depth > 1 else 4, 0.2, 0.2)
+        weights = (8, 5, 3, 1, 2, 3, 0 if depth > 1 else 4, 0.7, 1)
         action = made[self.choices(list(made), weights)[0]]()
         if "emit" in action and self.is_so(0.05):
             action["args"].append({"const": 1})
         return action
 
     def connection(self, signal):
-        wide = [slot for slot in (*SLOTS, *SIGNALS) if kinds_of(signal)[: len(kinds_of(slot))] == kinds_of(slot)]
+        wide = [slot for slot in (*SLOTS, *SIGNALS, "deleteLater()") if kinds_of(signal)[: len(kinds_of(slot))] == kinds_of(slot)]
         method = self.choice(wide if self.is_so(0.9) else SLOTS)
         flags = {key: True for key in ("unique", "single") if self.is_so(0.3)}
-        types = {"type": self.choice(("auto", "direct", "queued"))} if self.is_so(0.1) else {}
-        return {"connect": signal, "to": self.target(), "method": method, **self.of(), **flags, **types}
+        return {"connect": signal, "to": self.target(), "method": method, **self.of(), **flags, **self.type(0.4)}
 
     def disconnection(self, signal):
         action = {"disconnect": signal if self.is_so(0.6) else None, **self.of()}
@@ -128,30 +142,37 @@ class Chance(random.Random):
     def method(self):
         return self.choice(("nothing()", "nothing", "deleteLater()", "destroyed()")) if self.is_so(0.06) else self.choice((*SIGNALS, *SLOTS))
 
-    def command(self, made):
-        """A command in a session that has made so many objects."""
-        one, other = (self.randint(1, max(made, 1) + (self.is_so(0.1))) for _ in range(2))
+    def command(self, session):
+        """A command in a session, of which most name objects that are there."""
+        living = [row.number for row in session.rows]
+        if len(living) > OBJECTS and self.is_so(0.3):
+            return {"do": "delete", "object": self.choice(living)}
+        one, other = (self.choice(living) if living and self.is_so(0.95) else session.last_number + self.randint(1, 2) for _ in "ab")
         return self.command_on(one, other)
 
     def command_on(self, one, other):
         """A command that names one of these objects or both."""
-        kind = self.choices(("new", "connect", "disconnect", "invoke", "delete", "setParent", "set", "get", "children"), (7, 12, 3, 18, 1, 2, 2, 1, 1))[0]
+        kind = self.choices(list(COMMANDS_MADE), COMMANDS_MADE.values())[0]
+        if kind in ("spin", "status"):
+            return {"do": kind}
         if kind == "new":
             parent = {"parent": other} if self.is_so(0.5) else {}
             return {"do": kind, "class": self.choice(("Lamp", "Torch", "Switch", "QObject")), **parent}
         if kind == "connect":
-            made_of = self.connection(self.choice(SIGNALS))
-            kept = {key: made_of[key] for key in ("method", "unique", "single") if key in made_of}
+            made_of = self.connection(self.signal(0.25))
+            kept = {key: made_of[key] for key in ("method", "unique", "single", "type") if key in made_of}
             return {"do": kind, "sender": one, "signal": made_of["connect"], "receiver": other, **kept}
         if kind == "disconnect":
             return self.disconnect_command(one, other)
         if kind == "invoke":
             method = self.method()
             args = [self.value(it) for it in kinds_of(method)] if "(" in method else []
-            return {"do": kind, "object": one, "method": method, "args": args}
+            return {"do": kind, "object": one, "method": method, "args": args, **self.type(0.3)}
         command = {"do": kind, "object": one}
         if kind == "setParent":
             command["parent"] = other if self.is_so(0.8) else None
+        if kind == "block":
+            command["on"] = self.is_so(0.3)
         if kind in ("set", "get"):
             command["property"] = "objectName"
         if kind == "set":
@@ -163,40 +184,53 @@ class Chance(random.Random):
             return {"do": "disconnect", "connection": self.randint(1, 20)}
         command = {"do": "disconnect", "sender": one}
         if self.is_so(0.6):
-            command["signal"] = self.choice(SIGNALS)
+            command["signal"] = self.signal()
         if self.is_so(0.6):
             command["receiver"] = other
             if self.is_so(0.5):
                 command["method"] = self.method()
         return command
 
-    def commands(self):
-        made = 0
-        for at in range(COMMANDS):
-            command = {"do": "new", "class": "Lamp"} if at < 3 else self.command(made)
-            made += command["do"] == "new"
-            yield {**command, "session": "a"}
+
+def life_of(chance, server):
+    """Commands by chance in a session of a server, and all that it is told."""
+    commands, lines = [], []
+    for at in range(COMMANDS):
+        command = {"do": "new", "class": "Lamp"} if at < 3 else chance.command(server.session("a"))
+        commands.append({**command, "session": "a"})
+        lines += server.step(commands[-1])
+    return commands, lines
+
+
+def calls_in(lines):
+    return sum("call" in line for line in lines)
+
+
+def events_in(lines):
+    """How many events were taken."""
+    replies = (line.get("reply") for line in lines)
+    return sum(reply["events"] for reply in replies if isinstance(reply, dict) and "events" in reply)
 
 
 def main():
     program = str(Path(sys.argv[1]).resolve())
     first = int(sys.argv[2]) if len(sys.argv) > 2 else 1
-    failed, calls = 0, 0
+    failed, calls, events = 0, 0, 0
     with tempfile.TemporaryDirectory(prefix="metad-signals-") as room:
         for seed in range(first, first + SESSIONS):
             chance = Chance(seed)
-            declared, commands, turns = list(chance.classes()), list(chance.commands()), chance.choice(TURNS)
+            declared, turns = list(chance.classes()), chance.choice(TURNS)
+            commands, wanted = life_of(chance, Server(Classes(declared), turns))
             path = Path(room) / "classes.json"
             path.write_text(text_of({"classes": declared}))
             given = "".join(text_of(command) + "\n" for command in commands)
             ran = subprocess.run([program, str(path), "--turns", str(turns)], input=given.encode(), capture_output=True, check=True)
-            wanted = [text_of(line) for line in lines_of(commands, Classes(declared), turns)]
-            calls += sum('"call":' in line for line in wanted)
-            if ran.stdout.decode().splitlines() != wanted:
+            calls, events = calls + calls_in(wanted), events + events_in(wanted)
+            if ran.stdout.decode().splitlines() != list(map(text_of, wanted)):
                 failed += 1
                 print(f"by chance, {seed}: not what the plain program answers")
-    print(f"signals: {SESSIONS - failed} passed, {failed} failed; {calls:,} calls")
-    return 1 if failed or not calls else 0
+    print(f"signals: {SESSIONS - failed} passed, {failed} failed; {calls:,} calls, {events:,} events")
+    return 1 if failed or not calls or not events else 0
 
 
 if __name__ == "__main__":

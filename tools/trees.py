@@ -16,6 +16,7 @@ from plain_session import DEPTH, OBJECTS, Classes, lines_of
 
 CLASSES = ("QObject", "Cell", "Probe")
 CLASSES_THERE = Classes([{"name": name, "super": "QObject"} for name in CLASSES[1:]])
+KINDS = {"new": 9, "delete": 1, "deleteLater": 1, "spin": 1, "status": 1, "setParent": 4, "children": 3, "find": 4, "set": 2, "get": 1}
 CHANCES = 300
 COMMANDS = 120
 
@@ -30,9 +31,9 @@ def by_chance(seed):
     for _ in range(COMMANDS):
         session = chance.choice("aab")
         one, other = (chance.randint(1, made[session] + 1) for _ in range(2))
-        kind = chance.choices(("new", "delete", "setParent", "children", "find", "set", "get"), (9, 1, 4, 3, 4, 2, 1))[0]
+        kind = chance.choices(list(KINDS), KINDS.values())[0]
         command = {"do": kind, "session": session}
-        if kind != "new" and (kind != "children" or chance.random() < 0.8):
+        if kind not in ("new", "spin", "status") and (kind != "children" or chance.random() < 0.8):
             command["object"] = one
         if kind == "new":
             command["class"] = chance.choice(CLASSES + ("Nope",)) if chance.random() < 0.5 else "QObject"

@@ -1,6 +1,6 @@
 -- What actions come to, and what becomes of the tables by them.
 use Rattle.std.proofs.Common.{◌≡◌, ℕ, Bool, true, false, Some, None, [], ◌∙◌, sym, ap, refl, if◌then◌else◌}
-use Rattle.refusals.specs.declared.code.Code.TheVariants.{NoSuchObject}
+use Rattle.refusals.specs.declared.code.Code.TheVariants.{Limit, NoSuchObject}
 use Rattle.thread_model.specs.Doing.{Doing, in_state}
 use Rattle.thread_model.specs.Items.{puts}
 use Rattle.thread_model.specs.State.{State}
@@ -17,6 +17,11 @@ put_at old new place state doing placed e = ap (λ (state : State). puts [] (in_
 pub is_there_by : (there : Bool) → None ≡ (if there then None else Some NoSuchObject) → there ≡ true
 is_there_by true passed = refl
 is_there_by false passed = absurd (cc)
+
+-- what is not refused for want of room has room
+pub room_by : (room : Bool) → None ≡ (if room then None else Some Limit) → room ≡ true
+room_by true passed = refl
+room_by false passed = absurd (cc)
 
 pub keeps_same : (old new : Tables) (place : ℕ) → new ≡ old → Keeps place old new
 keeps_same old new place e = record { only = changes_same old new place e; failed = ap (λ tables. tables.failed) e }

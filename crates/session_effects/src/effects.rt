@@ -2,7 +2,7 @@
 ghost use Rattle.std.specs.Prelude.{◌≡◌, ◌∷◌, [], OnErr, IsFalse};
 ghost use Rattle.refusals.specs.Answers.{Answers};
 ghost use Rattle.term_core.specs.declared.action.Effect.TheVariants as e;
-ghost use Rattle.thread_model.specs.Acts.{emission, is_queued};
+ghost use Rattle.thread_model.specs.Acts.{emission};
 ghost use Rattle.thread_model.specs.Items.{Delete, Emit};
 ghost use Rattle.thread_model.specs.Targets.{truth_evaluated};
 ghost use Rattle.session_tables.specs.Tables.{IsPlaced, state_at};
@@ -17,7 +17,7 @@ use crate::evaluation::{
 };
 use crate::methods::{kinds_at, signal_with};
 use crate::slot::Slot;
-use connection_types::ConnectionType;
+use event_queue::Event;
 use plain_types::{Items, Text};
 use refusals::{Code, Fault};
 use session_tables::Tables;
@@ -101,8 +101,8 @@ pub fn deleted(caller: &Caller, tables: &Tables, slot: &Slot, target: &Target) -
     Ok(object)
 }
 
-/// Does an action that neither sends a signal nor deletes an object. What the server does not do yet is
-/// refused.
+/// Does an action that neither sends a signal nor deletes an object at once. A property other than the
+/// title is refused.
 pub fn change(
     caller: &Caller,
     tables: &mut Tables,
@@ -143,8 +143,10 @@ pub fn change(
             to,
             method,
         } => disconnect(caller, tables, slot, of, signal, to, method),
+        Effect::DeleteLater(target) => delete_later(caller, tables, slot, target),
+        Effect::Block { of, on } => block(caller, tables, slot, of, *on),
         Effect::SetParent { of, parent } => set_parent(caller, tables, slot, of, parent),
-        _ => Err(Fault::Refused(Code::BadValue)),
+        Effect::Emit { .. } | Effect::Delete(_) => unreachable!(),
     }
 }
 
@@ -189,9 +191,6 @@ fn connect(
     ensures err { OnErr result (tables.new ≡ tables.old) }
     ensures keeps { Keeps caller.now.place tables.old tables.new }
 {
-    if is_queued(options.mode) {
-        return Err(Fault::Refused(Code::BadValue));
-    }
     let reader = reader(caller, tables, slot);
     let sender = object_of(&reader, of)?;
     let receiver = object_of(&reader, to)?;
@@ -200,16 +199,6 @@ fn connect(
     let new = connection(caller, tables, sender, signal, receiver, method, options)?;
     tables.connect(caller.place, new, options.unique)?;
     Ok(())
-}
-
-/// No connection is queued yet.
-fn is_queued(mode: ConnectionType) -> bool
-    ensures { result ≡ is_queued mode }
-{
-    match mode {
-        ConnectionType::Auto | ConnectionType::Direct => false,
-        ConnectionType::Queued => true,
-    }
 }
 
 /// Breaks the connections that match.
@@ -234,6 +223,44 @@ fn disconnect(
     tables.check_named(caller.place, receiver)?;
     let pattern = pattern(caller, tables, sender, signal, receiver, method)?;
     tables.disconnect(caller.place, &pattern);
+    Ok(())
+}
+
+/// Posts the deletion of an object.
+fn delete_later(
+    caller: &Caller,
+    tables: &mut Tables,
+    slot: &Slot,
+    target: &Target,
+) -> Result<(), Fault>
+    requires { IsPlaced tables.old caller.now.place }
+    ensures tries { Tries caller.now slot.now (e.DeleteLater target.now) tables.old (λ _. []) tables.new result }
+    ensures err { OnErr result (tables.new ≡ tables.old) }
+    ensures keeps { Keeps caller.now.place tables.old tables.new }
+{
+    let receiver = object_of(&reader(caller, tables, slot), target)?;
+    tables.check_living(caller.place, receiver)?;
+    tables.check_room(caller.place)?;
+    tables.post(caller.place, Event::Deletion(receiver))?;
+    Ok(())
+}
+
+/// Blocks the signals of an object, or lets them through.
+fn block(
+    caller: &Caller,
+    tables: &mut Tables,
+    slot: &Slot,
+    of: &Target,
+    on: bool,
+) -> Result<(), Fault>
+    requires { IsPlaced tables.old caller.now.place }
+    ensures tries { Tries caller.now slot.now (e.Block of.now on) tables.old (λ _. []) tables.new result }
+    ensures err { OnErr result (tables.new ≡ tables.old) }
+    ensures keeps { Keeps caller.now.place tables.old tables.new }
+{
+    let object = object_of(&reader(caller, tables, slot), of)?;
+    tables.check_object(caller.place, object)?;
+    tables.set_blocked(caller.place, object, on);
     Ok(())
 }
 

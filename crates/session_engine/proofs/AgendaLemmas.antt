@@ -1,94 +1,193 @@
 -- An agenda by nested calls.
-use Rattle.std.proofs.Common.{◌≡◌, ◌<◌, ◌≤◌, ◌+◌, ◌-◌, ◌*◌, ◌==◌, ◌||◌, ◌&&◌, nat_lt, nat_le, ℕ, Bool, true, false, cond, List, [], ◌∷◌, ◌++◌, Option, Some, None, find, drop, take, length, refl, sym, subst, ap, ◌∙◌, if◌then◌else◌, arith}
-use Rattle.std.proofs.Common.{Ok, Err, get_or}
+use Rattle.std.proofs.Common.{◌≡◌, ◌<◌, ◌≤◌, ◌+◌, ◌-◌, ◌*◌, ◌==◌, ◌||◌, ◌&&◌, nat_lt, nat_le, ℕ, Bool, true, false, cond, not, is_some, List, [], ◌∷◌, ◌++◌, Option, Some, None, find, drop, take, length, refl, sym, subst, ap, ◌∙◌, if◌then◌else◌, arith}
+use Rattle.std.proofs.Common.{Result, Ok, Err, OnErr, OnOk, get_or, ⊎_elim, ◌⊎◌}
 use Rattle.std.proofs.lemmas.List.{drop_all}
-use Rattle.std.specs.List.{list_any}
+use Rattle.std.specs.List.{AllByRecursion}
+use Rattle.std.specs.Option.{option_map}
+use Rattle.std.proofs.lemmas.Bool.{cond-false, cond-true, ne_eqb}
+use Rattle.std.proofs.lemmas.List.Elements.{recursion_from_All}
 use Rattle.std.proofs.lemmas.Bool.Decides.{nat_tests}
 use Rattle.refusals.specs.declared.code.Code.{Code}
-use Rattle.refusals.specs.declared.code.Code.TheVariants.{TurnsUsedUp}
+use Rattle.refusals.specs.declared.code.Code.TheVariants.{Limit, TurnsUsedUp}
 use Rattle.refusals.specs.declared.fault.Fault.{Fault}
 use Rattle.refusals.specs.declared.fault.Fault.TheVariants.{Refused, Memory}
 use Rattle.refusals.specs.Answers.{Answers}
 use Rattle.variant_value.specs.declared.value.Value.{Value}
 use Rattle.class_table.specs.declared.class.Method as class
+use Rattle.connection_types.specs.declared.callee.Callee.{Callee}
 use Rattle.connection_types.specs.declared.callee.Callee.TheVariants.{Functor, Method}
 use Rattle.term_core.specs.declared.action.Effect.{Effect}
 use Rattle.term_core.specs.Term.{Term}
 use Rattle.connection_list.specs.declared.connection.Connection.{Connection}
-use Rattle.connection_list.specs.Rows.{IsSound, has_number, is_next}
-use Rattle.object_tree.specs.Rows.{is_there}
+use Rattle.connection_list.specs.Rows.{IsRising, IsSound, has_number, is_next}
+use Rattle.connection_list.proofs.RowsLemmas.{rising_head, rising_tail}
+use Rattle.event_queue.specs.declared.event.Event.TheVariants as event
+use Rattle.event_queue.specs.declared.event.QueuedCall.{QueuedCall}
+use Rattle.event_queue.specs.Queue.{has_room}
+use Rattle.object_tree.specs.declared.row.Row.{Row}
+use Rattle.object_tree.specs.Rows.{row_of}
 use Rattle.term_core.specs.Act.{Act, Acts, acts_of, effect, when}
-use Rattle.thread_model.specs.declared.call.TheConstants.{NESTED_SIGNALS}
+use Rattle.thread_model.specs.declared.call.TheConstants.{DESTROYED, NESTED_SIGNALS}
 use Rattle.thread_model.specs.declared.line.Line.{Line}
 use Rattle.thread_model.specs.declared.line.Line.TheVariants.{Warning}
 use Rattle.thread_model.specs.Acts as model
-use Rattle.thread_model.specs.Agenda.{call_line, stands, step}
+use Rattle.thread_model.specs.Agenda.{call_line, connection_of, is_held_back, step}
 use Rattle.thread_model.specs.Methods.{method_at}
 use Rattle.thread_model.specs.Targets.{truth_evaluated}
 use Rattle.thread_model.proofs.ActionLemmas as action
-use Rattle.thread_model.specs.Doing.{Doing, in_state, shot, told, turn_taken, used_up}
+use Rattle.thread_model.specs.Doing.{Doing, in_state, lost, posted, shot, told, turn_taken, used_up}
 use Rattle.thread_model.specs.Items.{Call, Emit, Item, Run, Warn, puts}
+use Rattle.thread_model.specs.Posting.{is_queued}
 use Rattle.thread_model.specs.Run.{run}
 use Rattle.thread_model.specs.Settings.{Settings}
-use Rattle.thread_model.specs.State.{State, without_connections}
+use Rattle.thread_model.specs.State.{State, with_event, with_lost, without_connections}
 use Rattle.thread_model.proofs.EmissionLemmas as rule
 use Rattle.thread_model.proofs.FilterLemmas.{find-passes}
 use Rattle.thread_model.proofs.LaterLemmas.{run_later}
+use Rattle.thread_model.proofs.LivingLemmas.{living_rows}
 use Rattle.thread_model.proofs.NextCallLemmas.{calls_to, emission_first, emission_next}
 use Rattle.thread_model.proofs.RemainingLemmas.{remaining}
 use Rattle.thread_model.proofs.RunLemmas.{after_first, at_end, by_change, by_step, run_shrinks}
+use Rattle.thread_model.proofs.ShrinkLemmas.{Shrinks}
 use Rattle.session_tables.specs.declared.tables.Tables.{Tables}
 use Rattle.session_tables.specs.Tables.{IsPlaced, state_at, with_state}
 use Rattle.session_tables.proofs.TablesLemmas.{state_with}
 use Rattle.session_effects.specs.declared.slot.Slot.{Slot}
 use Rattle.session_engine.specs.declared.telling.Telling.{Telling}
-use Rattle.session_effects.specs.Actions.{Tries, act_of}
+use Rattle.session_effects.specs.Actions.{Keeps, Tries, act_of}
+use Rattle.session_effects.proofs.ActionLemmas.{keeps_same, keeps_with}
 use Rattle.session_effects.specs.declared.caller.Caller.{Caller}
 use Rattle.session_effects.specs.Setup.{settings_of}
 use Rattle.session_engine.specs.Telling.{Warns, doing_at, spent, with_line}
 use Rattle.session_effects.proofs.FoundLemmas.{item_at}
 
--- how much is left to do: each way round the calls takes a turn, which counts for more than any rank
-abbrev pub left_to_do : Telling → ℕ → ℕ
-left_to_do telling rank = 100 * telling.turns + rank
+-- what follows from what a call has done, where it has
+pub OnOk-map : {T E P Q : Type 0} (answer : Result T E) → (P → Q) → OnOk answer P → OnOk answer Q
+OnOk-map (Ok value) f h = f h
+OnOk-map (Err error) f h = tt
 
--- no call gives turns back
-pub turns_fall : (settings : Settings) (agenda : List Item) (place : ℕ) (old new : Tables) (before after : Telling) → run settings agenda (doing_at place old before) ≡ doing_at place new after → after.turns ≤ before.turns
-turns_fall settings agenda place old new before after does =
-    subst (λ (doing : Doing). doing.turns ≤ before.turns) does (run_shrinks settings agenda (doing_at place old before)).turns
+-- how many calls and deletions there can still be
+abbrev pub left_at : ℕ → Tables → Telling → ℕ
+left_at place tables telling = telling.turns + living_rows (state_at tables place).forest.rows
 
--- a connection that was found stands
-pub found_stands : (test : Connection → Bool) (rows : List Connection) (row : Connection) → find test rows ≡ Some row → list_any (has_number row.number) rows ≡ true
-found_stands test [] row e = absurd (cc)
-found_stands test (first ∷ rows) row e = by (test first) e (found_stands test rows row)
+-- how much is left to do: each way round the calls takes a turn or an object that lives, which counts for
+-- more than any rank
+abbrev pub left_to_do : ℕ → Tables → Telling → ℕ → ℕ
+left_to_do place tables telling rank = 100 * left_at place tables telling + rank
+
+-- no call gives turns back, or makes an object
+pub left_falls : (settings : Settings) (agenda : List Item) (place : ℕ) (old new : Tables) (before after : Telling) → run settings agenda (doing_at place old before) ≡ doing_at place new after → left_at place new after ≤ left_at place old before
+left_falls settings agenda place old new before after does =
+    let shrinks : Shrinks (doing_at place old before) (doing_at place new after) = subst (Shrinks (doing_at place old before)) does (run_shrinks settings agenda (doing_at place old before)) in
+    omega (arith, shrinks.turns, shrinks.living)
+
+-- a single-shot connection that goes leaves as much
+pub left_shot : (place : ℕ) (connection : Connection) (old new : Tables) (telling : Telling) → IsPlaced old place
+    → new ≡ with_state old place (if connection.single then without_connections (state_at old place) (has_number connection.number) else state_at old place) → left_at place new telling ≤ left_at place old telling
+left_shot place connection old new telling placed e =
+    let there : living_rows (state_at new place).forest.rows ≡ living_rows (if connection.single then without_connections (state_at old place) (has_number connection.number) else state_at old place).forest.rows =
+    ap (λ (state : State). living_rows state.forest.rows) (state_with old new place _ placed e) in
+    omega (arith, there, as_many connection.single)
   where
+    as_many : (b : Bool) → living_rows (if b then without_connections (state_at old place) (has_number connection.number) else state_at old place).forest.rows ≡ living_rows (state_at old place).forest.rows
+    as_many true = refl
+    as_many false = refl
+
+-- a connection that was found among those above a number has a greater one
+found_above : (least : ℕ) (test : Connection → Bool) (rows : List Connection) (row : Connection) → AllByRecursion (λ (row : Connection). least < row.number) rows → find test rows ≡ Some row → least < row.number
+found_above least test [] row above e = absurd (cc)
+found_above least test (first ∷ rows) row above e = by (test first) e (found_above least test rows row above.1)
+  where
+    by : (passed : Bool) → cond passed (Some first) (find test rows) ≡ Some row → (find test rows ≡ Some row → least < row.number) → least < row.number
+    by true e rest = let is : first ≡ row = cc in subst (λ (row : Connection). least < row.number) is above.0
+    by false e rest = rest e
+
+-- a connection that was found is the one that stands under its number
+pub found_stands : (test : Connection → Bool) (rows : List Connection) (row : Connection) → IsRising rows → find test rows ≡ Some row → find (has_number row.number) rows ≡ Some row
+found_stands test [] row rising e = absurd (cc)
+found_stands test (first ∷ rows) row rising e = by (test first) e (found_stands test rows row (rising_tail first rows rising))
+  where
+    above : AllByRecursion (λ (later : Connection). first.number < later.number) rows
+    above = recursion_from_All (λ (later : Connection). first.number < later.number) rows (rising_head first rows rising)
+
     same : (n : ℕ) → (n == n) ≡ true
     same n = grind (arith, nat_tests)
 
-    later : (b c : Bool) → c ≡ true → (b || c) ≡ true
-    later true c e = refl
-    later false c e = e
+    by : (passed : Bool) → cond passed (Some first) (find test rows) ≡ Some row → (find test rows ≡ Some row → find (has_number row.number) rows ≡ Some row) → find (has_number row.number) (first ∷ rows) ≡ Some row
+    by true e rest =
+        let is : first ≡ row = cc in
+        cond-true (first.number == row.number) (Some first) _ (ap (λ (r : Connection). r.number == row.number) is ∙ same row.number) ∙ ap (λ (r : Connection). Some r) is
+    by false e rest =
+        let more = found_above first.number test rows row above e in
+        let other : (first.number == row.number) ≡ false = grind (arith, nat_tests, more) in
+        cond-false (first.number == row.number) (Some first) _ other ∙ rest e
 
-    sooner : (b c : Bool) → b ≡ true → (b || c) ≡ true
-    sooner true c e = refl
-    sooner false c e = absurd (cc)
+-- is a signal held back, by what was looked at
+pub is_held : (blocked : Bool) (signal : ℕ) → blocked ≡ true → (signal ≡ DESTROYED → ⊥) → (blocked && not (signal == DESTROYED)) ≡ true
+is_held blocked signal is other =
+    let e : (signal == DESTROYED) ≡ false = ne_eqb signal DESTROYED other in
+    ap (λ b. b && not (signal == DESTROYED)) is ∙ ap not e
 
-    by : (passed : Bool) → cond passed (Some first) (find test rows) ≡ Some row → (find test rows ≡ Some row → list_any (has_number row.number) rows ≡ true) → list_any (has_number row.number) (first ∷ rows) ≡ true
-    by true e rest = let is : first ≡ row = cc in sooner (first.number == row.number) _ (ap (λ (r : Connection). r.number == row.number) is ∙ same row.number)
-    by false e rest = later (first.number == row.number) _ (rest e)
+pub is_let_through : (blocked : Bool) (signal : ℕ) → ((blocked ≡ true) × (signal ≡ DESTROYED)) ⊎ (blocked ≡ false) → (blocked && not (signal == DESTROYED)) ≡ false
+is_let_through blocked signal either = ⊎_elim
+    (λ both. let e : (signal == DESTROYED) ≡ true = grind (arith, nat_tests, both.1) in ap (λ b. b && not (signal == DESTROYED)) both.0 ∙ ap not e)
+    (λ free. ap (λ b. b && not (signal == DESTROYED)) free)
+    either
+
+-- a call that is posted, or for which memory was wanted, changes no other session
+pub keeps_posted : {T E : Type 0} (result : Result T E) (place : ℕ) (middle new : Tables) (state : State) → IsPlaced middle place → OnOk result (new ≡ with_state middle place state) → OnErr result (new ≡ middle) → Keeps place middle new
+keeps_posted (Ok value) place middle new state still ok err = keeps_with middle new place state still ok
+keeps_posted (Err error) place middle new state still ok err = keeps_same middle new place err
+
+-- the object that a signal is sent by
+record Sends (rows : List Row) (target : ℕ) (blocked : Bool) : Type 0 where
+  row : Row
+  there : row_of rows target ≡ Some row
+  is : row.blocked ≡ blocked
+
+sends : (rows : List Row) (target : ℕ) (blocked : Bool) → Some blocked ≡ option_map (λ row. row.blocked) (row_of rows target) → Sends rows target blocked
+sends rows target blocked e = by (row_of rows target) refl e
+  where
+    by : (found : Option Row) → row_of rows target ≡ found → Some blocked ≡ option_map (λ row. row.blocked) found → Sends rows target blocked
+    by None is e = absurd (cc)
+    by (Some row) is e = record { row = row; there = is; is = cc }
 
 module _ (settings : Settings) (target signal : ℕ) (args : List Value) (depth : ℕ) where
-  -- an emission that begins has all connections of the signal before it
-  pub emission_begins : (doing : Doing) → is_there doing.state.forest.rows target ≡ true → depth < NESTED_SIGNALS → IsSound doing.state.connections
-      → run settings (calls_to settings args depth (remaining target signal doing.state.connections.last_number 0 doing.state.connections.rows)) doing ≡ run settings (Emit target signal args depth ∷ []) doing
-  emission_begins doing there shallow sound =
-      sym (by_step settings (Emit target signal args depth) doing _ (rule.emit_calls settings target signal args depth doing there shallow)
-      ∙ ap (λ agenda. run settings agenda doing) (emission_first settings target signal args depth doing sound))
+  -- an object that has gone sends nothing
+  pub emission_absent : (doing : Doing) → None ≡ option_map (λ row. row.blocked) (row_of doing.state.forest.rows target) → run settings (Emit target signal args depth ∷ []) doing ≡ doing
+  emission_absent doing none = by_change settings (Emit target signal args depth) doing doing (rule.emit_absent settings target signal args depth doing (by (row_of doing.state.forest.rows target) none))
+    where
+      by : (found : Option Row) → None ≡ option_map (λ row. row.blocked) found → is_some found ≡ false
+      by None e = refl
+      by (Some row) e = absurd (cc)
+
+  module _ (doing : Doing) (blocked : Bool) (has : Some blocked ≡ option_map (λ row. row.blocked) (row_of doing.state.forest.rows target)) where
+    its_row : Sends doing.state.forest.rows target blocked
+    its_row = sends doing.state.forest.rows target blocked has
+
+    held_is : (held : Bool) → (blocked && not (signal == DESTROYED)) ≡ held → is_held_back signal its_row.row ≡ held
+    held_is held e = ap (λ blocked. blocked && not (signal == DESTROYED)) its_row.is ∙ e
+
+    -- a signal of a blocked object is not sent
+    pub emission_held_back : (blocked && not (signal == DESTROYED)) ≡ true → run settings (Emit target signal args depth ∷ []) doing ≡ doing
+    emission_held_back held = by_change settings (Emit target signal args depth) doing doing (rule.emit_held_back settings target signal args depth doing its_row.row its_row.there (held_is true held))
+
+    module _ (sent : (blocked && not (signal == DESTROYED)) ≡ false) where
+      -- one that is nested too deep is warned of
+      pub emission_deep : (new : Doing) → NESTED_SIGNALS ≤ depth → run settings (Warn Limit (Some target) ∷ []) doing ≡ new → run settings (Emit target signal args depth ∷ []) doing ≡ new
+      emission_deep new deep does = by_step settings (Emit target signal args depth) doing _ (rule.emit_deep settings target signal args depth doing its_row.row its_row.there (held_is false sent) deep) ∙ does
+
+      -- an emission that begins has all connections of the signal before it
+      pub emission_begins : depth < NESTED_SIGNALS → IsSound doing.state.connections
+          → run settings (calls_to settings args depth (remaining target signal doing.state.connections.last_number 0 doing.state.connections.rows)) doing ≡ run settings (Emit target signal args depth ∷ []) doing
+      emission_begins shallow sound =
+          sym (by_step settings (Emit target signal args depth) doing _ (rule.emit_calls settings target signal args depth doing its_row.row its_row.there (held_is false sent) shallow)
+          ∙ ap (λ agenda. run settings agenda doing) (emission_first settings target signal args depth doing sound))
 
   -- the next connection is called, and those behind it are left
   pub emission_goes_on : (up_to after : ℕ) (old middle new : Doing) (next : Connection) → IsSound middle.state.connections → up_to ≤ middle.state.connections.last_number
       → find (is_next target signal after up_to) middle.state.connections.rows ≡ Some next
-      → run settings (Call next args depth ∷ []) middle ≡ new
+      → run settings (Call next.number args depth ∷ []) middle ≡ new
       → run settings (calls_to settings args depth (remaining target signal up_to after middle.state.connections.rows)) middle ≡ old
       → run settings (calls_to settings args depth (remaining target signal up_to next.number new.state.connections.rows)) new ≡ old
   emission_goes_on up_to after old middle new next sound most found called before =
@@ -97,10 +196,10 @@ module _ (settings : Settings) (target signal : ℕ) (args : List Value) (depth 
       ∙ before
 
   -- the numbers of connections do not fall
-  pub last_stays : (up_to : ℕ) (middle new : Doing) (next : Connection) → up_to ≤ middle.state.connections.last_number → run settings (Call next args depth ∷ []) middle ≡ new → up_to ≤ new.state.connections.last_number
+  pub last_stays : (up_to : ℕ) (middle new : Doing) (next : Connection) → up_to ≤ middle.state.connections.last_number → run settings (Call next.number args depth ∷ []) middle ≡ new → up_to ≤ new.state.connections.last_number
   last_stays up_to middle new next most called =
       subst (λ (doing : Doing). up_to ≤ doing.state.connections.last_number) called
-      (let later = (run_later settings (Call next args depth ∷ []) middle).last in omega (arith, later, most))
+      (let later = (run_later settings (Call next.number args depth ∷ []) middle).last in omega (arith, later, most))
 
 -- what was told
 pub told_is : (place : ℕ) (tables : Tables) (before after : Telling) (line : Line) → after ≡ with_line before line → told (doing_at place tables before) line ≡ doing_at place tables after
@@ -113,7 +212,7 @@ unfolding used_up
 spent_is place tables before after e = by before.spent ∙ ap (doing_at place tables) (sym e)
   where
     by : (b : Bool) → (if b then doing_at place tables before else record (doing_at place tables before) { spent = true; lines = before.lines ++ Warning TurnsUsedUp None ∷ [] })
-        ≡ doing_at place tables (if b then before else record { lines = before.lines ++ Warning TurnsUsedUp None ∷ []; turns = before.turns; spent = true })
+        ≡ doing_at place tables (if b then before else record { lines = before.lines ++ Warning TurnsUsedUp None ∷ []; turns = before.turns; spent = true; taken = before.taken })
     by true = refl
     by false = refl
 
@@ -175,15 +274,15 @@ module _ (caller : Caller) (connection : Connection) (args : List Value) (depth 
   its_settings = settings_of caller.setup.now
 
   abbrev pub taken : Telling
-  taken = record { lines = before.lines; turns = before.turns - 1; spent = before.spent }
+  taken = record { lines = before.lines; turns = before.turns - 1; spent = before.spent; taken = before.taken }
 
   abbrev pub shot_state : State
   shot_state = if connection.single then without_connections (state_at old caller.place) (has_number connection.number) else state_at old caller.place
 
-  module _ (placed : IsPlaced old caller.place) (standing : stands (doing_at caller.place old before) connection.number ≡ true) where
-    pub call_spent : (after : Telling) → before.turns ≡ 0 → after ≡ spent before → run its_settings (Call connection args depth ∷ []) (doing_at caller.place old before) ≡ doing_at caller.place old after
+  module _ (placed : IsPlaced old caller.place) (standing : connection_of (doing_at caller.place old before) connection.number ≡ Some connection) where
+    pub call_spent : (after : Telling) → before.turns ≡ 0 → after ≡ spent before → run its_settings (Call connection.number args depth ∷ []) (doing_at caller.place old before) ≡ doing_at caller.place old after
     call_spent after none e =
-        by_change its_settings (Call connection args depth) (doing_at caller.place old before) _ (rule.call_spent its_settings connection args depth (doing_at caller.place old before) standing none)
+        by_change its_settings (Call connection.number args depth) (doing_at caller.place old before) _ (rule.call_spent its_settings connection.number args depth (doing_at caller.place old before) connection standing none)
         ∙ spent_is caller.place old before after e
 
     module _ (e : new ≡ with_state old caller.place shot_state) (some : 0 < before.turns) where
@@ -204,32 +303,84 @@ module _ (caller : Caller) (connection : Connection) (args : List Value) (depth 
           by true = refl
           by false = refl
 
-      pub call_functor : (index : ℕ) → connection.callee ≡ Functor index → run its_settings (Call connection args depth ∷ []) (doing_at caller.place old before) ≡ doing_at caller.place new taken
+      -- nor is the queue another one
+      same_queue : (state_at new caller.place).queue ≡ (state_at old caller.place).queue
+      same_queue = ap (λ (state : State). state.queue) (state_with old new caller.place shot_state placed e) ∙ by connection.single
+        where
+          by : (b : Bool) → (if b then without_connections (state_at old caller.place) (has_number connection.number) else state_at old caller.place).queue ≡ (state_at old caller.place).queue
+          by true = refl
+          by false = refl
+
+      pub call_functor : (index : ℕ) → connection.callee ≡ Functor index → run its_settings (Call connection.number args depth ∷ []) (doing_at caller.place old before) ≡ doing_at caller.place new taken
       call_functor index is =
-          by_change its_settings (Call connection args depth) (doing_at caller.place old before) _ (rule.call_functor its_settings connection args depth (doing_at caller.place old before) standing some index is) ∙ is_shot
+          by_change its_settings (Call connection.number args depth) (doing_at caller.place old before) _ (rule.call_functor its_settings connection.number args depth (doing_at caller.place old before) connection standing some index is) ∙ is_shot
 
       module _ (index : ℕ) (is : connection.callee ≡ Method index) where
-        pub call_absent : None ≡ method_at its_settings (state_at new caller.place) connection.receiver index → run its_settings (Call connection args depth ∷ []) (doing_at caller.place old before) ≡ doing_at caller.place new taken
+        pub call_absent : None ≡ method_at its_settings (state_at new caller.place) connection.receiver index → run its_settings (Call connection.number args depth ∷ []) (doing_at caller.place old before) ≡ doing_at caller.place new taken
         call_absent has =
-            by_change its_settings (Call connection args depth) (doing_at caller.place old before) _
-            (rule.call_absent its_settings connection args depth (doing_at caller.place old before) standing some index is (sym (has ∙ same_method connection.receiver index))) ∙ is_shot
+            by_change its_settings (Call connection.number args depth) (doing_at caller.place old before) _
+            (rule.call_absent its_settings connection.number args depth (doing_at caller.place old before) connection standing some index is (sym (has ∙ same_method connection.receiver index))) ∙ is_shot
+
+        -- the event that a queued connection posts
+        module _ (given : List Value) where
+          abbrev pub posted_call : QueuedCall
+          posted_call = record { object = connection.receiver; callee = connection.callee; sender = connection.sender; args = given }
 
         module _ (method : class.Method) (has : Some method ≡ method_at its_settings (state_at new caller.place) connection.receiver index) (given : List Value) (cut : given ≡ take (length method.signature.kinds) args) where
-          pub call_signal : (done : Doing) → method.is_signal ≡ true → run its_settings (Emit connection.receiver index given (depth + 1) ∷ []) (doing_at caller.place new taken) ≡ done
-              → run its_settings (Call connection args depth ∷ []) (doing_at caller.place old before) ≡ done
-          call_signal done signal does =
-              by_step its_settings (Call connection args depth) (doing_at caller.place old before) _
-              (rule.call_signal its_settings connection args depth (doing_at caller.place old before) standing some index is method (sym (has ∙ same_method connection.receiver index)) signal)
+          abbrev its_call : QueuedCall
+          its_call = posted_call given
+
+          abbrev pub its_later : Bool → State
+          its_later room = if room then with_event (state_at new caller.place) (event.Call its_call) else with_lost (state_at new caller.place)
+
+          later_is : record { object = connection.receiver; callee = Method index; sender = connection.sender; args = take (length method.signature.kinds) args } ≡ its_call
+          later_is = ap (λ (called : Callee). record { object = connection.receiver; callee = called; sender = connection.sender; args = take (length method.signature.kinds) args }) (sym is)
+              ∙ ap (λ (values : List Value). record { object = connection.receiver; callee = connection.callee; sender = connection.sender; args = values }) (sym cut)
+
+          posted_is : (final : Tables) → IsPlaced new caller.place → final ≡ with_state new caller.place (with_event (state_at new caller.place) (event.Call its_call)) → posted (doing_at caller.place new taken) (event.Call its_call) ≡ doing_at caller.place final taken
+          unfolding posted
+          posted_is final still f = ap (λ (state : State). in_state (doing_at caller.place new taken) state) (sym (state_with new final caller.place _ still f))
+
+          lost_is : (final : Tables) → IsPlaced new caller.place → final ≡ with_state new caller.place (with_lost (state_at new caller.place)) → lost (doing_at caller.place new taken) ≡ doing_at caller.place final taken
+          unfolding lost
+          lost_is final still f = ap (λ (state : State). in_state (doing_at caller.place new taken) state) (sym (state_with new final caller.place _ still f))
+
+          -- a queued connection calls later
+          pub call_queued : (final : Tables) → IsPlaced new caller.place → is_queued connection.mode ≡ true → final ≡ with_state new caller.place (its_later (has_room (state_at new caller.place).queue))
+              → run its_settings (Call connection.number args depth ∷ []) (doing_at caller.place old before) ≡ doing_at caller.place final taken
+          call_queued final still later f = by (has_room (state_at new caller.place).queue) refl
+            where
+              at_first : (room : Bool) → has_room (state_at new caller.place).queue ≡ room → has_room (state_at old caller.place).queue ≡ room
+              at_first room is_room = ap has_room (sym same_queue) ∙ is_room
+
+              by : (room : Bool) → has_room (state_at new caller.place).queue ≡ room → run its_settings (Call connection.number args depth ∷ []) (doing_at caller.place old before) ≡ doing_at caller.place final taken
+              by true room =
+                  by_change its_settings (Call connection.number args depth) (doing_at caller.place old before) _
+                  (rule.call_posted its_settings connection.number args depth (doing_at caller.place old before) connection standing some index is method (sym (has ∙ same_method connection.receiver index)) later (at_first true room))
+                  ∙ ap (λ (call : QueuedCall). posted (shot (turn_taken (doing_at caller.place old before)) connection) (event.Call call)) later_is
+                  ∙ ap (λ (doing : Doing). posted doing (event.Call its_call)) is_shot
+                  ∙ posted_is final still (f ∙ ap (λ room. with_state new caller.place (its_later room)) room)
+              by false full =
+                  by_change its_settings (Call connection.number args depth) (doing_at caller.place old before) _
+                  (rule.call_lost its_settings connection.number args depth (doing_at caller.place old before) connection standing some index is method (sym (has ∙ same_method connection.receiver index)) later (at_first false full))
+                  ∙ ap (λ (doing : Doing). lost doing) is_shot
+                  ∙ lost_is final still (f ∙ ap (λ room. with_state new caller.place (its_later room)) full)
+
+          pub call_signal : (done : Doing) → is_queued connection.mode ≡ false → method.is_signal ≡ true → run its_settings (Emit connection.receiver index given (depth + 1) ∷ []) (doing_at caller.place new taken) ≡ done
+              → run its_settings (Call connection.number args depth ∷ []) (doing_at caller.place old before) ≡ done
+          call_signal done at_once signal does =
+              by_step its_settings (Call connection.number args depth) (doing_at caller.place old before) _
+              (rule.call_signal its_settings connection.number args depth (doing_at caller.place old before) connection standing some index is method (sym (has ∙ same_method connection.receiver index)) at_once signal)
               ∙ ap (run its_settings (Emit connection.receiver index (take (length method.signature.kinds) args) (depth + 1) ∷ [])) is_shot
               ∙ ap (λ (given : List Value). run its_settings (Emit connection.receiver index given (depth + 1) ∷ []) (doing_at caller.place new taken)) (sym cut)
               ∙ does
 
-          pub call_slot : (done : Doing) → method.is_signal ≡ false
+          pub call_slot : (done : Doing) → is_queued connection.mode ≡ false → method.is_signal ≡ false
               → run its_settings (model.acts (acts_of method.body.actions) given connection.receiver connection.sender (depth + 1)) (told (doing_at caller.place new taken) (call_line method connection.receiver connection.sender given)) ≡ done
-              → run its_settings (Call connection args depth ∷ []) (doing_at caller.place old before) ≡ done
-          call_slot done slot does =
-              by_step its_settings (Call connection args depth) (doing_at caller.place old before) _
-              (rule.call_slot its_settings connection args depth (doing_at caller.place old before) standing some index is method (sym (has ∙ same_method connection.receiver index)) slot)
+              → run its_settings (Call connection.number args depth ∷ []) (doing_at caller.place old before) ≡ done
+          call_slot done at_once slot does =
+              by_step its_settings (Call connection.number args depth) (doing_at caller.place old before) _
+              (rule.call_slot its_settings connection.number args depth (doing_at caller.place old before) connection standing some index is method (sym (has ∙ same_method connection.receiver index)) at_once slot)
               ∙ ap (run its_settings (Run connection.receiver index connection.sender (take (length method.signature.kinds) args) depth ∷ [])) is_shot
               ∙ ap (λ (given : List Value). run its_settings (Run connection.receiver index connection.sender given depth ∷ []) (doing_at caller.place new taken)) (sym cut)
               ∙ by_step its_settings (Run connection.receiver index connection.sender given depth) (doing_at caller.place new taken) _ (rule.run_slot its_settings connection.receiver index connection.sender given depth (doing_at caller.place new taken) method (sym has))

@@ -10,9 +10,11 @@ use Rattle.refusals.specs.declared.fault.Fault.TheVariants.{Refused, Memory}
 use Rattle.refusals.specs.Answers.{Answers, RefusedBy}
 use Rattle.thread_model.specs.declared.line.Answer.{Answer}
 use Rattle.thread_model.specs.declared.line.Line.{Line}
+use Rattle.thread_model.specs.declared.line.Line.TheVariants.{Reply}
 use Rattle.thread_model.specs.declared.post.Post.{Post}
 use Rattle.thread_model.specs.Asked.{Asked}
-use Rattle.thread_model.specs.Effects.{replies, unless}
+use Rattle.thread_model.specs.Doing as doing
+use Rattle.thread_model.specs.Effects.{ended, replies, unless}
 use Rattle.thread_model.specs.Methods.{Found}
 use Rattle.thread_model.specs.Refusing.{refusal}
 use Rattle.thread_model.specs.State.{State}
@@ -21,11 +23,12 @@ use Rattle.session_tables.specs.declared.tables.Tables.{Tables}
 use Rattle.session_tables.specs.Refused.{OnRefused}
 use Rattle.session_tables.specs.Session.{Session, gone}
 use Rattle.session_tables.specs.Tables.{ChangesOnly, failed_at, session_at, state_at, with_session, with_state}
-use Rattle.session_tables.proofs.TablesLemmas.{changes_same, with_session_after, with_state_same, with_state_session}
+use Rattle.session_tables.proofs.TablesLemmas.{changes_same, changes_state, with_session_after, with_state_same, with_state_session}
 use Rattle.session_effects.specs.declared.caller.Caller.{Caller}
 use Rattle.session_engine.specs.declared.telling.Telling.{Telling}
 use Rattle.session_engine.specs.Commands.{Obeys, Performs, reply_after, reply_lines}
-use Rattle.session_engine.specs.Telling.{fresh_telling}
+use Rattle.session_effects.specs.Actions.{Keeps}
+use Rattle.session_engine.specs.Telling.{doing_at, fresh_telling}
 use Rattle.session_engine.specs.Engine.{Contents, IsWhole, contents, place, seen, sessions, states}
 use Rattle.session_engine.specs.Returning.{Returns, told, wants_memory}
 use Rattle.session_engine.specs.Sessions.{IsStep, session_after, session_refusal}
@@ -74,6 +77,17 @@ module _ (caller : Caller) (asked : Asked) (old new : Tables) where
   replied state answer passed effect e = record {
     returns = (passed, ap (λ effect. effect.lines) effect);
     done = e ∙ ap (λ effect. with_state old caller.place effect.state) (sym effect);
+    refused = tt;
+    only = tt;
+  }
+
+  -- so it does behind what was told by what it set off
+  pub replied_last : (telling : Telling) (answer : Answer) → its_refusal ≡ None → its_effect ≡ ended (doing.told (doing_at caller.place new telling) (Reply answer)) → Keeps caller.place old new
+      → Performs caller asked old new (reply_after telling.lines) (Ok answer)
+  unfolding doing.told
+  replied_last telling answer passed effect keeps = record {
+    returns = (passed, ap (λ effect. effect.lines) effect);
+    done = changes_state old new caller.place keeps.only keeps.failed ∙ ap (λ effect. with_state old caller.place effect.state) (sym effect);
     refused = tt;
     only = tt;
   }

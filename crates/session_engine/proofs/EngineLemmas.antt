@@ -164,10 +164,10 @@ sessions-same engine ready same =
     ap (λ (session : ℕ → Session). λ name. option_map_or session (place engine name) fresh) (fun_ext (λ at. session_same engine.tables ready at same))
 
 -- with no place there is none to speak of
-pub whole_new : (settings : Settings) (names : List (List ℕ)) (tables : Tables) → names ≡ [] → tables.forests.places ≡ [] → tables.titles.places ≡ [] → tables.connections.places ≡ [] → tables.failed.places ≡ []
+pub whole_new : (settings : Settings) (names : List (List ℕ)) (tables : Tables) → names ≡ [] → tables.forests.places ≡ [] → tables.titles.places ≡ [] → tables.connections.places ≡ [] → tables.queues.places ≡ [] → tables.failed.places ≡ []
     → IsWhole (record { settings = settings; names = names; tables = tables; memory_refused = false })
-whole_new settings names tables no_names forests titles connections failed =
-    let even : AreEven tables = record { forests = ap length forests ∙ sym (ap length failed); titles = ap length titles ∙ sym (ap length failed); connections = ap length connections ∙ sym (ap length failed) } in
+whole_new settings names tables no_names forests titles connections queues failed =
+    let even : AreEven tables = record { forests = ap length forests ∙ sym (ap length failed); titles = ap length titles ∙ sym (ap length failed); connections = ap length connections ∙ sym (ap length failed); queues = ap length queues ∙ sym (ap length failed) } in
     let none : length tables.failed.places ≡ 0 = ap length failed in
     record {
       even = even;

@@ -1,11 +1,11 @@
 -- The command that calls a slot or sends a signal.
-use Rattle.std.proofs.Common.{◌≡◌, ◌<◌, ◌-◌, ◌==◌, ℕ, true, false, List, [], ◌∷◌, Option, Some, None, Ok, Err, IsSome, slice_get, sym, ap, refl, subst, ◌∙◌, arith}
+use Rattle.std.proofs.Common.{◌≡◌, ◌<◌, ◌-◌, ◌==◌, ◌&&◌, ℕ, Bool, true, false, cond, List, [], ◌∷◌, Option, Some, None, Ok, Err, IsSome, slice_get, sym, ap, refl, subst, ◌∙◌, arith}
 use Rattle.std.proofs.lemmas.Bool.{cond-true, cond-false}
 use Rattle.std.proofs.lemmas.Bool.Decides.{nat_tests}
 use Rattle.std.proofs.lemmas.List.Quantifiers.{position-Some}
 use Rattle.std.proofs.lemmas.Option.{slice_get-get_or}
-use Rattle.std.specs.Option.{ok_or, option_and_then, option_map_or}
-use Rattle.std.specs.Result.{result_unwrap_or}
+use Rattle.std.specs.Option.{ok_or, option_and_then, option_map_or, option_or}
+use Rattle.std.specs.Result.{result_err, result_unwrap_or}
 use Rattle.refusals.specs.declared.code.Code.{Code}
 use Rattle.refusals.specs.declared.code.Code.TheVariants.{BadSignature, NoSuchMethod}
 use Rattle.serde_json.specs.Data.{Data}
@@ -17,6 +17,7 @@ use Rattle.class_table.specs.Lookup.{is_same, method_number}
 use Rattle.term_core.specs.Act.{acts_of}
 use Rattle.thread_model.specs.declared.line.Answer.TheVariants as a
 use Rattle.thread_model.specs.declared.line.Line.TheVariants as line
+use Rattle.thread_model.specs.Absence.{absence}
 use Rattle.thread_model.specs.Acts.{acts}
 use Rattle.thread_model.specs.Agenda.{call_line, with_turn}
 use Rattle.thread_model.specs.Asked.{Invoke}
@@ -26,16 +27,18 @@ use Rattle.thread_model.specs.Items.{Next, Run, puts}
 use Rattle.thread_model.specs.Methods.{Found, is_signal_at, method_at, methods_of}
 use Rattle.thread_model.specs.Run.{run}
 use Rattle.thread_model.specs.Settings.{Settings}
-use Rattle.thread_model.specs.Signals.{asked_method, asked_values, invoked, invokes}
-use Rattle.thread_model.specs.State.{State}
+use Rattle.connection_types.specs.declared.connection_type.ConnectionType.{ConnectionType}
+use Rattle.thread_model.specs.Posting.{is_queued, post_refusal}
+use Rattle.thread_model.specs.Refusing.{later_refusal, values_refusal}
+use Rattle.thread_model.specs.Signals.{asked_method, asked_values, invoked, invoked_later, invokes}
 use Rattle.thread_model.specs.Thread.{performs}
+use Rattle.thread_model.specs.State.{State}
 use Rattle.thread_model.proofs.EmissionLemmas as rule
 use Rattle.thread_model.proofs.RunLemmas.{at_end, by_step}
-use Rattle.thread_model.proofs.SignalLemmas.{performs_invoke}
+use Rattle.thread_model.proofs.SignalLemmas.{performs_invoke, refusal_invoke}
 use Rattle.thread_model.proofs.ThreadLemmas.{replies_last}
 use Rattle.session_tables.specs.declared.tables.Tables.{Tables}
-use Rattle.session_tables.specs.Tables.{state_at, with_state}
-use Rattle.session_tables.proofs.TablesLemmas.{changes_state}
+use Rattle.session_tables.specs.Tables.{state_at}
 use Rattle.session_effects.specs.declared.caller.Caller.{Caller}
 use Rattle.session_engine.specs.declared.telling.Telling.{Telling}
 use Rattle.session_effects.specs.Actions.{Keeps}
@@ -43,7 +46,7 @@ use Rattle.session_engine.specs.Commands.{Performs, reply_after}
 use Rattle.session_effects.specs.Setup.{settings_of}
 use Rattle.session_engine.specs.Telling.{doing_at, fresh_telling, spent}
 use Rattle.session_engine.proofs.AgendaLemmas.{spent_is}
-use Rattle.session_engine.proofs.CommandsLemmas.{its_refusal}
+use Rattle.session_engine.proofs.CommandsLemmas.{its_refusal, or_second, replied_last}
 
 -- the signature that a text spells
 pub signature_is : (found : Option Signature) (signature : Signature) → ok_or found BadSignature ≡ Ok signature → found ≡ Some signature
@@ -97,7 +100,7 @@ module _ (caller : Caller) (object index : ℕ) (values : List Value) (tables : 
   -- and else it takes one, and is run
   pub run_called : (done : Doing) → 0 < telling.turns
       → run (settings_of caller.setup.now) (acts (acts_of method.body.actions) values object 0 1)
-      (told (doing_at caller.place tables (record { lines = telling.lines; turns = telling.turns - 1; spent = telling.spent })) (call_line method object 0 values)) ≡ done
+      (told (doing_at caller.place tables (record { lines = telling.lines; turns = telling.turns - 1; spent = telling.spent; taken = telling.taken })) (call_line method object 0 values)) ≡ done
       → run (settings_of caller.setup.now) next.items next.doing ≡ done
   unfolding turn_taken
   run_called done some does =
@@ -109,31 +112,75 @@ module _ (caller : Caller) (object index : ℕ) (values : List Value) (tables : 
       (rule.run_slot (settings_of caller.setup.now) object index 0 values 0 (turn_taken (doing_at caller.place tables telling)) method (sym has))
       ∙ does
 
--- what was invoked tells its reply last
-pub performs_invoked : (caller : Caller) (object : ℕ) (text : List ℕ) (args : List Data) (old new : Tables) (telling : Telling) (index : ℕ) (values : List Value)
-    → its_refusal caller (Invoke object text args) old new ≡ None
+-- why a method is not invoked, where the object is there and the signature spelled
+module _ (caller : Caller) (object : ℕ) (text : List ℕ) (args : List Data) (mode : ConnectionType) (old new : Tables) (signature : Signature)
+    (there : None ≡ absence (state_at old caller.place) object) (spelled : ok_or (signature_of text) BadSignature ≡ Ok signature) where
+  abbrev the_settings : Settings
+  the_settings = settings_of caller.setup.now
+
+  abbrev the_state : State
+  the_state = state_at old caller.place
+
+  abbrev the_refusal : Option Code
+  the_refusal = its_refusal caller (Invoke object text args mode) old new
+
+  -- then it goes by the method that is found
+  pub refusal_found : (found : Option ℕ) → asked_method the_settings the_state object text ≡ found → the_refusal ≡ option_or (values_refusal the_settings the_state object args found) (later_refusal the_state mode found)
+  refusal_found found asked =
+      refusal_invoke the_settings caller.name.now the_state object text args mode ∙ or_second _ _ there
+      ∙ ap (λ (signature : Found Signature). option_or (result_err signature) (option_or (values_refusal the_settings the_state object args (asked_method the_settings the_state object text)) (later_refusal the_state mode (asked_method the_settings the_state object text)))) spelled
+      ∙ ap (λ (found : Option ℕ). option_or (values_refusal the_settings the_state object args found) (later_refusal the_state mode found)) asked
+
+  -- where there is none it is not refused
+  pub refusal_absent : asked_method the_settings the_state object text ≡ None → the_refusal ≡ None
+  refusal_absent asked = refusal_found None asked ∙ by (is_queued mode)
+    where
+      by : (b : Bool) → cond (b && false) (post_refusal the_state.queue) None ≡ None
+      by true = refl
+      by false = refl
+
+  module _ (index : ℕ) (values : List Value) (asked : asked_method the_settings the_state object text ≡ Some index) (given : asked_values the_settings the_state object index args ≡ Ok values) where
+    refusal_given : the_refusal ≡ later_refusal the_state mode (Some index)
+    refusal_given = refusal_found (Some index) asked ∙ ap (λ (given : Found (List Value)). option_or (result_err given) (later_refusal the_state mode (Some index))) given
+
+    -- a call that is made at once is not refused any more
+    pub refusal_now : is_queued mode ≡ false → the_refusal ≡ None
+    refusal_now at_once = refusal_given ∙ ap (λ (b : Bool). cond (b && true) (post_refusal the_state.queue) None) at_once
+
+    -- and one that is made later where it cannot be posted
+    pub refusal_later : is_queued mode ≡ true → the_refusal ≡ post_refusal the_state.queue
+    refusal_later later = refusal_given ∙ ap (λ (b : Bool). cond (b && true) (post_refusal the_state.queue) None) later
+
+-- what was invoked at once tells its reply last
+pub performs_invoked : (caller : Caller) (object : ℕ) (text : List ℕ) (args : List Data) (mode : ConnectionType) (old new : Tables) (telling : Telling) (index : ℕ) (values : List Value)
+    → is_queued mode ≡ false → its_refusal caller (Invoke object text args mode) old new ≡ None
     → asked_method (settings_of caller.setup.now) (state_at old caller.place) object text ≡ Some index
     → asked_values (settings_of caller.setup.now) (state_at old caller.place) object index args ≡ Ok values
     → run (settings_of caller.setup.now) (invoked (settings_of caller.setup.now) (state_at old caller.place) object index values).items (invoked (settings_of caller.setup.now) (state_at old caller.place) object index values).doing ≡ doing_at caller.place new telling
     → Keeps caller.place old new
-    → Performs caller (Invoke object text args) old new (reply_after telling.lines) (Ok (a.Truth true))
-unfolding told
-performs_invoked caller object text args old new telling index values passed found given does keeps =
+    → Performs caller (Invoke object text args mode) old new (reply_after telling.lines) (Ok (a.Truth true))
+performs_invoked caller object text args mode old new telling index values at_once passed found given does keeps =
     let settings = settings_of caller.setup.now in
     let state = state_at old caller.place in
-    let effect : performs settings caller.name.now state (Invoke object text args) ≡ ended (told (doing_at caller.place new telling) (line.Reply (a.Truth true))) =
-    performs_invoke settings caller.name.now state object text args
-    ∙ ap (invokes settings state object args) found
+    replied_last caller (Invoke object text args mode) old new telling (a.Truth true) passed
+    (performs_invoke settings caller.name.now state object text args mode
+    ∙ ap (invokes settings state object args mode) found
+    ∙ cond-false (is_queued mode) _ _ at_once
     ∙ ap (λ (given : Found (List Value)). does_next settings (invoked settings state object index (result_unwrap_or given [])) (a.Truth true)) given
     ∙ replies_last settings (invoked settings state object index values) (a.Truth true)
-    ∙ ap (λ done. ended (told done (line.Reply (a.Truth true)))) does
-    in
-    record {
-      returns = (passed, ap (λ effect. effect.lines) effect);
-      done = changes_state old new caller.place keeps.only keeps.failed ∙ ap (λ effect. with_state old caller.place effect.state) (sym effect);
-      refused = tt;
-      only = tt;
-    }
+    ∙ ap (λ done. ended (told done (line.Reply (a.Truth true)))) does)
+    keeps
+
+-- what is invoked later is posted, and replied at once
+pub posts_invoked : (caller : Caller) (object : ℕ) (text : List ℕ) (args : List Data) (mode : ConnectionType) (state : State) (index : ℕ) (values : List Value)
+    → is_queued mode ≡ true → asked_method (settings_of caller.setup.now) state object text ≡ Some index → asked_values (settings_of caller.setup.now) state object index args ≡ Ok values
+    → performs (settings_of caller.setup.now) caller.name.now state (Invoke object text args mode) ≡ invoked_later state object index values
+posts_invoked caller object text args mode state index values later found given =
+    let settings = settings_of caller.setup.now in
+    performs_invoke settings caller.name.now state object text args mode
+    ∙ ap (invokes settings state object args mode) found
+    ∙ cond-true (is_queued mode) _ _ later
+    ∙ ap (λ (given : Found (List Value)). invoked_later state object index (result_unwrap_or given [])) given
 
 -- a method that has a number is there
 pub method_there : (methods : List Method) (signature : Signature) (index : ℕ) → method_number signature methods ≡ Some index → IsSome (slice_get methods index)

@@ -1,6 +1,7 @@
 pub mod EngineLemmas
 pub mod StepLemmas
 pub mod DeletionLemmas
+pub mod EventsLemmas
 pub mod CommandsLemmas
 pub mod PropertiesLemmas
 pub mod ClassesLemmas

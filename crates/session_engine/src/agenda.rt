@@ -1,15 +1,19 @@
 //! An agenda by nested calls. Each function does what the item of its name does, and calls the others
-//! where that puts items in front. The calls come to an end, since each way round takes a turn; no action
-//! gives one back, or makes an object.
-ghost use Rattle.std.specs.Prelude.{◌≡◌, ◌∷◌, [], ◌≤◌, ◌<◌, OnOk, IsTrue, take};
+//! where that puts items in front. The calls come to an end, since each way round takes a turn, or marks
+//! an object that lives as dying; no action gives a turn back, or makes an object.
+ghost use Rattle.std.specs.Prelude.{◌≡◌, ◌∷◌, [], ◌≤◌, ◌<◌, OnOk, OnErr, Some, take, if◌then◌else◌};
 ghost use Rattle.term_core.specs.Act.{acts_of, effect};
 ghost use Rattle.thread_model.specs.declared.call.TheConstants.{NESTED_SIGNALS};
 ghost use Rattle.thread_model.specs.Acts as model;
-ghost use Rattle.thread_model.specs.Agenda.{call_line, stands};
+ghost use Rattle.event_queue.specs.declared.event.Event.TheVariants as event;
+ghost use Rattle.event_queue.specs.Queue.{has_room};
+ghost use Rattle.thread_model.specs.Agenda.{call_line, connection_of};
 ghost use Rattle.thread_model.specs.Doing.{told};
 ghost use Rattle.thread_model.specs.Items.{Call, Emit};
+ghost use Rattle.thread_model.specs.Posting.{is_queued};
+ghost use Rattle.thread_model.specs.State.{with_event, with_lost};
 ghost use Rattle.class_table.specs.Sound.{IsMethod};
-ghost use Rattle.session_tables.specs.Tables.{IsPlaced};
+ghost use Rattle.session_tables.specs.Tables.{IsPlaced, state_at, with_state};
 ghost use Rattle.session_effects.specs.Actions.{Keeps, act_of};
 ghost use Rattle.session_engine.specs.Agenda.{Does};
 ghost use Rattle.session_engine.specs.Telling.{doing_at};
@@ -18,17 +22,19 @@ use crate::deletion::delete;
 use crate::telling::Telling;
 use class_table::Method;
 use connection_list::Connection;
-use connection_types::Callee;
+use connection_types::{Callee, ConnectionType};
+use event_queue::QueuedCall;
 use refusals::Code;
 use session_effects::{Caller, Slot, change, deleted, method_at, sent, truth};
 use session_tables::Tables;
 use std::alloc::AllocError;
 use term_core::{Action, Effect, Step};
-use thread_model::NESTED_SIGNALS;
-use variant_value::Value;
+use thread_model::{DESTROYED, NESTED_SIGNALS};
+use variant_value::{Args, Value};
 
-/// Sends a signal: calls its connections one after another, as they stand by then, up to the last that
-/// was made when the sending began.
+/// Sends a signal, unless the signals of its object are blocked: calls its connections one after another,
+/// as they stand by then, up to the last that was made when the sending began. `destroyed()` cannot be
+/// blocked.
 #[cycle(agenda)]
 pub fn emit(
     caller: &Caller,
@@ -44,7 +50,10 @@ pub fn emit(
     ensures does { OnOk result (Does caller.now (Emit target signal args.now depth ∷ []) (doing_at caller.now.place tables.old telling.old) tables.new telling.new) }
     ensures keeps { Keeps caller.now.place tables.old tables.new }
 {
-    if !tables.is_there(caller.place, target) {
+    let Some(blocked) = tables.blocked(caller.place, target) else {
+        return Ok(());
+    };
+    if blocked && signal != DESTROYED {
         return Ok(());
     }
     if depth >= NESTED_SIGNALS {
@@ -65,7 +74,8 @@ pub fn emit(
     Ok(())
 }
 
-/// Calls what a connection calls, which stands. A single-shot connection goes first.
+/// Calls what a connection calls, which stands: later, by an event, or at once. A single-shot connection
+/// goes first.
 #[cycle(agenda)]
 fn call(
     caller: &Caller,
@@ -77,8 +87,8 @@ fn call(
 ) -> Result<(), AllocError>
     requires placed { IsPlaced tables.old caller.now.place }
     requires depth { depth < NESTED_SIGNALS }
-    requires stands { IsTrue (stands (doing_at caller.now.place tables.old telling.old) connection.now.number) }
-    ensures does { OnOk result (Does caller.now (Call connection.now args.now depth ∷ []) (doing_at caller.now.place tables.old telling.old) tables.new telling.new) }
+    requires stands { connection_of (doing_at caller.now.place tables.old telling.old) connection.now.number ≡ Some connection.now }
+    ensures does { OnOk result (Does caller.now (Call connection.now.number args.now depth ∷ []) (doing_at caller.now.place tables.old telling.old) tables.new telling.new) }
     ensures keeps { Keeps caller.now.place tables.old tables.new }
 {
     if telling.turns == 0 {
@@ -93,6 +103,9 @@ fn call(
         return Ok(());
     };
     let given = first(args, method.signature.kinds.len());
+    if is_queued(connection.mode) {
+        return call_later(caller, tables, connection, given);
+    }
     if method.is_signal {
         return emit(
             caller,
@@ -111,6 +124,29 @@ fn call(
         depth: depth + 1,
     };
     run_slot(caller, tables, telling, method, &slot)
+}
+
+/// Posts the call of what a connection calls, or counts it as lost where the queue is full.
+fn call_later(
+    caller: &Caller,
+    tables: &mut Tables,
+    connection: &Connection,
+    args: &[Value],
+) -> Result<(), AllocError>
+    requires { IsPlaced tables.old caller.now.place }
+    ensures ok { OnOk result (tables.new ≡ with_state tables.old caller.now.place
+        (if has_room (state_at tables.old caller.now.place).queue
+        then with_event (state_at tables.old caller.now.place) (event.Call (record { object = connection.now.receiver; callee = connection.now.callee; sender = connection.now.sender; args = args.now }))
+        else with_lost (state_at tables.old caller.now.place))) }
+    ensures err { OnErr result (tables.new ≡ tables.old) }
+{
+    let call = QueuedCall {
+        object: connection.receiver,
+        callee: connection.callee,
+        sender: connection.sender,
+        args: Args::copied(caller.setup.alloc, args)?,
+    };
+    tables.post_call(caller.place, call)
 }
 
 /// Tells of a slot that is called, and does what its body says.
@@ -214,13 +250,23 @@ fn effect(
             }
         }
         Effect::Delete(target) => match deleted(caller, tables, slot, target) {
-            Ok(object) => delete(tables, caller.place, object, slot.depth),
+            Ok(object) => delete(caller, tables, telling, object, slot.depth),
             Err(fault) => telling.warn_of(fault, slot.object),
         },
         _ => match change(caller, tables, slot, plain) {
             Ok(()) => Ok(()),
             Err(fault) => telling.warn_of(fault, slot.object),
         },
+    }
+}
+
+/// Whether a call is made later, by an event.
+pub fn is_queued(mode: ConnectionType) -> bool
+    ensures { result ≡ is_queued mode }
+{
+    match mode {
+        ConnectionType::Auto | ConnectionType::Direct => false,
+        ConnectionType::Queued => true,
     }
 }
 

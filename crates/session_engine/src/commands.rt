@@ -8,6 +8,7 @@ ghost use Rattle.session_engine.specs.Returning.{wants_memory};
 
 use crate::classes::describe;
 use crate::connections::{connect, disconnect, disconnect_one};
+use crate::events::{block, delete_later, spin, status};
 use crate::invocation::invoke;
 use crate::properties::{set_title, title};
 use crate::telling::Telling;
@@ -59,7 +60,7 @@ fn perform(
 {
     match command {
         Command::New { class, parent } => new_object(caller, tables, class, *parent),
-        Command::Delete { object } => delete_object(caller, tables, *object),
+        Command::Delete { object } => delete_object(caller, tables, telling, *object),
         Command::SetParent { object, parent } => set_parent(caller, tables, *object, *parent),
         Command::Children { object } => children(caller, tables, *object),
         Command::Find {
@@ -97,7 +98,20 @@ fn perform(
             object,
             method,
             args,
-        } => invoke(caller, tables, telling, *object, method, args.as_slice()),
+            mode,
+        } => invoke(
+            caller,
+            tables,
+            telling,
+            *object,
+            method,
+            args.as_slice(),
+            *mode,
+        ),
+        Command::Spin => spin(caller, tables, telling),
+        Command::DeleteLater { object } => delete_later(caller, tables, *object),
+        Command::Block { object, on } => block(caller, tables, *object, *on),
+        Command::Status => status(caller, tables),
     }
 }
 

@@ -1,10 +1,14 @@
 //! The command that calls a slot or sends a signal.
-ghost use Rattle.std.specs.Prelude.{◌≡◌, OnOk, IsSome, map, slice_get};
+ghost use Rattle.std.specs.Prelude.{◌≡◌, OnOk, OnErr, IsSome, map, slice_get};
 ghost use Rattle.serde_json.specs.View.{view};
-ghost use Rattle.refusals.specs.Answers.{Answers};
+ghost use Rattle.refusals.specs.Answers.{Answers, RefusedBy};
+ghost use Rattle.connection_types.specs.declared.callee.Callee.TheVariants.{Method};
+ghost use Rattle.event_queue.specs.declared.event.Event.TheVariants.{Call};
+ghost use Rattle.thread_model.specs.Posting.{post_refusal};
+ghost use Rattle.thread_model.specs.State.{with_event};
 ghost use Rattle.thread_model.specs.Asked.{Invoke};
 ghost use Rattle.thread_model.specs.Signals.{invoked, values_of};
-ghost use Rattle.session_tables.specs.Tables.{IsPlaced, state_at};
+ghost use Rattle.session_tables.specs.Tables.{IsPlaced, state_at, with_state};
 ghost use Rattle.session_effects.specs.Actions.{Keeps};
 ghost use Rattle.session_effects.specs.Methods.{its_methods};
 ghost use Rattle.session_effects.specs.Setup.{settings_of};
@@ -13,8 +17,10 @@ ghost use Rattle.session_engine.specs.Commands.{Performs, reply_after};
 ghost use Rattle.session_engine.specs.Invocation.{is_limit};
 ghost use Rattle.session_engine.specs.Telling.{fresh_telling};
 
-use crate::agenda::{emit, run_slot};
+use crate::agenda::{emit, is_queued, run_slot};
 use crate::telling::Telling;
+use connection_types::{Callee, ConnectionType};
+use event_queue::{Event, QueuedCall};
 use plain_types::{Items, Text};
 use refusals::{Code, Fault};
 use session_effects::{Caller, Slot, kinds_at, method_at, method_with};
@@ -22,9 +28,10 @@ use session_tables::Tables;
 use signature_core::{Kind, Signature};
 use std::alloc::{AllocError, Global};
 use thread_model::Answer;
-use variant_value::Value;
+use variant_value::{Args, Value};
 
-/// Calls a slot of an object or sends a signal of it, and replies whether it has such a method.
+/// Calls a slot of an object or sends a signal of it, at once or by an event, and replies whether it has
+/// such a method.
 pub fn invoke(
     caller: &Caller,
     tables: &mut Tables,
@@ -32,10 +39,11 @@ pub fn invoke(
     object: u32,
     method: &Text,
     args: &[serde_json::Value],
+    mode: ConnectionType,
 ) -> Result<Answer, Fault>
     requires placed { IsPlaced tables.old caller.now.place }
     requires fresh { telling.old ≡ fresh_telling caller.now.setup.now.turns }
-    ensures { Performs caller.now (Invoke object method.now (map view args.now)) tables.old tables.new (reply_after telling.new.lines) result }
+    ensures { Performs caller.now (Invoke object method.now (map view args.now) mode) tables.old tables.new (reply_after telling.new.lines) result }
 {
     tables.check_object(caller.place, object)?;
     let signature = Signature::normalise(caller.setup.alloc, method.as_str())?;
@@ -44,8 +52,37 @@ pub fn invoke(
     };
     let kinds = kinds_at(caller, tables, object, index);
     let values = values_of(caller.setup.alloc, kinds, args)?;
+    if is_queued(mode) {
+        post(caller, tables, object, index, values.as_slice())?;
+        return Ok(Answer::Truth(true));
+    }
     run(caller, tables, telling, object, index, values.as_slice())?;
     Ok(Answer::Truth(true))
+}
+
+/// Posts a call of the method of this index, which no object has sent.
+fn post(
+    caller: &Caller,
+    tables: &mut Tables,
+    object: u32,
+    index: u32,
+    values: &[Value],
+) -> Result<(), Fault>
+    requires { IsPlaced tables.old caller.now.place }
+    ensures refusal { RefusedBy (post_refusal (state_at tables.old caller.now.place).queue) result }
+    ensures ok { OnOk result (tables.new ≡ with_state tables.old caller.now.place
+        (with_event (state_at tables.old caller.now.place) (Call (record { object = object; callee = Method index; sender = 0; args = values.now })))) }
+    ensures err { OnErr result (tables.new ≡ tables.old) }
+{
+    tables.check_room(caller.place)?;
+    let call = QueuedCall {
+        object,
+        callee: Callee::Method(index),
+        sender: 0,
+        args: Args::copied(caller.setup.alloc, values)?,
+    };
+    tables.post(caller.place, Event::Call(call))?;
+    Ok(())
 }
 
 /// Calls the slot or sends the signal of this index.

@@ -7,6 +7,7 @@ mod commands;
 mod connections;
 mod deletion;
 mod engine;
+mod events;
 mod invocation;
 mod properties;
 mod telling;

@@ -20,6 +20,8 @@ pub struct Telling {
     pub turns: u32,
     /// It was told that no turn is left.
     pub spent: bool,
+    /// How many events it took.
+    pub taken: u32,
 }
 
 impl Telling {
@@ -31,6 +33,7 @@ impl Telling {
             lines: Items::new(setup.alloc),
             turns: setup.turns,
             spent: false,
+            taken: 0,
         }
     }
 

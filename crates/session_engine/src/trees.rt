@@ -1,9 +1,12 @@
 //! The commands for objects and their trees.
+ghost use Rattle.std.specs.Prelude.{◌≡◌};
 ghost use Rattle.thread_model.specs.Asked.{Children, Delete, Find, New, SetParent};
 ghost use Rattle.session_tables.specs.Tables.{IsPlaced};
-ghost use Rattle.session_engine.specs.Commands.{Performs, reply_lines};
+ghost use Rattle.session_engine.specs.Commands.{Performs, reply_after, reply_lines};
+ghost use Rattle.session_engine.specs.Telling.{fresh_telling};
 
 use crate::deletion::delete;
+use crate::telling::Telling;
 use plain_types::{Items, Text};
 use refusals::Fault;
 use session_effects::Caller;
@@ -25,12 +28,19 @@ pub fn new_object(
     Ok(Answer::Number(number))
 }
 
-pub fn delete_object(caller: &Caller, tables: &mut Tables, object: u32) -> Result<Answer, Fault>
-    requires { IsPlaced tables.old caller.now.place }
-    ensures { Performs caller.now (Delete object) tables.old tables.new reply_lines result }
+/// Deletes an object with all below it.
+pub fn delete_object(
+    caller: &Caller,
+    tables: &mut Tables,
+    telling: &mut Telling,
+    object: u32,
+) -> Result<Answer, Fault>
+    requires placed { IsPlaced tables.old caller.now.place }
+    requires fresh { telling.old ≡ fresh_telling caller.now.setup.now.turns }
+    ensures { Performs caller.now (Delete object) tables.old tables.new (reply_after telling.new.lines) result }
 {
     tables.check_object(caller.place, object)?;
-    delete(tables, caller.place, object, 0)?;
+    delete(caller, tables, telling, object, 0)?;
     Ok(Answer::Truth(true))
 }
 

@@ -6,6 +6,7 @@ use Rattle.std.proofs.lemmas.List.{get_or_past, get_or-set_other, length-set}
 use Rattle.places.specs.Table.{Table}
 use Rattle.places.proofs.TableLemmas as column
 use Rattle.connection_list.specs.Rows.{Rows, no_rows}
+use Rattle.event_queue.specs.Queue.{Queue, empty_queue}
 use Rattle.object_tree.specs.Forest.{Forest, empty_forest}
 use Rattle.thread_model.specs.State.{State, Titles}
 use Rattle.session_tables.specs.declared.tables.Tables.{Tables}
@@ -13,36 +14,39 @@ use Rattle.session_tables.specs.Session.{Session, fresh}
 use Rattle.session_tables.specs.Tables.{AreEven, AreSame, ChangesOnly, IsPlaced, failed_at, opened, session_at, state_at, with_session, with_state}
 
 -- tables of these columns
-abbrev pub of_columns : Table Forest → Table Titles → Table Rows → Table Bool → Tables
-of_columns forests titles connections failed = record { forests = forests; titles = titles; connections = connections; failed = failed }
+abbrev pub of_columns : Table Forest → Table Titles → Table Rows → Table Queue → Table Bool → Tables
+of_columns forests titles connections queues failed = record { forests = forests; titles = titles; connections = connections; queues = queues; failed = failed }
 
 -- the session that these make
-abbrev made : Forest → Titles → Rows → Bool → Session
-made forest titles connections failed = record { state = record { forest = forest; titles = titles; connections = connections }; failed = failed }
+abbrev made : Forest → Titles → Rows → Queue → Bool → Session
+made forest titles connections queue failed = record { state = record { forest = forest; titles = titles; connections = connections; queue = queue }; failed = failed }
 
 -- equal columns make equal tables
-pub columns : (old new : Tables) → new.forests ≡ old.forests → new.titles ≡ old.titles → new.connections ≡ old.connections → new.failed ≡ old.failed → new ≡ old
-columns old new a b c d =
-    ap (λ forests. of_columns forests new.titles new.connections new.failed) a
-    ∙ ap (λ titles. of_columns old.forests titles new.connections new.failed) b
-    ∙ ap (λ connections. of_columns old.forests old.titles connections new.failed) c
-    ∙ ap (λ failed. of_columns old.forests old.titles old.connections failed) d
+pub columns : (old new : Tables) → new.forests ≡ old.forests → new.titles ≡ old.titles → new.connections ≡ old.connections → new.queues ≡ old.queues → new.failed ≡ old.failed → new ≡ old
+columns old new a b c d e =
+    ap (λ forests. of_columns forests new.titles new.connections new.queues new.failed) a
+    ∙ ap (λ titles. of_columns old.forests titles new.connections new.queues new.failed) b
+    ∙ ap (λ connections. of_columns old.forests old.titles connections new.queues new.failed) c
+    ∙ ap (λ queues. of_columns old.forests old.titles old.connections queues new.failed) d
+    ∙ ap (λ failed. of_columns old.forests old.titles old.connections old.queues failed) e
 
 -- equal parts make equal sessions
-session_of : {a b : Forest} {c d : Titles} {e f : Rows} {g h : Bool} → a ≡ b → c ≡ d → e ≡ f → g ≡ h
-    → made a c e g ≡ made b d f h
-session_of {a} {b} {c} {d} {e} {f} {g} {h} forest titles connections failed =
-    ap (λ forest. made forest c e g) forest ∙ ap (λ titles. made b titles e g) titles
-    ∙ ap (λ connections. made b d connections g) connections ∙ ap (λ failed. made b d f failed) failed
+session_of : {a b : Forest} {c d : Titles} {e f : Rows} {g h : Queue} {i j : Bool} → a ≡ b → c ≡ d → e ≡ f → g ≡ h → i ≡ j
+    → made a c e g i ≡ made b d f h j
+session_of {a} {b} {c} {d} {e} {f} {g} {h} {i} {j} forest titles connections queue failed =
+    ap (λ forest. made forest c e g i) forest ∙ ap (λ titles. made b titles e g i) titles
+    ∙ ap (λ connections. made b d connections g i) connections ∙ ap (λ queue. made b d f queue i) queue
+    ∙ ap (λ failed. made b d f h failed) failed
 
 -- what stands at a place, put there again
 pub with_state_same : (tables : Tables) (place : ℕ) → with_state tables place (state_at tables place) ≡ tables
-with_state_same tables place = columns tables _ (column.with_same empty_forest tables.forests place) (column.with_same [] tables.titles place) (column.with_same no_rows tables.connections place) refl
+with_state_same tables place = columns tables _ (column.with_same empty_forest tables.forests place) (column.with_same [] tables.titles place) (column.with_same no_rows tables.connections place) (column.with_same empty_queue tables.queues place) refl
 
 pub with_state_there : (tables : Tables) (place : ℕ) (state : State) → IsPlaced tables place → state_at (with_state tables place state) place ≡ state
 with_state_there tables place state placed =
-    ap (λ (session : Session). session.state) (session_of {g = false} (column.with_there empty_forest tables.forests place state.forest placed.0)
-    (column.with_there [] tables.titles place state.titles placed.1) (column.with_there no_rows tables.connections place state.connections placed.2) refl)
+    ap (λ (session : Session). session.state) (session_of {i = false} (column.with_there empty_forest tables.forests place state.forest placed.0)
+    (column.with_there [] tables.titles place state.titles placed.1) (column.with_there no_rows tables.connections place state.connections placed.2)
+    (column.with_there empty_queue tables.queues place state.queue placed.3) refl)
 
 -- so where a state was put, it stands
 pub state_with : (old new : Tables) (place : ℕ) (state : State) → IsPlaced old place → new ≡ with_state old place state → state_at new place ≡ state
@@ -54,6 +58,7 @@ changes_with old new place state placed e = record {
   forests = column.changes_with empty_forest old.forests new.forests place state.forest placed.0 (ap (λ tables. tables.forests) e);
   titles = column.changes_with [] old.titles new.titles place state.titles placed.1 (ap (λ tables. tables.titles) e);
   connections = column.changes_with no_rows old.connections new.connections place state.connections placed.2 (ap (λ tables. tables.connections) e);
+  queues = column.changes_with empty_queue old.queues new.queues place state.queue placed.3 (ap (λ tables. tables.queues) e);
   failed = column.changes_same false old.failed new.failed place (ap (λ tables. tables.failed) e);
 }
 
@@ -62,6 +67,7 @@ changes_same old new place e = record {
   forests = column.changes_same empty_forest old.forests new.forests place (ap (λ tables. tables.forests) e);
   titles = column.changes_same [] old.titles new.titles place (ap (λ tables. tables.titles) e);
   connections = column.changes_same no_rows old.connections new.connections place (ap (λ tables. tables.connections) e);
+  queues = column.changes_same empty_queue old.queues new.queues place (ap (λ tables. tables.queues) e);
   failed = column.changes_same false old.failed new.failed place (ap (λ tables. tables.failed) e);
 }
 
@@ -70,6 +76,7 @@ changes_twice old middle new place first second = record {
   forests = column.changes_twice empty_forest old.forests middle.forests new.forests place first.forests second.forests;
   titles = column.changes_twice [] old.titles middle.titles new.titles place first.titles second.titles;
   connections = column.changes_twice no_rows old.connections middle.connections new.connections place first.connections second.connections;
+  queues = column.changes_twice empty_queue old.queues middle.queues new.queues place first.queues second.queues;
   failed = column.changes_twice false old.failed middle.failed new.failed place first.failed second.failed;
 }
 
@@ -79,7 +86,8 @@ placed_after old new place changes placed = (
   column.changes_open empty_forest old.forests new.forests place changes.forests placed.0,
   column.changes_open [] old.titles new.titles place changes.titles placed.1,
   column.changes_open no_rows old.connections new.connections place changes.connections placed.2,
-  column.changes_open false old.failed new.failed place changes.failed placed.3,
+  column.changes_open empty_queue old.queues new.queues place changes.queues placed.3,
+  column.changes_open false old.failed new.failed place changes.failed placed.4,
 )
 
 -- whatever became of a session before another is put in its place
@@ -88,15 +96,16 @@ with_session_after old middle place session changes = columns (with_session old 
     (column.with_after empty_forest old.forests middle.forests place session.state.forest changes.forests)
     (column.with_after [] old.titles middle.titles place session.state.titles changes.titles)
     (column.with_after no_rows old.connections middle.connections place session.state.connections changes.connections)
+    (column.with_after empty_queue old.queues middle.queues place session.state.queue changes.queues)
     (column.with_after false old.failed middle.failed place session.failed changes.failed)
 
 -- a state put where the mark stays
 pub with_state_session : (tables : Tables) (place : ℕ) (state : State) → with_state tables place state ≡ with_session tables place (record { state = state; failed = failed_at tables place })
-with_state_session tables place state = columns _ _ refl refl refl (sym (column.with_same false tables.failed place))
+with_state_session tables place state = columns _ _ refl refl refl refl (sym (column.with_same false tables.failed place))
 
 -- a change of one session's state alone
 pub changes_state : (old new : Tables) (place : ℕ) → ChangesOnly place old new → new.failed ≡ old.failed → new ≡ with_state old place (state_at new place)
-changes_state old new place changes kept = columns (with_state old place (state_at new place)) new changes.forests changes.titles changes.connections kept
+changes_state old new place changes kept = columns (with_state old place (state_at new place)) new changes.forests changes.titles changes.connections changes.queues kept
 
 -- past the last place every session is as one that has had no command
 pub session_past : (tables : Tables) (place : ℕ) → AreEven tables → length tables.failed.places ≤ place → session_at tables place ≡ fresh
@@ -104,17 +113,20 @@ session_past tables place even past = session_of
     (get_or_past tables.forests.places place empty_forest (omega (arith, even.forests, past)))
     (get_or_past tables.titles.places place [] (omega (arith, even.titles, past)))
     (get_or_past tables.connections.places place no_rows (omega (arith, even.connections, past)))
+    (get_or_past tables.queues.places place empty_queue (omega (arith, even.queues, past)))
     (get_or_past tables.failed.places place false past)
 
 -- so opening a place changes no session
 pub session_opened : (tables : Tables) (place : ℕ) → session_at (opened tables) place ≡ session_at tables place
 session_opened tables place = session_of
-    (column.default_pushed empty_forest tables.forests.places place) (column.default_pushed [] tables.titles.places place) (column.default_pushed no_rows tables.connections.places place) (column.default_pushed false tables.failed.places place)
+    (column.default_pushed empty_forest tables.forests.places place) (column.default_pushed [] tables.titles.places place) (column.default_pushed no_rows tables.connections.places place)
+    (column.default_pushed empty_queue tables.queues.places place) (column.default_pushed false tables.failed.places place)
 
 -- nor does room for it
 pub session_same : (old new : Tables) (place : ℕ) → AreSame old new → session_at new place ≡ session_at old place
 session_same old new place same = session_of
-    (ap (λ places. get_or places place empty_forest) same.forests) (ap (λ places. get_or places place []) same.titles) (ap (λ places. get_or places place no_rows) same.connections) (ap (λ places. get_or places place false) same.failed)
+    (ap (λ places. get_or places place empty_forest) same.forests) (ap (λ places. get_or places place []) same.titles) (ap (λ places. get_or places place no_rows) same.connections)
+    (ap (λ places. get_or places place empty_queue) same.queues) (ap (λ places. get_or places place false) same.failed)
 
 -- with another session at a place, it stands there
 pub session_there : (tables : Tables) (place : ℕ) (session : Session) → IsPlaced tables place → session_at (with_session tables place session) place ≡ session
@@ -122,7 +134,8 @@ session_there tables place session placed = session_of
     (column.with_there empty_forest tables.forests place session.state.forest placed.0)
     (column.with_there [] tables.titles place session.state.titles placed.1)
     (column.with_there no_rows tables.connections place session.state.connections placed.2)
-    (column.with_there false tables.failed place session.failed placed.3)
+    (column.with_there empty_queue tables.queues place session.state.queue placed.3)
+    (column.with_there false tables.failed place session.failed placed.4)
 
 -- and every other place has the session that it had
 pub session_elsewhere : (tables : Tables) (place other : ℕ) (session : Session) → other ≢ place → session_at (with_session tables place session) other ≡ session_at tables other
@@ -130,6 +143,7 @@ session_elsewhere tables place other session differ = session_of
     (get_or-set_other tables.forests.places place other session.state.forest empty_forest differ)
     (get_or-set_other tables.titles.places place other session.state.titles [] differ)
     (get_or-set_other tables.connections.places place other session.state.connections no_rows differ)
+    (get_or-set_other tables.queues.places place other session.state.queue empty_queue differ)
     (get_or-set_other tables.failed.places place other session.failed false differ)
 
 pub even_with : (tables : Tables) (place : ℕ) (session : Session) → AreEven tables → AreEven (with_session tables place session)
@@ -138,21 +152,23 @@ even_with tables place session even =
       forests = length-set tables.forests.places place session.state.forest ∙ even.forests ∙ sym marks;
       titles = length-set tables.titles.places place session.state.titles ∙ even.titles ∙ sym marks;
       connections = length-set tables.connections.places place session.state.connections ∙ even.connections ∙ sym marks;
+      queues = length-set tables.queues.places place session.state.queue ∙ even.queues ∙ sym marks;
     }
 
 pub even_opened : (tables : Tables) → AreEven tables → AreEven (opened tables)
-even_opened tables even = record { forests = grind (arith, common_steps, even.forests); titles = grind (arith, common_steps, even.titles); connections = grind (arith, common_steps, even.connections) }
+even_opened tables even = record { forests = grind (arith, common_steps, even.forests); titles = grind (arith, common_steps, even.titles); connections = grind (arith, common_steps, even.connections); queues = grind (arith, common_steps, even.queues) }
 
 pub even_same : (old new : Tables) → AreSame old new → AreEven old → AreEven new
 even_same old new same even = record {
   forests = ap length same.forests ∙ even.forests ∙ sym (ap length same.failed);
   titles = ap length same.titles ∙ even.titles ∙ sym (ap length same.failed);
   connections = ap length same.connections ∙ even.connections ∙ sym (ap length same.failed);
+  queues = ap length same.queues ∙ even.queues ∙ sym (ap length same.failed);
 }
 
 -- a place of one table is one of all
 pub placed_by : (tables : Tables) (place : ℕ) → AreEven tables → place < length tables.failed.places → IsPlaced tables place
-placed_by tables place even within = (omega (arith, even.forests, within), omega (arith, even.titles, within), omega (arith, even.connections, within), within)
+placed_by tables place even within = (omega (arith, even.forests, within), omega (arith, even.titles, within), omega (arith, even.connections, within), omega (arith, even.queues, within), within)
 
 -- what holds of every session still does, where it holds of the one that was put
 pub session_each : (P : Session → Type 0) (tables : Tables) (place : ℕ) (session : Session) → IsPlaced tables place → P session → ((at : ℕ) → P (session_at tables at)) → (at : ℕ) → P (session_at (with_session tables place session) at)

@@ -4,6 +4,8 @@ use Rattle.places.specs.Table as places
 use Rattle.places.specs.Table.{ChangesAt, IsPlace, with_place}
 use Rattle.connection_list.specs.Rows.{no_rows}
 use Rattle.connection_list.specs.Table.{rows_at, with_rows}
+use Rattle.event_queue.specs.Queue.{empty_queue}
+use Rattle.event_queue.specs.Table.{queue_at, with_queue}
 use Rattle.object_tree.specs.Forest.{empty_forest}
 use Rattle.object_tree.specs.Table.{forest_at, with_forest}
 use Rattle.thread_model.specs.State.{State}
@@ -12,19 +14,19 @@ use Rattle.session_tables.specs.Session.{Session}
 
 -- the place has been opened in each table
 abbrev pub IsPlaced : Tables → ℕ → Type 0
-IsPlaced tables place = IsPlace tables.forests place × IsPlace tables.titles place × IsPlace tables.connections place × IsPlace tables.failed place
+IsPlaced tables place = IsPlace tables.forests place × IsPlace tables.titles place × IsPlace tables.connections place × IsPlace tables.queues place × IsPlace tables.failed place
 
 -- one more place can be opened in each without memory
 abbrev pub HasRoom : Tables → Type 0
-HasRoom tables = (1 ≤ tables.forests.room) × (1 ≤ tables.titles.room) × (1 ≤ tables.connections.room) × (1 ≤ tables.failed.room)
+HasRoom tables = (1 ≤ tables.forests.room) × (1 ≤ tables.titles.room) × (1 ≤ tables.connections.room) × (1 ≤ tables.queues.room) × (1 ≤ tables.failed.room)
 
 -- with one more place, for a session that has had no command
 abbrev pub opened : Tables → Tables
-opened tables = record { forests = places.opened tables.forests empty_forest; titles = places.opened tables.titles []; connections = places.opened tables.connections no_rows; failed = places.opened tables.failed false }
+opened tables = record { forests = places.opened tables.forests empty_forest; titles = places.opened tables.titles []; connections = places.opened tables.connections no_rows; queues = places.opened tables.queues empty_queue; failed = places.opened tables.failed false }
 
 -- the state of the session at a place
 abbrev pub state_at : Tables → ℕ → State
-state_at tables place = record { forest = forest_at tables.forests place; titles = slice_index_or tables.titles.places place []; connections = rows_at tables.connections place }
+state_at tables place = record { forest = forest_at tables.forests place; titles = slice_index_or tables.titles.places place []; connections = rows_at tables.connections place; queue = queue_at tables.queues place }
 
 -- has the session at a place failed
 abbrev pub failed_at : Tables → ℕ → Bool
@@ -36,17 +38,18 @@ session_at tables place = record { state = state_at tables place; failed = faile
 
 -- with another state at a place, and all else as before
 abbrev pub with_state : Tables → ℕ → State → Tables
-with_state tables place state = record { forests = with_forest tables.forests place state.forest; titles = with_place tables.titles place state.titles; connections = with_rows tables.connections place state.connections; failed = tables.failed }
+with_state tables place state = record { forests = with_forest tables.forests place state.forest; titles = with_place tables.titles place state.titles; connections = with_rows tables.connections place state.connections; queues = with_queue tables.queues place state.queue; failed = tables.failed }
 
 -- with another session at a place, and all else as before
 abbrev pub with_session : Tables → ℕ → Session → Tables
-with_session tables place session = record { forests = with_forest tables.forests place session.state.forest; titles = with_place tables.titles place session.state.titles; connections = with_rows tables.connections place session.state.connections; failed = with_place tables.failed place session.failed }
+with_session tables place session = record { forests = with_forest tables.forests place session.state.forest; titles = with_place tables.titles place session.state.titles; connections = with_rows tables.connections place session.state.connections; queues = with_queue tables.queues place session.state.queue; failed = with_place tables.failed place session.failed }
 
 -- no session but the one at this place has changed
 pub record ChangesOnly (place : ℕ) (old new : Tables) : Type 0 where
   pub forests : ChangesAt empty_forest place old.forests new.forests
   pub titles : ChangesAt [] place old.titles new.titles
   pub connections : ChangesAt no_rows place old.connections new.connections
+  pub queues : ChangesAt empty_queue place old.queues new.queues
   pub failed : ChangesAt false place old.failed new.failed
 
 -- each place is as before, and there may be more room
@@ -54,6 +57,7 @@ pub record AreSame (old new : Tables) : Type 0 where
   pub forests : new.forests.places ≡ old.forests.places
   pub titles : new.titles.places ≡ old.titles.places
   pub connections : new.connections.places ≡ old.connections.places
+  pub queues : new.queues.places ≡ old.queues.places
   pub failed : new.failed.places ≡ old.failed.places
 
 -- the tables have as many places
@@ -61,3 +65,4 @@ pub record AreEven (tables : Tables) : Type 0 where
   pub forests : length tables.forests.places ≡ length tables.failed.places
   pub titles : length tables.titles.places ≡ length tables.failed.places
   pub connections : length tables.connections.places ≡ length tables.failed.places
+  pub queues : length tables.queues.places ≡ length tables.failed.places

@@ -3,6 +3,7 @@
 //! another place than the one that it names.
 #![tactic(auto)]
 
+mod events;
 mod properties;
 mod signals;
 mod tables;

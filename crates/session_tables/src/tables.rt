@@ -6,6 +6,7 @@ ghost use Rattle.thread_model.specs.State.{empty};
 
 use crate::titles::Titles;
 use connection_list::Connections;
+use event_queue::Queues;
 use object_tree::Forests;
 use places::Places;
 use std::alloc::{AllocError, Global};
@@ -16,8 +17,9 @@ pub struct Tables {
     pub(crate) forests: Forests,
     pub(crate) titles: Titles,
     pub(crate) connections: Connections,
-    /// Memory was wanted for the session and not found. Its objects and connections are gone, and
-    /// it refuses every command.
+    pub(crate) queues: Queues,
+    /// Memory was wanted for the session and not found. Its objects, connections and events are gone,
+    /// and it refuses every command.
     pub(crate) failed: Places<bool>,
 }
 
@@ -27,12 +29,14 @@ impl Tables {
         ensures forests { result.forests.places ≡ [] }
         ensures titles { result.titles.places ≡ [] }
         ensures connections { result.connections.places ≡ [] }
+        ensures queues { result.queues.places ≡ [] }
         ensures failed { result.failed.places ≡ [] }
     {
         Tables {
             forests: Forests::new(alloc),
             titles: Titles::new(alloc),
             connections: Connections::new(alloc),
+            queues: Queues::new(alloc),
             failed: Places::new(alloc),
         }
     }
@@ -45,6 +49,7 @@ impl Tables {
         self.forests.ready()?;
         self.titles.ready()?;
         self.connections.ready()?;
+        self.queues.ready()?;
         self.failed.ready()
     }
 
@@ -57,6 +62,7 @@ impl Tables {
         self.forests.open();
         self.titles.open();
         self.connections.open();
+        self.queues.open();
         self.failed.open(false)
     }
 
@@ -69,6 +75,7 @@ impl Tables {
         self.forests.clear(place);
         self.titles.clear(place);
         self.connections.clear(place);
+        self.queues.clear(place);
     }
 
     /// Lets a session fail.

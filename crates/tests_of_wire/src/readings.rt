@@ -37,6 +37,10 @@ fn parts(command: &Command) -> Parts<'_> {
         Command::DisconnectOne { connection } => {
             ("disconnect one", Some(*connection), None, None, None)
         }
+        Command::Spin => ("spin", None, None, None, None),
+        Command::DeleteLater { object } => ("delete later", Some(*object), None, None, None),
+        Command::Block { object, on } => ("block", Some(*object), Some(u32::from(*on)), None, None),
+        Command::Status => ("status", None, None, None, None),
         _ => parts_of_signals(command),
     }
 }
@@ -74,8 +78,13 @@ fn parts_of_signals(command: &Command) -> Parts<'_> {
             object,
             method,
             args,
+            mode,
         } => (
-            "invoke",
+            if *mode == ConnectionType::Queued {
+                "invoke later"
+            } else {
+                "invoke"
+            },
             Some(*object),
             u32::try_from(args.len()).ok(),
             args.get(0).and_then(|arg| arg.as_str()),
@@ -90,6 +99,7 @@ fn way(mode: ConnectionType, unique: bool, single: bool) -> &'static str {
     match (mode, unique, single) {
         (ConnectionType::Auto, false, false) => "connect",
         (ConnectionType::Direct, false, false) => "connect directly",
+        (ConnectionType::Queued, false, false) => "connect later",
         (ConnectionType::Auto, true, false) => "connect uniquely",
         (ConnectionType::Auto, false, true) => "connect once",
         _ => "connect otherwise",
@@ -112,9 +122,15 @@ const LINES: &str = r#"{"class":"Cell","do":"new","parent":4294967295,"session":
 {"do":"disconnect","sender":1,"session":"a","signal":"s()"}
 {"do":"disconnect","method":"f()","receiver":2,"sender":1,"session":"a"}
 {"args":[],"do":"invoke","method":"f()","object":3,"session":"a"}
-{"args":["x",1,{"a":[null]}],"do":"invoke","method":"f(QString,int)","object":3,"session":"a"}"#;
+{"args":["x",1,{"a":[null]}],"do":"invoke","method":"f(QString,int)","object":3,"session":"a"}
+{"do":"connect","method":"f()","receiver":1,"sender":1,"session":"a","signal":"s()","type":"queued"}
+{"args":["x"],"do":"invoke","method":"f()","object":3,"session":"a","type":"queued"}
+{"do":"spin","session":"a"}
+{"do":"deleteLater","object":4294967295,"session":"a"}
+{"do":"block","object":7,"on":false,"on":true,"session":"a"}
+ { "session" : "a", "do" : "\u0073tatus" }"#;
 
-const PARTS: [Parts<'static>; 16] = [
+const PARTS: [Parts<'static>; 22] = [
     ("new", None, Some(4_294_967_295), None, Some("Cell")),
     ("find", Some(7), None, Some(""), Some("Cell")),
     ("set", Some(1), None, Some("2"), None),
@@ -149,6 +165,12 @@ const PARTS: [Parts<'static>; 16] = [
         Some("x"),
         Some("f(QString,int)"),
     ),
+    ("connect later", Some(1), Some(1), Some("s()"), Some("f()")),
+    ("invoke later", Some(3), Some(1), Some("x"), Some("f()")),
+    ("spin", None, None, None, None),
+    ("delete later", Some(4_294_967_295), None, None, None),
+    ("block", Some(7), Some(1), None, None),
+    ("status", None, None, None, None),
 ];
 
 #[test]
@@ -178,17 +200,12 @@ E02 a {"session":"a"}
 E02 a {"do":"new","session":"a"}
 E02 a {"class":"","do":"new","session":"a"}
 E02 a {"class":"Cell","do":"new","session":"a","x":1}
-E02 a {"class":"Cell","do":"new","parent":null,"session":"a"}
-E02 a {"class":"Cell","do":"new","parent":0,"session":"a"}
 E02 a {"do":"delete","object":0,"session":"a"}
 E02 a {"do":"delete","object":"1","session":"a"}
 E02 a {"do":"delete","object":1,"parent":2,"session":"a"}
-E02 a {"do":"setParent","object":2,"session":"a"}
 E02 a {"do":"setParent","object":2,"parent":false,"session":"a"}
-E02 a {"do":"children","object":null,"session":"a"}
 E02 a {"do":"children","object":-1,"session":"a"}
 E02 a {"do":"find","name":"lamp","session":"a"}
-E02 a {"do":"find","name":null,"object":1,"session":"a"}
 E02 a {"class":"a lamp","do":"find","object":1,"session":"a"}
 E02 a {"do":"get","object":4294967296,"property":"objectName","session":"a"}
 E02 a {"do":"get","object":1.0,"property":"objectName","session":"a"}
@@ -197,21 +214,18 @@ E02 a {"do":"get","object":1,"property":"objectName","session":"a","value":1}
 E02 a {"do":"set","object":1,"property":"objectName","session":"a"}
 E02 a {"class":"a b","do":"meta","session":"a"}
 E02 a {"do":"connect","method":"f()","receiver":2,"session":"a","signal":"s()"}
-E02 a {"do":"connect","method":"f()","receiver":0,"sender":1,"session":"a","signal":"s()"}
 E02 a {"do":"connect","method":"f()","receiver":2,"sender":1,"session":"a","signal":null}
-E02 a {"do":"connect","method":"f()","receiver":2,"sender":1,"session":"a","signal":"s()","type":"queued"}
-E02 a {"do":"connect","method":"f()","receiver":2,"sender":1,"session":"a","signal":"s()","unique":1}
-E02 a {"do":"connect","method":"f()","receiver":2,"sender":1,"session":"a","signal":"s()","single":null}
+E02 a {"do":"connect","method":"f()","receiver":2,"sender":1,"session":"a","signal":"s()","type":"blocking"}
 E02 a {"do":"disconnect","session":"a"}
-E02 a {"do":"disconnect","receiver":2,"session":"a"}
-E02 a {"connection":0,"do":"disconnect","session":"a"}
-E02 a {"connection":1,"do":"disconnect","sender":1,"session":"a"}
 E02 a {"do":"disconnect","method":"f()","sender":1,"session":"a"}
 E02 a {"do":"disconnect","sender":1,"session":"a","signal":null}
-E02 a {"do":"invoke","method":"f()","object":3,"session":"a"}
 E02 a {"args":{},"do":"invoke","method":"f()","object":3,"session":"a"}
 E02 a {"args":[],"do":"invoke","object":3,"session":"a"}
-E02 a {"args":[],"do":"invoke","method":"f()","object":3,"sender":1,"session":"a"}"#;
+E02 a {"args":[],"do":"invoke","method":"f()","object":3,"sender":1,"session":"a"}
+E02 a {"args":[],"do":"invoke","method":"f()","object":3,"session":"a","type":null}
+E02 a {"do":"spin","object":1,"session":"a"}
+E02 a {"do":"deleteLater","session":"a"}
+E02 a {"do":"block","object":1,"on":1,"session":"a"}"#;
 
 #[test]
 fn other_lines_are_refused(rt: HostRuntime) -> Result<(), Fail> {

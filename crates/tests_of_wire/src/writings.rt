@@ -3,7 +3,7 @@ use plain_types::{Items, Text};
 use refusals::Code;
 use std::alloc::{AllocError, Global};
 use std::test::Fail;
-use thread_model::{Answer, Call, Line, MetaObject};
+use thread_model::{Answer, Call, Line, MetaObject, Spin, Status};
 use variant_value::{Args, Value};
 use wire_format::{
     Digits, Parts, error_parts, line_parts, line_text, sessions_are_isolated, write_line,
@@ -58,6 +58,23 @@ fn bare_call(alloc: Global) -> Result<Line, AllocError> {
     }))
 }
 
+/// What came of taking two events.
+const SPIN: Spin = Spin {
+    events: 2,
+    left: 1,
+    lost: 0,
+    mismatched: 18_446_744_073_709_551_615,
+};
+
+/// How much there is in a session.
+const STATUS: Status = Status {
+    connections: 4,
+    lost: 10,
+    mismatched: 0,
+    objects: 4_096,
+    queued: 16_384,
+};
+
 fn warning(code: Code, object: Option<u32>) -> Line {
     Line::Warning { code, object }
 }
@@ -73,6 +90,8 @@ const WRITTEN: &str = r#"{"reply":0,"session":"a"}
 {"reply":"\"ä\\\n\u0001/","session":"a"}
 {"reply":[3,1,20],"session":"a"}
 {"reply":{"class":"Lamp","methodOffset":3,"methods":["on()","off()"],"properties":[],"propertyOffset":1,"super":"QObject"},"session":"a"}
+{"reply":{"events":2,"left":1,"lost":0,"mismatched":18446744073709551615},"session":"a"}
+{"reply":{"bindings":0,"connections":4,"group":0,"joins":0,"lost":10,"mismatched":0,"objects":4096,"publications":0,"queued":16384},"session":"a"}
 {"args":[true,-5,"\"ä"],"call":"dim(bool,int,QString)","object":4294967295,"sender":0,"session":"a"}
 {"args":[],"call":"on()","object":2,"sender":1,"session":"a"}
 {"object":7,"session":"a","warning":"E14"}
@@ -111,6 +130,8 @@ fn lines_are_written(rt: HostRuntime) -> Result<(), Fail> {
         (Line::Reply(Answer::Value(Value::Text(escaped))), false),
         (Line::Reply(Answer::Numbers(numbers(alloc)?)), false),
         (Line::Reply(Answer::Meta(lamp(alloc)?)), false),
+        (Line::Reply(Answer::Spun(SPIN)), false),
+        (Line::Reply(Answer::Status(STATUS)), false),
         (call(alloc)?, false),
         (bare_call(alloc)?, false),
         (warning(Code::Limit, Some(7)), false),

@@ -3,7 +3,7 @@ use Rattle.std.proofs.Common.{◌≡◌, ℕ, Bool, true, false, cond, List, [],
 use Rattle.std.specs.Option.{option_or}
 use Rattle.std.specs.Result.{result_err}
 use Rattle.refusals.specs.declared.code.Code.{Code}
-use Rattle.refusals.specs.declared.code.Code.TheVariants.{BadValue, DoesNotFit, NoSuchObject}
+use Rattle.refusals.specs.declared.code.Code.TheVariants.{BadValue, DoesNotFit, Limit, NoSuchObject}
 use Rattle.signature_core.specs.declared.kind.Kind.TheVariants as k
 use Rattle.variant_value.specs.declared.value.Value.{Value}
 use Rattle.variant_value.specs.Values.{IsOfKind}
@@ -16,9 +16,11 @@ use Rattle.connection_list.specs.declared.pattern.Pattern.{Pattern}
 use Rattle.connection_list.specs.Rows.{connect_refusal}
 use Rattle.object_tree.specs.Refusing.{object_refusal, set_parent_refusal}
 use Rattle.object_tree.specs.Rows.{is_there}
-use Rattle.thread_model.specs.Acts.{act_refusal, acted, connection, emission, is_queued, pattern, warns_or, with_found}
+use Rattle.event_queue.specs.declared.event.Event.TheVariants.{Deletion}
+use Rattle.event_queue.specs.Queue.{has_room}
+use Rattle.thread_model.specs.Acts.{act_refusal, acted, connection, emission, pattern, warns_or, with_found}
 use Rattle.thread_model.specs.Connecting.{connection_refusal, fits_at, new_connection}
-use Rattle.thread_model.specs.Doing.{Doing, linked, unlinked, adopted, retitled}
+use Rattle.thread_model.specs.Doing.{Doing, adopted, blocking, linked, posted, retitled, unlinked}
 use Rattle.thread_model.specs.Items.{Delete, Emit, Next, Warn, puts}
 use Rattle.thread_model.specs.Methods.{Found}
 use Rattle.thread_model.specs.Settings.{Settings}
@@ -53,6 +55,8 @@ module _ (settings : Settings) (doing : Doing) (self sender : ℕ) (args : List 
     (moves : (target : ℕ) (parent : Option ℕ) → set_parent_refusal doing.state.forest target parent ≡ None → P (puts [] (adopted doing target parent)))
     (connects : (new : NewConnection) → IsAllowed doing.state.connections → object_refusal doing.state.forest.rows new.sender ≡ None → object_refusal doing.state.forest.rows new.receiver ≡ None → P (puts [] (linked doing new)))
     (breaks : (pattern : Pattern) → P (puts [] (unlinked doing pattern)))
+    (posts : (target : ℕ) → object_refusal doing.state.forest.rows target ≡ None → P (puts [] (posted doing (Deletion target))))
+    (blocks : (target : ℕ) (on : Bool) → P (puts [] (blocking doing target on)))
   where
     titled_by : (of : ℕ) (declared there : Bool) (found : Found Value) → is_there doing.state.forest.rows of ≡ there → ((title : Value) → found ≡ Ok title → IsOfKind k.Text title)
         → P (warns_or (cond declared (option_or (cond there None (Some NoSuchObject)) (result_err found)) (Some BadValue)) self doing (with_found found (λ title. puts [] (retitled doing of title)) doing))
@@ -67,14 +71,13 @@ module _ (settings : Settings) (doing : Doing) (self sender : ℕ) (args : List 
     sent_by of true (Ok emitted) = sends of emitted.0 emitted.1
     sent_by of true (Err code) = warns code
 
-    linked_by : (queued unique : Bool) (a b : Option Code) (found : Found NewConnection)
+    linked_by : (unique : Bool) (a b : Option Code) (found : Found NewConnection)
         → ((new : NewConnection) → found ≡ Ok new → (a ≡ object_refusal doing.state.forest.rows new.sender) × (b ≡ object_refusal doing.state.forest.rows new.receiver))
-        → P (warns_or (cond queued (Some BadValue) (option_or a (option_or b (connection_refusal doing.state.connections found unique)))) self doing (with_found found (λ new. puts [] (linked doing new)) doing))
-    linked_by true unique a b found ends = warns BadValue
-    linked_by false unique (Some code) b found ends = warns code
-    linked_by false unique None (Some code) found ends = warns code
-    linked_by false unique None None (Err code) ends = warns code
-    linked_by false unique None None (Ok new) ends = by (connect_refusal doing.state.connections new unique) refl
+        → P (warns_or (option_or a (option_or b (connection_refusal doing.state.connections found unique))) self doing (with_found found (λ new. puts [] (linked doing new)) doing))
+    linked_by unique (Some code) b found ends = warns code
+    linked_by unique None (Some code) found ends = warns code
+    linked_by unique None None (Err code) ends = warns code
+    linked_by unique None None (Ok new) ends = by (connect_refusal doing.state.connections new unique) refl
       where
         by : (refusal : Option Code) → connect_refusal doing.state.connections new unique ≡ refusal → P (warns_or refusal self doing (puts [] (linked doing new)))
         by (Some code) e = warns code
@@ -91,6 +94,16 @@ module _ (settings : Settings) (doing : Doing) (self sender : ℕ) (args : List 
     deleted_by target (Some code) = warns code
     deleted_by target None = deletes target
 
+    posted_by : (target : ℕ) (refusal : Option Code) (room : Bool) → object_refusal doing.state.forest.rows target ≡ refusal
+        → P (warns_or (option_or refusal (cond room None (Some Limit))) self doing (puts [] (posted doing (Deletion target))))
+    posted_by target (Some code) room is = warns code
+    posted_by target None false is = warns Limit
+    posted_by target None true is = posts target is
+
+    blocked_by : (target : ℕ) (on there : Bool) → P (warns_or (cond there None (Some NoSuchObject)) self doing (puts [] (blocking doing target on)))
+    blocked_by target on false = warns NoSuchObject
+    blocked_by target on true = blocks target on
+
     moved_by : (target : ℕ) (parent : Option ℕ) (refusal : Option Code) → set_parent_refusal doing.state.forest target parent ≡ refusal → P (warns_or refusal self doing (puts [] (adopted doing target parent)))
     moved_by target parent (Some code) e = warns code
     moved_by target parent None e = moves target parent e
@@ -102,12 +115,12 @@ module _ (settings : Settings) (doing : Doing) (self sender : ℕ) (args : List 
         (title_text (evaluated doing.state self sender args value))
     acted_cases (e.Emit of signal sent) = sent_by (object_of doing.state self sender of) (is_there doing.state.forest.rows (object_of doing.state self sender of)) (emission settings doing.state self sender args (object_of doing.state self sender of) signal sent)
     acted_cases (e.Connect of signal to method mode unique single) =
-        linked_by (is_queued mode) unique _ _ (connection settings doing.state (object_of doing.state self sender of) signal (object_of doing.state self sender to) method mode single)
+        linked_by unique _ _ (connection settings doing.state (object_of doing.state self sender of) signal (object_of doing.state self sender to) method mode single)
         (λ new found. let its = joins settings doing.state _ _ _ _ mode single new found in
         (ap (object_refusal doing.state.forest.rows) (sym its.sender), ap (object_refusal doing.state.forest.rows) (sym its.receiver)))
     acted_cases (e.Disconnect of signal to method) =
         broken_by (is_there doing.state.forest.rows (object_of doing.state self sender of)) _ (pattern settings doing.state (object_of doing.state self sender of) signal _ method)
     acted_cases (e.Delete target) = deleted_by (object_of doing.state self sender target) (object_refusal doing.state.forest.rows (object_of doing.state self sender target))
-    acted_cases (e.DeleteLater target) = warns BadValue
-    acted_cases (e.Block of on) = warns BadValue
+    acted_cases (e.DeleteLater target) = posted_by (object_of doing.state self sender target) _ (has_room doing.state.queue) refl
+    acted_cases (e.Block of on) = blocked_by (object_of doing.state self sender of) on (is_there doing.state.forest.rows (object_of doing.state self sender of))
     acted_cases (e.SetParent of parent) = moved_by _ _ _ refl

@@ -3,7 +3,7 @@ use Rattle.std.proofs.Common.{◌≡◌, ℕ, Bool, true, false, cond, List, [],
 use Rattle.std.specs.Option.{option_or}
 use Rattle.std.specs.Result.{result_err}
 use Rattle.refusals.specs.declared.code.Code.{Code}
-use Rattle.refusals.specs.declared.code.Code.TheVariants.{BadValue, NoSuchObject}
+use Rattle.refusals.specs.declared.code.Code.TheVariants.{BadValue, Limit, NoSuchObject}
 use Rattle.signature_core.specs.declared.signature.Signature.{Signature}
 use Rattle.variant_value.specs.declared.value.Value.{Value}
 use Rattle.term_core.specs.declared.action.Effect.{Effect}
@@ -15,15 +15,18 @@ use Rattle.connection_types.specs.declared.connection_type.ConnectionType.{Conne
 use Rattle.connection_list.specs.declared.connection.NewConnection.{NewConnection}
 use Rattle.connection_list.specs.declared.pattern.Pattern.{Pattern}
 use Rattle.connection_list.specs.Rows.{connect_refusal}
+use Rattle.event_queue.specs.declared.event.Event.TheVariants.{Deletion}
+use Rattle.event_queue.specs.Queue.{has_room}
 use Rattle.object_tree.specs.Refusing.{object_refusal, set_parent_refusal}
 use Rattle.object_tree.specs.Rows.{is_there}
 use Rattle.thread_model.specs.Absence.{named_absence}
-use Rattle.thread_model.specs.Acts.{act_refusal, acted, acts, chosen, connection, emission, is_queued, pattern, warns_or, with_found}
+use Rattle.thread_model.specs.Acts.{act_refusal, acted, acts, chosen, connection, emission, pattern, warns_or, with_found}
 use Rattle.thread_model.specs.Agenda.{step}
 use Rattle.thread_model.specs.Connecting.{connection_refusal}
-use Rattle.thread_model.specs.Doing.{Doing, linked, unlinked, adopted, retitled}
+use Rattle.thread_model.specs.Doing.{Doing, adopted, blocking, linked, posted, retitled, unlinked}
 use Rattle.thread_model.specs.Items.{Act, Delete, Emit, Next, Warn, puts}
 use Rattle.thread_model.specs.Methods.{Found}
+use Rattle.thread_model.specs.Posting.{post_refusal}
 use Rattle.thread_model.specs.Settings.{Settings}
 use Rattle.thread_model.specs.Targets.{is_title, named_object_of, object_of, title_evaluated, truth_evaluated}
 
@@ -114,34 +117,27 @@ module _ (settings : Settings) (self sender : ℕ) (args : List Value) (depth : 
     abbrev connect : Effect
     connect = e.Connect of signal to method mode unique single
 
-    connect_next : Bool → Option Code → Option Code → Found NewConnection → Next
-    connect_next queued one other found =
-        warns_or (cond queued (Some BadValue) (option_or one (option_or other (connection_refusal doing.state.connections found unique)))) self doing (with_found found (λ new. puts [] (linked doing new)) doing)
+    connect_next : Option Code → Option Code → Found NewConnection → Next
+    connect_next one other found =
+        warns_or (option_or one (option_or other (connection_refusal doing.state.connections found unique))) self doing (with_found found (λ new. puts [] (linked doing new)) doing)
 
-    -- no connection can be queued yet
-    pub connect_queued : is_queued mode ≡ true → comes_to connect ≡ warned BadValue
-    unfolding connect_next
-    connect_queued queued =
-        ap (λ queued. connect_next queued (object_refusal doing.state.forest.rows (object of)) (object_refusal doing.state.forest.rows (object to)) (connection settings doing.state (object of) signal (object to) method mode single)) queued
-
-    module _ (direct : is_queued mode ≡ false) (target receiver : ℕ) (is : target ≡ object of) (is_to : receiver ≡ object to) where
-      by_ends : comes_to connect ≡ connect_next false (object_refusal doing.state.forest.rows target) (object_refusal doing.state.forest.rows receiver) (connection settings doing.state target signal receiver method mode single)
+    module _ (target receiver : ℕ) (is : target ≡ object of) (is_to : receiver ≡ object to) where
+      by_ends : comes_to connect ≡ connect_next (object_refusal doing.state.forest.rows target) (object_refusal doing.state.forest.rows receiver) (connection settings doing.state target signal receiver method mode single)
       unfolding connect_next
       by_ends =
-          ap (λ queued. connect_next queued (object_refusal doing.state.forest.rows (object of)) (object_refusal doing.state.forest.rows (object to)) (connection settings doing.state (object of) signal (object to) method mode single)) direct
-          ∙ ap (λ target. connect_next false (object_refusal doing.state.forest.rows target) (object_refusal doing.state.forest.rows (object to)) (connection settings doing.state target signal (object to) method mode single)) (sym is)
-          ∙ ap (λ receiver. connect_next false (object_refusal doing.state.forest.rows target) (object_refusal doing.state.forest.rows receiver) (connection settings doing.state target signal receiver method mode single)) (sym is_to)
+          ap (λ target. connect_next (object_refusal doing.state.forest.rows target) (object_refusal doing.state.forest.rows (object to)) (connection settings doing.state target signal (object to) method mode single)) (sym is)
+          ∙ ap (λ receiver. connect_next (object_refusal doing.state.forest.rows target) (object_refusal doing.state.forest.rows receiver) (connection settings doing.state target signal receiver method mode single)) (sym is_to)
 
       pub connect_no_sender : (code : Code) → object_refusal doing.state.forest.rows target ≡ Some code → comes_to connect ≡ warned code
       unfolding connect_next
-      connect_no_sender code one = by_ends ∙ ap (λ one. connect_next false one (object_refusal doing.state.forest.rows receiver) (connection settings doing.state target signal receiver method mode single)) one
+      connect_no_sender code one = by_ends ∙ ap (λ one. connect_next one (object_refusal doing.state.forest.rows receiver) (connection settings doing.state target signal receiver method mode single)) one
 
       module _ (one : object_refusal doing.state.forest.rows target ≡ None) where
-        by_sender' : (refusal : Option Code) → object_refusal doing.state.forest.rows receiver ≡ refusal → comes_to connect ≡ connect_next false None refusal (connection settings doing.state target signal receiver method mode single)
+        by_sender' : (refusal : Option Code) → object_refusal doing.state.forest.rows receiver ≡ refusal → comes_to connect ≡ connect_next None refusal (connection settings doing.state target signal receiver method mode single)
         by_sender' refusal e =
             by_ends
-            ∙ ap (λ one. connect_next false one (object_refusal doing.state.forest.rows receiver) (connection settings doing.state target signal receiver method mode single)) one
-            ∙ ap (λ other. connect_next false None other (connection settings doing.state target signal receiver method mode single)) e
+            ∙ ap (λ one. connect_next one (object_refusal doing.state.forest.rows receiver) (connection settings doing.state target signal receiver method mode single)) one
+            ∙ ap (λ other. connect_next None other (connection settings doing.state target signal receiver method mode single)) e
 
         pub connect_no_receiver : (code : Code) → object_refusal doing.state.forest.rows receiver ≡ Some code → comes_to connect ≡ warned code
         unfolding connect_next
@@ -151,13 +147,13 @@ module _ (settings : Settings) (self sender : ℕ) (args : List Value) (depth : 
           -- a signal or a method is missing, or they do not fit
           pub connect_faulty : (code : Code) → connection settings doing.state target signal receiver method mode single ≡ Err code → comes_to connect ≡ warned code
           unfolding connect_next
-          connect_faulty code found = by_sender' None other ∙ ap (connect_next false None None) found
+          connect_faulty code found = by_sender' None other ∙ ap (connect_next None None) found
 
           by_found : (new : NewConnection) → connection settings doing.state target signal receiver method mode single ≡ Ok new → (refusal : Option Code) → connect_refusal doing.state.connections new unique ≡ refusal
               → comes_to connect ≡ warns_or refusal self doing (puts [] (linked doing new))
           unfolding connect_next
           by_found new found refusal e =
-              by_sender' None other ∙ ap (connect_next false None None) found
+              by_sender' None other ∙ ap (connect_next None None) found
               ∙ ap (λ refusal. warns_or refusal self doing (puts [] (linked doing new))) e
 
           pub connect_refused : (new : NewConnection) (code : Code) → connection settings doing.state target signal receiver method mode single ≡ Ok new → connect_refusal doing.state.connections new unique ≡ Some code → comes_to connect ≡ warned code
@@ -210,12 +206,37 @@ module _ (settings : Settings) (self sender : ℕ) (args : List Value) (depth : 
     pub delete_done : object_refusal doing.state.forest.rows target ≡ None → comes_to (e.Delete of) ≡ puts (Delete target depth ∷ []) doing
     delete_done passed = by_deleted None passed
 
-  -- deletions are not deferred and signals not blocked yet
-  pub delete_later_refused : (target : Target) → comes_to (e.DeleteLater target) ≡ warned BadValue
-  delete_later_refused target = refl
+  -- deleting an object later
+  module _ (of : Target) (target : ℕ) (is : target ≡ object of) where
+    by_posted : (refusal : Option Code) (room : Bool) → object_refusal doing.state.forest.rows target ≡ refusal → has_room doing.state.queue ≡ room
+        → comes_to (e.DeleteLater of) ≡ warns_or (option_or refusal (cond room None (Some Limit))) self doing (puts [] (posted doing (Deletion target)))
+    by_posted refusal room e f =
+        ap (λ target. warns_or (option_or (object_refusal doing.state.forest.rows target) (post_refusal doing.state.queue)) self doing (puts [] (posted doing (Deletion target)))) (sym is)
+        ∙ ap (λ refusal. warns_or (option_or refusal (post_refusal doing.state.queue)) self doing (puts [] (posted doing (Deletion target)))) e
+        ∙ ap (λ room. warns_or (option_or refusal (cond room None (Some Limit))) self doing (puts [] (posted doing (Deletion target)))) f
 
-  pub block_refused : (of : Target) (on : Bool) → comes_to (e.Block of on) ≡ warned BadValue
-  block_refused of on = refl
+    pub delete_later_refused : (code : Code) → object_refusal doing.state.forest.rows target ≡ Some code → comes_to (e.DeleteLater of) ≡ warned code
+    delete_later_refused code refused = by_posted (Some code) (has_room doing.state.queue) refused refl
+
+    -- there are as many events as there may be
+    pub delete_later_full : object_refusal doing.state.forest.rows target ≡ None → has_room doing.state.queue ≡ false → comes_to (e.DeleteLater of) ≡ warned Limit
+    delete_later_full passed full = by_posted None false passed full
+
+    pub delete_later_done : object_refusal doing.state.forest.rows target ≡ None → has_room doing.state.queue ≡ true → comes_to (e.DeleteLater of) ≡ puts [] (posted doing (Deletion target))
+    delete_later_done passed room = by_posted None true passed room
+
+  -- blocking the signals of an object, or letting them through
+  module _ (of : Target) (on : Bool) (target : ℕ) (is : target ≡ object of) where
+    by_blocked : (there : Bool) → is_there doing.state.forest.rows target ≡ there → comes_to (e.Block of on) ≡ warns_or (absent there) self doing (puts [] (blocking doing target on))
+    by_blocked there e =
+        ap (λ target. warns_or (absent (is_there doing.state.forest.rows target)) self doing (puts [] (blocking doing target on))) (sym is)
+        ∙ ap (λ there. warns_or (absent there) self doing (puts [] (blocking doing target on))) e
+
+    pub block_refused : is_there doing.state.forest.rows target ≡ false → comes_to (e.Block of on) ≡ warned NoSuchObject
+    block_refused there = by_blocked false there
+
+    pub block_done : is_there doing.state.forest.rows target ≡ true → comes_to (e.Block of on) ≡ puts [] (blocking doing target on)
+    block_done there = by_blocked true there
 
   -- giving another parent
   module _ (of : Target) (above : Option Target) (target : ℕ) (parent : Option ℕ) (is : target ≡ object of) (is_above : parent ≡ named_object above) where

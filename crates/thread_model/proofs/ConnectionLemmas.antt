@@ -1,5 +1,5 @@
 -- What each change leaves of the connections of a session.
-use Rattle.std.proofs.Common.{◌≡◌, ◌+◌, ◌-◌, ◌^◌, ◌<◌, ◌≤◌, ◌==◌, ◌&&◌, ℕ, Bool, true, false, not, cond, List, [], ◌∷◌, ◌++◌, All, Some, None, filter, length, nat_le, refl, sym, ap, ◌∙◌, arith, ⊎_elim}
+use Rattle.std.proofs.Common.{◌≡◌, ◌+◌, ◌-◌, ◌^◌, ◌<◌, ◌≤◌, ◌==◌, ◌&&◌, ℕ, Bool, true, false, not, cond, List, [], ◌∷◌, ◌++◌, All, Some, None, filter, find, length, nat_le, refl, sym, ap, ◌∙◌, subst, arith, ⊎_elim}
 use Rattle.std.specs.List.{list_any}
 use Rattle.std.proofs.lemmas.Bool.{cases_Bool, eqb-true, or_left}
 use Rattle.std.proofs.lemmas.Bool.Decides.{nat_tests}
@@ -83,19 +83,25 @@ tied_to old new P stands rows ends tied index default within =
     let was : IsTied old _ = tied index default within in
     record { sender = stands _ end.sender was.sender; receiver = stands _ end.receiver was.receiver }
 
--- where the numbers of objects stay the same
+-- an object stands still where the numbers of objects stay the same
+pub there_same : (old new : State) → numbers new.forest.rows ≡ numbers old.forest.rows → (number : ℕ) → is_there old.forest.rows number ≡ true → is_there new.forest.rows number ≡ true
+there_same old new same number there =
+    there_among new.forest.rows number ∙ ap (list_any (λ key. number == key)) same ∙ sym (there_among old.forest.rows number) ∙ there
+
+-- and where one more number is there
+pub there_more : (old new : State) (added : ℕ) → numbers new.forest.rows ≡ numbers old.forest.rows ++ added ∷ [] → (number : ℕ) → is_there old.forest.rows number ≡ true → is_there new.forest.rows number ≡ true
+there_more old new added more number there =
+    there_among new.forest.rows number ∙ ap (list_any (λ key. number == key)) more ∙ list_any-append (λ key. number == key) (numbers old.forest.rows) (added ∷ [])
+    ∙ or_left (list_any (λ key. number == key) (numbers old.forest.rows)) _ (sym (there_among old.forest.rows number) ∙ there)
+
 pub tied_same : (old new : State) → numbers new.forest.rows ≡ numbers old.forest.rows → (rows : List Connection) → All (IsTied old) rows → All (IsTied new) rows
 tied_same old new same rows =
-    tied_to old new (λ number. Unit {0})
-    (λ number any there. there_among new.forest.rows number ∙ ap (list_any (λ key. number == key)) same ∙ sym (there_among old.forest.rows number) ∙ there)
+    tied_to old new (λ number. Unit {0}) (λ number any there. there_same old new same number there)
     rows (λ index default within. record { sender = tt; receiver = tt })
 
--- where one more number is there
 pub tied_more : (old new : State) (number : ℕ) → numbers new.forest.rows ≡ numbers old.forest.rows ++ number ∷ [] → (rows : List Connection) → All (IsTied old) rows → All (IsTied new) rows
 tied_more old new number more rows =
-    tied_to old new (λ number. Unit {0})
-    (λ end any there. there_among new.forest.rows end ∙ ap (list_any (λ key. end == key)) more ∙ list_any-append (λ key. end == key) (numbers old.forest.rows) (number ∷ [])
-    ∙ or_left (list_any (λ key. end == key) (numbers old.forest.rows)) _ (sym (there_among old.forest.rows end) ∙ there))
+    tied_to old new (λ number. Unit {0}) (λ end any there. there_more old new number more end there)
     rows (λ index default within. record { sender = tt; receiver = tt })
 
 -- another number is there as before where one is taken out
@@ -107,10 +113,21 @@ others_among number end other (key ∷ keys) = let rest = others_among number en
     (λ apart. grind (arith, apart, rest))
     (cases_Bool (key == number))
 
+-- where a number goes, another stands still
+pub there_without : (old new : State) (gone : ℕ) → numbers new.forest.rows ≡ filter (λ key. not (key == gone)) (numbers old.forest.rows) → (number : ℕ) → (number == gone) ≡ false → is_there old.forest.rows number ≡ true → is_there new.forest.rows number ≡ true
+there_without old new gone fewer number other there =
+    there_among new.forest.rows number ∙ ap (list_any (λ key. number == key)) fewer ∙ others_among gone number other (numbers old.forest.rows) ∙ sym (there_among old.forest.rows number) ∙ there
+
 -- where a number goes that is no end
 pub tied_without : (old new : State) (number : ℕ) → numbers new.forest.rows ≡ filter (λ key. not (key == number)) (numbers old.forest.rows)
     → (rows : List Connection) → Ends (λ end. (end == number) ≡ false) rows → All (IsTied old) rows → All (IsTied new) rows
-tied_without old new number fewer rows others =
-    tied_to old new (λ end. (end == number) ≡ false)
-    (λ end other there. there_among new.forest.rows end ∙ ap (list_any (λ key. end == key)) fewer ∙ others_among number end other (numbers old.forest.rows) ∙ sym (there_among old.forest.rows end) ∙ there)
-    rows others
+tied_without old new number fewer rows others = tied_to old new (λ end. (end == number) ≡ false) (there_without old new number fewer) rows others
+
+-- what holds of every connection holds of one that is found
+pub of_found : (P : Connection → Type 0) (test : Connection → Bool) (rows : List Connection) (row : Connection) → find test rows ≡ Some row → All P rows → P row
+of_found P test [] row found all = absurd (cc)
+of_found P test (first ∷ rest) row found all = by (test first) found (λ found. of_found P test rest row found (All-tail P first rest all))
+  where
+    by : (passes : Bool) → cond passes (Some first) (find test rest) ≡ Some row → (find test rest ≡ Some row → P row) → P row
+    by true found later = let same : first ≡ row = cc in subst P same (All-head P first rest all)
+    by false found later = later found

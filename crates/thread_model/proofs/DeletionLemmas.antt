@@ -1,9 +1,10 @@
 -- The rules by which an object is deleted: one for each way that it goes.
 use Rattle.std.proofs.Common.{◌≡◌, ℕ, true, false, [], ◌∷◌, refl}
 use Rattle.std.proofs.lemmas.Bool.{cond-false, cond-true}
+use Rattle.thread_model.specs.declared.call.TheConstants.{DESTROYED}
 use Rattle.thread_model.specs.Agenda.{kins, lives, lives_below, step}
-use Rattle.thread_model.specs.Doing.{Doing, dying, gone, untied}
-use Rattle.thread_model.specs.Items.{Cut, Delete, Gone, Kin, puts}
+use Rattle.thread_model.specs.Doing.{Doing, dying, forgotten, gone, untied}
+use Rattle.thread_model.specs.Items.{Cut, Delete, Emit, Gone, Kin, puts}
 use Rattle.thread_model.specs.Settings.{Settings}
 
 module _ (settings : Settings) (target depth : ℕ) (doing : Doing) where
@@ -11,12 +12,12 @@ module _ (settings : Settings) (target depth : ℕ) (doing : Doing) where
   pub delete_none : lives doing target ≡ false → step settings (Delete target depth) doing ≡ puts [] doing
   delete_none absent = cond-false (lives doing target) _ _ absent
 
-  -- an object that lives is dying from now on
-  pub delete_some : lives doing target ≡ true → step settings (Delete target depth) doing ≡ puts (Cut target depth ∷ Gone target depth ∷ []) (dying doing target)
+  -- an object that lives is dying from now on, and says so first
+  pub delete_some : lives doing target ≡ true → step settings (Delete target depth) doing ≡ puts (Emit target DESTROYED [] depth ∷ Cut target depth ∷ Gone target depth ∷ []) (dying doing target)
   delete_some living = cond-true (lives doing target) _ _ living
 
-  -- the connections of a dying object are broken, and then its children are deleted
-  pub cut_kins : step settings (Cut target depth) doing ≡ puts (kins doing target depth) (untied doing target)
+  -- the connections of a dying object are broken and its events forgotten, and then its children are deleted
+  pub cut_kins : step settings (Cut target depth) doing ≡ puts (kins doing target depth) (forgotten (untied doing target) target)
   cut_kins = refl
 
   -- a dying object goes at last

@@ -9,7 +9,7 @@ use Rattle.object_tree.specs.declared.row.Row.{Row}
 use Rattle.object_tree.specs.Forest.{Forest}
 use Rattle.object_tree.specs.Rows.{has_number, has_parent, is_there, row_of}
 use Rattle.object_tree.specs.Refusing.{keeps_parent, object_refusal}
-use Rattle.object_tree.specs.Changes.{added, marked, moved, orphaned, removed, reparented}
+use Rattle.object_tree.specs.Changes.{added, marked, moved, orphaned, removed, reparented, with_blocked}
 
 -- something that is said of an object by its number and by whether it is dying
 module _ (G : ℕ → Bool → Type 0) where
@@ -37,6 +37,20 @@ module _ (G : ℕ → Bool → Type 0) where
       by true = all
       by false = All-map (λ (row : Row). G row.number row.dying) (λ row. cond (has_number number row) (moves row) row) forest.rows
           (All-weaker (λ (row : Row). G row.number row.dying) (λ (row : Row). G (cond (has_number number row) (moves row) row).number (cond (has_number number row) (moves row) row).dying) (λ row. one row (has_number number row)) forest.rows all)
+
+  -- what is blocked, or not, is as dying as before
+  pub each_blocked : (forest : Forest) (number : ℕ) (on : Bool) → OfEach forest.rows → OfEach (with_blocked forest number on).rows
+  unfolding with_blocked
+  each_blocked forest number on all =
+      All-map (λ (row : Row). G row.number row.dying) (λ row. cond (has_number number row) (blocks row) row) forest.rows
+      (All-weaker (λ (row : Row). G row.number row.dying) (λ (row : Row). G (cond (has_number number row) (blocks row) row).number (cond (has_number number row) (blocks row) row).dying) (λ row. one row (has_number number row)) forest.rows all)
+    where
+      blocks : Row → Row
+      blocks row = record row { blocked = on }
+
+      one : (row : Row) (same : Bool) → G row.number row.dying → G (cond same (blocks row) row).number (cond same (blocks row) row).dying
+      one row true holds = holds
+      one row false holds = holds
 
   -- of a row with this number it holds, where it is looked for
   pub of_row : (rows : List Row) (number : ℕ) (row : Row) → row_of rows number ≡ Some row → OfEach rows → G number row.dying

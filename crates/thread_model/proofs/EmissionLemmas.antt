@@ -1,5 +1,5 @@
 -- The rules by which a signal is sent, a connection called and a slot run: one for each way that it goes.
-use Rattle.std.proofs.Common.{◌≡◌, ◌<◌, ◌≤◌, ◌+◌, ◌==◌, ℕ, true, false, List, [], ◌∷◌, ◌++◌, Option, Some, None, length, nat_le, take, refl, ap, ◌∙◌, arith}
+use Rattle.std.proofs.Common.{◌≡◌, ◌<◌, ◌≤◌, ◌+◌, ◌==◌, ◌&&◌, ℕ, Bool, true, false, not, cond, List, [], ◌∷◌, ◌++◌, Option, Some, None, is_some, length, nat_le, slice_get, take, refl, ap, ◌∙◌, arith}
 use Rattle.std.specs.Option.{option_map_or}
 use Rattle.std.proofs.lemmas.Bool.{cond-false, cond-true}
 use Rattle.std.proofs.lemmas.Bool.Decides.{nat_tests}
@@ -8,38 +8,76 @@ use Rattle.refusals.specs.declared.code.Code.TheVariants.{Limit, TurnsUsedUp}
 use Rattle.variant_value.specs.declared.value.Value.{Value}
 use Rattle.term_core.specs.Act.{acts_of}
 use Rattle.class_table.specs.declared.class.Method.{Method}
+use Rattle.class_table.specs.Lookup.{methods}
 use Rattle.connection_types.specs.declared.callee.Callee.TheVariants as callee
 use Rattle.connection_list.specs.declared.connection.Connection.{Connection}
 use Rattle.connection_list.specs.Rows.{has_number}
-use Rattle.object_tree.specs.Rows.{is_there}
-use Rattle.thread_model.specs.declared.call.TheConstants.{NESTED_SIGNALS}
+use Rattle.event_queue.specs.declared.event.Event.TheVariants as event
+use Rattle.event_queue.specs.declared.event.QueuedCall.{QueuedCall}
+use Rattle.event_queue.specs.Queue.{has_room}
+use Rattle.object_tree.specs.declared.row.Row.{Row}
+use Rattle.object_tree.specs.Forest.{Forest}
+use Rattle.object_tree.specs.Rows.{is_there, row_of}
+use Rattle.thread_model.specs.declared.call.TheConstants.{DESTROYED, NESTED_SIGNALS}
 use Rattle.thread_model.specs.declared.line.Answer.{Answer}
 use Rattle.thread_model.specs.declared.line.Line.TheVariants as line
 use Rattle.thread_model.specs.declared.line.Line.TheVariants.{Warning}
 use Rattle.thread_model.specs.Acts.{acts}
-use Rattle.thread_model.specs.Agenda.{call_line, called, callee_items, calls_of, emitted, method_items, ran, stands, step, with_turn}
-use Rattle.thread_model.specs.Doing.{Doing, in_state, shot, told, turn_taken, used_up}
+use Rattle.thread_model.specs.Agenda.{call_line, callee_called, called, calls_of, connection_of, emitted, is_held_back, method_called, method_items, ran, step, with_turn}
+use Rattle.thread_model.specs.Doing.{Doing, in_state, lost, posted, shot, told, turn_taken, used_up}
 use Rattle.thread_model.specs.Items.{Call, Emit, Reply, Run, Warn, puts}
 use Rattle.thread_model.specs.Methods.{method_at}
+use Rattle.thread_model.specs.Posting.{is_queued}
 use Rattle.thread_model.specs.Settings.{Settings}
 use Rattle.thread_model.specs.State.{without_connections}
 
 module _ (settings : Settings) (target signal : ℕ) (args : List Value) (depth : ℕ) (doing : Doing) where
   -- an object that has gone sends nothing
   pub emit_absent : is_there doing.state.forest.rows target ≡ false → step settings (Emit target signal args depth) doing ≡ puts [] doing
-  emit_absent absent = cond-false (is_there doing.state.forest.rows target) _ _ absent
+  emit_absent absent = by (row_of doing.state.forest.rows target) absent
+    where
+      by : (found : Option Row) → is_some found ≡ false → option_map_or (emitted doing target signal args depth) found (puts [] doing) ≡ puts [] doing
+      by (Some row) out = absurd (cc)
+      by None out = refl
 
-  -- a signal that is nested too deep is not sent, and its object is warned of
-  pub emit_deep : is_there doing.state.forest.rows target ≡ true → NESTED_SIGNALS ≤ depth → step settings (Emit target signal args depth) doing ≡ puts (Warn Limit (Some target) ∷ []) doing
-  emit_deep there deep =
-      let is : nat_le NESTED_SIGNALS depth ≡ true = grind (arith, nat_tests, deep) in
-      cond-true (is_there doing.state.forest.rows target) (emitted doing target signal args depth) _ there ∙ cond-true (nat_le NESTED_SIGNALS depth) _ _ is
+  module _ (row : Row) (there : row_of doing.state.forest.rows target ≡ Some row) where
+    is_emitted : step settings (Emit target signal args depth) doing ≡ emitted doing target signal args depth row
+    is_emitted = ap (λ found. option_map_or (emitted doing target signal args depth) found (puts [] doing)) there
 
-  -- a signal that is not nested too deep calls what is connected to it
-  pub emit_calls : is_there doing.state.forest.rows target ≡ true → depth < NESTED_SIGNALS → step settings (Emit target signal args depth) doing ≡ puts (calls_of doing target signal args depth) doing
-  emit_calls there shallow =
-      let is : nat_le NESTED_SIGNALS depth ≡ false = grind (arith, nat_tests, shallow) in
-      cond-true (is_there doing.state.forest.rows target) (emitted doing target signal args depth) _ there ∙ cond-false (nat_le NESTED_SIGNALS depth) _ _ is
+    -- a signal that is held back is not sent
+    pub emit_held_back : is_held_back signal row ≡ true → step settings (Emit target signal args depth) doing ≡ puts [] doing
+    emit_held_back held = is_emitted ∙ cond-true (is_held_back signal row) _ _ held
+
+    module _ (sent : is_held_back signal row ≡ false) where
+      is_sent : step settings (Emit target signal args depth) doing
+          ≡ cond (nat_le NESTED_SIGNALS depth) (puts (Warn Limit (Some target) ∷ []) doing) (puts (calls_of doing target signal args depth) doing)
+      is_sent = is_emitted ∙ cond-false (is_held_back signal row) _ _ sent
+
+      -- a signal that is nested too deep is not sent, and its object is warned of
+      pub emit_deep : NESTED_SIGNALS ≤ depth → step settings (Emit target signal args depth) doing ≡ puts (Warn Limit (Some target) ∷ []) doing
+      emit_deep deep = let is : nat_le NESTED_SIGNALS depth ≡ true = grind (arith, nat_tests, deep) in is_sent ∙ cond-true (nat_le NESTED_SIGNALS depth) _ _ is
+
+      -- a signal that is not nested too deep calls what is connected to it
+      pub emit_calls : depth < NESTED_SIGNALS → step settings (Emit target signal args depth) doing ≡ puts (calls_of doing target signal args depth) doing
+      emit_calls shallow = let is : nat_le NESTED_SIGNALS depth ≡ false = grind (arith, nat_tests, shallow) in is_sent ∙ cond-false (nat_le NESTED_SIGNALS depth) _ _ is
+
+module _ (signal : ℕ) (row : Row) where
+  -- the signals of an object are sent where they are not blocked
+  pub let_through : row.blocked ≡ false → is_held_back signal row ≡ false
+  let_through free = ap (λ blocked. blocked && not (signal == DESTROYED)) free
+
+  -- and of those of a blocked object `destroyed()` alone
+  pub held_back : row.blocked ≡ true → ¬ (signal ≡ DESTROYED) → is_held_back signal row ≡ true
+  held_back blocked other =
+      let is : (signal == DESTROYED) ≡ false = grind (arith, nat_tests, other) in
+      ap (λ blocked. blocked && not (signal == DESTROYED)) blocked ∙ ap not is
+
+pub destroyed_is_sent : (row : Row) → is_held_back DESTROYED row ≡ false
+destroyed_is_sent row = by row.blocked
+  where
+    by : (blocked : Bool) → (blocked && not (DESTROYED == DESTROYED)) ≡ false
+    by true = refl
+    by false = refl
 
 -- that the turns are used up is told once
 module _ (doing : Doing) where
@@ -65,51 +103,99 @@ module _ (doing : Doing) where
   unfolding shot
   shot_lasting row lasting = cond-false row.single _ _ lasting
 
-module _ (settings : Settings) (connection : Connection) (args : List Value) (depth : ℕ) (doing : Doing) where
-  -- a connection that is broken is not called
-  pub call_broken : stands doing connection.number ≡ false → step settings (Call connection args depth) doing ≡ puts [] doing
-  call_broken broken = cond-false (stands doing connection.number) _ _ broken
+  -- and nothing of the objects and of the events
+  pub shot-forest : (row : Connection) → (shot doing row).state.forest ≡ doing.state.forest
+  unfolding shot
+  shot-forest row = by row.single
+    where
+      by : (single : Bool) → (cond single (in_state doing (without_connections doing.state (has_number row.number))) doing).state.forest ≡ doing.state.forest
+      by true = refl
+      by false = refl
 
-  module _ (standing : stands doing connection.number ≡ true) where
-    is_called : step settings (Call connection args depth) doing ≡ with_turn doing (called settings connection args depth)
-    is_called = cond-true (stands doing connection.number) (with_turn doing (called settings connection args depth)) _ standing
+  pub shot-queue : (row : Connection) → (shot doing row).state.queue ≡ doing.state.queue
+  unfolding shot
+  shot-queue row = by row.single
+    where
+      by : (single : Bool) → (cond single (in_state doing (without_connections doing.state (has_number row.number))) doing).state.queue ≡ doing.state.queue
+      by true = refl
+      by false = refl
+
+module _ (settings : Settings) (number : ℕ) (args : List Value) (depth : ℕ) (doing : Doing) where
+  -- a connection that is broken is not called
+  pub call_broken : connection_of doing number ≡ None → step settings (Call number args depth) doing ≡ puts [] doing
+  call_broken broken = ap (λ found. option_map_or (λ connection. with_turn doing (called settings connection args depth)) found (puts [] doing)) broken
+
+  module _ (connection : Connection) (standing : connection_of doing number ≡ Some connection) where
+    is_called : step settings (Call number args depth) doing ≡ with_turn doing (called settings connection args depth)
+    is_called = ap (λ found. option_map_or (λ connection. with_turn doing (called settings connection args depth)) found (puts [] doing)) standing
 
     -- a connection that finds no turn left is not called
-    pub call_spent : doing.turns ≡ 0 → step settings (Call connection args depth) doing ≡ puts [] (used_up doing)
+    pub call_spent : doing.turns ≡ 0 → step settings (Call number args depth) doing ≡ puts [] (used_up doing)
     call_spent none = let is : (doing.turns == 0) ≡ true = grind (arith, nat_tests, none) in is_called ∙ cond-true (doing.turns == 0) _ _ is
 
+    -- what becomes of the session: a turn is taken, and a single-shot connection is broken
+    abbrev pub after : Doing
+    after = shot (turn_taken doing) connection
+
     -- a connection that stands takes a turn where one is left
-    pub call_taken : 0 < doing.turns → step settings (Call connection args depth) doing ≡ puts (callee_items settings doing.state connection args depth connection.callee) (shot (turn_taken doing) connection)
-    unfolding turn_taken
+    pub call_taken : 0 < doing.turns → step settings (Call number args depth) doing ≡ callee_called settings connection args depth after connection.callee
     call_taken some = let is : (doing.turns == 0) ≡ false = grind (arith, nat_tests, some) in is_called ∙ cond-false (doing.turns == 0) _ (called settings connection args depth (turn_taken doing)) is
+
+    after-state : (after.state.forest ≡ doing.state.forest) × (after.state.queue ≡ doing.state.queue)
+    after-state = (
+      shot-forest (turn_taken doing) connection ∙ ap (λ state. state.forest) (turn_taken-state doing),
+      shot-queue (turn_taken doing) connection ∙ ap (λ state. state.queue) (turn_taken-state doing),
+    )
 
     module _ (some : 0 < doing.turns) where
       -- a functor does nothing, since there are none yet
-      pub call_functor : (index : ℕ) → connection.callee ≡ callee.Functor index → step settings (Call connection args depth) doing ≡ puts [] (shot (turn_taken doing) connection)
-      call_functor index is = call_taken some ∙ ap (λ c. puts (callee_items settings doing.state connection args depth c) (shot (turn_taken doing) connection)) is
+      pub call_functor : (index : ℕ) → connection.callee ≡ callee.Functor index → step settings (Call number args depth) doing ≡ puts [] after
+      call_functor index is = call_taken some ∙ ap (callee_called settings connection args depth after) is
 
       module _ (index : ℕ) (is : connection.callee ≡ callee.Method index) where
         comes_to : (found : Option Method) → method_at settings doing.state connection.receiver index ≡ found
-            → step settings (Call connection args depth) doing ≡ puts (option_map_or (method_items connection index args depth) found []) (shot (turn_taken doing) connection)
+            → step settings (Call number args depth) doing ≡ option_map_or (method_called connection index args depth after) found (puts [] after)
         comes_to found has =
             call_taken some
-            ∙ ap (λ c. puts (callee_items settings doing.state connection args depth c) (shot (turn_taken doing) connection)) is
-            ∙ ap (λ found. puts (option_map_or (method_items connection index args depth) found []) (shot (turn_taken doing) connection)) has
+            ∙ ap (callee_called settings connection args depth after) is
+            ∙ ap (λ found. option_map_or (method_called connection index args depth after) found (puts [] after)) (ap (λ (forest : Forest). slice_get (option_map_or (λ row. methods settings.classes row.class) (row_of forest.rows connection.receiver) []) index) after-state.0 ∙ has)
 
         -- a receiver that has no such method is not called
-        pub call_absent : method_at settings doing.state connection.receiver index ≡ None → step settings (Call connection args depth) doing ≡ puts [] (shot (turn_taken doing) connection)
+        pub call_absent : method_at settings doing.state connection.receiver index ≡ None → step settings (Call number args depth) doing ≡ puts [] after
         call_absent has = comes_to None has
 
         module _ (method : Method) (has : method_at settings doing.state connection.receiver index ≡ Some method) where
-          -- a signal that is connected to is sent, one level deeper
-          pub call_signal : method.is_signal ≡ true → step settings (Call connection args depth) doing
-              ≡ puts (Emit connection.receiver index (take (length method.signature.kinds) args) (depth + 1) ∷ []) (shot (turn_taken doing) connection)
-          call_signal signal = comes_to (Some method) has ∙ ap (λ items. puts items (shot (turn_taken doing) connection)) (cond-true method.is_signal _ _ signal)
+          -- a queued connection calls later, with the same arguments
+          abbrev pub call_later : QueuedCall
+          call_later = record { object = connection.receiver; callee = callee.Method index; sender = connection.sender; args = take (length method.signature.kinds) args }
 
-          -- a slot that is connected to is run
-          pub call_slot : method.is_signal ≡ false → step settings (Call connection args depth) doing
-              ≡ puts (Run connection.receiver index connection.sender (take (length method.signature.kinds) args) depth ∷ []) (shot (turn_taken doing) connection)
-          call_slot slot = comes_to (Some method) has ∙ ap (λ items. puts items (shot (turn_taken doing) connection)) (cond-false method.is_signal _ _ slot)
+          module _ (later : is_queued connection.mode ≡ true) where
+            is_later : (room : Bool) → has_room doing.state.queue ≡ room → step settings (Call number args depth) doing ≡ puts [] (cond room (posted after (event.Call call_later)) (lost after))
+            is_later room has_it =
+                comes_to (Some method) has ∙ cond-true (is_queued connection.mode) _ _ later
+                ∙ ap (λ room. puts [] (cond room (posted after (event.Call call_later)) (lost after))) (ap has_room after-state.1 ∙ has_it)
+
+            -- an event is posted where there is room for it
+            pub call_posted : has_room doing.state.queue ≡ true → step settings (Call number args depth) doing ≡ puts [] (posted after (event.Call call_later))
+            call_posted room = is_later true room
+
+            -- and else the call is lost
+            pub call_lost : has_room doing.state.queue ≡ false → step settings (Call number args depth) doing ≡ puts [] (lost after)
+            call_lost full = is_later false full
+
+          module _ (at_once : is_queued connection.mode ≡ false) where
+            is_at_once : step settings (Call number args depth) doing ≡ puts (method_items connection.receiver index connection.sender (take (length method.signature.kinds) args) (depth + 1) depth method) after
+            is_at_once = comes_to (Some method) has ∙ cond-false (is_queued connection.mode) _ _ at_once
+
+            -- a signal that is connected to is sent, one level deeper
+            pub call_signal : method.is_signal ≡ true → step settings (Call number args depth) doing
+                ≡ puts (Emit connection.receiver index (take (length method.signature.kinds) args) (depth + 1) ∷ []) after
+            call_signal signal = is_at_once ∙ ap (λ items. puts items after) (cond-true method.is_signal _ _ signal)
+
+            -- a slot that is connected to is run
+            pub call_slot : method.is_signal ≡ false → step settings (Call number args depth) doing
+                ≡ puts (Run connection.receiver index connection.sender (take (length method.signature.kinds) args) depth ∷ []) after
+            call_slot slot = is_at_once ∙ ap (λ items. puts items after) (cond-false method.is_signal _ _ slot)
 
 module _ (settings : Settings) (target index sender : ℕ) (args : List Value) (depth : ℕ) (doing : Doing) where
   -- an object that has gone, or has no such slot, runs nothing

@@ -1,5 +1,5 @@
 -- With each item that is done a measure falls.
-use Rattle.std.proofs.Common.{◌≡◌, ◌<◌, ◌≤◌, ◌+◌, ◌*◌, ◌==◌, ℕ, suc, Bool, true, false, List, [], ◌∷◌, length, take, filter, Option, Some, None, Ok, Err, refl, ap, nat_le, arith}
+use Rattle.std.proofs.Common.{◌≡◌, ◌<◌, ◌≤◌, ◌+◌, ◌*◌, ◌==◌, ℕ, suc, Bool, true, false, List, [], ◌∷◌, ◌++◌, length, take, filter, Option, Some, None, Ok, Err, refl, ap, nat_le, if◌then◌else◌, arith}
 use Rattle.std.specs.Option.{option_map_or}
 use Rattle.std.proofs.Math.Nat.{mul-le-mul_right, suc-mul}
 use Rattle.std.proofs.lemmas.Bool.{cond_both}
@@ -11,24 +11,30 @@ use Rattle.connection_types.specs.declared.callee.Callee.{Callee}
 use Rattle.connection_types.specs.declared.callee.Callee.TheVariants as callee
 use Rattle.connection_list.specs.declared.connection.Connection.{Connection}
 use Rattle.connection_list.specs.Ends.{calls}
-use Rattle.object_tree.specs.Rows.{children, is_there}
+use Rattle.event_queue.specs.declared.event.Event.{Event}
+use Rattle.event_queue.specs.declared.event.Event.TheVariants as event
+use Rattle.event_queue.specs.declared.event.QueuedCall.{QueuedCall}
+use Rattle.object_tree.specs.declared.row.Row.{Row}
+use Rattle.object_tree.specs.Rows.{children, row_of}
 use Rattle.object_tree.specs.Changes.{marked}
-use Rattle.thread_model.specs.declared.call.TheConstants.{NESTED_SIGNALS}
+use Rattle.thread_model.specs.declared.call.TheConstants.{DESTROYED, NESTED_SIGNALS}
+use Rattle.thread_model.specs.declared.line.Answer.TheVariants as a
 use Rattle.thread_model.specs.declared.line.Line.TheVariants as line
 use Rattle.thread_model.specs.declared.line.Line.TheVariants.{Warning}
 use Rattle.thread_model.specs.Acts.{acts, chosen}
-use Rattle.thread_model.specs.Agenda.{call_line, called, callee_items, calls_of, emitted, kins, lives, lives_below, method_items, ran, stands, step, with_turn}
-use Rattle.thread_model.specs.Doing.{Doing, linked, unlinked, dying, gone, adopted, retitled, shot, told, turn_taken, untied, used_up}
-use Rattle.thread_model.specs.Items.{Act, Call, Cut, Delete, Emit, Gone, Item, Kin, Next, Reply, Run, Warn, puts}
+use Rattle.thread_model.specs.Agenda.{call_items, call_line, callee_called, called, calls_of, connection_of, emitted, event_items, is_held_back, kins, lives, lives_below, method_called, method_items, queued, ran, spun, step, with_turn}
+use Rattle.thread_model.specs.Doing.{Doing, adopted, blocking, dying, first_taken, forgotten, gone, linked, posted, retitled, shot, told, turn_taken, unlinked, untied, used_up}
+use Rattle.thread_model.specs.Items.{Act, Call, Cut, Delete, Emit, Gone, Item, Kin, Next, Reply, ReplySpun, Run, Spin, Warn, puts}
 use Rattle.thread_model.specs.Methods.{Found, method_at}
+use Rattle.thread_model.specs.Posting.{is_queued, spin_of}
 use Rattle.thread_model.specs.Run.{Most, deletion_weight, most, turn_weight, weight, weights}
 use Rattle.thread_model.specs.Settings.{Settings}
 use Rattle.thread_model.specs.State.{State}
 use Rattle.thread_model.specs.Targets.{truth_evaluated}
 use Rattle.thread_model.proofs.ActLemmas.{acted_cases}
 use Rattle.thread_model.proofs.LivingLemmas.{few_children, filter-fewer, living_rows}
-use Rattle.thread_model.proofs.WeightLemmas.{act-some, acts-weight, body-size, calls-weight, choice-weight, kins-weight, weight-some}
-use Rattle.thread_model.proofs.ShrinkLemmas.{Shrinks, both, linked_shrinks, unlinked_shrinks, dying_less, dying_shrinks, gone_shrinks, adopted_shrinks, retitled_shrinks, same, shot_shrinks, told_shrinks, turn_shrinks, turn_taken-less, untied_shrinks, used_up_shrinks}
+use Rattle.thread_model.proofs.WeightLemmas.{act-some, acts-weight, body-size, calls-weight, choice-weight, kins-weight, weight-some, weights-append}
+use Rattle.thread_model.proofs.ShrinkLemmas.{Shrinks, adopted_shrinks, blocking_shrinks, both, dying_less, dying_shrinks, first_taken-turns, forgotten_shrinks, gone_shrinks, linked_shrinks, posted_shrinks, queued_shrinks, retitled_shrinks, same, shot_shrinks, taken_shrinks, told_shrinks, turn_shrinks, turn_taken-less, unlinked_shrinks, untied_shrinks, used_up_shrinks}
 
 abbrev pub total : Most → Doing → ℕ → ℕ
 total n doing items = doing.turns * turn_weight n + living_rows doing.state.forest.rows * deletion_weight n + items
@@ -68,21 +74,72 @@ module _ (settings : Settings) (item : Item) (doing : Doing) where
   pub idle : (new : Doing) → Shrinks doing new → FallsTo settings item doing (puts [] new)
   idle new shrinks = let some = weight-some (most settings doing) item in lighter (puts [] new) shrinks (omega (arith, some))
 
--- a call comes to no more than a turn may
-method_weight : (n : Most) (connection : Connection) (index : ℕ) (args : List Value) (depth : ℕ) (method : Method) → weights n (method_items connection index args depth method) ≤ turn_weight n
-method_weight n connection index args depth method =
-    let given = take (length method.signature.kinds) args in
-    cond_both method.is_signal (Emit connection.receiver index given (depth + 1) ∷ []) (Run connection.receiver index connection.sender given depth ∷ []) (λ items. weights n items ≤ turn_weight n)
+-- a method that is called comes to less than a turn may
+method_weight : (n : Most) (target index sender : ℕ) (args : List Value) (sent_at run_at : ℕ) (method : Method) → weights n (method_items target index sender args sent_at run_at method) < turn_weight n
+method_weight n target index sender args sent_at run_at method =
+    cond_both method.is_signal (Emit target index args sent_at ∷ []) (Run target index sender args run_at ∷ []) (λ items. weights n items < turn_weight n)
     (λ signal. omega arith)
     (λ slot. omega arith)
 
-callee_weight : (settings : Settings) (n : Most) (state : State) (connection : Connection) (args : List Value) (depth : ℕ) (called : Callee) → weights n (callee_items settings state connection args depth called) ≤ turn_weight n
-callee_weight settings n state connection args depth (callee.Functor index) = omega arith
-callee_weight settings n state connection args depth (callee.Method index) = by (method_at settings state connection.receiver index)
+-- and so does an event
+call_weight : (settings : Settings) (n : Most) (state : State) (call : QueuedCall) (called : Callee) → weights n (call_items settings state call called) < turn_weight n
+call_weight settings n state call (callee.Functor index) = omega arith
+call_weight settings n state call (callee.Method index) = by (method_at settings state call.object index)
   where
-    by : (found : Option Method) → weights n (option_map_or (method_items connection index args depth) found []) ≤ turn_weight n
+    by : (found : Option Method) → weights n (option_map_or (method_items call.object index call.sender call.args 0 0) found []) < turn_weight n
     by None = omega arith
-    by (Some method) = method_weight n connection index args depth method
+    by (Some method) = method_weight n call.object index call.sender call.args 0 0 method
+
+event_weight : (settings : Settings) (n : Most) (state : State) (event : Event) → weights n (event_items settings state event) < turn_weight n
+event_weight settings n state (event.Call call) = call_weight settings n state call call.callee
+event_weight settings n state (event.Deletion target) = omega arith
+
+module _ (settings : Settings) (item : Item) (doing new : Doing) (shrinks : Shrinks doing new) (taken : new.turns + 1 ≤ doing.turns) where
+  -- a connection's call falls to what its turn may come to, also where it is posted or lost
+  method_falls : (connection : Connection) (index : ℕ) (args : List Value) (depth : ℕ) (method : Method) → FallsTo settings item doing (method_called connection index args depth new method)
+  method_falls connection index args depth method =
+      let given = take (length method.signature.kinds) args in
+      let call : QueuedCall = record { object = connection.receiver; callee = callee.Method index; sender = connection.sender; args = given } in
+      let later = queued_shrinks new call in
+      let few = method_weight (most settings doing) connection.receiver index connection.sender given (depth + 1) depth method in
+      cond_both (is_queued connection.mode) (puts [] (queued new call)) (puts (method_items connection.receiver index connection.sender given (depth + 1) depth method) new) (FallsTo settings item doing)
+      (λ queues. by_turn settings item doing (puts [] (queued new call)) (both doing new (queued new call) shrinks later) (omega (arith, taken, later.turns)) (omega arith))
+      (λ direct. by_turn settings item doing (puts (method_items connection.receiver index connection.sender given (depth + 1) depth method) new) shrinks taken (omega (arith, few)))
+
+  callee_falls : (connection : Connection) (args : List Value) (depth : ℕ) (called : Callee) → FallsTo settings item doing (callee_called settings connection args depth new called)
+  callee_falls connection args depth (callee.Functor index) = idle settings item doing new shrinks
+  callee_falls connection args depth (callee.Method index) = by (method_at settings new.state connection.receiver index)
+    where
+      by : (found : Option Method) → FallsTo settings item doing (option_map_or (method_called connection index args depth new) found (puts [] new))
+      by None = idle settings item doing new shrinks
+      by (Some method) = method_falls connection index args depth method
+
+called_falls : (settings : Settings) (number : ℕ) (args : List Value) (depth : ℕ) (doing : Doing) (found : Option Connection)
+    → FallsTo settings (Call number args depth) doing (option_map_or (λ connection. with_turn doing (called settings connection args depth)) found (puts [] doing))
+called_falls settings number args depth doing None = idle settings (Call number args depth) doing doing (same doing)
+called_falls settings number args depth doing (Some connection) =
+    let item = Call number args depth in
+    let taken = turn_taken doing in
+    let shot' = shot_shrinks taken connection in
+    cond_both (doing.turns == 0) (puts [] (used_up doing)) (called settings connection args depth taken) (FallsTo settings item doing)
+    (λ none. idle settings item doing (used_up doing) (used_up_shrinks doing))
+    (λ some. callee_falls settings item doing (shot taken connection) (both doing taken (shot taken connection) (turn_shrinks doing) shot')
+    (let less = turn_taken-less doing some in omega (arith, less, shot'.turns)) connection args depth connection.callee)
+
+-- taking events falls with each event
+spun_falls : (settings : Settings) (doing : Doing) (events : List Event) → FallsTo settings Spin doing (spun settings doing events)
+spun_falls settings doing [] = idle settings Spin doing doing (same doing)
+spun_falls settings doing (event ∷ later) =
+    let taken = turn_taken doing in
+    let items = event_items settings taken.state event in
+    let n = most settings doing in
+    let turns = first_taken-turns taken in
+    let few = event_weight settings n taken.state event in
+    let parts = weights-append n items (Spin ∷ []) in
+    cond_both (doing.turns == 0) (puts [] (used_up doing)) (puts (items ++ Spin ∷ []) (first_taken taken)) (FallsTo settings Spin doing)
+    (λ none. idle settings Spin doing (used_up doing) (used_up_shrinks doing))
+    (λ some. by_turn settings Spin doing (puts (items ++ Spin ∷ []) (first_taken taken)) (taken_shrinks doing some)
+    (let less = turn_taken-less doing some in omega (arith, less, turns)) (omega (arith, few, parts)))
 
 calls_fall : (settings : Settings) (target signal : ℕ) (args : List Value) (depth : ℕ) (doing : Doing) → FallsTo settings (Emit target signal args depth) doing (puts (calls_of doing target signal args depth) doing)
 unfolding calls_of
@@ -92,13 +149,13 @@ calls_fall settings target signal args depth doing =
     let few = filter-fewer (calls target signal) rows in
     lighter settings (Emit target signal args depth) doing (puts _ doing) (same doing) (omega (arith, one, few))
 
-cut_falls : (settings : Settings) (target depth : ℕ) (doing : Doing) → FallsTo settings (Cut target depth) doing (puts (kins doing target depth) (untied doing target))
+cut_falls : (settings : Settings) (target depth : ℕ) (doing : Doing) → FallsTo settings (Cut target depth) doing (puts (kins doing target depth) (forgotten (untied doing target) target))
 unfolding kins
 cut_falls settings target depth doing =
     let rows = doing.state.forest.rows in
     let two = kins-weight (most settings doing) target depth (children rows (Some target)) in
     let few = few_children rows (Some target) in
-    lighter settings (Cut target depth) doing (puts _ (untied doing target)) (untied_shrinks doing target) (omega (arith, two, few))
+    lighter settings (Cut target depth) doing (puts _ (forgotten (untied doing target) target)) (both doing (untied doing target) (forgotten (untied doing target) target) (untied_shrinks doing target) (forgotten_shrinks (untied doing target) target)) (omega (arith, two, few))
 
 ran_falls : (settings : Settings) (target index sender : ℕ) (args : List Value) (depth : ℕ) (doing : Doing) (found : Option Method) → method_at settings doing.state target index ≡ found
     → FallsTo settings (Run target index sender args depth) doing (option_map_or (ran doing target sender args depth) found (puts [] doing))
@@ -121,25 +178,21 @@ chosen_falls settings test held failed args self sender depth doing (Err code) =
     let some = act-some (most settings doing) (when test held failed) in
     lighter settings (Act (when test held failed) args self sender depth) doing (puts (Warn code (Some self) ∷ []) doing) (same doing) (omega (arith, some))
 
--- what an item comes to is lower
-pub falls : (settings : Settings) (item : Item) (doing : Doing) → FallsTo settings item doing (step settings item doing)
-falls settings (Emit target signal args depth) doing =
+emitted_falls : (settings : Settings) (target signal : ℕ) (args : List Value) (depth : ℕ) (doing : Doing) (found : Option Row)
+    → FallsTo settings (Emit target signal args depth) doing (option_map_or (emitted doing target signal args depth) found (puts [] doing))
+emitted_falls settings target signal args depth doing None = idle settings (Emit target signal args depth) doing doing (same doing)
+emitted_falls settings target signal args depth doing (Some row) =
     let item = Emit target signal args depth in
-    cond_both (is_there doing.state.forest.rows target) (emitted doing target signal args depth) (puts [] doing) (FallsTo settings item doing)
-    (λ there. cond_both (nat_le NESTED_SIGNALS depth) (puts (Warn Limit (Some target) ∷ []) doing) (puts (calls_of doing target signal args depth) doing) (FallsTo settings item doing)
+    cond_both (is_held_back signal row) (puts [] doing) (if nat_le NESTED_SIGNALS depth then puts (Warn Limit (Some target) ∷ []) doing else puts (calls_of doing target signal args depth) doing) (FallsTo settings item doing)
+    (λ held. idle settings item doing doing (same doing))
+    (λ free. cond_both (nat_le NESTED_SIGNALS depth) (puts (Warn Limit (Some target) ∷ []) doing) (puts (calls_of doing target signal args depth) doing) (FallsTo settings item doing)
     (λ deep. lighter settings item doing (puts (Warn Limit (Some target) ∷ []) doing) (same doing) (omega arith))
     (λ shallow. calls_fall settings target signal args depth doing))
-    (λ absent. idle settings item doing doing (same doing))
-falls settings (Call connection args depth) doing =
-    let item = Call connection args depth in
-    let taken = turn_taken doing in
-    let few = callee_weight settings (most settings doing) taken.state connection args depth connection.callee in
-    cond_both (stands doing connection.number) (with_turn doing (called settings connection args depth)) (puts [] doing) (FallsTo settings item doing)
-    (λ there. cond_both (doing.turns == 0) (puts [] (used_up doing)) (called settings connection args depth taken) (FallsTo settings item doing)
-    (λ none. idle settings item doing (used_up doing) (used_up_shrinks doing))
-    (λ some. by_turn settings item doing (called settings connection args depth taken) (both doing taken (shot taken connection) (turn_shrinks doing) (shot_shrinks taken connection))
-    (let less = turn_taken-less doing some in let shot' = (shot_shrinks taken connection).turns in omega (arith, less, shot')) (omega (arith, few))))
-    (λ broken. idle settings item doing doing (same doing))
+
+-- what an item comes to is lower
+pub falls : (settings : Settings) (item : Item) (doing : Doing) → FallsTo settings item doing (step settings item doing)
+falls settings (Emit target signal args depth) doing = emitted_falls settings target signal args depth doing (row_of doing.state.forest.rows target)
+falls settings (Call number args depth) doing = called_falls settings number args depth doing (connection_of doing number)
 falls settings (Run target index sender args depth) doing = ran_falls settings target index sender args depth doing (method_at settings doing.state target index) refl
 falls settings (Act (effect plain) args self sender depth) doing =
     let item = Act (effect plain) args self sender depth in
@@ -151,13 +204,15 @@ falls settings (Act (effect plain) args self sender depth) doing =
     (λ target parent passed. idle settings item doing (adopted doing target parent) (adopted_shrinks doing target parent))
     (λ new allowed sender' receiver'. idle settings item doing (linked doing new) (linked_shrinks doing new allowed))
     (λ pattern. idle settings item doing (unlinked doing pattern) (unlinked_shrinks doing pattern))
+    (λ target passed. idle settings item doing (posted doing (event.Deletion target)) (posted_shrinks doing (event.Deletion target)))
+    (λ target on. idle settings item doing (blocking doing target on) (blocking_shrinks doing target on))
     plain
 falls settings (Act (when test held failed) args self sender depth) doing = chosen_falls settings test held failed args self sender depth doing (truth_evaluated doing.state self sender args test)
 falls settings (Warn code object) doing = idle settings (Warn code object) doing (told doing (line.Warning code object)) (told_shrinks doing (line.Warning code object))
 falls settings (Delete target depth) doing =
     let item = Delete target depth in
-    cond_both (lives doing target) (puts (Cut target depth ∷ Gone target depth ∷ []) (dying doing target)) (puts [] doing) (FallsTo settings item doing)
-    (λ living. by_deletion settings item doing (puts (Cut target depth ∷ Gone target depth ∷ []) (dying doing target)) (dying_shrinks doing target living) (dying_less doing target living) (omega arith))
+    cond_both (lives doing target) (puts (Emit target DESTROYED [] depth ∷ Cut target depth ∷ Gone target depth ∷ []) (dying doing target)) (puts [] doing) (FallsTo settings item doing)
+    (λ living. by_deletion settings item doing (puts (Emit target DESTROYED [] depth ∷ Cut target depth ∷ Gone target depth ∷ []) (dying doing target)) (dying_shrinks doing target living) (dying_less doing target living) (omega arith))
     (λ absent. idle settings item doing doing (same doing))
 falls settings (Cut target depth) doing = cut_falls settings target depth doing
 falls settings (Kin parent child depth) doing =
@@ -166,4 +221,6 @@ falls settings (Kin parent child depth) doing =
     (λ living. lighter settings item doing (puts (Delete child depth ∷ []) doing) (same doing) (omega arith))
     (λ other. idle settings item doing doing (same doing))
 falls settings (Gone target depth) doing = idle settings (Gone target depth) doing (gone doing target) (gone_shrinks doing target)
+falls settings Spin doing = spun_falls settings doing doing.state.queue.events
 falls settings (Reply answer) doing = idle settings (Reply answer) doing (told doing (line.Reply answer)) (told_shrinks doing (line.Reply answer))
+falls settings ReplySpun doing = idle settings ReplySpun doing (told doing (line.Reply (a.Spun (spin_of doing)))) (told_shrinks doing (line.Reply (a.Spun (spin_of doing))))

@@ -1,6 +1,6 @@
 -- What is left of a list by a test.
-use Rattle.std.proofs.Common.{◌≡◌, ◌&&◌, Bool, true, false, cond, List, [], ◌∷◌, Some, None, filter, find, refl, ap, subst, arith, ⊎_elim}
-use Rattle.std.specs.List.{AllByRecursion}
+use Rattle.std.proofs.Common.{◌≡◌, ◌&&◌, ◌||◌, Bool, true, false, cond, List, [], ◌∷◌, Some, None, filter, find, refl, ap, subst, arith, ⊎_elim}
+use Rattle.std.specs.List.{AllByRecursion, list_any}
 use Rattle.std.proofs.lemmas.Bool.{cases_Bool}
 
 -- two tests one after the other
@@ -48,6 +48,14 @@ find-none q [] e = refl
 find-none q (first ∷ xs) e = by (q first) e (find-none q xs)
   where
     by : (passed : Bool) → cond passed (Some first) (find q xs) ≡ None → (find q xs ≡ None → filter q xs ≡ []) → cond passed (first ∷ filter q xs) (filter q xs) ≡ []
+    by true e later = absurd (cc)
+    by false e later = later e
+
+pub none-found : {X : Type 0} (q : X → Bool) (xs : List X) → list_any q xs ≡ false → find q xs ≡ None
+none-found q [] e = refl
+none-found q (first ∷ xs) e = by (q first) e (none-found q xs)
+  where
+    by : (passed : Bool) → (passed || list_any q xs) ≡ false → (list_any q xs ≡ false → find q xs ≡ None) → cond passed (Some first) (find q xs) ≡ None
     by true e later = absurd (cc)
     by false e later = later e
 

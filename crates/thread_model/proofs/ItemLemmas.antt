@@ -1,8 +1,9 @@
 -- Each item keeps a session under way.
-use Rattle.std.proofs.Common.{◌≡◌, ◌==◌, ℕ, Bool, true, false, List, [], ◌∷◌, ◌++◌, Option, Some, None, Ok, Err, filter, map, length, nat_le, take, refl, ◌+◌}
+use Rattle.std.proofs.Common.{◌≡◌, ◌+◌, ◌==◌, ◌||◌, ℕ, Bool, true, false, cond, List, [], ◌∷◌, ◌++◌, Option, Some, None, Ok, Err, filter, map, length, nat_le, take, refl, ap, ◌∙◌}
 use Rattle.std.specs.List.{list_any}
 use Rattle.std.specs.Option.{option_map_or}
 use Rattle.std.proofs.lemmas.Bool.{cond_both}
+use Rattle.std.proofs.lemmas.List.Folds.{list_any-append}
 use Rattle.refusals.specs.declared.code.Code.TheVariants.{Limit}
 use Rattle.variant_value.specs.declared.value.Value.{Value}
 use Rattle.term_core.specs.Act.{Acts, acts_of, effect, more, nothing, when}
@@ -11,27 +12,35 @@ use Rattle.connection_types.specs.declared.callee.Callee.{Callee}
 use Rattle.connection_types.specs.declared.callee.Callee.TheVariants as callee
 use Rattle.connection_list.specs.declared.connection.Connection.{Connection}
 use Rattle.connection_list.specs.Ends.{calls}
-use Rattle.object_tree.specs.Rows.{children, is_there}
-use Rattle.thread_model.specs.declared.call.TheConstants.{NESTED_SIGNALS}
+use Rattle.connection_list.specs.Rows.{has_number}
+use Rattle.event_queue.specs.declared.event.Event.{Event}
+use Rattle.event_queue.specs.declared.event.Event.TheVariants as event
+use Rattle.event_queue.specs.declared.event.QueuedCall.{QueuedCall}
+use Rattle.object_tree.specs.declared.row.Row.{Row}
+use Rattle.object_tree.specs.Rows.{children, row_of}
+use Rattle.thread_model.specs.declared.call.TheConstants.{DESTROYED, NESTED_SIGNALS}
+use Rattle.thread_model.specs.declared.line.Answer.TheVariants as a
 use Rattle.thread_model.specs.declared.line.Line.TheVariants as line
 use Rattle.thread_model.specs.Acts.{acts, chosen}
-use Rattle.thread_model.specs.Agenda.{call_line, called, callee_items, calls_of, emitted, kins, lives, lives_below, method_items, ran, stands, step, with_turn}
-use Rattle.thread_model.specs.Doing.{Doing, dying, shot, told, turn_taken, untied, used_up}
-use Rattle.thread_model.specs.Items.{Act, Call, Cut, Delete, Emit, Gone, Item, Kin, Next, Reply, Run, Warn, puts}
+use Rattle.thread_model.specs.Agenda.{call_items, call_line, called, callee_called, calls_of, connection_of, emitted, event_items, is_held_back, kins, lives, lives_below, method_called, method_items, queued, ran, spun, step, with_turn}
+use Rattle.thread_model.specs.Doing.{Doing, dying, first_taken, forgotten, in_state, shot, told, turn_taken, untied, used_up}
+use Rattle.thread_model.specs.Items.{Act, Call, Cut, Delete, Emit, Gone, Item, Kin, Next, Reply, ReplySpun, Run, Spin, Warn, puts}
 use Rattle.thread_model.specs.Methods.{Found, method_at}
+use Rattle.thread_model.specs.Posting.{is_queued, spin_of}
 use Rattle.thread_model.specs.Settings.{Settings}
-use Rattle.thread_model.specs.State.{State}
+use Rattle.thread_model.specs.State.{IsTied, State, without_connections}
 use Rattle.thread_model.specs.Targets.{truth_evaluated}
-use Rattle.thread_model.specs.UnderWay.{IsUnderWay, is_gone}
+use Rattle.thread_model.specs.UnderWay.{IsBrokenInTime, IsUnderWay, is_gone}
 use Rattle.thread_model.proofs.ActLemmas.{acted_cases}
-use Rattle.thread_model.proofs.UnderWayLemmas.{behind, linked_under, unlinked_under, dying_under, gone_under, in_front, adopted_under, retitled_under, shot_under, told_under, turn_under, untied_under, used_up_under}
+use Rattle.thread_model.proofs.ConnectionLemmas.{of_found}
+use Rattle.thread_model.proofs.UnderWayLemmas.{adopted_under, behind, blocking_under, cut_under, dying_under, first_taken_under, gone_under, in_front, linked_under, meant_under, queued_under, retitled_under, shot_under, told_under, turn_under, unlinked_under, used_up_under}
 
--- actions, calls and children let nothing go
+-- actions, calls, children and what is called let nothing go
 acts_stay : (body : Acts) (args : List Value) (self sender depth : ℕ) → list_any is_gone (acts body args self sender depth) ≡ false
 acts_stay nothing args self sender depth = refl
 acts_stay (more action rest) args self sender depth = acts_stay rest args self sender depth
 
-calls_stay : (args : List Value) (depth : ℕ) (rows : List Connection) → list_any is_gone (map (λ row. Call row args depth) rows) ≡ false
+calls_stay : (args : List Value) (depth : ℕ) (rows : List Connection) → list_any is_gone (map (λ row. Call row.number args depth) rows) ≡ false
 calls_stay args depth [] = refl
 calls_stay args depth (row ∷ rows) = calls_stay args depth rows
 
@@ -39,14 +48,35 @@ kins_stay : (target depth : ℕ) (children : List ℕ) → list_any is_gone (map
 kins_stay target depth [] = refl
 kins_stay target depth (child ∷ rest) = kins_stay target depth rest
 
-callee_stays : (settings : Settings) (state : State) (connection : Connection) (args : List Value) (depth : ℕ) (called : Callee) → list_any is_gone (callee_items settings state connection args depth called) ≡ false
-callee_stays settings state connection args depth (callee.Functor index) = refl
-callee_stays settings state connection args depth (callee.Method index) = by (method_at settings state connection.receiver index)
+methods_stay : (target index sender : ℕ) (args : List Value) (sent_at run_at : ℕ) (method : Method) → list_any is_gone (method_items target index sender args sent_at run_at method) ≡ false
+methods_stay target index sender args sent_at run_at method =
+    cond_both method.is_signal (Emit target index args sent_at ∷ []) (Run target index sender args run_at ∷ []) (λ items. list_any is_gone items ≡ false) (λ signal. refl) (λ slot. refl)
+
+-- and what an event comes to neither
+event_stays : (settings : Settings) (state : State) (first : Event) → list_any is_gone (event_items settings state first ++ Spin ∷ []) ≡ false
+event_stays settings state first = list_any-append is_gone (event_items settings state first) (Spin ∷ []) ∙ ap (λ b. b || false) (by first)
   where
-    by : (found : Option Method) → list_any is_gone (option_map_or (method_items connection index args depth) found []) ≡ false
-    by None = refl
-    by (Some method) = let given = take (length method.signature.kinds) args in
-        cond_both method.is_signal (Emit connection.receiver index given (depth + 1) ∷ []) (Run connection.receiver index connection.sender given depth ∷ []) (λ items. list_any is_gone items ≡ false) (λ signal. refl) (λ slot. refl)
+    called : (call : QueuedCall) (to : Callee) → list_any is_gone (call_items settings state call to) ≡ false
+    called call (callee.Functor index) = refl
+    called call (callee.Method index) = found (method_at settings state call.object index)
+      where
+        found : (method : Option Method) → list_any is_gone (option_map_or (method_items call.object index call.sender call.args 0 0) method []) ≡ false
+        found None = refl
+        found (Some method) = methods_stay call.object index call.sender call.args 0 0 method
+
+    by : (first : Event) → list_any is_gone (event_items settings state first) ≡ false
+    by (event.Call call) = called call call.callee
+    by (event.Deletion target) = refl
+
+-- the ends of a connection stand still when a turn is taken, and when a single-shot connection is broken
+turn_tied : (doing : Doing) (row : Connection) → IsTied doing.state row → IsTied (turn_taken doing).state row
+unfolding turn_taken
+turn_tied doing row tied = record { sender = tied.sender; receiver = tied.receiver }
+
+shot_tied : (doing : Doing) (row : Connection) → IsTied doing.state row → IsTied (shot doing row).state row
+unfolding shot
+shot_tied doing row tied =
+    cond_both row.single (in_state doing (without_connections doing.state (has_number row.number))) doing (λ (new : Doing). IsTied new.state row) (λ single. record { sender = tied.sender; receiver = tied.receiver }) (λ lasting. tied)
 
 -- what an item comes to keeps the session under way
 abbrev Keeps : List Item → Next → Type 0
@@ -57,14 +87,28 @@ module _ (settings : Settings) (agenda : List Item) (doing : Doing) (under : IsU
   unfolding calls_of
   calls_kept target signal args depth = in_front (calls_of doing target signal args depth) agenda doing.state (calls_stay args depth (filter (calls target signal) doing.state.connections.rows)) under
 
-  emitted_kept : (target signal : ℕ) (args : List Value) (depth : ℕ) → Keeps agenda (emitted doing target signal args depth)
-  emitted_kept target signal args depth =
-      cond_both (nat_le NESTED_SIGNALS depth) (puts (Warn Limit (Some target) ∷ []) doing) (puts (calls_of doing target signal args depth) doing) (Keeps agenda)
+  emitted_kept : (target signal : ℕ) (args : List Value) (depth : ℕ) (found : Option Row) → Keeps agenda (option_map_or (emitted doing target signal args depth) found (puts [] doing))
+  emitted_kept target signal args depth None = under
+  emitted_kept target signal args depth (Some row) =
+      cond_both (is_held_back signal row) (puts [] doing) (cond (nat_le NESTED_SIGNALS depth) (puts (Warn Limit (Some target) ∷ []) doing) (puts (calls_of doing target signal args depth) doing)) (Keeps agenda)
+      (λ held. under)
+      (λ free. cond_both (nat_le NESTED_SIGNALS depth) (puts (Warn Limit (Some target) ∷ []) doing) (puts (calls_of doing target signal args depth) doing) (Keeps agenda)
       (λ deep. in_front (Warn Limit (Some target) ∷ []) agenda doing.state refl under)
-      (λ shallow. calls_kept target signal args depth)
+      (λ shallow. calls_kept target signal args depth))
 
-  called_kept : (connection : Connection) (args : List Value) (depth : ℕ) → Keeps agenda (called settings connection args depth doing)
-  called_kept connection args depth = in_front _ agenda (shot doing connection).state (callee_stays settings doing.state connection args depth connection.callee) (shot_under agenda doing under connection)
+  callee_kept : (connection : Connection) (args : List Value) (depth : ℕ) → IsTied doing.state connection → IsBrokenInTime agenda connection → (to : Callee) → Keeps agenda (callee_called settings connection args depth doing to)
+  callee_kept connection args depth tied broken (callee.Functor index) = under
+  callee_kept connection args depth tied broken (callee.Method index) = by (method_at settings doing.state connection.receiver index)
+    where
+      by : (found : Option Method) → Keeps agenda (option_map_or (method_called connection index args depth doing) found (puts [] doing))
+      by None = under
+      by (Some method) =
+          let given = take (length method.signature.kinds) args in
+          let call : QueuedCall = record { object = connection.receiver; callee = callee.Method index; sender = connection.sender; args = given } in
+          let items = method_items connection.receiver index connection.sender given (depth + 1) depth method in
+          cond_both (is_queued connection.mode) (puts [] (queued doing call)) (puts items doing) (Keeps agenda)
+          (λ later. queued_under agenda doing under connection call tied broken refl)
+          (λ now. in_front items agenda doing.state (methods_stay connection.receiver index connection.sender given (depth + 1) depth method) under)
 
   ran_kept : (target sender : ℕ) (args : List Value) (depth : ℕ) (found : Option Method) → Keeps agenda (option_map_or (ran doing target sender args depth) found (puts [] doing))
   ran_kept target sender args depth None = under
@@ -77,23 +121,43 @@ module _ (settings : Settings) (agenda : List Item) (doing : Doing) (under : IsU
   chosen_kept (Ok false) held failed args self sender depth = in_front _ agenda doing.state (acts_stay failed args self sender depth) under
   chosen_kept (Err code) held failed args self sender depth = in_front (Warn code (Some self) ∷ []) agenda doing.state refl under
 
-kins_kept : (target depth : ℕ) (agenda : List Item) (doing : Doing) → IsUnderWay agenda (untied doing target).state → Keeps agenda (puts (kins doing target depth) (untied doing target))
+module _ (settings : Settings) (agenda : List Item) (doing : Doing) (under : IsUnderWay agenda doing.state) where
+  called_kept : (connection : Connection) (args : List Value) (depth : ℕ) → IsTied doing.state connection → IsBrokenInTime agenda connection → Keeps agenda (called settings connection args depth doing)
+  called_kept connection args depth tied broken =
+      callee_kept settings agenda (shot doing connection) (shot_under agenda doing under connection) connection args depth (shot_tied doing connection tied) broken connection.callee
+
+module _ (settings : Settings) (agenda : List Item) (doing : Doing) (under : IsUnderWay agenda doing.state) where
+  -- a connection that stands is tied, and broken in time
+  found_kept : (number : ℕ) (args : List Value) (depth : ℕ) (found : Option Connection) → connection_of doing number ≡ found → Keeps agenda (option_map_or (λ connection. with_turn doing (called settings connection args depth)) found (puts [] doing))
+  found_kept number args depth None is = under
+  found_kept number args depth (Some connection) is =
+      cond_both (doing.turns == 0) (puts [] (used_up doing)) (called settings connection args depth (turn_taken doing)) (Keeps agenda)
+      (λ none. used_up_under agenda doing under)
+      (λ some. turn_called (of_found (IsTied doing.state) (has_number number) doing.state.connections.rows connection is under.whole.ends) (of_found (IsBrokenInTime agenda) (has_number number) doing.state.connections.rows connection is under.in_time))
+    where
+      turn_called : IsTied doing.state connection → IsBrokenInTime agenda connection → Keeps agenda (called settings connection args depth (turn_taken doing))
+      turn_called tied broken = called_kept settings agenda (turn_taken doing) (turn_under agenda doing under) connection args depth (turn_tied doing connection tied) broken
+
+  spun_kept : (events : List Event) → Keeps agenda (spun settings doing events)
+  spun_kept [] = under
+  spun_kept (first ∷ later) =
+      let some = turn_taken doing in
+      let items = event_items settings some.state first ++ Spin ∷ [] in
+      cond_both (doing.turns == 0) (puts [] (used_up doing)) (puts items (first_taken some)) (Keeps agenda)
+      (λ none. used_up_under agenda doing under)
+      (λ left. in_front items agenda (first_taken some).state (event_stays settings some.state first) (first_taken_under agenda some (turn_under agenda doing under)))
+
+kins_kept : (target depth : ℕ) (agenda : List Item) (doing : Doing) → IsUnderWay agenda (forgotten (untied doing target) target).state → Keeps agenda (puts (kins doing target depth) (forgotten (untied doing target) target))
 unfolding kins
-kins_kept target depth agenda doing rest = in_front (kins doing target depth) agenda (untied doing target).state (kins_stay target depth (children doing.state.forest.rows (Some target))) rest
+kins_kept target depth agenda doing rest = in_front (kins doing target depth) agenda (forgotten (untied doing target) target).state (kins_stay target depth (children doing.state.forest.rows (Some target))) rest
 
 pub item_under_way : (settings : Settings) (item : Item) (agenda : List Item) (doing : Doing) → IsUnderWay (item ∷ agenda) doing.state → IsUnderWay ((step settings item doing).items ++ agenda) (step settings item doing).doing.state
 item_under_way settings (Emit target signal args depth) agenda doing under =
     let rest = behind (Emit target signal args depth) agenda doing.state (λ number. refl) (λ number. refl) under in
-    cond_both (is_there doing.state.forest.rows target) (emitted doing target signal args depth) (puts [] doing) (Keeps agenda)
-    (λ there. emitted_kept settings agenda doing rest target signal args depth)
-    (λ absent. rest)
-item_under_way settings (Call connection args depth) agenda doing under =
-    let rest = behind (Call connection args depth) agenda doing.state (λ number. refl) (λ number. refl) under in
-    cond_both (stands doing connection.number) (with_turn doing (called settings connection args depth)) (puts [] doing) (Keeps agenda)
-    (λ there. cond_both (doing.turns == 0) (puts [] (used_up doing)) (called settings connection args depth (turn_taken doing)) (Keeps agenda)
-    (λ none. used_up_under agenda doing rest)
-    (λ some. called_kept settings agenda (turn_taken doing) (turn_under agenda doing rest) connection args depth))
-    (λ broken. rest)
+    emitted_kept settings agenda doing rest target signal args depth (row_of doing.state.forest.rows target)
+item_under_way settings (Call number args depth) agenda doing under =
+    let rest = behind (Call number args depth) agenda doing.state (λ number. refl) (λ number. refl) under in
+    found_kept settings agenda doing rest number args depth (connection_of doing number) refl
 item_under_way settings (Run target index sender args depth) agenda doing under =
     let rest = behind (Run target index sender args depth) agenda doing.state (λ number. refl) (λ number. refl) under in
     ran_kept settings agenda doing rest target sender args depth (method_at settings doing.state target index)
@@ -107,6 +171,8 @@ item_under_way settings (Act (effect plain) args self sender depth) agenda doing
     (λ target parent passed. adopted_under agenda doing rest target parent passed)
     (λ new allowed sender' receiver'. linked_under agenda doing rest new allowed sender' receiver')
     (λ pattern. unlinked_under agenda doing rest pattern)
+    (λ target passed. meant_under agenda doing rest (event.Deletion target) passed)
+    (λ target on. blocking_under agenda doing rest target on)
     plain
 item_under_way settings (Act (when test held failed) args self sender depth) agenda doing under =
     let rest = behind (Act (when test held failed) args self sender depth) agenda doing.state (λ number. refl) (λ number. refl) under in
@@ -115,15 +181,20 @@ item_under_way settings (Warn code object) agenda doing under =
     told_under agenda doing (behind (Warn code object) agenda doing.state (λ number. refl) (λ number. refl) under) (line.Warning code object)
 item_under_way settings (Delete target depth) agenda doing under =
     let rest = behind (Delete target depth) agenda doing.state (λ number. refl) (λ number. refl) under in
-    cond_both (lives doing target) (puts (Cut target depth ∷ Gone target depth ∷ []) (dying doing target)) (puts [] doing) (Keeps agenda)
-    (λ living. dying_under agenda doing rest target depth)
+    cond_both (lives doing target) (puts (Emit target DESTROYED [] depth ∷ Cut target depth ∷ Gone target depth ∷ []) (dying doing target)) (puts [] doing) (Keeps agenda)
+    (λ living. in_front (Emit target DESTROYED [] depth ∷ []) (Cut target depth ∷ Gone target depth ∷ agenda) (dying doing target).state refl (dying_under agenda doing rest target depth))
     (λ absent. rest)
-item_under_way settings (Cut target depth) agenda doing under = kins_kept target depth agenda doing (untied_under target depth agenda doing under)
+item_under_way settings (Cut target depth) agenda doing under = kins_kept target depth agenda doing (cut_under target depth agenda doing under)
 item_under_way settings (Kin parent child depth) agenda doing under =
     let rest = behind (Kin parent child depth) agenda doing.state (λ number. refl) (λ number. refl) under in
     cond_both (lives_below doing parent child) (puts (Delete child depth ∷ []) doing) (puts [] doing) (Keeps agenda)
     (λ living. in_front (Delete child depth ∷ []) agenda doing.state refl rest)
     (λ other. rest)
 item_under_way settings (Gone target depth) agenda doing under = gone_under target depth agenda doing under
+item_under_way settings Spin agenda doing under =
+    let rest = behind Spin agenda doing.state (λ number. refl) (λ number. refl) under in
+    spun_kept settings agenda doing rest doing.state.queue.events
 item_under_way settings (Reply answer) agenda doing under =
     told_under agenda doing (behind (Reply answer) agenda doing.state (λ number. refl) (λ number. refl) under) (line.Reply answer)
+item_under_way settings ReplySpun agenda doing under =
+    told_under agenda doing (behind ReplySpun agenda doing.state (λ number. refl) (λ number. refl) under) (line.Reply (a.Spun (spin_of doing)))

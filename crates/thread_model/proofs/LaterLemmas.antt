@@ -1,6 +1,6 @@
 -- What becomes of connections while an agenda is done: some are broken, and those that are made have
 -- greater numbers.
-use Rattle.std.proofs.Common.{◌≡◌, ◌<◌, ◌≤◌, ◌+◌, ◌==◌, ◌&&◌, ℕ, Bool, true, not, List, [], ◌∷◌, ◌++◌, All, Option, Some, None, Ok, Err, filter, nat_le, sym, ap, ◌∙◌, append_assoc, arith}
+use Rattle.std.proofs.Common.{◌≡◌, ◌<◌, ◌≤◌, ◌+◌, ◌==◌, ◌&&◌, ℕ, Bool, true, not, List, [], ◌∷◌, ◌++◌, All, Option, Some, None, Ok, Err, filter, nat_le, take, length, sym, ap, ◌∙◌, append_assoc, if◌then◌else◌, arith}
 use Rattle.std.specs.Option.{option_map_or}
 use Rattle.std.proofs.lemmas.Bool.{cond_both}
 use Rattle.std.proofs.lemmas.List.{append-nil}
@@ -11,21 +11,30 @@ use Rattle.variant_value.specs.declared.value.Value.{Value}
 use Rattle.variant_value.specs.declared.value.Value.TheVariants.{Invalid}
 use Rattle.term_core.specs.Act.{Acts, effect, when}
 use Rattle.class_table.specs.declared.class.Method.{Method}
+use Rattle.connection_types.specs.declared.callee.Callee.{Callee}
+use Rattle.connection_types.specs.declared.callee.Callee.TheVariants as callee
 use Rattle.connection_list.specs.declared.connection.Connection.{Connection}
 use Rattle.connection_list.specs.declared.connection.NewConnection.{NewConnection}
 use Rattle.connection_list.specs.declared.pattern.Pattern.{Pattern}
 use Rattle.connection_list.specs.Ends.{matches, touches}
 use Rattle.connection_list.specs.Rows.{Rows, has_number, numbered}
-use Rattle.object_tree.specs.Rows.{is_there}
-use Rattle.thread_model.specs.declared.call.TheConstants.{NESTED_SIGNALS}
+use Rattle.event_queue.specs.declared.event.Event.{Event}
+use Rattle.event_queue.specs.declared.event.Event.TheVariants as event
+use Rattle.event_queue.specs.declared.event.QueuedCall.{QueuedCall}
+use Rattle.event_queue.specs.Queue.{has_room}
+use Rattle.object_tree.specs.declared.row.Row.{Row}
+use Rattle.object_tree.specs.Rows.{row_of}
+use Rattle.thread_model.specs.declared.call.TheConstants.{DESTROYED, NESTED_SIGNALS}
+use Rattle.thread_model.specs.declared.line.Answer.TheVariants as a
 use Rattle.thread_model.specs.declared.line.Line.{Line}
 use Rattle.thread_model.specs.declared.line.Line.TheVariants as line
 use Rattle.thread_model.specs.declared.line.Line.TheVariants.{Warning}
 use Rattle.thread_model.specs.Acts.{chosen}
-use Rattle.thread_model.specs.Agenda.{call_line, called, calls_of, emitted, lives, lives_below, ran, stands, step, with_turn}
-use Rattle.thread_model.specs.Doing.{Doing, linked, unlinked, dying, gone, in_state, adopted, retitled, shot, told, turn_taken, untied, used_up}
-use Rattle.thread_model.specs.Items.{Act, Call, Cut, Delete, Emit, Gone, Item, Kin, Next, Reply, Run, Warn, puts}
+use Rattle.thread_model.specs.Agenda.{call_line, callee_called, called, calls_of, connection_of, emitted, event_items, is_held_back, lives, lives_below, method_called, method_items, queued, ran, spun, step, with_turn}
+use Rattle.thread_model.specs.Doing.{Doing, adopted, blocking, dying, first_taken, forgotten, gone, in_state, linked, lost, posted, retitled, shot, told, turn_taken, unlinked, untied, used_up}
+use Rattle.thread_model.specs.Items.{Act, Call, Cut, Delete, Emit, Gone, Item, Kin, Next, Reply, ReplySpun, Run, Spin, Warn, puts}
 use Rattle.thread_model.specs.Methods.{Found, method_at}
+use Rattle.thread_model.specs.Posting.{is_queued, spin_of}
 use Rattle.thread_model.specs.Run.{run}
 use Rattle.thread_model.specs.Settings.{Settings}
 use Rattle.thread_model.specs.State.{without_connections}
@@ -97,9 +106,25 @@ shot_later doing row =
     cond_both row.single (in_state (turn_taken doing) (without_connections doing.state (has_number row.number))) (turn_taken doing) (Later doing)
     (λ single. later_without (has_number row.number) doing.state.connections) (λ lasting. unchanged doing)
 
+posted_later : (doing : Doing) (event : Event) → Later doing (posted doing event)
+unfolding posted
+posted_later doing event = unchanged doing
+
+queued_later : (doing : Doing) (call : QueuedCall) → Later doing (queued doing call)
+unfolding posted lost
+queued_later doing call = cond_both (has_room doing.state.queue) (posted doing (event.Call call)) (lost doing) (Later doing) (λ room. unchanged doing) (λ full. unchanged doing)
+
+taken_later : (doing : Doing) → Later doing (first_taken (turn_taken doing))
+unfolding first_taken turn_taken
+taken_later doing = unchanged doing
+
+blocking_later : (doing : Doing) (target : ℕ) (on : Bool) → Later doing (blocking doing target on)
+unfolding blocking
+blocking_later doing target on = unchanged doing
+
 module _ (settings : Settings) where
-  kins_later : (target depth : ℕ) (doing : Doing) → Later doing (untied doing target)
-  unfolding untied
+  kins_later : (target depth : ℕ) (doing : Doing) → Later doing (forgotten (untied doing target) target)
+  unfolding untied forgotten
   kins_later target depth doing = later_without (touches target) doing.state.connections
 
   linked_later : (doing : Doing) (new : NewConnection) → Later doing (linked doing new)
@@ -114,6 +139,43 @@ module _ (settings : Settings) where
   unfolding retitled adopted dying gone
   others_later doing target title parent = (unchanged doing, unchanged doing, unchanged doing, unchanged doing)
 
+  emitted_later : (target signal : ℕ) (args : List Value) (depth : ℕ) (doing : Doing) (found : Option Row) → Later doing (option_map_or (emitted doing target signal args depth) found (puts [] doing)).doing
+  emitted_later target signal args depth doing None = unchanged doing
+  emitted_later target signal args depth doing (Some row) =
+      cond_both (is_held_back signal row) (puts [] doing) (if nat_le NESTED_SIGNALS depth then puts (Warn Limit (Some target) ∷ []) doing else puts (calls_of doing target signal args depth) doing) (λ (next : Next). Later doing next.doing)
+      (λ held. unchanged doing)
+      (λ free. cond_both (nat_le NESTED_SIGNALS depth) (puts (Warn Limit (Some target) ∷ []) doing) (puts (calls_of doing target signal args depth) doing) (λ (next : Next). Later doing next.doing) (λ deep. unchanged doing) (λ shallow. unchanged doing))
+
+  -- a call adds no connection to those that the session has by then
+  callee_later : (connection : Connection) (args : List Value) (depth : ℕ) (doing : Doing) (called : Callee) → Later doing (callee_called settings connection args depth doing called).doing
+  callee_later connection args depth doing (callee.Functor index) = unchanged doing
+  callee_later connection args depth doing (callee.Method index) = by (method_at settings doing.state connection.receiver index)
+    where
+      by : (found : Option Method) → Later doing (option_map_or (method_called connection index args depth doing) found (puts [] doing)).doing
+      by None = unchanged doing
+      by (Some method) =
+          let given = take (length method.signature.kinds) args in
+          let call : QueuedCall = record { object = connection.receiver; callee = callee.Method index; sender = connection.sender; args = given } in
+          cond_both (is_queued connection.mode) (puts [] (queued doing call)) (puts (method_items connection.receiver index connection.sender given (depth + 1) depth method) doing) (λ (next : Next). Later doing next.doing)
+          (λ queues. queued_later doing call)
+          (λ direct. unchanged doing)
+
+  called_later : (args : List Value) (depth : ℕ) (doing : Doing) (found : Option Connection) → Later doing (option_map_or (λ connection. with_turn doing (called settings connection args depth)) found (puts [] doing)).doing
+  called_later args depth doing None = unchanged doing
+  called_later args depth doing (Some connection) =
+      let shot' = shot (turn_taken doing) connection in
+      let next = callee_called settings connection args depth shot' connection.callee in
+      cond_both (doing.turns == 0) (puts [] (used_up doing)) next (λ (next : Next). Later doing next.doing)
+      (λ none. used_up_later doing)
+      (λ some. later_both doing.state.connections shot'.state.connections next.doing.state.connections (shot_later doing connection) (callee_later connection args depth shot' connection.callee))
+
+  spun_later : (doing : Doing) (events : List Event) → Later doing (spun settings doing events).doing
+  spun_later doing [] = unchanged doing
+  spun_later doing (event ∷ later) =
+      cond_both (doing.turns == 0) (puts [] (used_up doing)) (puts (event_items settings (turn_taken doing).state event ++ Spin ∷ []) (first_taken (turn_taken doing))) (λ (next : Next). Later doing next.doing)
+      (λ none. used_up_later doing)
+      (λ some. taken_later doing)
+
   ran_later : (target sender : ℕ) (args : List Value) (depth : ℕ) (doing : Doing) (found : Option Method) → Later doing (option_map_or (ran doing target sender args depth) found (puts [] doing)).doing
   ran_later target sender args depth doing None = unchanged doing
   ran_later target sender args depth doing (Some method) = told_later doing (call_line method target sender args)
@@ -123,14 +185,8 @@ module _ (settings : Settings) where
   chosen_later (Err code) held failed args self sender depth doing = unchanged doing
 
   pub step_later : (item : Item) (doing : Doing) → Later doing (step settings item doing).doing
-  step_later (Emit target signal args depth) doing =
-      cond_both (is_there doing.state.forest.rows target) (emitted doing target signal args depth) (puts [] doing) (λ (next : Next). Later doing next.doing)
-      (λ there. cond_both (nat_le NESTED_SIGNALS depth) (puts (Warn Limit (Some target) ∷ []) doing) (puts (calls_of doing target signal args depth) doing) (λ (next : Next). Later doing next.doing) (λ deep. unchanged doing) (λ shallow. unchanged doing))
-      (λ absent. unchanged doing)
-  step_later (Call connection args depth) doing =
-      cond_both (stands doing connection.number) (with_turn doing (called settings connection args depth)) (puts [] doing) (λ (next : Next). Later doing next.doing)
-      (λ there. cond_both (doing.turns == 0) (puts [] (used_up doing)) (called settings connection args depth (turn_taken doing)) (λ (next : Next). Later doing next.doing) (λ none. used_up_later doing) (λ some. shot_later doing connection))
-      (λ broken. unchanged doing)
+  step_later (Emit target signal args depth) doing = emitted_later target signal args depth doing (row_of doing.state.forest.rows target)
+  step_later (Call number args depth) doing = called_later args depth doing (connection_of doing number)
   step_later (Run target index sender args depth) doing = ran_later target sender args depth doing (method_at settings doing.state target index)
   step_later (Act (effect plain) args self sender depth) doing =
       acted_cases settings doing self sender args depth (λ (next : Next). Later doing next.doing)
@@ -141,16 +197,20 @@ module _ (settings : Settings) where
       (λ target parent passed. (others_later doing target Invalid parent).1)
       (λ new allowed sender' receiver'. linked_later doing new)
       (λ pattern. unlinked_later doing pattern)
+      (λ target passed. posted_later doing (event.Deletion target))
+      (λ target on. blocking_later doing target on)
       plain
   step_later (Act (when test held failed) args self sender depth) doing = chosen_later (truth_evaluated doing.state self sender args test) held failed args self sender depth doing
   step_later (Warn code object) doing = told_later doing (line.Warning code object)
   step_later (Delete target depth) doing =
-      cond_both (lives doing target) (puts (Cut target depth ∷ Gone target depth ∷ []) (dying doing target)) (puts [] doing) (λ (next : Next). Later doing next.doing) (λ living. (others_later doing target Invalid None).2) (λ absent. unchanged doing)
+      cond_both (lives doing target) (puts (Emit target DESTROYED [] depth ∷ Cut target depth ∷ Gone target depth ∷ []) (dying doing target)) (puts [] doing) (λ (next : Next). Later doing next.doing) (λ living. (others_later doing target Invalid None).2) (λ absent. unchanged doing)
   step_later (Cut target depth) doing = kins_later target depth doing
   step_later (Kin parent child depth) doing =
       cond_both (lives_below doing parent child) (puts (Delete child depth ∷ []) doing) (puts [] doing) (λ (next : Next). Later doing next.doing) (λ living. unchanged doing) (λ other. unchanged doing)
   step_later (Gone target depth) doing = (others_later doing target Invalid None).3
+  step_later Spin doing = spun_later doing doing.state.queue.events
   step_later (Reply answer) doing = told_later doing (line.Reply answer)
+  step_later ReplySpun doing = told_later doing (line.Reply (a.Spun (spin_of doing)))
 
   pub run_later : (agenda : List Item) (doing : Doing) → Later doing (run settings agenda doing)
   run_later agenda doing = run_keeps settings (λ items new. Later doing new)

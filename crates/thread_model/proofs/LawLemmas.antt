@@ -15,37 +15,43 @@ use Rattle.variant_value.specs.Values.{value_of}
 use Rattle.object_tree.specs.declared.row.Row.{Row}
 use Rattle.object_tree.specs.Rows.{is_there}
 use Rattle.object_tree.specs.Refusing.{parent_refusal}
+use Rattle.connection_types.specs.declared.callee.Callee.TheVariants.{Method}
+use Rattle.connection_types.specs.declared.connection_type.ConnectionType.{ConnectionType}
 use Rattle.connection_list.specs.declared.connection.NewConnection.{NewConnection}
 use Rattle.connection_list.specs.declared.pattern.Pattern.{Pattern}
 use Rattle.connection_list.specs.Ends.{matches}
 use Rattle.connection_list.specs.Rows.{has_number}
+use Rattle.event_queue.specs.declared.event.Event.{Event}
+use Rattle.event_queue.specs.declared.event.Event.TheVariants.{Call, Deletion}
 use Rattle.thread_model.specs.declared.line.Answer.{Answer}
 use Rattle.thread_model.specs.declared.line.Answer.TheVariants as a
 use Rattle.thread_model.specs.declared.line.Line.{Line}
 use Rattle.thread_model.specs.declared.post.Post.{Post}
 use Rattle.thread_model.specs.Absence.{absence}
 use Rattle.thread_model.specs.Agenda.{with_turn}
-use Rattle.thread_model.specs.Asked.{Asked, New, Delete, SetParent, Children, Find, Set, Get, Meta, Connect, DisconnectOne, Disconnect, Invoke}
+use Rattle.thread_model.specs.Asked.{Asked, New, Delete, SetParent, Children, Find, Set, Get, Meta, Connect, DisconnectOne, Disconnect, Invoke, Spin, DeleteLater, Block, Status}
 use Rattle.thread_model.specs.Connecting.{connection_refusal}
 use Rattle.thread_model.specs.Doing.{Doing, begun, turn_taken, used_up}
 use Rattle.thread_model.specs.Effects.{does_next, unless}
+use Rattle.thread_model.specs.Events.{spins}
 use Rattle.thread_model.specs.Items as to_do
 use Rattle.thread_model.specs.Items.{Emit, Item, Next, Run, puts}
 use Rattle.thread_model.specs.Laws.{KeepsSound, KeepsUnderWay}
 use Rattle.thread_model.specs.Methods.{Found, is_signal_at, methods_of}
+use Rattle.thread_model.specs.Posting.{is_queued}
 use Rattle.thread_model.specs.Properties.{stores}
 use Rattle.thread_model.specs.Refusing.{class_refusal, refusal}
 use Rattle.thread_model.specs.Run.{run}
-use Rattle.thread_model.specs.Signals.{asked_connection, asked_method, asked_pattern, connects, disconnects, invoked, invokes}
-use Rattle.thread_model.specs.State.{IsSound, IsWhole, State, with_title}
+use Rattle.thread_model.specs.Signals.{asked_connection, asked_method, asked_pattern, connects, disconnects, invoked, invoked_later, invokes}
+use Rattle.thread_model.specs.State.{IsMeant, IsSound, IsWhole, State, with_event, with_title}
 use Rattle.thread_model.specs.Thread.{Settings, arrives, does, performs}
 use Rattle.thread_model.specs.UnderWay.{IsUnderWay, is_gone}
 use Rattle.thread_model.proofs.ActLemmas.{Joins, joins}
 use Rattle.thread_model.proofs.ConnectionLemmas.{allowed}
-use Rattle.thread_model.proofs.DyingLemmas.{each_added, each_reparented}
+use Rattle.thread_model.proofs.DyingLemmas.{each_added, each_blocked, each_reparented}
 use Rattle.thread_model.proofs.ItemLemmas.{item_under_way}
 use Rattle.thread_model.proofs.RunLemmas.{run_keeps}
-use Rattle.thread_model.proofs.StateLemmas.{whole_empty, whole_with_connection, whole_with_object, whole_with_parent, whole_with_title, whole_without_connections}
+use Rattle.thread_model.proofs.StateLemmas.{whole_empty, whole_with_blocking, whole_with_connection, whole_with_event, whole_with_object, whole_with_parent, whole_with_title, whole_without_connections}
 use Rattle.thread_model.proofs.TitleLemmas.{text_read}
 use Rattle.thread_model.proofs.UnderWayLemmas.{IsGoing, none_goes, turn_under, untied_staying, used_up_under}
 
@@ -55,6 +61,7 @@ under_way agenda state none sound = record {
   whole = sound.whole;
   going = All-weaker (λ (row : Row). row.dying ≡ false) (λ row. IsGoing agenda row.number row.dying) (λ row lives. none_goes row.number agenda none ∙ sym lives) state.forest.rows sound.living;
   in_time = λ index default within. record { sender = untied_staying _ agenda (none_goes _ agenda none); receiver = untied_staying _ agenda (none_goes _ agenda none) };
+  forgotten = λ index default within. untied_staying _ agenda (none_goes _ agenda none);
 }
 
 -- where nothing is left to do, no object is dying
@@ -67,11 +74,14 @@ sound_at_end state under = record {
 pub keeps_under_way : KeepsUnderWay
 keeps_under_way = record { at_first = under_way; by_item = item_under_way; at_end = sound_at_end }
 
--- a command that does an agenda to its end leaves a session sound
+-- an agenda done to its end leaves a session sound
+run_sound : (settings : Settings) (agenda : List Item) (doing : Doing) → list_any is_gone agenda ≡ false → IsSound doing.state → IsSound (run settings agenda doing).state
+run_sound settings agenda doing none sound =
+    sound_at_end (run settings agenda doing).state (run_keeps settings (λ items doing. IsUnderWay items doing.state) (item_under_way settings) agenda doing (under_way agenda doing.state none sound))
+
+-- and so does a command that replies behind it
 done_sound : (settings : Settings) (next : Next) (answer : Answer) → list_any is_gone (next.items ++ to_do.Reply answer ∷ []) ≡ false → IsSound next.doing.state → IsSound (does_next settings next answer).state
-done_sound settings next answer none sound =
-    let agenda = next.items ++ to_do.Reply answer ∷ [] in
-    sound_at_end (run settings agenda next.doing).state (run_keeps settings (λ items doing. IsUnderWay items doing.state) (item_under_way settings) agenda next.doing (under_way agenda next.doing.state none sound))
+done_sound settings next answer none sound = run_sound settings (next.items ++ to_do.Reply answer ∷ []) next.doing none sound
 
 -- nothing is refused where neither of two refusals stands
 or_none : {A : Type 0} (first second : Option A) → option_or first second ≡ None → (first ≡ None) × (second ≡ None)
@@ -125,11 +135,20 @@ invoked_begins settings state target index values sound =
     (λ spent. record { none = refl; sound = used_up_sound doing sound })
     (λ some. record { none = refl; sound = turn_sound doing sound }))
 
-invokes_sound : (settings : Settings) (state : State) (target : ℕ) (args : List Data) (index : Option ℕ) → IsSound state → IsSound (invokes settings state target args index).state
-invokes_sound settings state target args None sound = sound
-invokes_sound settings state target args (Some index) sound =
+-- an event that is posted names an object that stands
+posted_sound : (state : State) (event : Event) → IsMeant state event → IsSound state → IsSound (with_event state event)
+posted_sound state event there sound = record { whole = whole_with_event state event there sound.whole; living = sound.living }
+
+invokes_sound : (settings : Settings) (state : State) (target : ℕ) (args : List Data) (mode : ConnectionType) (index : Option ℕ) → is_there state.forest.rows target ≡ true → IsSound state → IsSound (invokes settings state target args mode index).state
+invokes_sound settings state target args mode None there sound = sound
+invokes_sound settings state target args mode (Some index) there sound =
     let begins = invoked_begins settings state target index _ sound in
-    done_sound settings (invoked settings state target index _) (a.Truth true) begins.none begins.sound
+    cond_both (is_queued mode) (invoked_later state target index _) (does_next settings (invoked settings state target index _) (a.Truth true)) (λ (effect : Effect State Line Post). IsSound effect.state)
+    (λ later. posted_sound state (Call (record { object = target; callee = Method index; sender = 0; args = _ })) there sound)
+    (λ now. done_sound settings (invoked settings state target index _) (a.Truth true) begins.none begins.sound)
+
+spins_sound : (settings : Settings) (state : State) → IsSound state → IsSound (spins settings state).state
+spins_sound settings state sound = run_sound settings (to_do.Spin ∷ to_do.ReplySpun ∷ []) (begun settings state) refl sound
 
 performed_sound : (settings : Settings) (self : List ℕ) (state : State) (asked : Asked) → refusal settings self state asked ≡ None → IsSound state → IsSound (performs settings self state asked).state
 unfolding refusal performs
@@ -153,7 +172,13 @@ performed_sound settings self state (Connect sender signal receiver method mode 
     (joins settings state sender _ receiver _ mode single) (is_present state sender one.0) (is_present state receiver other.0) other.1 sound
 performed_sound settings self state (DisconnectOne connection) passed sound = record { whole = whole_without_connections state (has_number connection) sound.whole; living = sound.living }
 performed_sound settings self state (Disconnect sender signal receiver method) passed sound = disconnected_sound state (asked_pattern settings state sender signal receiver method) sound
-performed_sound settings self state (Invoke target method args) passed sound = invokes_sound settings state target args (asked_method settings state target method) sound
+performed_sound settings self state (Invoke target method args mode) passed sound =
+    invokes_sound settings state target args mode (asked_method settings state target method) (is_present state target (or_none (absence state target) _ passed).0) sound
+performed_sound settings self state Spin passed sound = spins_sound settings state sound
+performed_sound settings self state (DeleteLater target) passed sound = posted_sound state (Deletion target) (is_present state target (or_none (absence state target) _ passed).0) sound
+performed_sound settings self state (Block target on) passed sound =
+    record { whole = whole_with_blocking state target on sound.whole; living = each_blocked (λ number dying. dying ≡ false) state.forest target on sound.living }
+performed_sound settings self state Status passed sound = sound
 
 -- a refused command leaves the state
 unless_sound : (refusal : Option Code) (state : State) (effect : Effect State Line Post) → IsSound state → (refusal ≡ None → IsSound effect.state) → IsSound (unless refusal state effect).state

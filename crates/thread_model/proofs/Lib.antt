@@ -3,6 +3,7 @@ pub mod DyingLemmas
 pub mod TitleLemmas
 pub mod WeightLemmas
 pub mod ConnectionLemmas
+pub mod QueueLemmas
 pub mod ActLemmas
 pub mod ShrinkLemmas
 pub mod FallLemmas
@@ -25,3 +26,4 @@ pub mod TreeLemmas
 pub mod PropertyLemmas
 pub mod ClassLemmas
 pub mod SignalLemmas
+pub mod EventLemmas

@@ -20,7 +20,7 @@ use Rattle.thread_model.proofs.EmissionLemmas.{call_broken}
 use Rattle.thread_model.proofs.LaterLemmas.{IsLater, Later, run_later}
 use Rattle.thread_model.proofs.RunLemmas.{after_first, at_end, by_change}
 use Rattle.thread_model.proofs.RemainingLemmas.{made_since, next_first, none_at, none_left, out_of, remaining}
-use Rattle.thread_model.proofs.FilterLemmas.{each_left, filter-alike, filter-none, filter-swap, find-none, find-passes}
+use Rattle.thread_model.proofs.FilterLemmas.{each_left, filter-alike, filter-none, filter-swap, find-none, find-passes, none-found}
 
 -- a connection of this number is not there and will not be made
 record IsDead (place : Rows) (number : ℕ) : Type 0 where
@@ -45,7 +45,7 @@ dead_later old new number later dead = dead_after old new number later dead.give
 module _ (settings : Settings) (args : List Value) (depth : ℕ) where
   -- calls of connections
   abbrev pub calls_to : List Connection → List Item
-  calls_to rows = map (λ row. Call row args depth) rows
+  calls_to rows = map (λ row. Call row.number args depth) rows
 
   -- calls of dead connections may be left out
   dead_out : (test : Connection → Bool) (rows : List Connection) (doing : Doing) → AllByRecursion (λ row. test row ≡ false → IsDead doing.state.connections row.number) rows
@@ -54,8 +54,8 @@ module _ (settings : Settings) (args : List Value) (depth : ℕ) where
   dead_out test (row ∷ rows) doing dead =
       by (test row) refl
       (λ out. dead_out test rows doing dead.1)
-      (let new = run settings (Call row args depth ∷ []) doing in
-      dead_out test rows new (still rows new (run_later settings (Call row args depth ∷ []) doing) dead.1))
+      (let new = run settings (Call row.number args depth ∷ []) doing in
+      dead_out test rows new (still rows new (run_later settings (Call row.number args depth ∷ []) doing) dead.1))
     where
       still : (rows : List Connection) (new : Doing) → Later doing new → AllByRecursion (λ row. test row ≡ false → IsDead doing.state.connections row.number) rows → AllByRecursion (λ row. test row ≡ false → IsDead new.state.connections row.number) rows
       still [] new later dead = tt
@@ -63,13 +63,13 @@ module _ (settings : Settings) (args : List Value) (depth : ℕ) where
 
       by : (kept : Bool) → test row ≡ kept
           → (test row ≡ false → run settings (calls_to rows) doing ≡ run settings (calls_to (filter test rows)) doing)
-          → run settings (calls_to rows) (run settings (Call row args depth ∷ []) doing) ≡ run settings (calls_to (filter test rows)) (run settings (Call row args depth ∷ []) doing)
-          → run settings (Call row args depth ∷ calls_to rows) doing ≡ run settings (calls_to (cond kept (row ∷ filter test rows) (filter test rows))) doing
+          → run settings (calls_to rows) (run settings (Call row.number args depth ∷ []) doing) ≡ run settings (calls_to (filter test rows)) (run settings (Call row.number args depth ∷ []) doing)
+          → run settings (Call row.number args depth ∷ calls_to rows) doing ≡ run settings (calls_to (cond kept (row ∷ filter test rows) (filter test rows))) doing
       by true is out after =
-          after_first settings (Call row args depth) (calls_to rows) doing ∙ after ∙ sym (after_first settings (Call row args depth) (calls_to (filter test rows)) doing)
+          after_first settings (Call row.number args depth) (calls_to rows) doing ∙ after ∙ sym (after_first settings (Call row.number args depth) (calls_to (filter test rows)) doing)
       by false is out after =
-          after_first settings (Call row args depth) (calls_to rows) doing
-          ∙ ap (run settings (calls_to rows)) (by_change settings (Call row args depth) doing doing (call_broken settings row args depth doing (dead.0 is).broken))
+          after_first settings (Call row.number args depth) (calls_to rows) doing
+          ∙ ap (run settings (calls_to rows)) (by_change settings (Call row.number args depth) doing doing (call_broken settings row.number args depth doing (none-found (has_number row.number) doing.state.connections.rows (dead.0 is).broken)))
           ∙ out is
 
 first_true : (a b : Bool) → (a && b) ≡ true → a ≡ true
@@ -97,10 +97,10 @@ module _ (settings : Settings) (target signal : ℕ) (args : List Value) (depth 
     pub emission_next : (next : Connection) → IsSound doing.state.connections → up_to ≤ doing.state.connections.last_number
         → find (is_next target signal after up_to) doing.state.connections.rows ≡ Some next
         → run settings (calls_to settings args depth (remaining target signal up_to after doing.state.connections.rows)) doing
-        ≡ run settings (calls_to settings args depth (remaining target signal up_to next.number (run settings (Call next args depth ∷ []) doing).state.connections.rows)) (run settings (Call next args depth ∷ []) doing)
+        ≡ run settings (calls_to settings args depth (remaining target signal up_to next.number (run settings (Call next.number args depth ∷ []) doing).state.connections.rows)) (run settings (Call next.number args depth ∷ []) doing)
     emission_next next sound most found =
         ap (λ rows. run settings (calls_to settings args depth rows) doing) (next_first target signal up_to after next place.rows sound.rising below found)
-        ∙ after_first settings (Call next args depth) (calls_to settings args depth (remaining target signal up_to next.number place.rows)) doing
+        ∙ after_first settings (Call next.number args depth) (calls_to settings args depth (remaining target signal up_to next.number place.rows)) doing
         ∙ dead_out settings args depth later.left (remaining target signal up_to next.number place.rows) then dead
         ∙ ap (λ rows. run settings (calls_to settings args depth rows) then) (sym left)
       where
@@ -108,10 +108,10 @@ module _ (settings : Settings) (target signal : ℕ) (args : List Value) (depth 
         place = doing.state.connections
 
         then : Doing
-        then = run settings (Call next args depth ∷ []) doing
+        then = run settings (Call next.number args depth ∷ []) doing
 
         later : Later doing then
-        later = run_later settings (Call next args depth ∷ []) doing
+        later = run_later settings (Call next.number args depth ∷ []) doing
 
         below : after < next.number
         below = let passes = find-passes (is_next target signal after up_to) place.rows next found in

@@ -22,7 +22,7 @@ total-more m n doing items less =
     let bodies = mul-le-mul_left m.actions (above m.connections n.connections less.connections) in
     let same : m.actions * (n.connections + 3) ≡ n.actions * (n.connections + 3) = ap (λ k. k * (n.connections + 3)) less.actions in
     let turn : turn_weight m ≤ turn_weight n = omega (arith, bodies, same, less.connections) in
-    let deletion : deletion_weight m ≤ deletion_weight n = omega (arith, less.objects) in
+    let deletion : deletion_weight m ≤ deletion_weight n = omega (arith, less.objects, less.connections) in
     let turns = mul-le-mul_left doing.turns turn in
     let deletions = mul-le-mul_left (living_rows doing.state.forest.rows) deletion in
     omega (arith, turns, deletions)

@@ -1,6 +1,6 @@
 -- The rule of each command for signals and slots: why it is refused, what it does where it is not, and
 -- both together; and each way that it goes.
-use Rattle.std.proofs.Common.{◌≡◌, ◌<◌, ◌+◌, ◌==◌, ℕ, Bool, true, false, List, [], ◌∷◌, Option, Some, None, Ok, count_by, refl, ap, ◌∙◌, arith}
+use Rattle.std.proofs.Common.{◌≡◌, ◌<◌, ◌+◌, ◌==◌, ℕ, Bool, true, false, cond, List, [], ◌∷◌, Option, Some, None, Ok, count_by, refl, ap, ◌∙◌, arith}
 use Rattle.std.specs.Option.{option_or}
 use Rattle.std.specs.Result.{result_err, result_unwrap_or}
 use Rattle.std.proofs.lemmas.Bool.{cond-false, cond-true}
@@ -14,14 +14,15 @@ use Rattle.connection_list.specs.Ends.{matches}
 use Rattle.thread_model.specs.declared.line.Answer.TheVariants as a
 use Rattle.thread_model.specs.Absence.{absence, named_absence}
 use Rattle.thread_model.specs.Agenda.{with_turn}
-use Rattle.thread_model.specs.Asked.{Connect, Disconnect, DisconnectOne, Invoke}
+use Rattle.thread_model.specs.Asked.{Asked, Connect, Disconnect, DisconnectOne, Invoke}
 use Rattle.thread_model.specs.Connecting.{connection_refusal}
 use Rattle.thread_model.specs.Doing.{begun, turn_taken, used_up}
 use Rattle.thread_model.specs.Effects.{does_next, replies, unless}
 use Rattle.thread_model.specs.Items.{Emit, Next, Run, puts}
 use Rattle.thread_model.specs.Methods.{is_signal_at, methods_of, signature_in}
-use Rattle.thread_model.specs.Refusing.{refusal, values_refusal}
-use Rattle.thread_model.specs.Signals.{asked_connection, asked_method, asked_pattern, asked_values, connects, disconnects, disconnects_one, invoked, invokes}
+use Rattle.thread_model.specs.Posting.{is_queued}
+use Rattle.thread_model.specs.Refusing.{later_refusal, refusal, values_refusal}
+use Rattle.thread_model.specs.Signals.{asked_connection, asked_method, asked_pattern, asked_values, connects, disconnects, disconnects_one, invoked, invoked_later, invokes}
 use Rattle.thread_model.specs.State.{State, with_connection, without_connections}
 use Rattle.thread_model.specs.Thread.{Settings, does, performs}
 
@@ -80,46 +81,56 @@ module _ (settings : Settings) (self : List ℕ) (state : State) where
         → performs settings self state (Disconnect sender signal receiver method) ≡ replies (without_connections state (matches pattern)) (a.Number (count_by (matches pattern) state.connections.rows))
     disconnect_made pattern found = performs_disconnect ∙ ap (disconnects state) found
 
-  module _ (target : ℕ) (method : List ℕ) (args : List Data) where
-    pub refusal_invoke : refusal settings self state (Invoke target method args)
-        ≡ option_or (absence state target) (option_or (result_err (signature_in method)) (values_refusal settings state target args (asked_method settings state target method)))
+  module _ (target : ℕ) (method : List ℕ) (args : List Data) (mode : ConnectionType) where
+    abbrev invoke : Asked
+    invoke = Invoke target method args mode
+
+    pub refusal_invoke : refusal settings self state invoke
+        ≡ option_or (absence state target) (option_or (result_err (signature_in method)) (option_or (values_refusal settings state target args (asked_method settings state target method)) (later_refusal state mode (asked_method settings state target method))))
     unfolding refusal
     refusal_invoke = refl
 
-    pub performs_invoke : performs settings self state (Invoke target method args) ≡ invokes settings state target args (asked_method settings state target method)
+    pub performs_invoke : performs settings self state invoke ≡ invokes settings state target args mode (asked_method settings state target method)
     unfolding performs
     performs_invoke = refl
 
-    pub does_invoke : does settings self state (Invoke target method args)
-        ≡ unless (option_or (absence state target) (option_or (result_err (signature_in method)) (values_refusal settings state target args (asked_method settings state target method)))) state
-        (invokes settings state target args (asked_method settings state target method))
+    pub does_invoke : does settings self state invoke
+        ≡ unless (option_or (absence state target) (option_or (result_err (signature_in method)) (option_or (values_refusal settings state target args (asked_method settings state target method)) (later_refusal state mode (asked_method settings state target method))))) state
+        (invokes settings state target args mode (asked_method settings state target method))
     unfolding does refusal performs
     does_invoke = refl
 
     -- an object that has no such method is told of as false
-    pub invoke_none : asked_method settings state target method ≡ None → performs settings self state (Invoke target method args) ≡ replies state (a.Truth false)
-    invoke_none none = performs_invoke ∙ ap (invokes settings state target args) none
+    pub invoke_none : asked_method settings state target method ≡ None → performs settings self state invoke ≡ replies state (a.Truth false)
+    invoke_none none = performs_invoke ∙ ap (invokes settings state target args mode) none
 
     module _ (index : ℕ) (values : List Value) (found : asked_method settings state target method ≡ Some index) (given : asked_values settings state target index args ≡ Ok values) where
-      comes_to : (next : Next) → invoked settings state target index values ≡ next → performs settings self state (Invoke target method args) ≡ does_next settings next (a.Truth true)
-      comes_to next is =
-          performs_invoke ∙ ap (invokes settings state target args) found
-          ∙ ap (λ given. does_next settings (invoked settings state target index (result_unwrap_or given [])) (a.Truth true)) given
-          ∙ ap (λ next. does_next settings next (a.Truth true)) is
+      is_found : performs settings self state invoke ≡ cond (is_queued mode) (invoked_later state target index values) (does_next settings (invoked settings state target index values) (a.Truth true))
+      is_found =
+          performs_invoke ∙ ap (invokes settings state target args mode) found
+          ∙ ap (λ given. let values = result_unwrap_or given [] in cond (is_queued mode) (invoked_later state target index values) (does_next settings (invoked settings state target index values) (a.Truth true))) given
 
-      -- a signal is sent
-      pub invoke_signal : is_signal_at (methods_of settings state target) index ≡ true
-          → performs settings self state (Invoke target method args) ≡ does_next settings (puts (Emit target index values 0 ∷ []) (begun settings state)) (a.Truth true)
-      invoke_signal signal = comes_to _ (cond-true (is_signal_at (methods_of settings state target) index) _ (with_turn (begun settings state) (puts (Run target index 0 values 0 ∷ []))) signal)
+      -- a call that is asked for later is posted as an event
+      pub invoke_posted : is_queued mode ≡ true → performs settings self state invoke ≡ invoked_later state target index values
+      invoke_posted later = is_found ∙ cond-true (is_queued mode) _ _ later
 
-      module _ (slot : is_signal_at (methods_of settings state target) index ≡ false) where
-        is_slot : invoked settings state target index values ≡ with_turn (begun settings state) (puts (Run target index 0 values 0 ∷ []))
-        is_slot = cond-false (is_signal_at (methods_of settings state target) index) _ (with_turn (begun settings state) (puts (Run target index 0 values 0 ∷ []))) slot
+      module _ (at_once : is_queued mode ≡ false) where
+        comes_to : (next : Next) → invoked settings state target index values ≡ next → performs settings self state invoke ≡ does_next settings next (a.Truth true)
+        comes_to next is = is_found ∙ cond-false (is_queued mode) _ _ at_once ∙ ap (λ next. does_next settings next (a.Truth true)) is
 
-        -- a slot takes a turn and is run
-        pub invoke_slot : 0 < settings.turns → performs settings self state (Invoke target method args) ≡ does_next settings (puts (Run target index 0 values 0 ∷ []) (turn_taken (begun settings state))) (a.Truth true)
-        invoke_slot some = let is : (settings.turns == 0) ≡ false = grind (arith, nat_tests, some) in comes_to _ (is_slot ∙ cond-false (settings.turns == 0) _ _ is)
+        -- a signal is sent
+        pub invoke_signal : is_signal_at (methods_of settings state target) index ≡ true
+            → performs settings self state invoke ≡ does_next settings (puts (Emit target index values 0 ∷ []) (begun settings state)) (a.Truth true)
+        invoke_signal signal = comes_to _ (cond-true (is_signal_at (methods_of settings state target) index) _ (with_turn (begun settings state) (puts (Run target index 0 values 0 ∷ []))) signal)
 
-        -- a slot is not run where there are no turns
-        pub invoke_spent : settings.turns ≡ 0 → performs settings self state (Invoke target method args) ≡ does_next settings (puts [] (used_up (begun settings state))) (a.Truth true)
-        invoke_spent none = let is : (settings.turns == 0) ≡ true = grind (arith, nat_tests, none) in comes_to _ (is_slot ∙ cond-true (settings.turns == 0) _ _ is)
+        module _ (slot : is_signal_at (methods_of settings state target) index ≡ false) where
+          is_slot : invoked settings state target index values ≡ with_turn (begun settings state) (puts (Run target index 0 values 0 ∷ []))
+          is_slot = cond-false (is_signal_at (methods_of settings state target) index) _ (with_turn (begun settings state) (puts (Run target index 0 values 0 ∷ []))) slot
+
+          -- a slot takes a turn and is run
+          pub invoke_slot : 0 < settings.turns → performs settings self state invoke ≡ does_next settings (puts (Run target index 0 values 0 ∷ []) (turn_taken (begun settings state))) (a.Truth true)
+          invoke_slot some = let is : (settings.turns == 0) ≡ false = grind (arith, nat_tests, some) in comes_to _ (is_slot ∙ cond-false (settings.turns == 0) _ _ is)
+
+          -- a slot is not run where there are no turns
+          pub invoke_spent : settings.turns ≡ 0 → performs settings self state invoke ≡ does_next settings (puts [] (used_up (begun settings state))) (a.Truth true)
+          invoke_spent none = let is : (settings.turns == 0) ≡ true = grind (arith, nat_tests, none) in comes_to _ (is_slot ∙ cond-true (settings.turns == 0) _ _ is)

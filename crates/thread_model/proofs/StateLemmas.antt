@@ -1,6 +1,6 @@
 -- What each change leaves of a session's state.
 use Rattle.std.proofs.Common.{◌≡◌, ◌+◌, ◌<◌, ◌≤◌, ◌==◌, ℕ, Bool, true, false, not, cond, List, [], ◌∷◌, ◌++◌, Option, None, Less, Equal, Greater, filter, refl, sym, ap, ◌∙◌, subst, arith, ⊎_elim}
-use Rattle.std.specs.List.{AllByRecursion, list_any}
+use Rattle.std.specs.List.{All, AllByRecursion, list_any}
 use Rattle.std.specs.List.Sorted.{IsStrictlySortedBy}
 use Rattle.std.specs.Map.{keys_of, remove_entry}
 use Rattle.std.specs.declared.cmp.Ordering.{Ordering}
@@ -24,8 +24,12 @@ use Rattle.connection_list.specs.declared.connection.Connection.{Connection}
 use Rattle.connection_list.specs.declared.connection.NewConnection.{NewConnection}
 use Rattle.connection_list.specs.Rows.{numbered}
 use Rattle.connection_list.proofs.WithoutLemmas.{IsSound-without}
-use Rattle.thread_model.specs.State.{IsTied, IsWhole, State, Titles, empty, is_of, titled, with_connection, with_object, with_parent, with_title, without_connections, without_object}
+use Rattle.event_queue.specs.declared.event.Event.{Event}
+use Rattle.event_queue.specs.Queue as events
+use Rattle.event_queue.specs.Queue.{IsSound, Queue, dropped, object_of, posted, taken}
+use Rattle.thread_model.specs.State.{IsMeant, IsTied, IsWhole, State, Titles, empty, is_of, titled, with_blocking, with_connection, with_event, with_lost, with_object, with_parent, with_title, without_connections, without_events, without_first, without_object}
 use Rattle.thread_model.proofs.ConnectionLemmas.{Ends, IsAllowed, sound_connected, sound_empty, tied_more, tied_same, tied_without}
+use Rattle.thread_model.proofs.QueueLemmas.{each_dropped, each_posted, each_taken, meant_more, meant_same, meant_without, sound_dropped, sound_lost, sound_none, sound_posted, sound_taken}
 
 -- all of these are above this one
 abbrev Above : ℕ → List ℕ → Type 0
@@ -111,6 +115,8 @@ whole_empty = record {
   texts = λ index default within. absurd (omega arith);
   connections = sound_empty;
   ends = λ index default within. absurd (omega arith);
+  queue = sound_none;
+  meant = λ index default within. absurd (omega arith);
 }
 
 pub whole_with_object : (state : State) (parent : Option ℕ) (class : ℕ) → add_refusal state.forest parent ≡ None → IsWhole state → IsWhole (with_object state parent class)
@@ -120,6 +126,8 @@ whole_with_object state parent class allowed whole = record {
   texts = All-values-insert_entry nat_cmp (state.forest.last_number + 1) (v.Text []) (IsOfKind k.Text) state.titles whole.texts (refl, omega arith);
   connections = whole.connections;
   ends = tied_more state (with_object state parent class) (state.forest.last_number + 1) (keeps_numbers.by_added state.forest parent class) state.connections.rows whole.ends;
+  queue = whole.queue;
+  meant = meant_more state (with_object state parent class) (state.forest.last_number + 1) (keeps_numbers.by_added state.forest parent class) state.queue.events whole.meant;
 }
   where
     below : AllByRecursion (λ key. key < state.forest.last_number + 1) (keys_of state.titles)
@@ -135,6 +143,8 @@ whole_with_parent state number parent allowed whole = record {
   texts = whole.texts;
   connections = whole.connections;
   ends = tied_same state (with_parent state number parent) (keeps_numbers.by_reparented state.forest number parent) state.connections.rows whole.ends;
+  queue = whole.queue;
+  meant = meant_same state (with_parent state number parent) (keeps_numbers.by_reparented state.forest number parent) state.queue.events whole.meant;
 }
 
 pub whole_with_title : (state : State) (number : ℕ) (title : Value) → is_there state.forest.rows number ≡ true → IsOfKind k.Text title → IsWhole state → IsWhole (with_title state number title)
@@ -144,6 +154,8 @@ whole_with_title state number title there text whole = record {
   texts = All-values-insert_entry nat_cmp number title (IsOfKind k.Text) state.titles whole.texts text;
   connections = whole.connections;
   ends = tied_same state (with_title state number title) refl state.connections.rows whole.ends;
+  queue = whole.queue;
+  meant = meant_same state (with_title state number title) refl state.queue.events whole.meant;
 }
 
 pub whole_with_dying : (state : State) (number : ℕ) → IsWhole state → IsWhole (record state { forest = marked state.forest number })
@@ -153,16 +165,31 @@ whole_with_dying state number whole = record {
   texts = whole.texts;
   connections = whole.connections;
   ends = tied_same state (record state { forest = marked state.forest number }) (keeps_numbers.by_marked state.forest number) state.connections.rows whole.ends;
+  queue = whole.queue;
+  meant = meant_same state (record state { forest = marked state.forest number }) (keeps_numbers.by_marked state.forest number) state.queue.events whole.meant;
 }
 
--- an object may go that no connection has as an end
-pub whole_without_object : (state : State) (number : ℕ) → Ends (λ end. (end == number) ≡ false) state.connections.rows → IsWhole state → IsWhole (without_object state number)
-whole_without_object state number loose whole = record {
+pub whole_with_blocking : (state : State) (number : ℕ) (on : Bool) → IsWhole state → IsWhole (with_blocking state number on)
+whole_with_blocking state number on whole = record {
+  forest = keeps_sound.by_blocked state.forest number on whole.forest;
+  titles = whole.titles ∙ sym (keeps_numbers.by_blocked state.forest number on);
+  texts = whole.texts;
+  connections = whole.connections;
+  ends = tied_same state (with_blocking state number on) (keeps_numbers.by_blocked state.forest number on) state.connections.rows whole.ends;
+  queue = whole.queue;
+  meant = meant_same state (with_blocking state number on) (keeps_numbers.by_blocked state.forest number on) state.queue.events whole.meant;
+}
+
+-- an object may go that no connection has as an end, and no event names
+pub whole_without_object : (state : State) (number : ℕ) → Ends (λ end. (end == number) ≡ false) state.connections.rows → All (λ event. (object_of event == number) ≡ false) state.queue.events → IsWhole state → IsWhole (without_object state number)
+whole_without_object state number loose unnamed whole = record {
   forest = keeps_sound.by_removed state.forest number whole.forest;
   titles = keys-removed state.titles number (titles_rise state whole) ∙ ap (filter (λ key. not (key == number))) whole.titles ∙ sym (keeps_numbers.by_removed state.forest number);
   texts = All-map-remove_entry (is_of number) (λ (entry : ℕ × Value). entry.1) (IsOfKind k.Text) state.titles whole.texts;
   connections = whole.connections;
   ends = tied_without state (without_object state number) number (keeps_numbers.by_removed state.forest number) state.connections.rows loose whole.ends;
+  queue = whole.queue;
+  meant = meant_without state (without_object state number) number (keeps_numbers.by_removed state.forest number) state.queue.events unnamed whole.meant;
 }
 
 pub whole_with_connection : (state : State) (new : NewConnection) → IsAllowed state.connections → is_there state.forest.rows new.sender ≡ true → is_there state.forest.rows new.receiver ≡ true → IsWhole state → IsWhole (with_connection state new)
@@ -173,6 +200,8 @@ whole_with_connection state new allowed sender receiver whole = record {
   connections = sound_connected state.connections new allowed whole.connections;
   ends = All-push (IsTied (with_connection state new)) state.connections.rows (numbered (state.connections.last_number + 1) new)
       (tied_same state (with_connection state new) refl state.connections.rows whole.ends) (record { sender = sender; receiver = receiver });
+  queue = whole.queue;
+  meant = meant_same state (with_connection state new) refl state.queue.events whole.meant;
 }
 
 pub whole_without_connections : (state : State) (test : Connection → Bool) → IsWhole state → IsWhole (without_connections state test)
@@ -182,4 +211,36 @@ whole_without_connections state test whole = record {
   texts = whole.texts;
   connections = IsSound-without test state.connections whole.connections;
   ends = All-filter (λ row. not (test row)) (IsTied (without_connections state test)) state.connections.rows (tied_same state (without_connections state test) refl state.connections.rows whole.ends);
+  queue = whole.queue;
+  meant = meant_same state (without_connections state test) refl state.queue.events whole.meant;
 }
+
+-- other events: each names an object that stands
+abbrev with_queue : State → Queue → State
+with_queue state queue = record state { queue = queue }
+
+whole_with_queue : (state : State) (queue : Queue) → IsSound queue → All (IsMeant state) queue.events → IsWhole state → IsWhole (with_queue state queue)
+whole_with_queue state queue sound meant whole = record {
+  forest = whole.forest;
+  titles = whole.titles;
+  texts = whole.texts;
+  connections = whole.connections;
+  ends = tied_same state (with_queue state queue) refl state.connections.rows whole.ends;
+  queue = sound;
+  meant = meant_same state (with_queue state queue) refl queue.events meant;
+}
+
+pub whole_with_event : (state : State) (event : Event) → IsMeant state event → IsWhole state → IsWhole (with_event state event)
+whole_with_event state event there whole =
+    whole_with_queue state (posted state.queue event) (sound_posted state.queue event whole.queue) (each_posted (IsMeant state) state.queue event there whole.meant) whole
+
+pub whole_without_events : (state : State) (number : ℕ) → IsWhole state → IsWhole (without_events state number)
+whole_without_events state number whole =
+    whole_with_queue state (dropped number state.queue) (sound_dropped number state.queue whole.queue) (each_dropped (IsMeant state) number state.queue whole.meant) whole
+
+pub whole_without_first : (state : State) → IsWhole state → IsWhole (without_first state)
+whole_without_first state whole =
+    whole_with_queue state (taken state.queue) (sound_taken state.queue whole.queue) (each_taken (IsMeant state) state.queue whole.meant) whole
+
+pub whole_with_lost : (state : State) → IsWhole state → IsWhole (with_lost state)
+whole_with_lost state whole = whole_with_queue state (events.with_lost state.queue) (sound_lost state.queue whole.queue) whole.meant whole

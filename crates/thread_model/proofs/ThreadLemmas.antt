@@ -2,11 +2,14 @@
 use Rattle.std.proofs.Common.{◌≡◌, ◌∙◌, ℕ, List, [], ◌∷◌, Some, None, refl, ap}
 use Rattle.refusals.specs.declared.code.Code.{Code}
 use Rattle.thread_model.specs.declared.line.Answer.{Answer}
+use Rattle.thread_model.specs.declared.line.Answer.TheVariants as a
 use Rattle.thread_model.specs.declared.line.Line.TheVariants as line
 use Rattle.thread_model.specs.Asked.{Asked}
-use Rattle.thread_model.specs.Doing.{told}
+use Rattle.thread_model.specs.Doing.{begun, told}
 use Rattle.thread_model.specs.Effects.{does_next, ended, refuses, unless}
-use Rattle.thread_model.specs.Items.{Next, Reply}
+use Rattle.thread_model.specs.Events.{spins}
+use Rattle.thread_model.specs.Items.{Next, Reply, ReplySpun, Spin}
+use Rattle.thread_model.specs.Posting.{spin_of}
 use Rattle.thread_model.specs.Refusing.{refusal}
 use Rattle.thread_model.specs.Run.{run}
 use Rattle.thread_model.specs.State.{State}
@@ -29,3 +32,9 @@ pub replies_last : (settings : Settings) (next : Next) (answer : Answer) → doe
 replies_last settings next answer =
     let done = run settings next.items next.doing in
     ap ended (in_parts settings next.items (Reply answer ∷ []) next.doing ∙ by_change settings (Reply answer) done (told done (line.Reply answer)) refl)
+
+-- taking events tells last what came of it
+pub spun_last : (settings : Settings) (state : State) → let done = run settings (Spin ∷ []) (begun settings state) in spins settings state ≡ ended (told done (line.Reply (a.Spun (spin_of done))))
+spun_last settings state =
+    let done = run settings (Spin ∷ []) (begun settings state) in
+    ap ended (in_parts settings (Spin ∷ []) (ReplySpun ∷ []) (begun settings state) ∙ by_change settings ReplySpun done (told done (line.Reply (a.Spun (spin_of done)))) refl)

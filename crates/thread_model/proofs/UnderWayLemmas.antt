@@ -14,17 +14,23 @@ use Rattle.connection_list.specs.declared.connection.NewConnection.{NewConnectio
 use Rattle.connection_list.specs.declared.pattern.Pattern.{Pattern}
 use Rattle.connection_list.specs.Ends.{matches, touches}
 use Rattle.connection_list.specs.Rows.{has_number, numbered}
+use Rattle.event_queue.specs.declared.event.Event.{Event}
+use Rattle.event_queue.specs.declared.event.Event.TheVariants as event
+use Rattle.event_queue.specs.declared.event.QueuedCall.{QueuedCall}
+use Rattle.event_queue.specs.Queue.{has_room, object_of}
 use Rattle.object_tree.specs.Refusing.{object_refusal, set_parent_refusal}
 use Rattle.object_tree.specs.Rows.{is_there}
 use Rattle.thread_model.specs.declared.line.Line.{Line}
 use Rattle.thread_model.specs.declared.line.Line.TheVariants.{Warning}
-use Rattle.thread_model.specs.Doing.{Doing, linked, unlinked, dying, gone, in_state, adopted, retitled, shot, told, turn_taken, untied, used_up}
+use Rattle.thread_model.specs.Agenda.{queued}
+use Rattle.thread_model.specs.Doing.{Doing, adopted, blocking, dying, first_taken, forgotten, gone, in_state, linked, lost, posted, retitled, shot, told, turn_taken, unlinked, untied, used_up}
 use Rattle.thread_model.specs.Items.{Cut, Gone, Item}
-use Rattle.thread_model.specs.State.{State, without_connections}
-use Rattle.thread_model.specs.UnderWay.{IsBrokenInTime, IsUnderWay, is_gone, is_untied_first, lets_go, unties}
+use Rattle.thread_model.specs.State.{IsTied, State, without_connections}
+use Rattle.thread_model.specs.UnderWay.{IsBrokenInTime, IsForgottenInTime, IsUnderWay, is_gone, is_untied_first, lets_go, unties}
 use Rattle.thread_model.proofs.ConnectionLemmas.{IsAllowed, OfEnds}
-use Rattle.thread_model.proofs.DyingLemmas.{Stands, each_marked, each_removed, each_reparented, of_row, stands_living}
-use Rattle.thread_model.proofs.StateLemmas.{whole_with_connection, whole_with_dying, whole_with_parent, whole_with_title, whole_without_connections, whole_without_object}
+use Rattle.thread_model.proofs.DyingLemmas.{Stands, each_blocked, each_marked, each_removed, each_reparented, of_row, stands_living}
+use Rattle.thread_model.proofs.QueueLemmas.{each_posted, each_taken, others_named}
+use Rattle.thread_model.proofs.StateLemmas.{whole_with_blocking, whole_with_connection, whole_with_dying, whole_with_event, whole_with_lost, whole_with_parent, whole_with_title, whole_without_connections, whole_without_events, whole_without_first, whole_without_object}
 
 -- an object is dying exactly where an agenda is to let it go
 abbrev pub IsGoing : List Item → ℕ → Bool → Type 0
@@ -70,12 +76,17 @@ in_time one other so rows all index default within =
     let was : IsBrokenInTime one _ = all index default within in
     record { sender = so _ was.sender; receiver = so _ was.receiver }
 
+-- and so is an event that is forgotten in time
+still_forgotten : (one other : List Item) → ((number : ℕ) → is_untied_first one number ≡ true → is_untied_first other number ≡ true) → (events : List Event) → All (IsForgottenInTime one) events → All (IsForgottenInTime other) events
+still_forgotten one other so events = All-weaker (IsForgottenInTime one) (IsForgottenInTime other) (λ event. so (object_of event)) events
+
 pub in_front : (items agenda : List Item) (state : State) → list_any is_gone items ≡ false → IsUnderWay agenda state → IsUnderWay (items ++ agenda) state
 in_front items agenda state none under = record {
   whole = under.whole;
   going = All-weaker (λ row. IsGoing agenda row.number row.dying) (λ row. IsGoing (items ++ agenda) row.number row.dying)
       (λ row is. list_any-append (lets_go row.number) items agenda ∙ ap (λ b. b || list_any (lets_go row.number) agenda) (none_goes row.number items none) ∙ is) state.forest.rows under.going;
   in_time = in_time agenda (items ++ agenda) (λ number. untied_behind number items agenda none) state.connections.rows under.in_time;
+  forgotten = still_forgotten agenda (items ++ agenda) (λ number. untied_behind number items agenda none) state.queue.events under.forgotten;
 }
 
 -- an item may be done that neither lets an object go nor breaks its connections
@@ -84,9 +95,12 @@ behind item agenda state stays ties under = record {
   whole = under.whole;
   going = All-weaker (λ row. IsGoing (item ∷ agenda) row.number row.dying) (λ row. IsGoing agenda row.number row.dying)
       (λ row is. ap (λ b. b || list_any (lets_go row.number) agenda) (sym (stays row.number)) ∙ is) state.forest.rows under.going;
-  in_time = in_time (item ∷ agenda) agenda
-      (λ number untied. ap (λ b. b || is_untied_first agenda number) (sym (ties number)) ∙ ap (λ b. unties number item || (not b && is_untied_first agenda number)) (sym (stays number)) ∙ untied) state.connections.rows under.in_time;
+  in_time = in_time (item ∷ agenda) agenda rest state.connections.rows under.in_time;
+  forgotten = still_forgotten (item ∷ agenda) agenda rest state.queue.events under.forgotten;
 }
+  where
+    rest : (number : ℕ) → is_untied_first (item ∷ agenda) number ≡ true → is_untied_first agenda number ≡ true
+    rest number untied = ap (λ b. b || is_untied_first agenda number) (sym (ties number)) ∙ ap (λ b. unties number item || (not b && is_untied_first agenda number)) (sym (stays number)) ∙ untied
 
 module _ (agenda : List Item) (doing : Doing) (under : IsUnderWay agenda doing.state) where
   pub told_under : (said : Line) → IsUnderWay agenda (told doing said).state
@@ -107,6 +121,7 @@ module _ (agenda : List Item) (doing : Doing) (under : IsUnderWay agenda doing.s
     whole = whole_without_connections doing.state test under.whole;
     going = under.going;
     in_time = All-filter (λ row. not (test row)) (IsBrokenInTime agenda) doing.state.connections.rows under.in_time;
+    forgotten = under.forgotten;
   }
 
   pub shot_under : (row : Connection) → IsUnderWay agenda (shot doing row).state
@@ -130,11 +145,58 @@ module _ (agenda : List Item) (doing : Doing) (under : IsUnderWay agenda doing.s
         whole = whole_with_connection doing.state new allowed one.there other.there under.whole;
         going = under.going;
         in_time = All-push (IsBrokenInTime agenda) doing.state.connections.rows (numbered (doing.state.connections.last_number + 1) new) under.in_time (record { sender = staying new.sender one; receiver = staying new.receiver other });
+        forgotten = under.forgotten;
       }
+
+  -- an event may be posted for an object that is not let go before the event is forgotten
+  posted_under : (event : Event) → is_there doing.state.forest.rows (object_of event) ≡ true → is_untied_first agenda (object_of event) ≡ true → IsUnderWay agenda (posted doing event).state
+  unfolding posted
+  posted_under event there untied = record {
+    whole = whole_with_event doing.state event there under.whole;
+    going = under.going;
+    in_time = under.in_time;
+    forgotten = each_posted (IsForgottenInTime agenda) doing.state.queue event untied under.forgotten;
+  }
+
+  -- as for one that lives
+  pub meant_under : (event : Event) → object_refusal doing.state.forest.rows (object_of event) ≡ None → IsUnderWay agenda (posted doing event).state
+  meant_under event passed =
+      let stands = stands_living doing.state.forest.rows (object_of event) passed in
+      posted_under event stands.there (staying (object_of event) stands)
+
+  pub lost_under : IsUnderWay agenda (lost doing).state
+  unfolding lost
+  lost_under = record { whole = whole_with_lost doing.state under.whole; going = under.going; in_time = under.in_time; forgotten = under.forgotten }
+
+  -- a connection that stands has a receiver for which a call may be posted, also when the connection is
+  -- broken before
+  pub queued_under : (connection : Connection) (call : QueuedCall) → IsTied doing.state connection → IsBrokenInTime agenda connection → call.object ≡ connection.receiver → IsUnderWay agenda (queued doing call).state
+  queued_under connection call tied broken same =
+      cond_both (has_room doing.state.queue) (posted doing (event.Call call)) (lost doing) (λ (new : Doing). IsUnderWay agenda new.state)
+      (λ room. posted_under (event.Call call) (ap (is_there doing.state.forest.rows) same ∙ tied.receiver) (ap (is_untied_first agenda) same ∙ broken.receiver))
+      (λ full. lost_under)
+
+  pub first_taken_under : IsUnderWay agenda (first_taken doing).state
+  unfolding first_taken
+  first_taken_under = record {
+    whole = whole_without_first doing.state under.whole;
+    going = under.going;
+    in_time = under.in_time;
+    forgotten = each_taken (IsForgottenInTime agenda) doing.state.queue under.forgotten;
+  }
+
+  pub blocking_under : (target : ℕ) (on : Bool) → IsUnderWay agenda (blocking doing target on).state
+  unfolding blocking
+  blocking_under target on = record {
+    whole = whole_with_blocking doing.state target on under.whole;
+    going = each_blocked (IsGoing agenda) doing.state.forest target on under.going;
+    in_time = under.in_time;
+    forgotten = under.forgotten;
+  }
 
   pub retitled_under : (target : ℕ) (title : Value) → is_there doing.state.forest.rows target ≡ true → IsOfKind k.Text title → IsUnderWay agenda (retitled doing target title).state
   unfolding retitled
-  retitled_under target title there text = record { whole = whole_with_title doing.state target title there text under.whole; going = under.going; in_time = under.in_time }
+  retitled_under target title there text = record { whole = whole_with_title doing.state target title there text under.whole; going = under.going; in_time = under.in_time; forgotten = under.forgotten }
 
   pub adopted_under : (target : ℕ) (parent : Option ℕ) → set_parent_refusal doing.state.forest target parent ≡ None → IsUnderWay agenda (adopted doing target parent).state
   unfolding adopted
@@ -142,6 +204,7 @@ module _ (agenda : List Item) (doing : Doing) (under : IsUnderWay agenda doing.s
     whole = whole_with_parent doing.state target parent passed under.whole;
     going = each_reparented (IsGoing agenda) doing.state.forest target parent under.going;
     in_time = under.in_time;
+    forgotten = under.forgotten;
   }
 
   -- an object that begins to die has its Cut and then its Gone put in front
@@ -153,6 +216,7 @@ module _ (agenda : List Item) (doing : Doing) (under : IsUnderWay agenda doing.s
         (or_left (target == target) _ (nat_eq_equiv.refl target))
         (λ number dying other is. ap (λ b. b || list_any (lets_go number) agenda) (nat_eq_equiv.symm target number ∙ other) ∙ is) under.going;
     in_time = in_time agenda (Cut target depth ∷ Gone target depth ∷ agenda) first doing.state.connections.rows under.in_time;
+    forgotten = still_forgotten agenda (Cut target depth ∷ Gone target depth ∷ agenda) first doing.state.queue.events under.forgotten;
   }
     where
       first : (number : ℕ) → is_untied_first agenda number ≡ true → ((target == number) || (not (target == number) && is_untied_first agenda number)) ≡ true
@@ -175,13 +239,16 @@ loose target P rows all = All-from_recursion (λ row. P row × (touches target r
         by true is later = later
         by false is later = ((all.0, is), later)
 
--- what is left when the connections of an object are broken needs its Cut no more
-pub untied_under : (target depth : ℕ) (agenda : List Item) (doing : Doing) → IsUnderWay (Cut target depth ∷ agenda) doing.state → IsUnderWay agenda (untied doing target).state
-unfolding untied
-untied_under target depth agenda doing under = record {
-  whole = whole_without_connections doing.state (touches target) under.whole;
+-- what is left when the connections of an object are broken and its events forgotten needs its Cut no
+-- more
+pub cut_under : (target depth : ℕ) (agenda : List Item) (doing : Doing) → IsUnderWay (Cut target depth ∷ agenda) doing.state → IsUnderWay agenda (forgotten (untied doing target) target).state
+unfolding forgotten untied
+cut_under target depth agenda doing under = record {
+  whole = whole_without_events (without_connections doing.state (touches target)) target (whole_without_connections doing.state (touches target) under.whole);
   going = under.going;
   in_time = All-weaker (λ row. IsBrokenInTime (Cut target depth ∷ agenda) row × (touches target row ≡ false)) (IsBrokenInTime agenda) one _ (loose target (IsBrokenInTime (Cut target depth ∷ agenda)) doing.state.connections.rows under.in_time);
+  forgotten = All-weaker (λ event. IsForgottenInTime (Cut target depth ∷ agenda) event × ((object_of event == target) ≡ false)) (IsForgottenInTime agenda) (λ event held. other (object_of event) held.1 held.0) _
+      (others_named (IsForgottenInTime (Cut target depth ∷ agenda)) target doing.state.queue.events under.forgotten);
 }
   where
     other : (number : ℕ) → (number == target) ≡ false → is_untied_first (Cut target depth ∷ agenda) number ≡ true → is_untied_first agenda number ≡ true
@@ -199,10 +266,12 @@ unfolding gone
 gone_under target depth agenda doing under = record {
   whole = whole_without_object doing.state target
       (All-weaker (IsBrokenInTime (Gone target depth ∷ agenda)) (OfEnds (λ end. (end == target) ≡ false)) (λ row broken. record { sender = (parts row.sender broken.sender).0; receiver = (parts row.receiver broken.receiver).0 }) doing.state.connections.rows under.in_time)
+      (All-weaker (IsForgottenInTime (Gone target depth ∷ agenda)) (λ event. (object_of event == target) ≡ false) (λ event untied. (parts (object_of event) untied).0) doing.state.queue.events under.forgotten)
       under.whole;
   going = each_removed (IsGoing (Gone target depth ∷ agenda)) (IsGoing agenda) doing.state.forest target
       (λ number dying apart is. ap (λ b. b || list_any (lets_go number) agenda) (sym (nat_eq_equiv.symm target number ∙ apart)) ∙ is) under.going;
   in_time = in_time (Gone target depth ∷ agenda) agenda (λ number untied. (parts number untied).1) doing.state.connections.rows under.in_time;
+  forgotten = still_forgotten (Gone target depth ∷ agenda) agenda (λ number untied. (parts number untied).1) doing.state.queue.events under.forgotten;
 }
   where
     parts : (number : ℕ) → (not (target == number) && is_untied_first agenda number) ≡ true → ((number == target) ≡ false) × (is_untied_first agenda number ≡ true)

@@ -17,7 +17,7 @@ use Rattle.object_tree.specs.Lines.{greatest}
 use Rattle.object_tree.specs.declared.row.Row.{Row}
 use Rattle.object_tree.specs.Rows.{row_of}
 use Rattle.thread_model.specs.Acts.{acts}
-use Rattle.thread_model.specs.Items.{Act, Call, Cut, Delete, Emit, Gone, Item, Kin, Reply, Run, Warn}
+use Rattle.thread_model.specs.Items.{Act, Call, Cut, Delete, Emit, Gone, Item, Kin, Reply, ReplySpun, Run, Spin, Warn}
 use Rattle.thread_model.specs.Methods.{method_at, methods_of}
 use Rattle.thread_model.specs.Run.{Most, longest_body, weight, weights}
 use Rattle.thread_model.specs.Settings.{Settings}
@@ -32,7 +32,7 @@ pub record IsAtMost (one other : Most) : Type 0 where
 -- where there is no more an item weighs no more
 weight-more : (m n : Most) (item : Item) → IsAtMost m n → weight m item ≤ weight n item
 weight-more m n (Emit target signal args depth) less = omega (arith, less.connections)
-weight-more m n (Call connection args depth) less = omega arith
+weight-more m n (Call number args depth) less = omega arith
 weight-more m n (Run target method sender args depth) less =
     let times = mul-le-mul_left m.actions (above m.connections n.connections less.connections) in
     let same : m.actions * (n.connections + 3) ≡ n.actions * (n.connections + 3) = ap (λ k. k * (n.connections + 3)) less.actions in
@@ -49,7 +49,9 @@ weight-more m n (Delete target depth) less = omega arith
 weight-more m n (Cut target depth) less = omega (arith, less.objects)
 weight-more m n (Kin parent child depth) less = omega arith
 weight-more m n (Gone target depth) less = omega arith
+weight-more m n Spin less = omega arith
 weight-more m n (Reply answer) less = omega arith
+weight-more m n ReplySpun less = omega arith
 
 pub weights-more : (m n : Most) (agenda : List Item) → IsAtMost m n → weights m agenda ≤ weights n agenda
 weights-more m n [] less = omega arith
@@ -70,7 +72,7 @@ act-some n action = let times = mul-le-mul_right (n.connections + 3) (count-some
 
 pub weight-some : (n : Most) (item : Item) → 1 ≤ weight n item
 weight-some n (Emit target signal args depth) = omega arith
-weight-some n (Call connection args depth) = omega arith
+weight-some n (Call number args depth) = omega arith
 weight-some n (Run target method sender args depth) = omega arith
 weight-some n (Act action args self sender depth) = let some = act-some n action in omega (arith, some)
 weight-some n (Warn code object) = omega arith
@@ -78,7 +80,9 @@ weight-some n (Delete target depth) = omega arith
 weight-some n (Cut target depth) = omega arith
 weight-some n (Kin parent child depth) = omega arith
 weight-some n (Gone target depth) = omega arith
+weight-some n Spin = omega arith
 weight-some n (Reply answer) = omega arith
+weight-some n ReplySpun = omega arith
 
 -- the actions of a body weigh as much as their number says
 pub acts-weight : (n : Most) (body : Acts) (args : List Value) (self sender depth : ℕ) → weights n (acts body args self sender depth) ≡ counts body * (n.connections + 3)
@@ -96,7 +100,7 @@ choice-weight n held failed =
     (omega (arith, parts, both), omega (arith, parts, both))
 
 -- calls weigh one each
-pub calls-weight : (n : Most) (args : List Value) (depth : ℕ) (rows : List Connection) → weights n (map (λ row. Call row args depth) rows) ≡ length rows
+pub calls-weight : (n : Most) (args : List Value) (depth : ℕ) (rows : List Connection) → weights n (map (λ row. Call row.number args depth) rows) ≡ length rows
 calls-weight n args depth [] = refl
 calls-weight n args depth (row ∷ rows) = let rest = calls-weight n args depth rows in omega (arith, rest)
 

@@ -12,13 +12,14 @@ use Rattle.term_core.specs.declared.target.Target.{Target}
 use Rattle.term_core.specs.Act.{Acts, more, nothing}
 use Rattle.term_core.specs.Term.{Term}
 use Rattle.connection_types.specs.declared.connection_type.ConnectionType.{ConnectionType}
-use Rattle.connection_types.specs.declared.connection_type.ConnectionType.TheVariants.{Auto, Direct, Queued}
 use Rattle.connection_list.specs.declared.connection.NewConnection.{NewConnection}
 use Rattle.connection_list.specs.declared.pattern.Pattern.{Pattern}
 use Rattle.object_tree.specs.Refusing.{object_refusal, set_parent_refusal}
 use Rattle.thread_model.specs.Absence.{absence, named_absence}
 use Rattle.thread_model.specs.Connecting.{connection_refusal, new_connection, pattern_with}
-use Rattle.thread_model.specs.Doing.{Doing, linked, unlinked, adopted, retitled}
+use Rattle.thread_model.specs.Posting.{post_refusal}
+use Rattle.event_queue.specs.declared.event.Event.TheVariants.{Deletion}
+use Rattle.thread_model.specs.Doing.{Doing, adopted, blocking, linked, posted, retitled, unlinked}
 use Rattle.thread_model.specs.Items.{Act, Delete, Emit, Item, Next, Warn, puts}
 use Rattle.thread_model.specs.Methods.{Found, ◌>>=◌, kinds_at, method_with, methods_of, signal_with}
 use Rattle.thread_model.specs.Settings.{Settings}
@@ -29,12 +30,6 @@ use Rattle.thread_model.specs.Targets.{all_converted, all_evaluated, is_title, n
 abbrev pub acts : Acts → List Value → ℕ → ℕ → ℕ → List Item
 acts nothing args self sender depth = []
 acts (more action rest) args self sender depth = Act action args self sender depth ∷ acts rest args self sender depth
-
--- no connection is queued yet
-abbrev pub is_queued : ConnectionType → Bool
-is_queued Auto = false
-is_queued Direct = false
-is_queued Queued = true
 
 -- the index of a signal of an object, and what it is sent with: values of the kinds of its parameters
 abbrev pub emission : Settings → State → ℕ → ℕ → List Value → ℕ → Signature → List Term → Found (ℕ × List Value)
@@ -63,9 +58,8 @@ module _ (settings : Settings) (state : State) (self sender : ℕ) (args : List 
   abbrev object : Target → ℕ
   object target = object_of state self sender target
 
-  -- why an action of the slot of `self` is refused: the first of these. What this server does not do yet
-  -- is refused at once: queued calls, deferred deletion, blocked signals, and properties other than the
-  -- title
+  -- why an action of the slot of `self` is refused: the first of these. Properties other than the title
+  -- are refused at once, since they are not there yet
   abbrev pub act_refusal : Effect → Option Code
   act_refusal (e.Set of property value) =
       if is_title property
@@ -75,18 +69,18 @@ module _ (settings : Settings) (state : State) (self sender : ℕ) (args : List 
       option_or (absence state (object of))
       (result_err (emission settings state self sender args (object of) signal sent))
   act_refusal (e.Connect of signal to method mode unique single) =
-      if is_queued mode then Some BadValue
-      else (
       option_or (object_refusal state.forest.rows (object of)) (
       option_or (object_refusal state.forest.rows (object to))
-      (connection_refusal state.connections (connection settings state (object of) signal (object to) method mode single) unique)))
+      (connection_refusal state.connections (connection settings state (object of) signal (object to) method mode single) unique))
   act_refusal (e.Disconnect of signal to method) =
       option_or (absence state (object of)) (
       option_or (named_absence state (named_object_of state self sender to))
       (result_err (pattern settings state (object of) signal (named_object_of state self sender to) method)))
   act_refusal (e.Delete target) = object_refusal state.forest.rows (object target)
-  act_refusal (e.DeleteLater target) = Some BadValue
-  act_refusal (e.Block of on) = Some BadValue
+  act_refusal (e.DeleteLater target) =
+      option_or (object_refusal state.forest.rows (object target))
+      (post_refusal state.queue)
+  act_refusal (e.Block of on) = absence state (object of)
   act_refusal (e.SetParent of parent) = set_parent_refusal state.forest (object of) (named_object_of state self sender parent)
 
 -- what comes of something that was looked for; nothing where it was not found
@@ -114,8 +108,8 @@ module _ (settings : Settings) (doing : Doing) (self sender : ℕ) (args : List 
       with_found (pattern settings doing.state (acted_object of) signal (named_object_of doing.state self sender to) method)
       (λ broken. puts [] (unlinked doing broken)) doing
   acted (e.Delete target) = puts (Delete (acted_object target) depth ∷ []) doing
-  acted (e.DeleteLater target) = puts [] doing
-  acted (e.Block of on) = puts [] doing
+  acted (e.DeleteLater target) = puts [] (posted doing (Deletion (acted_object target)))
+  acted (e.Block of on) = puts [] (blocking doing (acted_object of) on)
   acted (e.SetParent of parent) = puts [] (adopted doing (acted_object of) (named_object_of doing.state self sender parent))
 
 -- a refused action warns of its code for the object whose slot is run, and does nothing

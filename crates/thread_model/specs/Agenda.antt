@@ -1,6 +1,5 @@
 -- How a session does what it has to do, item by item.
-use Rattle.std.specs.Prelude.{◌+◌, ◌==◌, ◌&&◌, ℕ, Bool, false, not, List, [], ◌∷◌, map, filter, take, length, nat_le, Some, if◌then◌else◌}
-use Rattle.std.specs.List.{list_any}
+use Rattle.std.specs.Prelude.{◌+◌, ◌==◌, ◌&&◌, ℕ, Bool, false, not, List, [], ◌∷◌, ◌++◌, map, filter, find, take, length, nat_le, Option, Some, if◌then◌else◌}
 use Rattle.std.specs.Option.{option_map_or}
 use Rattle.refusals.specs.declared.code.Code.TheVariants.{Limit}
 use Rattle.variant_value.specs.declared.value.Value.{Value}
@@ -11,16 +10,22 @@ use Rattle.connection_types.specs.declared.callee.Callee.{Callee}
 use Rattle.connection_types.specs.declared.callee.Callee.TheVariants as callee
 use Rattle.connection_list.specs.declared.connection.Connection.{Connection}
 use Rattle.connection_list.specs.Ends.{calls}
+use Rattle.event_queue.specs.declared.event.Event.{Event}
+use Rattle.event_queue.specs.declared.event.Event.TheVariants as event
+use Rattle.event_queue.specs.declared.event.QueuedCall.{QueuedCall}
+use Rattle.event_queue.specs.Queue.{has_room}
 use Rattle.connection_list.specs.Rows.{has_number}
 use Rattle.object_tree.specs.declared.row.Row.{Row}
-use Rattle.object_tree.specs.Rows.{children, row_of, is_same, is_there}
-use Rattle.thread_model.specs.declared.call.TheConstants.{NESTED_SIGNALS}
+use Rattle.object_tree.specs.Rows.{children, row_of, is_same}
+use Rattle.thread_model.specs.declared.call.TheConstants.{DESTROYED, NESTED_SIGNALS}
+use Rattle.thread_model.specs.declared.line.Answer.TheVariants as a
 use Rattle.thread_model.specs.declared.line.Line.{Line}
 use Rattle.thread_model.specs.declared.line.Line.TheVariants as line
 use Rattle.thread_model.specs.Acts.{act_refusal, acted, acts, chosen, warns_or}
-use Rattle.thread_model.specs.Doing.{Doing, dying, gone, shot, told, turn_taken, untied, used_up}
-use Rattle.thread_model.specs.Items.{Act, Call, Cut, Delete, Emit, Gone, Item, Kin, Next, Reply, Run, Warn, puts}
+use Rattle.thread_model.specs.Doing.{Doing, dying, first_taken, forgotten, gone, lost, posted, shot, told, turn_taken, untied, used_up}
+use Rattle.thread_model.specs.Items.{Act, Call, Cut, Delete, Emit, Gone, Item, Kin, Next, Reply, ReplySpun, Run, Spin, Warn, puts}
 use Rattle.thread_model.specs.Methods.{method_at}
+use Rattle.thread_model.specs.Posting.{is_queued, spin_of}
 use Rattle.thread_model.specs.Settings.{Settings}
 use Rattle.thread_model.specs.State.{State}
 use Rattle.thread_model.specs.Targets.{truth_evaluated}
@@ -43,39 +48,69 @@ kins doing target depth = map (λ child. Kin target child depth) (children doing
 
 -- the connections of a signal, each to be called, in the order in which they were made
 unfoldable pub calls_of : Doing → ℕ → ℕ → List Value → ℕ → List Item
-calls_of doing target signal args depth = map (λ row. Call row args depth) (filter (calls target signal) doing.state.connections.rows)
+calls_of doing target signal args depth = map (λ row. Call row.number args depth) (filter (calls target signal) doing.state.connections.rows)
 
--- a signal that is sent calls what is connected to it; nested too deep it calls nothing
-abbrev pub emitted : Doing → ℕ → ℕ → List Value → ℕ → Next
-emitted doing target signal args depth =
-    if nat_le NESTED_SIGNALS depth then puts (Warn Limit (Some target) ∷ []) doing
-    else puts (calls_of doing target signal args depth) doing
+-- is a signal held back, as those of a blocked object are; `destroyed()` never is
+abbrev pub is_held_back : ℕ → Row → Bool
+is_held_back signal row = row.blocked && not (signal == DESTROYED)
+
+-- a signal that is sent calls what is connected to it; held back it calls nothing, and nested too deep
+-- neither
+abbrev pub emitted : Doing → ℕ → ℕ → List Value → ℕ → Row → Next
+emitted doing target signal args depth row =
+    if is_held_back signal row then puts [] doing
+    else (if nat_le NESTED_SIGNALS depth then puts (Warn Limit (Some target) ∷ []) doing
+    else puts (calls_of doing target signal args depth) doing)
 
 -- where a turn is left it is taken, and else none of this is done
 abbrev pub with_turn : Doing → (Doing → Next) → Next
 with_turn doing next = if doing.turns == 0 then puts [] (used_up doing) else next (turn_taken doing)
 
--- does the connection of this number stand
-abbrev pub stands : Doing → ℕ → Bool
-stands doing number = list_any (has_number number) doing.state.connections.rows
+-- the connection of a number, where it stands
+abbrev pub connection_of : Doing → ℕ → Option Connection
+connection_of doing number = find (has_number number) doing.state.connections.rows
 
--- a method is called with as many of the first arguments as it has parameters; a signal is sent, one
--- level deeper
-abbrev pub method_items : Connection → ℕ → List Value → ℕ → Method → List Item
-method_items connection index args depth method =
+-- a method is called by a signal that is sent on, or by a slot that is run
+abbrev pub method_items : ℕ → ℕ → ℕ → List Value → ℕ → ℕ → Method → List Item
+method_items target index sender args sent_at run_at method =
+    if method.is_signal then Emit target index args sent_at ∷ []
+    else Run target index sender args run_at ∷ []
+
+-- a call is posted as an event, or lost where there are as many as there may be
+abbrev pub queued : Doing → QueuedCall → Doing
+queued doing call = if has_room doing.state.queue then posted doing (event.Call call) else lost doing
+
+-- a method is called with as many of the first arguments as it has parameters: later, or at once, where
+-- a signal is sent one level deeper
+abbrev pub method_called : Connection → ℕ → List Value → ℕ → Doing → Method → Next
+method_called connection index args depth doing method =
     let given = take (length method.signature.kinds) args in
-    if method.is_signal then Emit connection.receiver index given (depth + 1) ∷ []
-    else Run connection.receiver index connection.sender given depth ∷ []
+    if is_queued connection.mode
+    then puts [] (queued doing (record { object = connection.receiver; callee = callee.Method index; sender = connection.sender; args = given }))
+    else puts (method_items connection.receiver index connection.sender given (depth + 1) depth method) doing
 
 -- what a connection calls; there are no functors yet
-abbrev pub callee_items : Settings → State → Connection → List Value → ℕ → Callee → List Item
-callee_items settings state connection args depth (callee.Method index) = option_map_or (method_items connection index args depth) (method_at settings state connection.receiver index) []
-callee_items settings state connection args depth (callee.Functor index) = []
+abbrev pub callee_called : Settings → Connection → List Value → ℕ → Doing → Callee → Next
+callee_called settings connection args depth doing (callee.Method index) = option_map_or (method_called connection index args depth doing) (method_at settings doing.state connection.receiver index) (puts [] doing)
+callee_called settings connection args depth doing (callee.Functor index) = puts [] doing
 
--- a connection's call, of whatever type: queued connections are not made yet. A single-shot connection
--- goes first
+-- a connection's call; a single-shot connection goes first
 abbrev pub called : Settings → Connection → List Value → ℕ → Doing → Next
-called settings connection args depth doing = puts (callee_items settings doing.state connection args depth connection.callee) (shot doing connection)
+called settings connection args depth doing = callee_called settings connection args depth (shot doing connection) connection.callee
+
+-- what an event comes to: all that it does is done at depth 0
+abbrev pub call_items : Settings → State → QueuedCall → Callee → List Item
+call_items settings state call (callee.Method index) = option_map_or (method_items call.object index call.sender call.args 0 0) (method_at settings state call.object index) []
+call_items settings state call (callee.Functor index) = []
+
+abbrev pub event_items : Settings → State → Event → List Item
+event_items settings state (event.Call call) = call_items settings state call call.callee
+event_items settings state (event.Deletion target) = Delete target 0 ∷ []
+
+-- the first event is taken, and then the next one, while there are any and a turn is left for each
+abbrev pub spun : Settings → Doing → List Event → Next
+spun settings doing [] = puts [] doing
+spun settings doing (event ∷ later) = with_turn doing (λ doing. puts (event_items settings doing.state event ++ Spin ∷ []) (first_taken doing))
 
 -- the line of a call
 abbrev pub call_line : Method → ℕ → ℕ → List Value → Line
@@ -87,14 +122,16 @@ ran doing target sender args depth method = puts (acts (acts_of method.body.acti
 
 -- what an item comes to
 abbrev pub step : Settings → Item → Doing → Next
-step settings (Emit target signal args depth) doing = if is_there doing.state.forest.rows target then emitted doing target signal args depth else puts [] doing
-step settings (Call connection args depth) doing = if stands doing connection.number then with_turn doing (called settings connection args depth) else puts [] doing
+step settings (Emit target signal args depth) doing = option_map_or (emitted doing target signal args depth) (row_of doing.state.forest.rows target) (puts [] doing)
+step settings (Call number args depth) doing = option_map_or (λ connection. with_turn doing (called settings connection args depth)) (connection_of doing number) (puts [] doing)
 step settings (Run target method sender args depth) doing = option_map_or (ran doing target sender args depth) (method_at settings doing.state target method) (puts [] doing)
 step settings (Act (effect plain) args self sender depth) doing = warns_or (act_refusal settings doing.state self sender args plain) self doing (acted settings doing self sender args depth plain)
 step settings (Act (when test held failed) args self sender depth) doing = chosen (truth_evaluated doing.state self sender args test) held failed args self sender depth doing
 step settings (Warn code object) doing = puts [] (told doing (line.Warning code object))
-step settings (Delete target depth) doing = if lives doing target then puts (Cut target depth ∷ Gone target depth ∷ []) (dying doing target) else puts [] doing
-step settings (Cut target depth) doing = puts (kins doing target depth) (untied doing target)
+step settings (Delete target depth) doing = if lives doing target then puts (Emit target DESTROYED [] depth ∷ Cut target depth ∷ Gone target depth ∷ []) (dying doing target) else puts [] doing
+step settings (Cut target depth) doing = puts (kins doing target depth) (forgotten (untied doing target) target)
 step settings (Kin parent child depth) doing = if lives_below doing parent child then puts (Delete child depth ∷ []) doing else puts [] doing
 step settings (Gone target depth) doing = puts [] (gone doing target)
+step settings Spin doing = spun settings doing doing.state.queue.events
 step settings (Reply answer) doing = puts [] (told doing (line.Reply answer))
+step settings ReplySpun doing = puts [] (told doing (line.Reply (a.Spun (spin_of doing))))

@@ -32,8 +32,16 @@ pub data Asked : Type 0 where
   DisconnectOne : (connection : ℕ) → Asked
   -- break the connections of the sender that match where signal, receiver and method are given
   Disconnect : (sender : ℕ) (signal : Option (List ℕ)) (receiver : Option ℕ) (method : Option (List ℕ)) → Asked
-  -- call a slot of this object, or send a signal of it
-  Invoke : (target : ℕ) (method : List ℕ) (args : List Data) → Asked
+  -- call a slot of this object, or send a signal of it, at once or later
+  Invoke : (target : ℕ) (method : List ℕ) (args : List Data) (mode : ConnectionType) → Asked
+  -- take the events that there are
+  Spin : Asked
+  -- delete this object later
+  DeleteLater : (target : ℕ) → Asked
+  -- block the signals of this object, or let them through
+  Block : (target : ℕ) (on : Bool) → Asked
+  -- how much there is
+  Status : Asked
 
 -- what a command asks
 abbrev pub asked : Command → Asked
@@ -48,7 +56,11 @@ asked (c.Meta class) = Meta class
 asked (c.Connect sender signal receiver method mode unique single) = Connect sender signal receiver method mode unique single
 asked (c.DisconnectOne connection) = DisconnectOne connection
 asked (c.Disconnect sender signal receiver method) = Disconnect sender signal receiver method
-asked (c.Invoke target method args) = Invoke target method (map view args)
+asked (c.Invoke target method args mode) = Invoke target method (map view args) mode
+asked c.Spin = Spin
+asked (c.DeleteLater target) = DeleteLater target
+asked (c.Block target on) = Block target on
+asked c.Status = Status
 
 -- a command and the session that gives it
 abbrev pub tagged : List ℕ → Command → theory.Tagged (List ℕ) Asked

@@ -1,5 +1,5 @@
 -- A session while it does a command, and what becomes of it.
-use Rattle.std.specs.Prelude.{◌-◌, ℕ, Bool, true, false, List, [], ◌∷◌, ◌++◌, Option, None, if◌then◌else◌}
+use Rattle.std.specs.Prelude.{◌+◌, ◌-◌, ℕ, Bool, true, false, List, [], ◌∷◌, ◌++◌, Option, None, if◌then◌else◌}
 use Rattle.refusals.specs.declared.code.Code.TheVariants.{TurnsUsedUp}
 use Rattle.variant_value.specs.declared.value.Value.{Value}
 use Rattle.object_tree.specs.Changes.{marked}
@@ -8,10 +8,11 @@ use Rattle.connection_list.specs.declared.connection.NewConnection.{NewConnectio
 use Rattle.connection_list.specs.declared.pattern.Pattern.{Pattern}
 use Rattle.connection_list.specs.Ends.{matches, touches}
 use Rattle.connection_list.specs.Rows.{has_number}
+use Rattle.event_queue.specs.declared.event.Event.{Event}
 use Rattle.thread_model.specs.declared.line.Line.{Line}
 use Rattle.thread_model.specs.declared.line.Line.TheVariants.{Warning}
 use Rattle.thread_model.specs.Settings.{Settings}
-use Rattle.thread_model.specs.State.{State, with_connection, with_parent, with_title, without_connections, without_object}
+use Rattle.thread_model.specs.State.{State, with_blocking, with_connection, with_event, with_lost, with_parent, with_title, without_connections, without_events, without_first, without_object}
 
 pub record Doing : Type 0 where
   pub state : State
@@ -19,12 +20,14 @@ pub record Doing : Type 0 where
   pub turns : ℕ
   -- it was told that no turn is left
   pub spent : Bool
+  -- how many events were taken
+  pub taken : ℕ
   -- what it was told so far
   pub lines : List Line
 
 -- a session at the beginning of a command
 abbrev pub begun : Settings → State → Doing
-begun settings state = record { state = state; turns = settings.turns; spent = false; lines = [] }
+begun settings state = record { state = state; turns = settings.turns; spent = false; taken = 0; lines = [] }
 
 abbrev pub in_state : Doing → State → Doing
 in_state doing state = record doing { state = state }
@@ -48,6 +51,26 @@ dying doing target = in_state doing (record doing.state { forest = marked doing.
 -- the connections that have an object at either end are broken
 unfoldable pub untied : Doing → ℕ → Doing
 untied doing target = in_state doing (without_connections doing.state (touches target))
+
+-- the events that name an object are forgotten
+unfoldable pub forgotten : Doing → ℕ → Doing
+forgotten doing target = in_state doing (without_events doing.state target)
+
+-- an event is posted
+unfoldable pub posted : Doing → Event → Doing
+posted doing event = in_state doing (with_event doing.state event)
+
+-- a call is lost, since no event can be posted
+unfoldable pub lost : Doing → Doing
+lost doing = in_state doing (with_lost doing.state)
+
+-- the first event is taken
+unfoldable pub first_taken : Doing → Doing
+first_taken doing = record (in_state doing (without_first doing.state)) { taken = doing.taken + 1 }
+
+-- the signals of an object are blocked, or not
+unfoldable pub blocking : Doing → ℕ → Bool → Doing
+blocking doing target on = in_state doing (with_blocking doing.state target on)
 
 -- an object is gone
 unfoldable pub gone : Doing → ℕ → Doing

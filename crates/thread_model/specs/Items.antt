@@ -3,7 +3,6 @@ use Rattle.std.specs.Prelude.{ℕ, List, Option}
 use Rattle.refusals.specs.declared.code.Code.{Code}
 use Rattle.variant_value.specs.declared.value.Value.{Value}
 use Rattle.term_core.specs.Act as term
-use Rattle.connection_list.specs.declared.connection.Connection.{Connection}
 use Rattle.thread_model.specs.declared.line.Answer.{Answer}
 use Rattle.thread_model.specs.Doing.{Doing}
 
@@ -11,8 +10,8 @@ use Rattle.thread_model.specs.Doing.{Doing}
 pub data Item : Type 0 where
   -- send a signal, given by its index among the methods of the object's class
   Emit : (target signal : ℕ) (args : List Value) (depth : ℕ) → Item
-  -- call what a connection calls, unless the connection is broken by then
-  Call : (connection : Connection) (args : List Value) (depth : ℕ) → Item
+  -- call what the connection of this number calls, unless it is broken by then
+  Call : (connection : ℕ) (args : List Value) (depth : ℕ) → Item
   -- run a slot, given by its index; 0 is no sender
   Run : (target method sender : ℕ) (args : List Value) (depth : ℕ) → Item
   -- do an action of the body of a slot of `self` that has these arguments
@@ -27,8 +26,12 @@ pub data Item : Type 0 where
   Kin : (parent child depth : ℕ) → Item
   -- let a dying object go
   Gone : (target depth : ℕ) → Item
+  -- take events, one after another, until there is none
+  Spin : Item
   -- reply to the command
   Reply : Answer → Item
+  -- reply how many events were taken, and what is known of those that were not
+  ReplySpun : Item
 
 -- what an item comes to: what is to be done first now, and the session then
 pub record Next : Type 0 where

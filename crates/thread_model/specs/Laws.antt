@@ -23,7 +23,8 @@ pub record KeepsSound : Type 0 where
   pub by_post : (state : State) (from : List ℕ) (post : Post) → IsSound state → IsSound (arrives state from post)
 
 -- while it does an agenda exactly those objects are dying that it is still to let go, and their
--- connections are broken before; so at the end no object is dying and no connection has lost an end
+-- connections are broken and their events forgotten before; so at the end no object is dying, no
+-- connection has lost an end, and no event names an object that is gone
 pub record KeepsUnderWay : Type 0 where
   pub at_first : (agenda : List Item) (state : State) → IsFalse (list_any is_gone agenda) → IsSound state → IsUnderWay agenda state
   pub by_item : (settings : Settings) (item : Item) (agenda : List Item) (doing : Doing) → IsUnderWay (item ∷ agenda) doing.state → IsUnderWay ((step settings item doing).items ++ agenda) (step settings item doing).doing.state

@@ -6,6 +6,7 @@ pub mod Doing
 pub mod Items
 pub mod Methods
 pub mod Connecting
+pub mod Posting
 pub mod Targets
 pub mod Acts
 pub mod Agenda
@@ -16,6 +17,7 @@ pub mod Classes
 pub mod Trees
 pub mod Properties
 pub mod Signals
+pub mod Events
 pub mod Refusing
 pub mod Thread
 pub mod Machine

@@ -1,5 +1,5 @@
 -- Why a command is refused: the first of these, by command.
-use Rattle.std.specs.Prelude.{ℕ, List, Option, Some, None, is_some, if◌then◌else◌}
+use Rattle.std.specs.Prelude.{ℕ, ◌&&◌, List, Option, Some, None, is_some, if◌then◌else◌}
 use Rattle.std.specs.Option.{option_map_or, option_or}
 use Rattle.std.specs.Result.{result_err}
 use Rattle.serde_json.specs.Data.{Data, null}
@@ -9,11 +9,13 @@ use Rattle.signature_core.specs.declared.kind.Kind.TheVariants as k
 use Rattle.variant_value.specs.Values.{value_of}
 use Rattle.class_table.specs.declared.class.Class.{Class}
 use Rattle.class_table.specs.Lookup.{index_of}
+use Rattle.connection_types.specs.declared.connection_type.ConnectionType.{ConnectionType}
 use Rattle.object_tree.specs.Refusing.{add_refusal, parent_refusal, set_parent_refusal}
 use Rattle.thread_model.specs.Absence.{absence, named_absence}
-use Rattle.thread_model.specs.Asked.{Asked, New, Delete, SetParent, Children, Find, Set, Get, Meta, Connect, DisconnectOne, Disconnect, Invoke}
+use Rattle.thread_model.specs.Asked.{Asked, New, Delete, SetParent, Children, Find, Set, Get, Meta, Connect, DisconnectOne, Disconnect, Invoke, Spin, DeleteLater, Block, Status}
 use Rattle.thread_model.specs.Connecting.{connection_refusal}
 use Rattle.thread_model.specs.Methods.{signature_in}
+use Rattle.thread_model.specs.Posting.{is_queued, post_refusal}
 use Rattle.thread_model.specs.Settings.{Settings}
 use Rattle.thread_model.specs.Signals.{asked_connection, asked_method, asked_pattern, asked_values}
 use Rattle.thread_model.specs.State.{State}
@@ -34,6 +36,10 @@ title_refusal value = result_err (value_of k.Text value)
 -- the arguments do not serve the method that is called, where there is one
 abbrev pub values_refusal : Settings → State → ℕ → List Data → Option ℕ → Option Code
 values_refusal settings state target args index = option_map_or (λ index. result_err (asked_values settings state target index args)) index None
+
+-- a call that is asked for later needs room in the queue, where the object has such a method
+abbrev pub later_refusal : State → ConnectionType → Option ℕ → Option Code
+later_refusal state mode index = if is_queued mode && is_some index then post_refusal state.queue else None
 
 -- why a command is refused in a session of this name and state, if it is
 unfoldable pub refusal : Settings → List ℕ → State → Asked → Option Code
@@ -61,7 +67,14 @@ refusal settings self state (Disconnect sender signal receiver method) =
     option_or (absence state sender) (
     option_or (named_absence state receiver)
     (result_err (asked_pattern settings state sender signal receiver method)))
-refusal settings self state (Invoke target method args) =
+refusal settings self state (Invoke target method args mode) =
     option_or (absence state target) (
-    option_or (result_err (signature_in method))
-    (values_refusal settings state target args (asked_method settings state target method)))
+    option_or (result_err (signature_in method)) (
+    option_or (values_refusal settings state target args (asked_method settings state target method))
+    (later_refusal state mode (asked_method settings state target method))))
+refusal settings self state Spin = None
+refusal settings self state (DeleteLater target) =
+    option_or (absence state target)
+    (post_refusal state.queue)
+refusal settings self state (Block target on) = absence state target
+refusal settings self state Status = None

@@ -6,7 +6,7 @@ use Rattle.connection_list.specs.declared.limit.TheConstants.{CONNECTIONS}
 use Rattle.object_tree.specs.Lines.{greatest}
 use Rattle.thread_model.specs.Agenda.{is_living, step}
 use Rattle.thread_model.specs.Doing.{Doing}
-use Rattle.thread_model.specs.Items.{Act, Call, Cut, Delete, Emit, Gone, Item, Kin, Reply, Run, Warn}
+use Rattle.thread_model.specs.Items.{Act, Call, Cut, Delete, Emit, Gone, Item, Kin, Reply, ReplySpun, Run, Spin, Warn}
 use Rattle.thread_model.specs.Settings.{Settings}
 
 -- at most so many items done, each with what it puts in front of the others
@@ -39,11 +39,13 @@ most settings doing = record {
 -- how many items an item comes to at most, where no further call is made and no further object deleted
 abbrev pub weight : Most → Item → ℕ
 weight most (Emit target signal args depth) = most.connections + 2
-weight most (Call connection args depth) = 1
+weight most (Call number args depth) = 1
 weight most (Run target method sender args depth) = most.actions * (most.connections + 3) + 1
 weight most (Act action args self sender depth) = count action * (most.connections + 3)
 weight most (Warn code object) = 1
 weight most (Delete target depth) = 1
+weight most Spin = 1
+weight most ReplySpun = 1
 weight most (Cut target depth) = 2 * most.objects + 1
 weight most (Kin parent child depth) = 2
 weight most (Gone target depth) = 1
@@ -59,7 +61,7 @@ turn_weight most = most.actions * (most.connections + 3) + most.connections + 3
 
 -- how many items a deletion comes to at most
 abbrev pub deletion_weight : Most → ℕ
-deletion_weight most = 2 * most.objects + 2
+deletion_weight most = 2 * most.objects + most.connections + 4
 
 -- enough steps to come to the end
 unfoldable pub enough : Settings → List Item → Doing → ℕ

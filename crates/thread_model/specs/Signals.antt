@@ -12,6 +12,8 @@ use Rattle.variant_value.specs.declared.value.Value.{Value}
 use Rattle.variant_value.specs.Values.{value_of}
 use Rattle.class_table.specs.Lookup.{method_number}
 use Rattle.connection_types.specs.declared.connection_type.ConnectionType.{ConnectionType}
+use Rattle.connection_types.specs.declared.callee.Callee.TheVariants.{Method}
+use Rattle.event_queue.specs.declared.event.Event.TheVariants.{Call}
 use Rattle.connection_list.specs.declared.connection.NewConnection.{NewConnection}
 use Rattle.connection_list.specs.declared.pattern.Pattern.{Pattern}
 use Rattle.connection_list.specs.Ends.{matches}
@@ -26,7 +28,8 @@ use Rattle.thread_model.specs.Effects.{does_next, refuses, replies}
 use Rattle.thread_model.specs.Items.{Emit, Next, Run, puts}
 use Rattle.thread_model.specs.Methods.{Found, is_signal_at, kinds_at, method_named, methods_of, signal_named}
 use Rattle.thread_model.specs.Settings.{Settings}
-use Rattle.thread_model.specs.State.{State, with_connection, without_connections}
+use Rattle.thread_model.specs.Posting.{is_queued}
+use Rattle.thread_model.specs.State.{State, with_connection, with_event, without_connections}
 
 -- the connection that is asked for
 abbrev pub asked_connection : Settings → State → ℕ → List ℕ → ℕ → List ℕ → ConnectionType → Bool → Found NewConnection
@@ -85,7 +88,14 @@ invoked settings state target index values =
     if is_signal_at (methods_of settings state target) index then puts (Emit target index values 0 ∷ []) (begun settings state)
     else with_turn (begun settings state) (puts (Run target index 0 values 0 ∷ []))
 
+-- a call that is asked for later is posted as an event, which no object has sent
+abbrev pub invoked_later : State → ℕ → ℕ → List Value → Effect State Line Post
+invoked_later state target index values = replies (with_event state (Call (record { object = target; callee = Method index; sender = 0; args = values }))) (a.Truth true)
+
 -- invoking a method replies true at the end, and false where the object has no such method
-abbrev pub invokes : Settings → State → ℕ → List Data → Option ℕ → Effect State Line Post
-invokes settings state target args (Some index) = does_next settings (invoked settings state target index (result_unwrap_or (asked_values settings state target index args) [])) (a.Truth true)
-invokes settings state target args None = replies state (a.Truth false)
+abbrev pub invokes : Settings → State → ℕ → List Data → ConnectionType → Option ℕ → Effect State Line Post
+invokes settings state target args mode (Some index) =
+    let values = result_unwrap_or (asked_values settings state target index args) [] in
+    if is_queued mode then invoked_later state target index values
+    else does_next settings (invoked settings state target index values) (a.Truth true)
+invokes settings state target args mode None = replies state (a.Truth false)

@@ -9,10 +9,13 @@ use Rattle.connection_list.specs.declared.connection.Connection.{Connection}
 use Rattle.connection_list.specs.declared.connection.NewConnection.{NewConnection}
 use Rattle.connection_list.specs.Rows as list
 use Rattle.connection_list.specs.Rows.{Rows, connected, no_rows, without}
+use Rattle.event_queue.specs.declared.event.Event.{Event}
+use Rattle.event_queue.specs.Queue as events
+use Rattle.event_queue.specs.Queue.{Queue, dropped, empty_queue, object_of, posted, taken}
 use Rattle.object_tree.specs.Forest as tree
 use Rattle.object_tree.specs.Forest.{Forest, empty_forest}
 use Rattle.object_tree.specs.Rows.{is_there, numbers}
-use Rattle.object_tree.specs.Changes.{added, reparented, removed}
+use Rattle.object_tree.specs.Changes.{added, reparented, removed, with_blocked}
 use Rattle.signature_core.specs.declared.kind.Kind.TheVariants as k
 use Rattle.variant_value.specs.declared.value.Value.{Value}
 use Rattle.variant_value.specs.declared.value.Value.TheVariants as v
@@ -30,10 +33,12 @@ pub record State : Type 0 where
   pub titles : Titles
   -- the connections between them
   pub connections : Rows
+  -- the events that are to be taken
+  pub queue : Queue
 
 -- the state of a session that has had no command
 abbrev pub empty : State
-empty = record { forest = empty_forest; titles = []; connections = no_rows }
+empty = record { forest = empty_forest; titles = []; connections = no_rows; queue = empty_queue }
 
 -- is a title that of this object
 abbrev pub is_of : ℕ → ℕ → Bool
@@ -76,6 +81,30 @@ with_connection state new = record state { connections = connected state.connect
 abbrev pub without_connections : State → (Connection → Bool) → State
 without_connections state test = record state { connections = without test state.connections }
 
+-- the state with one more event, behind all others
+abbrev pub with_event : State → Event → State
+with_event state event = record state { queue = posted state.queue event }
+
+-- the state without the events that name an object
+abbrev pub without_events : State → ℕ → State
+without_events state number = record state { queue = dropped number state.queue }
+
+-- the state without the first event
+abbrev pub without_first : State → State
+without_first state = record state { queue = taken state.queue }
+
+-- the state where one more call is known to be lost
+abbrev pub with_lost : State → State
+with_lost state = record state { queue = events.with_lost state.queue }
+
+-- the state with the signals of an object blocked, or not
+abbrev pub with_blocking : State → ℕ → Bool → State
+with_blocking state number on = record state { forest = with_blocked state.forest number on }
+
+-- the object that an event names stands
+abbrev pub IsMeant : State → Event → Type 0
+IsMeant state event = IsTrue (is_there state.forest.rows (object_of event))
+
 -- the objects at both ends of a connection stand
 pub record IsTied (state : State) (row : Connection) : Type 0 where
   pub sender : IsTrue (is_there state.forest.rows row.sender)
@@ -92,6 +121,10 @@ pub record IsWhole (state : State) : Type 0 where
   pub connections : list.IsSound state.connections
   -- no connection has an end that is gone
   pub ends : All (IsTied state) state.connections.rows
+  -- there are not too many events
+  pub queue : events.IsSound state.queue
+  -- no event names an object that is gone
+  pub meant : All (IsMeant state) state.queue.events
 
 -- what holds of every session between commands
 pub record IsSound (state : State) : Type 0 where

@@ -4,9 +4,10 @@ use Rattle.std.specs.Prelude.{ℕ, Bool, false, List}
 use Rattle.isolation.specs.Machine.{Effect}
 use Rattle.thread_model.specs.declared.line.Line.{Line}
 use Rattle.thread_model.specs.declared.post.Post.{Post}
-use Rattle.thread_model.specs.Asked.{Asked, New, Delete, SetParent, Children, Find, Set, Get, Meta, Connect, DisconnectOne, Disconnect, Invoke}
+use Rattle.thread_model.specs.Asked.{Asked, New, Delete, SetParent, Children, Find, Set, Get, Meta, Connect, DisconnectOne, Disconnect, Invoke, Spin, DeleteLater, Block, Status}
 use Rattle.thread_model.specs.Classes.{describes}
 use Rattle.thread_model.specs.Effects.{unless}
+use Rattle.thread_model.specs.Events.{blocks, counts, deletes_later, spins}
 use Rattle.thread_model.specs.Properties.{gets, sets}
 use Rattle.thread_model.specs.Refusing.{refusal}
 use Rattle.thread_model.specs.Signals.{asked_connection, asked_method, asked_pattern, connects, disconnects, disconnects_one, invokes}
@@ -27,7 +28,11 @@ performs settings self state (Meta class) = describes settings.classes state cla
 performs settings self state (Connect sender signal receiver method mode unique single) = connects state (asked_connection settings state sender signal receiver method mode single)
 performs settings self state (DisconnectOne connection) = disconnects_one state connection
 performs settings self state (Disconnect sender signal receiver method) = disconnects state (asked_pattern settings state sender signal receiver method)
-performs settings self state (Invoke target method args) = invokes settings state target args (asked_method settings state target method)
+performs settings self state (Invoke target method args mode) = invokes settings state target args mode (asked_method settings state target method)
+performs settings self state Spin = spins settings state
+performs settings self state (DeleteLater target) = deletes_later state target
+performs settings self state (Block target on) = blocks state target on
+performs settings self state Status = counts state
 
 -- what a command does
 unfoldable pub does : Settings → List ℕ → State → Asked → Effect State Line Post

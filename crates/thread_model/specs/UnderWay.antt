@@ -2,6 +2,8 @@
 use Rattle.std.specs.Prelude.{◌≡◌, ◌==◌, ◌&&◌, ◌||◌, ℕ, Bool, true, false, not, IsTrue, List, [], ◌∷◌}
 use Rattle.std.specs.List.{All, list_any}
 use Rattle.connection_list.specs.declared.connection.Connection.{Connection}
+use Rattle.event_queue.specs.declared.event.Event.{Event}
+use Rattle.event_queue.specs.Queue.{object_of}
 use Rattle.thread_model.specs.Items.{Cut, Gone, Item}
 use Rattle.thread_model.specs.State.{IsWhole, State}
 
@@ -10,7 +12,7 @@ abbrev pub lets_go : ℕ → Item → Bool
 lets_go number (Gone target depth) = target == number
 lets_go number _ = false
 
--- does an item break the connections of this object
+-- does an item break the connections of this object, and forget its events
 abbrev pub unties : ℕ → Item → Bool
 unties number (Cut target depth) = target == number
 unties number _ = false
@@ -30,10 +32,15 @@ pub record IsBrokenInTime (agenda : List Item) (row : Connection) : Type 0 where
   pub sender : IsTrue (is_untied_first agenda row.sender)
   pub receiver : IsTrue (is_untied_first agenda row.receiver)
 
+-- an event is forgotten before the object that it names is let go
+abbrev pub IsForgottenInTime : List Item → Event → Type 0
+IsForgottenInTime agenda event = IsTrue (is_untied_first agenda (object_of event))
+
 -- what holds of a session that has this agenda still to do
 pub record IsUnderWay (agenda : List Item) (state : State) : Type 0 where
   pub whole : IsWhole state
   -- exactly those objects are dying that are still to be let go
   pub going : All (λ row. list_any (lets_go row.number) agenda ≡ row.dying) state.forest.rows
-  -- no object is let go before its connections are broken
+  -- no object is let go before its connections are broken and its events forgotten
   pub in_time : All (IsBrokenInTime agenda) state.connections.rows
+  pub forgotten : All (IsForgottenInTime agenda) state.queue.events

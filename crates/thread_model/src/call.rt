@@ -5,6 +5,9 @@ use variant_value::Args;
 /// How deep signals are nested at most: one that is sent at this depth calls nothing.
 pub const NESTED_SIGNALS: u32 = 64;
 
+/// The index of the signal `destroyed()` among the methods of every class: those of `QObject` come first.
+pub const DESTROYED: u32 = 0;
+
 /// A slot as it is called.
 #[derive(Debug, Drop)]
 pub struct Call {

@@ -73,7 +73,24 @@ pub enum Command {
         object: u32,
         method: Text,
         args: Items<serde_json::Value>,
+        /// With `Queued` the call is posted as an event.
+        mode: ConnectionType,
     },
+    /// Takes events until there is none or the turns are used up, and replies how many, how many are left,
+    /// and how many calls were ever lost.
+    Spin,
+    /// Posts the deletion of an object (`QObject::deleteLater`).
+    DeleteLater {
+        object: u32,
+    },
+    /// Blocks the signals of an object, or lets them through, and replies whether they were blocked
+    /// (`QObject::blockSignals`).
+    Block {
+        object: u32,
+        on: bool,
+    },
+    /// Replies how much there is in the session.
+    Status,
 }
 
 /// A command with the name of the session that gives it.

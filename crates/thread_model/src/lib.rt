@@ -13,9 +13,9 @@ mod line;
 mod meta;
 mod post;
 
-pub use call::{Call, NESTED_SIGNALS};
+pub use call::{Call, DESTROYED, NESTED_SIGNALS};
 pub use command::{Command, Tagged};
-pub use line::{Answer, Line};
+pub use line::{Answer, Line, Spin, Status};
 pub use meta::MetaObject;
 pub use post::Post;
 
@@ -33,7 +33,8 @@ pub fn agenda_runs_to_its_end()
 {}
 
 /// A session stays sound: between commands its objects stand in trees within the limits, each has a
-/// title, none is being deleted, and both ends of every connection stand.
+/// title, none is being deleted, and both ends of every connection stand. Its events are no more than
+/// there may be, and the object that an event names stands: what is deleted takes its events with it.
 pub fn commands_keep_sessions_sound()
     ensures commands { KeepsSound }
     ensures items { KeepsUnderWay }

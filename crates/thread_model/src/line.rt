@@ -18,6 +18,32 @@ pub enum Answer {
     Value(Value),
     /// What there is in a class.
     Meta(MetaObject),
+    Spun(Spin),
+    Status(Status),
+}
+
+/// What came of taking events.
+#[derive(Clone, Copy, Debug, PartialEq, Eq)]
+pub struct Spin {
+    /// How many were taken.
+    pub events: u32,
+    /// How many are still in the queue.
+    pub left: u32,
+    /// How many calls were lost in this session, since the queue was full, and how many posts met a join
+    /// of other types.
+    pub lost: u64,
+    pub mismatched: u64,
+}
+
+/// How much there is in a session.
+#[derive(Clone, Copy, Debug, PartialEq, Eq)]
+pub struct Status {
+    pub connections: u32,
+    pub lost: u64,
+    pub mismatched: u64,
+    pub objects: u32,
+    /// How many events are in the queue.
+    pub queued: u32,
 }
 
 /// One line of what a session is told.

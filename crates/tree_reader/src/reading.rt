@@ -63,19 +63,30 @@ fn command_in(alloc: Global, json: &Value) -> Result<Option<Command>, AllocError
         "connect" => connect_in(alloc, json),
         "disconnect" => disconnect_in(alloc, json),
         "invoke" => invoke_in(alloc, json),
-        _ => Ok(number_command_in(word, json)),
+        _ => Ok(short_command_in(word, json)),
     }
 }
 
-/// The command of a word whose keys hold numbers alone.
-fn number_command_in(word: &str, json: &Value) -> Option<Command> {
+/// The command of a word whose keys hold no texts.
+fn short_command_in(word: &str, json: &Value) -> Option<Command> {
     let object = number_at(json, "object");
-    if word == "children" {
-        return Some(Command::Children { object });
+    match word {
+        "children" => Some(Command::Children { object }),
+        "spin" => Some(Command::Spin),
+        "status" => Some(Command::Status),
+        _ => object_command_in(word, object?, json),
     }
-    let object = object?;
+}
+
+/// The command of a word that needs an object.
+fn object_command_in(word: &str, object: u32, json: &Value) -> Option<Command> {
     match word {
         "delete" => Some(Command::Delete { object }),
+        "deleteLater" => Some(Command::DeleteLater { object }),
+        "block" => {
+            let on = is_true_at(json, "on");
+            Some(Command::Block { object, on })
+        }
         "setParent" => {
             let parent = number_at(json, "parent");
             Some(Command::SetParent { object, parent })
@@ -171,6 +182,7 @@ fn invoke_in(alloc: Global, json: &Value) -> Result<Option<Command>, AllocError>
         object,
         method,
         args,
+        mode: mode_in(json),
     }))
 }
 
@@ -178,6 +190,7 @@ fn invoke_in(alloc: Global, json: &Value) -> Result<Option<Command>, AllocError>
 fn mode_in(json: &Value) -> ConnectionType {
     match json.get("type").and_then(Value::as_str) {
         Some("direct") => ConnectionType::Direct,
+        Some("queued") => ConnectionType::Queued,
         _ => ConnectionType::Auto,
     }
 }
@@ -235,6 +248,8 @@ const NAME: Key = ("name", Kind::Words);
 
 const OBJECT: Key = ("object", Kind::Number);
 
+const ON: Key = ("on", Kind::Truth);
+
 const PARENT: Key = ("parent", Kind::Number);
 
 const PARENT_OR_NULL: Key = ("parent", Kind::NumberOrNull);
@@ -265,7 +280,11 @@ fn has_keys_of(word: &str, json: &Value) -> bool {
         "children" => has(json, &[], &[OBJECT]),
         "find" => has(json, &[OBJECT], &[NAME, CLASS]),
         "meta" => has(json, &[CLASS], &[]),
-        _ => has_keys_of_property(word, json) || has_keys_of_signal(word, json),
+        _ => {
+            has_keys_of_property(word, json)
+                || has_keys_of_signal(word, json)
+                || has_keys_of_event(word, json)
+        }
     }
 }
 
@@ -283,7 +302,17 @@ fn has_keys_of_signal(word: &str, json: &Value) -> bool {
     match word {
         "connect" => has(json, &CONNECT, &[MODE, UNIQUE, SINGLE]),
         "disconnect" => has_keys_of_disconnect(json),
-        "invoke" => has(json, &[OBJECT, METHOD, ARGS], &[]),
+        "invoke" => has(json, &[OBJECT, METHOD, ARGS], &[MODE]),
+        _ => false,
+    }
+}
+
+/// The same for the words that are about the event loop.
+fn has_keys_of_event(word: &str, json: &Value) -> bool {
+    match word {
+        "spin" | "status" => has(json, &[], &[]),
+        "deleteLater" => has(json, &[OBJECT], &[]),
+        "block" => has(json, &[OBJECT, ON], &[]),
         _ => false,
     }
 }
@@ -320,7 +349,7 @@ fn is_of(kind: Kind, value: &Value) -> bool {
         Kind::NumberOrNull => value.is_null() || number_of(value).is_some(),
         Kind::ObjectName => value.as_str() == Some("objectName"),
         Kind::Truth => value.is_boolean(),
-        Kind::Mode => matches!(value.as_str(), Some("auto" | "direct")),
+        Kind::Mode => matches!(value.as_str(), Some("auto" | "direct" | "queued")),
         Kind::List => value.is_array(),
         Kind::Json => true,
     }

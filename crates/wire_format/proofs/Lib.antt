@@ -2,6 +2,7 @@ pub mod CommandLemmas
 pub mod HeldLemmas
 pub mod Plain
 pub mod LineTexts
+pub mod CountTexts
 pub mod Cutting
 pub mod Outputs
 pub mod LeftOutLines

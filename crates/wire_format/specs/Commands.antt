@@ -5,13 +5,14 @@ use Rattle.serde_json.specs.Data.{Data}
 use Rattle.json_reading.specs.Fields.{◌>>=◌, text_at}
 use Rattle.thread_model.specs.Asked.{Asked}
 use Rattle.wire_format.specs.declared.commands.Word.{Word}
-use Rattle.wire_format.specs.declared.commands.Word.TheVariants.{New, Delete, SetParent, Children, Find, Set, Get, Meta, Connect, Disconnect, Invoke}
+use Rattle.wire_format.specs.declared.commands.Word.TheVariants.{New, Delete, SetParent, Children, Find, Set, Get, Meta, Connect, Disconnect, Invoke, Spin, DeleteLater, Block, Status}
 use Rattle.wire_format.specs.Form.{Form}
 use Rattle.wire_format.specs.Held.{held_by}
 use Rattle.wire_format.specs.Trees as trees
 use Rattle.wire_format.specs.Properties as properties
 use Rattle.wire_format.specs.Classes as classes
 use Rattle.wire_format.specs.Signals as signals
+use Rattle.wire_format.specs.Events as events
 
 abbrev pub form_of : Word → Form
 form_of New = trees.new
@@ -25,9 +26,13 @@ form_of Meta = classes.meta
 form_of Connect = signals.connect
 form_of Disconnect = signals.disconnect
 form_of Invoke = signals.invoke
+form_of Spin = events.spin
+form_of DeleteLater = events.delete_later
+form_of Block = events.block
+form_of Status = events.status
 
 abbrev pub all_words : List Word
-all_words = New ∷ Delete ∷ SetParent ∷ Children ∷ Find ∷ Set ∷ Get ∷ Meta ∷ Connect ∷ Disconnect ∷ Invoke ∷ []
+all_words = New ∷ Delete ∷ SetParent ∷ Children ∷ Find ∷ Set ∷ Get ∷ Meta ∷ Connect ∷ Disconnect ∷ Invoke ∷ Spin ∷ DeleteLater ∷ Block ∷ Status ∷ []
 
 -- the command of this name
 abbrev pub word_named : List ℕ → Option Word

@@ -6,7 +6,7 @@ use Rattle.plain_types.specs.Names.{is_name}
 use Rattle.serde_json.specs.Data.{Data}
 use Rattle.serde_json.specs.Find.{get, as_array, as_bool, as_null, as_object, as_str, as_number, as_u64}
 use Rattle.connection_types.specs.declared.connection_type.ConnectionType.{ConnectionType}
-use Rattle.connection_types.specs.declared.connection_type.ConnectionType.TheVariants.{Auto, Direct}
+use Rattle.connection_types.specs.declared.connection_type.ConnectionType.TheVariants.{Auto, Direct, Queued}
 use Rattle.json_reading.specs.Fields.{◌>>=◌, when, all_keys, elements_of}
 use Rattle.json_reading.specs.Members.{data_of}
 use Rattle.wire_format.specs.declared.held.Held.{Held as HeldInCode}
@@ -73,9 +73,12 @@ number_in json = do
   n ← as_u64 figure
   when (nat_le 1 n && nat_le n (2 ^ 32 - 1)) n
 
--- how calls are made, by its name; there are no queued calls yet
+-- how calls are made, by its name
 abbrev pub mode_named : List ℕ → Option ConnectionType
-mode_named name = if bytes_eq name (codes "auto") then Some Auto else (if bytes_eq name (codes "direct") then Some Direct else None)
+mode_named name =
+    if bytes_eq name (codes "auto") then Some Auto
+    else (if bytes_eq name (codes "direct") then Some Direct
+    else (if bytes_eq name (codes "queued") then Some Queued else None))
 
 -- a value, as a key holds it
 abbrev pub reads : Holds → Data → Option Held

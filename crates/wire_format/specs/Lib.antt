@@ -5,6 +5,7 @@ pub mod Trees
 pub mod Properties
 pub mod Classes
 pub mod Signals
+pub mod Events
 pub mod Commands
 pub mod Command
 pub mod Input

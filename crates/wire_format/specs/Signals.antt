@@ -30,14 +30,14 @@ disconnect_of held = None
 abbrev pub disconnect : Form
 disconnect = record { word = codes "disconnect"; keys = optional (codes "connection") Number ∷ optional (codes "sender") Number ∷ optional (codes "signal") Text ∷ optional (codes "receiver") Number ∷ optional (codes "method") Text ∷ []; asks = disconnect_of }
 
--- `invoke` calls a slot of an object, or sends a signal of it
+-- `invoke` calls a slot of an object, or sends a signal of it, at once or later
 abbrev pub invoke_of : List Held → Option Asked
-invoke_of (target ∷ method ∷ args ∷ []) = do
+invoke_of (target ∷ method ∷ args ∷ calls ∷ []) = do
   to ← number_of target
   called ← text_of method
   given ← list_of args
-  Some (Invoke to called given)
+  Some (Invoke to called given (mode_of calls))
 invoke_of held = None
 
 abbrev pub invoke : Form
-invoke = record { word = codes "invoke"; keys = needed (codes "object") Number ∷ needed (codes "method") Text ∷ needed (codes "args") AList ∷ []; asks = invoke_of }
+invoke = record { word = codes "invoke"; keys = needed (codes "object") Number ∷ needed (codes "method") Text ∷ needed (codes "args") AList ∷ optional (codes "type") Mode ∷ []; asks = invoke_of }

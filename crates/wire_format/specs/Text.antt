@@ -6,7 +6,9 @@ use Rattle.serde_json.specs.Written.{compact_text}
 use Rattle.plain_types.specs.Names.{is_name}
 use Rattle.refusals.specs.Codes.{code_text}
 use Rattle.thread_model.specs.declared.line.Answer.{Answer}
-use Rattle.thread_model.specs.declared.line.Answer.TheVariants.{Number, Found, Numbers, Truth, Value, Meta}
+use Rattle.thread_model.specs.declared.line.Answer.TheVariants.{Number, Found, Numbers, Truth, Value, Meta, Spun, Status as Counted}
+use Rattle.thread_model.specs.declared.line.Spin.{Spin}
+use Rattle.thread_model.specs.declared.line.Status.{Status}
 use Rattle.thread_model.specs.declared.line.Line.{Line}
 use Rattle.thread_model.specs.declared.line.Line.TheVariants.{Reply, Error, Call, Warning}
 use Rattle.thread_model.specs.declared.meta.MetaObject.{MetaObject}
@@ -41,6 +43,27 @@ json_of_meta meta =
     member (codes "propertyOffset") (json_of_number meta.property_offset) (
     member (codes "super") (json_of_name meta.superclass) no_members))))))
 
+-- what came of taking events, in JSON
+abbrev pub json_of_spin : Spin → Data
+json_of_spin spin =
+    object (member (codes "events") (json_of_number spin.events) (
+    member (codes "left") (json_of_number spin.left) (
+    member (codes "lost") (json_of_number spin.lost) (
+    member (codes "mismatched") (json_of_number spin.mismatched) no_members))))
+
+-- how much there is in a session, in JSON; of bindings, groups, joins and publications there are none yet
+abbrev pub json_of_status : Status → Data
+json_of_status status =
+    object (member (codes "bindings") (json_of_number 0) (
+    member (codes "connections") (json_of_number status.connections) (
+    member (codes "group") (json_of_number 0) (
+    member (codes "joins") (json_of_number 0) (
+    member (codes "lost") (json_of_number status.lost) (
+    member (codes "mismatched") (json_of_number status.mismatched) (
+    member (codes "objects") (json_of_number status.objects) (
+    member (codes "publications") (json_of_number 0) (
+    member (codes "queued") (json_of_number status.queued) no_members)))))))))
+
 -- an answer in JSON
 abbrev pub json_of_answer : Answer → Data
 json_of_answer (Number n) = json_of_number n
@@ -49,6 +72,8 @@ json_of_answer (Numbers ns) = array_of json_of_number ns
 json_of_answer (Truth truth) = boolean truth
 json_of_answer (Value value) = json_of value
 json_of_answer (Meta meta) = json_of_meta meta
+json_of_answer (Spun spin) = json_of_spin spin
+json_of_answer (Counted status) = json_of_status status
 
 -- the session that a line names, in front of what it tells behind that
 abbrev pub in_session : List ℕ → Members → Members

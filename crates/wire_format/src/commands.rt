@@ -9,6 +9,9 @@ ghost use Rattle.wire_format.specs.Held.{held_seen};
 ghost use Rattle.wire_format.specs.Keys.{key_seen};
 
 use crate::classes::{META, meta_of};
+use crate::events::{
+    BLOCK, DELETE_LATER, SPIN, STATUS, block_of, delete_later_of, spin_of, status_of,
+};
 use crate::held::{Held, held_by};
 use crate::keys::Key;
 use crate::properties::{GET, SET, get_of, set_of};
@@ -34,6 +37,10 @@ pub enum Word {
     Connect,
     Disconnect,
     Invoke,
+    Spin,
+    DeleteLater,
+    Block,
+    Status,
 }
 
 fn word_named(name: &str) -> Option<Word>
@@ -51,6 +58,10 @@ fn word_named(name: &str) -> Option<Word>
         "connect" => Some(Word::Connect),
         "disconnect" => Some(Word::Disconnect),
         "invoke" => Some(Word::Invoke),
+        "spin" => Some(Word::Spin),
+        "deleteLater" => Some(Word::DeleteLater),
+        "block" => Some(Word::Block),
+        "status" => Some(Word::Status),
         _ => None,
     }
 }
@@ -71,6 +82,10 @@ fn keys_of(word: Word) -> &'static [Key]
         Word::Connect => &CONNECT,
         Word::Disconnect => &DISCONNECT,
         Word::Invoke => &INVOKE,
+        Word::Spin => &SPIN,
+        Word::DeleteLater => &DELETE_LATER,
+        Word::Block => &BLOCK,
+        Word::Status => &STATUS,
     }
 }
 
@@ -94,6 +109,10 @@ fn asked_with(
         Word::Connect => connect_of(alloc, held),
         Word::Disconnect => disconnect_of(alloc, held),
         Word::Invoke => invoke_of(alloc, held),
+        Word::Spin => Ok(spin_of(held)),
+        Word::DeleteLater => Ok(delete_later_of(held)),
+        Word::Block => Ok(block_of(held)),
+        Word::Status => Ok(status_of(held)),
     }
 }
 

@@ -169,6 +169,7 @@ fn mode_named(name: &str) -> Option<ConnectionType>
     match name {
         "auto" => Some(ConnectionType::Auto),
         "direct" => Some(ConnectionType::Direct),
+        "queued" => Some(ConnectionType::Queued),
         _ => None,
     }
 }

@@ -19,7 +19,7 @@ pub enum Holds {
     ObjectName,
     /// True or false.
     Truth,
-    /// How calls are made: `auto` or `direct`.
+    /// How calls are made: `auto`, `direct` or `queued`.
     Mode,
     /// An array of any JSON.
     List,

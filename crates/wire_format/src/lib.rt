@@ -5,6 +5,7 @@ ghost use Rattle.wire_format.specs.Output.{LeavingOutLines, LeavingOutStrangers}
 
 mod classes;
 mod commands;
+mod events;
 mod fault;
 mod held;
 mod keys;

@@ -8,7 +8,7 @@ ghost use Rattle.wire_format.specs.Shown.{is_plain_shown, text_of_shown};
 ghost use Rattle.wire_format.specs.Text.{json_of_answer, json_of_found};
 
 use itoa::Buffer as Digits;
-use thread_model::{Answer, MetaObject};
+use thread_model::{Answer, MetaObject, Spin, Status};
 use variant_value::Value;
 
 /// What an answer is written as.
@@ -20,6 +20,8 @@ pub(crate) enum Shown<'a> {
     Text(&'a str),
     Numbers(&'a [u32]),
     Meta(&'a MetaObject),
+    Spun(&'a Spin),
+    Status(&'a Status),
 }
 
 /// What an answer is written as. The digits of a number are lent.
@@ -34,6 +36,8 @@ pub(crate) fn shown_as<'a>(answer: &'a Answer, digits: &'a mut Digits) -> Shown<
         Answer::Truth(truth) => Shown::Word(truth_word(*truth)),
         Answer::Value(value) => shown_value(value, digits),
         Answer::Meta(meta) => Shown::Meta(meta),
+        Answer::Spun(spin) => Shown::Spun(spin),
+        Answer::Status(status) => Shown::Status(status),
     }
 }
 

@@ -89,17 +89,18 @@ pub(crate) fn disconnect_of(
     }
 }
 
-pub(crate) const INVOKE: [Key; 3] = [
+pub(crate) const INVOKE: [Key; 4] = [
     Key::Needed("object", Holds::Number),
     Key::Needed("method", Holds::Text),
     Key::Needed("args", Holds::List),
+    Key::Optional("type", Holds::Mode),
 ];
 
-/// `invoke`: a method of an object, and what it is given.
+/// `invoke`: a method of an object, what it is given, and how it is called.
 pub(crate) fn invoke_of(alloc: Global, held: &[Held<'_, '_>]) -> Result<Option<Command>, AllocError>
     ensures { IfOk result (λ command. option_map asked command ≡ invoke_of (map held_seen held.now)) }
 {
-    let [object, method, args] = held else {
+    let [object, method, args, mode] = held else {
         return Ok(None);
     };
     let Some(object) = object.number() else {
@@ -110,6 +111,7 @@ pub(crate) fn invoke_of(alloc: Global, held: &[Held<'_, '_>]) -> Result<Option<C
             object,
             method,
             args,
+            mode: mode.mode(),
         })),
         _ => Ok(None),
     }

@@ -5,7 +5,7 @@ ghost use Rattle.serde_json.specs.Data.{string};
 ghost use Rattle.serde_json.specs.Written.{compact_text};
 ghost use Rattle.variant_value.specs.Values.{json_of};
 ghost use Rattle.wire_format.specs.Shown.{text_of_shown};
-ghost use Rattle.wire_format.specs.Text.{array_of, json_of_meta, json_of_name, json_of_number, text_of_line, text_of_fault, is_plain_byte};
+ghost use Rattle.wire_format.specs.Text.{array_of, json_of_meta, json_of_name, json_of_number, json_of_spin, json_of_status, text_of_line, text_of_fault, is_plain_byte};
 
 use crate::fault::LineFault;
 use crate::shown::{Shown, shown_as, shown_value};
@@ -15,7 +15,7 @@ use plain_types::Text;
 use refusals::Code;
 use std::alloc::{AllocError, Global};
 use std::mem;
-use thread_model::{Answer, Call, Line, MetaObject};
+use thread_model::{Answer, Call, Line, MetaObject, Spin, Status};
 use variant_value::Value;
 
 /// The text of a line that a session is told, with its line feed: compact JSON, its keys in byte
@@ -204,6 +204,8 @@ fn push_shown(alloc: Global, buffer: &mut String, shown: Shown<'_>) -> Result<()
         Shown::Text(text) => push_text(alloc, buffer, text),
         Shown::Numbers(numbers) => push_numbers(buffer, numbers),
         Shown::Meta(meta) => push_meta(alloc, buffer, meta),
+        Shown::Spun(spin) => push_spin(buffer, spin),
+        Shown::Status(status) => push_status(buffer, status),
     }
 }
 
@@ -226,6 +228,45 @@ fn push_meta(alloc: Global, buffer: &mut String, meta: &MetaObject) -> Result<()
     push_name(alloc, buffer, &meta.superclass)?;
     buffer.push_str("}")?;
     Ok(())
+}
+
+/// Appends what came of taking events.
+fn push_spin(buffer: &mut String, spin: &Spin) -> Result<(), AllocError>
+    ensures { OnOk result (string_bytes buffer.new
+        ≡ string_bytes buffer.old ++ compact_text (json_of_spin spin.now)) }
+{
+    push_count(buffer, "{\"events\":", u64::from(spin.events))?;
+    push_count(buffer, ",\"left\":", u64::from(spin.left))?;
+    push_count(buffer, ",\"lost\":", spin.lost)?;
+    push_count(buffer, ",\"mismatched\":", spin.mismatched)?;
+    buffer.push_str("}")?;
+    Ok(())
+}
+
+/// Appends how much there is in a session. The numbers of bindings, joins and publications and that of
+/// the group are 0, since there are none yet.
+fn push_status(buffer: &mut String, status: &Status) -> Result<(), AllocError>
+    ensures { OnOk result (string_bytes buffer.new
+        ≡ string_bytes buffer.old ++ compact_text (json_of_status status.now)) }
+{
+    let connections = "{\"bindings\":0,\"connections\":";
+    push_count(buffer, connections, u64::from(status.connections))?;
+    push_count(buffer, ",\"group\":0,\"joins\":0,\"lost\":", status.lost)?;
+    push_count(buffer, ",\"mismatched\":", status.mismatched)?;
+    push_count(buffer, ",\"objects\":", u64::from(status.objects))?;
+    let queued = ",\"publications\":0,\"queued\":";
+    push_count(buffer, queued, u64::from(status.queued))?;
+    buffer.push_str("}")?;
+    Ok(())
+}
+
+/// Appends a number behind its key, which comes with what stands before it.
+fn push_count(buffer: &mut String, key: &str, number: u64) -> Result<(), AllocError>
+    ensures { OnOk result (string_bytes buffer.new
+        ≡ string_bytes buffer.old ++ (key.now ++ compact_text (json_of_number number))) }
+{
+    buffer.push_str(key)?;
+    buffer.push_str(Digits::new().format(number))
 }
 
 fn push_number(buffer: &mut String, number: u32) -> Result<(), AllocError>

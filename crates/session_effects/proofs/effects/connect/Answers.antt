@@ -13,5 +13,5 @@ returns-clause-tries c = λ doing.
     let slot = c.args.slot.now in
     let r = c.reader-reader.ensures in
     connect_done (settings_of c.args.caller.now.setup.now) slot.object slot.sender slot.args.now slot.depth (in_state doing (state_at c.args.tables.now c.args.caller.now.place)) c.args.of.now c.args.signal.now c.args.to.now c.args.method.now c.args.options.mode c.args.options.unique c.args.options.single
-    (sym c.if-is_queued.ensures) c.in_ok-sender.sender c.in_ok-receiver.receiver (c.in_ok-sender.ensures ∙ read_as (λ state object sender. object_of state object sender c.args.of.now) r.tables r.place r.object r.sender) (c.in_ok-receiver.ensures ∙ read_as (λ state object sender. object_of state object sender c.args.to.now) r.tables r.place r.object r.sender) (sym c.in_ok-check_living.ensures) (sym c.in_ok-check_living-2.ensures) c.in_ok-new.new (sym c.in_ok-new.ensures) c.in_ok-connect.ensures.refusal
+    c.in_ok-sender.sender c.in_ok-receiver.receiver (c.in_ok-sender.ensures ∙ read_as (λ state object sender. object_of state object sender c.args.of.now) r.tables r.place r.object r.sender) (c.in_ok-receiver.ensures ∙ read_as (λ state object sender. object_of state object sender c.args.to.now) r.tables r.place r.object r.sender) (sym c.in_ok-check_living.ensures) (sym c.in_ok-check_living-2.ensures) c.in_ok-new.new (sym c.in_ok-new.ensures) c.in_ok-connect.ensures.refusal
     ∙ put_at c.args.tables.now c.connect.new.self c.args.caller.now.place _ doing c.requires c.in_ok-connect.ensures.ok

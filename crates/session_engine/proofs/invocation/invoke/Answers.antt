@@ -1,27 +1,29 @@
-use Rattle.std.proofs.Common.{◌≡◌, None, Some, Ok, map, refl, ap, ◌∙◌}
+use Rattle.std.proofs.Common.{◌≡◌, None, Some, Ok, map, refl, sym, ◌∙◌}
 use Rattle.std.specs.Option.{option_or}
 use Rattle.std.specs.Result.{result_err}
 use Rattle.serde_json.specs.View.{view}
 use Rattle.class_table.specs.Lookup.{method_number}
 use Rattle.thread_model.specs.Methods.{methods_of}
-use Rattle.thread_model.specs.Refusing.{values_refusal}
+use Rattle.thread_model.specs.Refusing.{later_refusal, values_refusal}
 use Rattle.thread_model.specs.Signals.{asked_method, asked_values}
 use Rattle.thread_model.proofs.SignalLemmas.{invoke_none, refusal_invoke}
 use Rattle.session_tables.specs.Tables.{state_at}
+use Rattle.session_tables.proofs.TablesLemmas.{changes_same}
 use Rattle.session_effects.specs.Setup.{settings_of}
-use Rattle.session_engine.proofs.CommandsLemmas.{found_fault, or_first, or_second, replied_by, silently, stopped}
-use Rattle.session_engine.proofs.InvocationLemmas.{asked_is, method_there, number_is, number_none, performs_invoked}
+use Rattle.session_engine.proofs.CommandsLemmas.{found_fault, made_fault, on_refused, or_first, or_second, replied, replied_by, silently, stopped}
+use Rattle.session_engine.proofs.InvocationLemmas.{asked_is, method_there, number_is, number_none, performs_invoked, posts_invoked, refusal_absent, refusal_found, refusal_later, refusal_now}
 use Rattle.session_engine.proofs.invocation.invoke.Goals as goal
 
 pub returns-in_err-check_object : goal.returns-in_err-check_object
-returns-in_err-check_object c = stopped _ _ _ _ _ c.in_err-check_object.field-0.0 _ c.from_residual.ensures.1 (refusal_invoke _ _ _ _ _ _ ∙ or_first _ _ _ c.in_err-check_object.ensures) refl
+returns-in_err-check_object c = stopped _ _ _ _ _ c.in_err-check_object.field-0.0 _ c.from_residual.ensures.1 (refusal_invoke _ _ _ _ _ _ _ ∙ or_first _ _ _ c.in_err-check_object.ensures) refl
 
 pub returns-in_err-signature : goal.returns-in_err-signature
 returns-in_err-signature c =
     let settings = settings_of c.args.caller.now.setup.now in
     let state = state_at c.args.tables.now c.args.caller.now.place in
-    found_fault _ _ _ _ (λ found. option_or (result_err found) (values_refusal settings state c.args.object (map view c.args.args.now) (asked_method settings state c.args.object c.args.method.now))) _ c.in_err-signature.field-0.0 _
-    c.from_residual-in_err-signature.ensures.1 (refusal_invoke _ _ _ _ _ _ ∙ or_second _ _ c.in_ok-check_object.ensures) (λ code. refl) (rw c.as_str.ensures at c.in_err-signature.ensures.exact)
+    let asked = asked_method settings state c.args.object c.args.method.now in
+    found_fault _ _ _ _ (λ found. option_or (result_err found) (option_or (values_refusal settings state c.args.object (map view c.args.args.now) asked) (later_refusal state c.args.mode asked))) _ c.in_err-signature.field-0.0 _
+    c.from_residual-in_err-signature.ensures.1 (refusal_invoke _ _ _ _ _ _ _ ∙ or_second _ _ c.in_ok-check_object.ensures) (λ code. refl) (rw c.as_str.ensures at c.in_err-signature.ensures.exact)
 
 pub returns-in_default : goal.returns-in_default
 returns-in_default c =
@@ -31,9 +33,8 @@ returns-in_default c =
     let asked : asked_method settings state c.args.object c.args.method.now ≡ None =
     asked_is settings state c.args.object c.args.method.now c.in_ok-signature.signature None spelled (number_none (method_number c.in_ok-signature.signature (methods_of settings state c.args.object)) _ c.in_default.ensures) in
     silently _ _ _ _ _ _ c.requires.fresh
-    (replied_by _ _ _ _ (refusal_invoke _ _ _ _ _ _ ∙ or_second _ _ c.in_ok-check_object.ensures ∙ ap (λ found. option_or (result_err found) (values_refusal settings state c.args.object (map view c.args.args.now) (asked_method settings state c.args.object c.args.method.now))) spelled
-    ∙ ap (values_refusal settings state c.args.object (map view c.args.args.now)) asked)
-    (invoke_none _ _ _ _ _ _ asked))
+    (replied_by _ _ _ _ (refusal_absent c.args.caller.now c.args.object c.args.method.now (map view c.args.args.now) c.args.mode c.args.tables.now c.args.tables.now c.in_ok-signature.signature c.in_ok-check_object.ensures spelled asked)
+    (invoke_none _ _ _ _ _ _ _ asked))
 
 pub returns-in_err-values : goal.returns-in_err-values
 returns-in_err-values c =
@@ -42,9 +43,37 @@ returns-in_err-values c =
     let spelled = rw c.as_str.ensures at c.in_ok-signature.ensures.exact in
     let asked : asked_method settings state c.args.object c.args.method.now ≡ Some c.in-Ok.index =
     asked_is settings state c.args.object c.args.method.now c.in_ok-signature.signature (Some c.in-Ok.index) spelled (number_is (method_number c.in_ok-signature.signature (methods_of settings state c.args.object)) _ c.in-Ok.ensures) in
-    found_fault _ _ _ _ result_err (asked_values settings state c.args.object c.in-Ok.index (map view c.args.args.now)) c.in_err-values.field-0.0 _ c.from_residual-in_err-values.ensures.1
-    (refusal_invoke _ _ _ _ _ _ ∙ or_second _ _ c.in_ok-check_object.ensures ∙ ap (λ found. option_or (result_err found) (values_refusal settings state c.args.object (map view c.args.args.now) (asked_method settings state c.args.object c.args.method.now))) spelled
-    ∙ ap (values_refusal settings state c.args.object (map view c.args.args.now)) asked) (λ code. refl) (rw c.kinds_at-kinds.ensures at c.in_err-values.ensures)
+    found_fault _ _ _ _ (λ given. option_or (result_err given) (later_refusal state c.args.mode (Some c.in-Ok.index))) (asked_values settings state c.args.object c.in-Ok.index (map view c.args.args.now)) c.in_err-values.field-0.0 _ c.from_residual-in_err-values.ensures.1
+    (refusal_found c.args.caller.now c.args.object c.args.method.now (map view c.args.args.now) c.args.mode c.args.tables.now c.args.tables.now c.in_ok-signature.signature c.in_ok-check_object.ensures spelled (Some c.in-Ok.index) asked)
+    (λ code. refl) (rw c.kinds_at-kinds.ensures at c.in_err-values.ensures)
+
+pub returns-in_err-post : goal.returns-in_err-post
+returns-in_err-post c =
+    let settings = settings_of c.args.caller.now.setup.now in
+    let state = state_at c.args.tables.now c.args.caller.now.place in
+    let spelled = rw c.as_str.ensures at c.in_ok-signature.ensures.exact in
+    let asked : asked_method settings state c.args.object c.args.method.now ≡ Some c.in-Ok.index =
+    asked_is settings state c.args.object c.args.method.now c.in_ok-signature.signature (Some c.in-Ok.index) spelled (number_is (method_number c.in_ok-signature.signature (methods_of settings state c.args.object)) _ c.in-Ok.ensures) in
+    let given : asked_values settings state c.args.object c.in-Ok.index (map view c.args.args.now) ≡ Ok c.in_ok-values.values = rw c.kinds_at-kinds.ensures at c.in_ok-values.ensures in
+    made_fault _ _ _ _ _ _ c.in_err-post.field-0.0 _ c.from_residual-in_err-post.ensures.1
+    (refusal_later c.args.caller.now c.args.object c.args.method.now (map view c.args.args.now) c.args.mode c.args.tables.now c.post.new.tables c.in_ok-signature.signature c.in_ok-check_object.ensures spelled c.in-Ok.index c.in_ok-values.values asked given
+    (sym c.if-is_queued.ensures))
+    c.in_err-post.ensures.refusal (on_refused _ c.in_err-post.ensures.err) (changes_same _ _ _ c.in_err-post.ensures.err)
+
+pub returns-then-is_queued : goal.returns-then-is_queued
+returns-then-is_queued c =
+    let settings = settings_of c.args.caller.now.setup.now in
+    let state = state_at c.args.tables.now c.args.caller.now.place in
+    let spelled = rw c.as_str.ensures at c.in_ok-signature.ensures.exact in
+    let asked : asked_method settings state c.args.object c.args.method.now ≡ Some c.in-Ok.index =
+    asked_is settings state c.args.object c.args.method.now c.in_ok-signature.signature (Some c.in-Ok.index) spelled (number_is (method_number c.in_ok-signature.signature (methods_of settings state c.args.object)) _ c.in-Ok.ensures) in
+    let given : asked_values settings state c.args.object c.in-Ok.index (map view c.args.args.now) ≡ Ok c.in_ok-values.values = rw c.kinds_at-kinds.ensures at c.in_ok-values.ensures in
+    silently _ _ _ _ _ _ c.requires.fresh
+    (replied _ _ _ _ _ _
+    (refusal_later c.args.caller.now c.args.object c.args.method.now (map view c.args.args.now) c.args.mode c.args.tables.now c.post.new.tables c.in_ok-signature.signature c.in_ok-check_object.ensures spelled c.in-Ok.index c.in_ok-values.values asked given
+    (sym c.if-is_queued.ensures) ∙ c.in_ok-post.ensures.refusal)
+    (posts_invoked c.args.caller.now c.args.object c.args.method.now (map view c.args.args.now) c.args.mode state c.in-Ok.index c.in_ok-values.values (sym c.if-is_queued.ensures) asked given)
+    (rw c.as_slice.ensures at c.in_ok-post.ensures.ok))
 
 pub run-requires-clause-there : goal.run-requires-clause-there
 run-requires-clause-there c =
@@ -59,7 +88,7 @@ returns c =
     let asked : asked_method settings state c.args.object c.args.method.now ≡ Some c.in-Ok.index =
     asked_is settings state c.args.object c.args.method.now c.in_ok-signature.signature (Some c.in-Ok.index) spelled (number_is (method_number c.in_ok-signature.signature (methods_of settings state c.args.object)) _ c.in-Ok.ensures) in
     let given : asked_values settings state c.args.object c.in-Ok.index (map view c.args.args.now) ≡ Ok c.in_ok-values.values = rw c.kinds_at-kinds.ensures at c.in_ok-values.ensures in
-    performs_invoked c.args.caller.now c.args.object c.args.method.now (map view c.args.args.now) c.args.tables.now c.run.new.tables c.run.new.telling c.in-Ok.index c.in_ok-values.values
-    (refusal_invoke _ _ _ _ _ _ ∙ or_second _ _ c.in_ok-check_object.ensures ∙ ap (λ found. option_or (result_err found) (values_refusal settings state c.args.object (map view c.args.args.now) (asked_method settings state c.args.object c.args.method.now))) spelled
-    ∙ ap (values_refusal settings state c.args.object (map view c.args.args.now)) asked ∙ ap result_err given)
-    asked given (rw c.as_slice.ensures at c.in_ok-run.ensures.does) c.in_ok-run.ensures.keeps
+    performs_invoked c.args.caller.now c.args.object c.args.method.now (map view c.args.args.now) c.args.mode c.args.tables.now c.run.new.tables c.run.new.telling c.in-Ok.index c.in_ok-values.values (sym c.if-is_queued.ensures)
+    (refusal_now c.args.caller.now c.args.object c.args.method.now (map view c.args.args.now) c.args.mode c.args.tables.now c.run.new.tables c.in_ok-signature.signature c.in_ok-check_object.ensures spelled c.in-Ok.index c.in_ok-values.values asked given
+    (sym c.if-is_queued.ensures))
+    asked given (rw c.as_slice-2.ensures at c.in_ok-run.ensures.does) c.in_ok-run.ensures.keeps

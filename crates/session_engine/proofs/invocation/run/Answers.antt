@@ -1,6 +1,6 @@
 use Rattle.std.proofs.Common.{arith}
 use Rattle.session_engine.specs.Telling.{doing_at}
-use Rattle.session_engine.proofs.DeletionLemmas.{OnOk-map}
+use Rattle.session_engine.proofs.AgendaLemmas.{OnOk-map}
 use Rattle.session_engine.proofs.InvocationLemmas.{run_called, run_spent}
 use Rattle.session_engine.proofs.invocation.run.Goals as goal
 

@@ -1,0 +1,158 @@
+-- Taking events one after another.
+use Rattle.std.proofs.Common.{◌≡◌, ◌<◌, ◌≤◌, ◌+◌, ◌-◌, ℕ, true, false, List, [], ◌∷◌, Option, Some, None, Ok, drop, length, nat_lt, refl, sym, subst, ap, ◌∙◌, arith}
+use Rattle.std.specs.List.{slice_get}
+use Rattle.std.specs.Option.{option_map_or}
+use Rattle.std.proofs.lemmas.Bool.{cond-false}
+use Rattle.std.proofs.lemmas.Bool.Decides.{nat_tests}
+use Rattle.connection_types.specs.declared.callee.Callee.{Callee}
+use Rattle.connection_types.specs.declared.callee.Callee.TheVariants as callee
+use Rattle.event_queue.specs.declared.event.Event.{Event}
+use Rattle.event_queue.specs.declared.event.Event.TheVariants as event
+use Rattle.event_queue.specs.declared.event.QueuedCall.{QueuedCall}
+use Rattle.class_table.specs.declared.class.Method.{Method}
+use Rattle.term_core.specs.Act.{acts_of}
+use Rattle.thread_model.specs.declared.line.Answer.TheVariants as a
+use Rattle.thread_model.specs.declared.line.Line.TheVariants as line
+use Rattle.thread_model.specs.declared.line.Spin.{Spin as Came}
+use Rattle.thread_model.specs.Acts.{acts}
+use Rattle.thread_model.specs.Asked as asked
+use Rattle.thread_model.specs.Effects.{ended}
+use Rattle.thread_model.specs.Posting.{spin_of}
+use Rattle.thread_model.specs.Agenda.{call_items, call_line, event_items, method_items}
+use Rattle.thread_model.specs.Doing.{Doing, first_taken, told, turn_taken}
+use Rattle.thread_model.specs.Items.{Item, Run, Spin}
+use Rattle.thread_model.specs.Methods.{method_at}
+use Rattle.thread_model.specs.Run.{run}
+use Rattle.thread_model.specs.Settings.{Settings}
+use Rattle.thread_model.specs.State.{State, without_first}
+use Rattle.thread_model.proofs.EmissionLemmas as emission
+use Rattle.thread_model.proofs.EventLemmas as rule
+use Rattle.thread_model.proofs.RunLemmas.{at_end, by_change, by_step, in_parts, run_shrinks}
+use Rattle.thread_model.proofs.ThreadLemmas.{spun_last}
+use Rattle.session_tables.specs.declared.tables.Tables.{Tables}
+use Rattle.session_tables.specs.Tables.{IsPlaced, state_at, with_state}
+use Rattle.session_tables.proofs.TablesLemmas.{state_with}
+use Rattle.session_effects.specs.declared.caller.Caller.{Caller}
+use Rattle.session_effects.specs.Actions.{Keeps}
+use Rattle.session_effects.specs.Setup.{settings_of}
+use Rattle.session_engine.specs.Commands.{Performs, reply_after}
+use Rattle.session_engine.specs.declared.telling.Telling.{Telling}
+use Rattle.session_engine.specs.Telling.{doing_at, fresh_telling, spent}
+use Rattle.session_engine.proofs.AgendaLemmas.{spent_is}
+use Rattle.session_engine.proofs.CommandsLemmas.{replied_last}
+
+-- the first of some events
+pub first_is : (events : List Event) (first : Event) → slice_get events 0 ≡ Some first → events ≡ first ∷ drop 1 events
+first_is [] first e = absurd (cc)
+first_is (event ∷ later) first e = let same : event ≡ first = cc in ap (λ event. event ∷ later) same
+
+-- where none waits, there is none
+pub none_waits : (events : List Event) → nat_lt 0 (length events) ≡ false → events ≡ []
+none_waits [] e = refl
+none_waits (event ∷ later) e = absurd (grind (arith, nat_tests, e))
+
+-- what an event comes to does not go by the queue
+pub items_without_first : (settings : Settings) (state : State) (first : Event) → event_items settings (without_first state) first ≡ event_items settings state first
+items_without_first settings state (event.Deletion target) = refl
+items_without_first settings state (event.Call call) = by call.callee
+  where
+    by : (called : Callee) → call_items settings (without_first state) call called ≡ call_items settings state call called
+    by (callee.Method index) = refl
+    by (callee.Functor index) = refl
+
+-- an event more was taken, with a turn
+abbrev pub with_event_taken : Telling → Telling
+with_event_taken telling = record { lines = telling.lines; turns = telling.turns - 1; spent = telling.spent; taken = telling.taken + 1 }
+
+module _ (settings : Settings) (place : ℕ) (old middle : Tables) (before : Telling) (placed : IsPlaced old place) (e : middle ≡ with_state old place (without_first (state_at old place))) where
+  -- the session with the first event taken
+  pub taken_is : first_taken (turn_taken (doing_at place old before)) ≡ doing_at place middle (with_event_taken before)
+  unfolding first_taken turn_taken
+  taken_is = ap (λ (state : State). record { state = state; turns = before.turns - 1; spent = before.spent; taken = before.taken + 1; lines = before.lines }) (sym (state_with old middle place (without_first (state_at old place)) placed e))
+
+  -- what it comes to is done, and then the next one is taken
+  pub spin_goes_on : (first : Event) (new : Tables) (after : Telling) (start : Doing)
+      → slice_get (state_at old place).queue.events 0 ≡ Some first → 0 < before.turns
+      → run settings (event_items settings (state_at middle place) first) (doing_at place middle (with_event_taken before)) ≡ doing_at place new after
+      → run settings (Spin ∷ []) (doing_at place old before) ≡ start
+      → run settings (Spin ∷ []) (doing_at place new after) ≡ start
+  spin_goes_on first new after start is some does begun =
+      let doing = doing_at place old before in
+      let items = event_items settings (state_at old place) first in
+      let same : event_items settings (state_at middle place) first ≡ items = ap (λ state. event_items settings state first) (state_with old middle place (without_first (state_at old place)) placed e) ∙ items_without_first settings (state_at old place) first in
+      ap (run settings (Spin ∷ [])) (sym (ap (run settings items) taken_is ∙ ap (λ items. run settings items (doing_at place middle (with_event_taken before))) (sym same) ∙ does))
+      ∙ sym (in_parts settings items (Spin ∷ []) (first_taken (turn_taken doing)))
+      ∙ sym (by_step settings Spin doing _ (rule.spin_taken settings doing first _ (first_is _ first is) some))
+      ∙ begun
+
+-- with no event left all is done
+pub spin_ends : (settings : Settings) (doing : Doing) (start : Doing) → nat_lt 0 (length doing.state.queue.events) ≡ false → run settings (Spin ∷ []) doing ≡ start → start ≡ doing
+spin_ends settings doing start none begun = sym begun ∙ by_change settings Spin doing doing (rule.spin_empty settings doing (none_waits _ none))
+
+-- an event that finds no turn left is told of, and none is taken any more
+pub spin_spent : (settings : Settings) (place : ℕ) (tables : Tables) (before after : Telling) (start : Doing) → nat_lt 0 (length (state_at tables place).queue.events) ≡ true → before.turns ≡ 0 → after ≡ spent before
+    → run settings (Spin ∷ []) (doing_at place tables before) ≡ start → start ≡ doing_at place tables after
+spin_spent settings place tables before after start some none e begun = by (state_at tables place).queue.events refl
+  where
+    by : (events : List Event) → (state_at tables place).queue.events ≡ events → start ≡ doing_at place tables after
+    by [] is = let no : false ≡ true = ap (λ (events : List Event). nat_lt 0 (length events)) (sym is) ∙ some in absurd (cc)
+    by (first ∷ later) is =
+        sym begun ∙ by_change settings Spin (doing_at place tables before) _ (rule.spin_spent settings (doing_at place tables before) first later is none)
+        ∙ spent_is place tables before after e
+
+-- a call that was queued is made
+module _ (settings : Settings) (place : ℕ) (tables : Tables) (telling : Telling) (call : QueuedCall) where
+  abbrev its_doing : Doing
+  its_doing = doing_at place tables telling
+
+  abbrev its_items : List Item
+  its_items = call_items settings (state_at tables place) call call.callee
+
+  by_callee : (called : Callee) → call.callee ≡ called → its_items ≡ call_items settings (state_at tables place) call called
+  by_callee called is = ap (call_items settings (state_at tables place) call) is
+
+  -- a functor does nothing
+  pub calls_functor : (index : ℕ) → call.callee ≡ callee.Functor index → run settings its_items its_doing ≡ its_doing
+  calls_functor index is = ap (λ (items : List Item). run settings items its_doing) (by_callee (callee.Functor index) is) ∙ at_end settings its_doing
+
+  module _ (index : ℕ) (is : call.callee ≡ callee.Method index) where
+    by_method : (found : Option Method) → found ≡ method_at settings (state_at tables place) call.object index → its_items ≡ option_map_or (method_items call.object index call.sender call.args 0 0) found []
+    by_method found has = by_callee (callee.Method index) is ∙ ap (λ (found : Option Method). option_map_or (method_items call.object index call.sender call.args 0 0) found []) (sym has)
+
+    -- an object that has gone, or has no such method, is not called
+    pub calls_none : None ≡ method_at settings (state_at tables place) call.object index → run settings its_items its_doing ≡ its_doing
+    calls_none has = ap (λ (items : List Item). run settings items its_doing) (by_method None has) ∙ at_end settings its_doing
+
+    module _ (method : Method) (has : Some method ≡ method_at settings (state_at tables place) call.object index) (done : Doing) where
+      -- a slot is run
+      pub calls_slot : method.is_signal ≡ false → run settings (acts (acts_of method.body.actions) call.args call.object call.sender 1) (told its_doing (call_line method call.object call.sender call.args)) ≡ done
+          → run settings its_items its_doing ≡ done
+      calls_slot slot does =
+          ap (λ (items : List Item). run settings items its_doing) (by_method (Some method) has ∙ cond-false method.is_signal _ _ slot)
+          ∙ by_step settings (Run call.object index call.sender call.args 0) its_doing _ (emission.run_slot settings call.object index call.sender call.args 0 its_doing method (sym has))
+          ∙ does
+
+-- no turn is given back
+pub turns_left : (settings : Settings) (agenda : List Item) (place : ℕ) (old new : Tables) (before after : Telling) → run settings agenda (doing_at place old before) ≡ doing_at place new after → after.turns ≤ before.turns
+turns_left settings agenda place old new before after does =
+    subst (λ (doing : Doing). doing.turns ≤ before.turns) does (run_shrinks settings agenda (doing_at place old before)).turns
+
+-- turns and events that were taken do not grow together
+pub few_taken : (settings : Settings) (agenda : List Item) (place : ℕ) (old new : Tables) (before after : Telling) → run settings agenda (doing_at place old before) ≡ doing_at place new after → after.turns + after.taken ≤ before.turns + before.taken
+few_taken settings agenda place old new before after does =
+    subst (λ (doing : Doing). doing.turns + doing.taken ≤ before.turns + before.taken) does (run_shrinks settings agenda (doing_at place old before)).taken
+
+-- so the command is performed: what came of it is replied last
+pub performs_spun : (caller : Caller) (old new : Tables) (before after : Telling) (spin : Came) → before ≡ fresh_telling caller.setup.now.turns
+    → run (settings_of caller.setup.now) (Spin ∷ []) (doing_at caller.place old before) ≡ doing_at caller.place new after → Keeps caller.place old new → spin ≡ spin_of (doing_at caller.place new after)
+    → Performs caller asked.Spin old new (reply_after after.lines) (Ok (a.Spun spin))
+performs_spun caller old new before after spin fresh does keeps is =
+    let settings = settings_of caller.setup.now in
+    let state = state_at old caller.place in
+    replied_last caller asked.Spin old new after (a.Spun spin) (rule.refusal_spin settings caller.name.now state)
+    (rule.performs_spin settings caller.name.now state
+    ∙ spun_last settings state
+    ∙ ap (λ (doing : Doing). ended (told (run settings (Spin ∷ []) doing) (line.Reply (a.Spun (spin_of (run settings (Spin ∷ []) doing)))))) (sym (ap (doing_at caller.place old) fresh))
+    ∙ ap (λ (done : Doing). ended (told done (line.Reply (a.Spun (spin_of done))))) does
+    ∙ ap (λ (spin : Came). ended (told (doing_at caller.place new after) (line.Reply (a.Spun spin)))) (sym is))
+    keeps

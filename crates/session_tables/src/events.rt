@@ -1,0 +1,134 @@
+//! The events of sessions, the objects whose signals are blocked, and how much there is.
+ghost use Rattle.std.specs.Prelude.{◌≡◌, IfOk, OnOk, OnErr, length, nat_lt, if◌then◌else◌};
+ghost use Rattle.std.specs.List.{slice_get};
+ghost use Rattle.std.specs.Option.{option_map};
+ghost use Rattle.std.specs.Result.{result_err};
+ghost use Rattle.event_queue.specs.declared.event.Event.TheVariants.{Call};
+ghost use Rattle.event_queue.specs.Queue.{IsSound, has_room};
+ghost use Rattle.object_tree.specs.Rows.{row_of};
+ghost use Rattle.thread_model.specs.Events.{is_blocked, status};
+ghost use Rattle.thread_model.specs.Posting.{post_refusal};
+ghost use Rattle.thread_model.specs.State.{with_blocking, with_event, with_lost, without_events, without_first};
+ghost use Rattle.session_tables.specs.Tables.{IsPlaced, state_at, with_state};
+
+use crate::tables::Tables;
+use event_queue::{EVENTS, Event, QueuedCall};
+use refusals::Code;
+use std::alloc::AllocError;
+use thread_model::{Spin, Status};
+
+impl Tables {
+    /// Posts an event, and returns whether there was room for it.
+    pub fn post(&mut self, place: usize, event: Event) -> Result<bool, AllocError>
+        requires { IsPlaced self.old place }
+        ensures room { IfOk result (λ answer. answer ≡ has_room (state_at self.old place).queue) }
+        ensures ok { OnOk result (self.new ≡ with_state self.old place
+            (with_event (state_at self.old place) event)) }
+        ensures err { OnErr result (self.new ≡ self.old) }
+    {
+        self.queues.post(place, event)
+    }
+
+    /// Posts a call, or counts it as lost where there is no room for it.
+    pub fn post_call(&mut self, place: usize, call: QueuedCall) -> Result<(), AllocError>
+        requires { IsPlaced self.old place }
+        ensures ok { OnOk result (self.new ≡ with_state self.old place
+            (if has_room (state_at self.old place).queue
+            then with_event (state_at self.old place) (Call call)
+            else with_lost (state_at self.old place))) }
+        ensures err { OnErr result (self.new ≡ self.old) }
+    {
+        if !self.queues.post(place, Event::Call(call))? {
+            self.queues.note_lost(place);
+        }
+        Ok(())
+    }
+
+    /// Refuses to post where there is no room.
+    pub fn check_room(&self, place: usize) -> Result<(), Code>
+        requires { IsPlaced self.now place }
+        ensures { result_err result ≡ post_refusal (state_at self.now place).queue }
+    {
+        if self.queues.counts(place).queued < EVENTS {
+            Ok(())
+        } else {
+            Err(Code::Limit)
+        }
+    }
+
+    /// Drops the events that name an object.
+    pub fn forget(&mut self, place: usize, object: u32)
+        requires { IsPlaced self.old place }
+        ensures { self.new ≡ with_state self.old place (without_events (state_at self.old place) object) }
+    {
+        self.queues.drop_object(place, object);
+    }
+
+    /// The first event, which is taken out.
+    pub fn take_event(&mut self, place: usize) -> Option<Event>
+        requires { IsPlaced self.old place }
+        ensures first { result ≡ slice_get (state_at self.old place).queue.events 0 }
+        ensures rest { self.new ≡ with_state self.old place (without_first (state_at self.old place)) }
+    {
+        self.queues.take(place)
+    }
+
+    /// Whether an event waits.
+    pub fn has_events(&self, place: usize) -> bool
+        requires { IsPlaced self.now place }
+        ensures waits { result ≡ nat_lt 0 (length (state_at self.now place).queue.events) }
+        ensures sound { IsSound (state_at self.now place).queue }
+    {
+        self.queues.counts(place).queued > 0
+    }
+
+    /// Blocks the signals of an object, or lets them through, and returns whether they were blocked.
+    pub fn set_blocked(&mut self, place: usize, object: u32, on: bool) -> bool
+        requires { IsPlaced self.old place }
+        ensures before { result ≡ is_blocked (state_at self.old place) object }
+        ensures after { self.new ≡ with_state self.old place
+            (with_blocking (state_at self.old place) object on) }
+    {
+        self.forests.set_blocked(place, object, on)
+    }
+
+    /// Whether the signals of an object are blocked, where it is there.
+    pub fn blocked(&self, place: usize, object: u32) -> Option<bool>
+        requires { IsPlaced self.now place }
+        ensures { result ≡ option_map (λ row. row.blocked) (row_of (state_at self.now place).forest.rows object) }
+    {
+        let row = self.forests.row(place, object)?;
+        Some(row.blocked)
+    }
+
+    /// How much there is in a session.
+    pub fn status(&self, place: usize) -> Status
+        requires { IsPlaced self.now place }
+        ensures { result ≡ status (state_at self.now place) }
+    {
+        self.forests.sound(place);
+        let events = self.queues.counts(place);
+        Status {
+            connections: self.connections.count(place) as u32,
+            lost: events.lost,
+            mismatched: events.mismatched,
+            objects: self.forests.count(place) as u32,
+            queued: events.queued as u32,
+        }
+    }
+
+    /// What came of taking this many events.
+    pub fn spun(&self, place: usize, taken: u32) -> Spin
+        requires { IsPlaced self.now place }
+        ensures { result ≡ (let queue = (state_at self.now place).queue in
+            record { events = taken; left = length queue.events; lost = queue.lost; mismatched = queue.mismatched }) }
+    {
+        let events = self.queues.counts(place);
+        Spin {
+            events: taken,
+            left: events.queued as u32,
+            lost: events.lost,
+            mismatched: events.mismatched,
+        }
+    }
+}

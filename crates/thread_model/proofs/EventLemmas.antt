@@ -1,0 +1,130 @@
+-- The rules by which events are taken, one for each way that it goes; and the rule of each command for
+-- events: why it is refused, what it does where it is not, and both together.
+use Rattle.std.proofs.Common.{◌≡◌, ◌<◌, ◌==◌, ℕ, Bool, true, false, List, [], ◌∷◌, ◌++◌, Option, Some, None, refl, ap, ◌∙◌, arith}
+use Rattle.std.specs.Option.{option_map_or, option_or}
+use Rattle.std.proofs.lemmas.Bool.{cond-false, cond-true}
+use Rattle.std.proofs.lemmas.Bool.Decides.{nat_tests}
+use Rattle.class_table.specs.declared.class.Method.{Method}
+use Rattle.connection_types.specs.declared.callee.Callee.TheVariants as callee
+use Rattle.event_queue.specs.declared.event.Event.{Event}
+use Rattle.event_queue.specs.declared.event.Event.TheVariants as event
+use Rattle.event_queue.specs.declared.event.QueuedCall.{QueuedCall}
+use Rattle.thread_model.specs.declared.line.Answer.TheVariants as a
+use Rattle.thread_model.specs.declared.line.Line.TheVariants as line
+use Rattle.thread_model.specs.Absence.{absence}
+use Rattle.thread_model.specs.Agenda.{call_items, event_items, method_items, spun, step}
+use Rattle.thread_model.specs.Asked.{Block, DeleteLater, Spin as spin, Status}
+use Rattle.thread_model.specs.Doing.{Doing, first_taken, told, turn_taken, used_up}
+use Rattle.thread_model.specs.Effects.{unless}
+use Rattle.thread_model.specs.Events.{blocks, counts, deletes_later, spins}
+use Rattle.thread_model.specs.Items.{Delete, Emit, Item, ReplySpun, Run, Spin, puts}
+use Rattle.thread_model.specs.Methods.{method_at}
+use Rattle.thread_model.specs.Posting.{post_refusal, spin_of}
+use Rattle.thread_model.specs.Refusing.{refusal}
+use Rattle.thread_model.specs.State.{State}
+use Rattle.thread_model.specs.Thread.{Settings, does, performs}
+
+module _ (settings : Settings) (doing : Doing) where
+  -- where there is no event, nothing is taken
+  pub spin_empty : doing.state.queue.events ≡ [] → step settings Spin doing ≡ puts [] doing
+  spin_empty none = ap (spun settings doing) none
+
+  -- what came of it is replied
+  pub reply_spun_told : step settings ReplySpun doing ≡ puts [] (told doing (line.Reply (a.Spun (spin_of doing))))
+  reply_spun_told = refl
+
+  module _ (first : Event) (later : List Event) (has : doing.state.queue.events ≡ first ∷ later) where
+    -- an event that finds no turn left is not taken, and no later one either
+    pub spin_spent : doing.turns ≡ 0 → step settings Spin doing ≡ puts [] (used_up doing)
+    spin_spent none =
+        let is : (doing.turns == 0) ≡ true = grind (arith, nat_tests, none) in
+        ap (spun settings doing) has ∙ cond-true (doing.turns == 0) _ _ is
+
+    -- the first event takes a turn where one is left, and what it comes to is done before the next one
+    -- is taken
+    pub spin_taken : 0 < doing.turns → step settings Spin doing ≡ puts (event_items settings doing.state first ++ Spin ∷ []) (first_taken (turn_taken doing))
+    unfolding turn_taken
+    spin_taken some =
+        let is : (doing.turns == 0) ≡ false = grind (arith, nat_tests, some) in
+        ap (spun settings doing) has ∙ cond-false (doing.turns == 0) _ _ is
+
+  -- an event that deletes an object
+  pub spin_deletion : (target : ℕ) (later : List Event) → doing.state.queue.events ≡ event.Deletion target ∷ later → 0 < doing.turns
+      → step settings Spin doing ≡ puts (Delete target 0 ∷ Spin ∷ []) (first_taken (turn_taken doing))
+  spin_deletion target later has some = spin_taken (event.Deletion target) later has some
+
+  -- an event that calls a method
+  module _ (call : QueuedCall) (later : List Event) (first : doing.state.queue.events ≡ event.Call call ∷ later) (some : 0 < doing.turns) where
+    by_items : (items : List Item) → call_items settings doing.state call call.callee ≡ items → step settings Spin doing ≡ puts (items ++ Spin ∷ []) (first_taken (turn_taken doing))
+    by_items items are = spin_taken (event.Call call) later first some ∙ ap (λ items. puts (items ++ Spin ∷ []) (first_taken (turn_taken doing))) are
+
+    -- a functor does nothing, since there are none yet
+    pub spin_functor : (index : ℕ) → call.callee ≡ callee.Functor index → step settings Spin doing ≡ puts (Spin ∷ []) (first_taken (turn_taken doing))
+    spin_functor index is = by_items [] (ap (call_items settings doing.state call) is)
+
+    module _ (index : ℕ) (is : call.callee ≡ callee.Method index) where
+      by_method : (found : Option Method) → method_at settings doing.state call.object index ≡ found
+          → step settings Spin doing ≡ puts (option_map_or (method_items call.object index call.sender call.args 0 0) found [] ++ Spin ∷ []) (first_taken (turn_taken doing))
+      by_method found has = by_items _ (ap (call_items settings doing.state call) is ∙ ap (λ found. option_map_or (method_items call.object index call.sender call.args 0 0) found []) has)
+
+      -- an object that has gone, or has no such method, is not called
+      pub spin_absent : method_at settings doing.state call.object index ≡ None → step settings Spin doing ≡ puts (Spin ∷ []) (first_taken (turn_taken doing))
+      spin_absent has = by_method None has
+
+      module _ (method : Method) (has : method_at settings doing.state call.object index ≡ Some method) where
+        -- a signal is sent
+        pub spin_signal : method.is_signal ≡ true → step settings Spin doing ≡ puts (Emit call.object index call.args 0 ∷ Spin ∷ []) (first_taken (turn_taken doing))
+        spin_signal signal = by_method (Some method) has ∙ ap (λ items. puts (items ++ Spin ∷ []) (first_taken (turn_taken doing))) (cond-true method.is_signal _ _ signal)
+
+        -- a slot is run
+        pub spin_slot : method.is_signal ≡ false → step settings Spin doing ≡ puts (Run call.object index call.sender call.args 0 ∷ Spin ∷ []) (first_taken (turn_taken doing))
+        spin_slot slot = by_method (Some method) has ∙ ap (λ items. puts (items ++ Spin ∷ []) (first_taken (turn_taken doing))) (cond-false method.is_signal _ _ slot)
+
+module _ (settings : Settings) (self : List ℕ) (state : State) where
+  pub refusal_spin : refusal settings self state spin ≡ None
+  unfolding refusal
+  refusal_spin = refl
+
+  pub performs_spin : performs settings self state spin ≡ spins settings state
+  unfolding performs
+  performs_spin = refl
+
+  pub does_spin : does settings self state spin ≡ spins settings state
+  unfolding does refusal performs
+  does_spin = refl
+
+  pub refusal_delete_later : (target : ℕ) → refusal settings self state (DeleteLater target) ≡ option_or (absence state target) (post_refusal state.queue)
+  unfolding refusal
+  refusal_delete_later target = refl
+
+  pub performs_delete_later : (target : ℕ) → performs settings self state (DeleteLater target) ≡ deletes_later state target
+  unfolding performs
+  performs_delete_later target = refl
+
+  pub does_delete_later : (target : ℕ) → does settings self state (DeleteLater target) ≡ unless (option_or (absence state target) (post_refusal state.queue)) state (deletes_later state target)
+  unfolding does refusal performs
+  does_delete_later target = refl
+
+  pub refusal_block : (target : ℕ) (on : Bool) → refusal settings self state (Block target on) ≡ absence state target
+  unfolding refusal
+  refusal_block target on = refl
+
+  pub performs_block : (target : ℕ) (on : Bool) → performs settings self state (Block target on) ≡ blocks state target on
+  unfolding performs
+  performs_block target on = refl
+
+  pub does_block : (target : ℕ) (on : Bool) → does settings self state (Block target on) ≡ unless (absence state target) state (blocks state target on)
+  unfolding does refusal performs
+  does_block target on = refl
+
+  pub refusal_status : refusal settings self state Status ≡ None
+  unfolding refusal
+  refusal_status = refl
+
+  pub performs_status : performs settings self state Status ≡ counts state
+  unfolding performs
+  performs_status = refl
+
+  pub does_status : does settings self state Status ≡ counts state
+  unfolding does refusal performs
+  does_status = refl

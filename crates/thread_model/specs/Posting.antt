@@ -1,0 +1,23 @@
+-- What is posted, and what is known of it.
+use Rattle.std.specs.Prelude.{ℕ, Bool, true, false, Option, Some, None, length, if◌then◌else◌}
+use Rattle.refusals.specs.declared.code.Code.{Code}
+use Rattle.refusals.specs.declared.code.Code.TheVariants.{Limit}
+use Rattle.connection_types.specs.declared.connection_type.ConnectionType.{ConnectionType}
+use Rattle.connection_types.specs.declared.connection_type.ConnectionType.TheVariants.{Auto, Direct, Queued}
+use Rattle.event_queue.specs.Queue.{Queue, has_room}
+use Rattle.thread_model.specs.declared.line.Spin.{Spin}
+use Rattle.thread_model.specs.Doing.{Doing}
+
+-- is a call posted as an event; sender and receiver live in one session, so that `auto` is direct
+abbrev pub is_queued : ConnectionType → Bool
+is_queued Auto = false
+is_queued Direct = false
+is_queued Queued = true
+
+-- why no event can be posted
+abbrev pub post_refusal : Queue → Option Code
+post_refusal queue = if has_room queue then None else Some Limit
+
+-- what came of taking events
+abbrev pub spin_of : Doing → Spin
+spin_of doing = record { events = doing.taken; left = length doing.state.queue.events; lost = doing.state.queue.lost; mismatched = doing.state.queue.mismatched }

@@ -1,0 +1,37 @@
+-- The texts of counts, key by key.
+use Rattle.std.proofs.Common.{◌≡◌, ℕ, List, [], ◌∷◌, ◌++◌, refl, codes, append_assoc}
+use Rattle.std.specs.Fmt.{digits}
+use Rattle.serde_json.specs.Written.{compact_text}
+use Rattle.serde_json.proofs.OnLiterals.{serde_json_on_literals}
+use Rattle.thread_model.specs.declared.line.Spin.{Spin}
+use Rattle.thread_model.specs.declared.line.Status.{Status}
+use Rattle.wire_format.specs.Text.{json_of_number, json_of_spin, json_of_status}
+
+-- four keys with their values put behind another text, and the closing bracket
+pub four_behind : (a b c d e f k1 v1 k2 v2 k3 v3 k4 v4 : List ℕ)
+    → b ≡ a ++ (k1 ++ v1) → c ≡ b ++ (k2 ++ v2) → d ≡ c ++ (k3 ++ v3) → e ≡ d ++ (k4 ++ v4) → f ≡ e ++ 125 ∷ []
+    → f ≡ a ++ (k1 ++ (v1 ++ (k2 ++ (v2 ++ (k3 ++ (v3 ++ (k4 ++ (v4 ++ 125 ∷ []))))))))
+four_behind a b c d e f k1 v1 k2 v2 k3 v3 k4 v4 h i j k l = rw (l, k, j, i, h) (simp append_assoc)
+
+-- five of them
+pub five_behind : (a b c d e f g k1 v1 k2 v2 k3 v3 k4 v4 k5 v5 : List ℕ)
+    → b ≡ a ++ (k1 ++ v1) → c ≡ b ++ (k2 ++ v2) → d ≡ c ++ (k3 ++ v3) → e ≡ d ++ (k4 ++ v4) → f ≡ e ++ (k5 ++ v5) → g ≡ f ++ 125 ∷ []
+    → g ≡ a ++ (k1 ++ (v1 ++ (k2 ++ (v2 ++ (k3 ++ (v3 ++ (k4 ++ (v4 ++ (k5 ++ (v5 ++ 125 ∷ []))))))))))
+five_behind a b c d e f g k1 v1 k2 v2 k3 v3 k4 v4 k5 v5 h i j k l m = rw (m, l, k, j, i, h) (simp append_assoc)
+
+pub spin_text : (spin : Spin) (events left : ℕ) → events ≡ spin.events → left ≡ spin.left →
+    codes "{\"events\":" ++ (compact_text (json_of_number events) ++ (codes ",\"left\":" ++ (compact_text (json_of_number left)
+    ++ (codes ",\"lost\":" ++ (compact_text (json_of_number spin.lost) ++ (codes ",\"mismatched\":" ++ (compact_text (json_of_number spin.mismatched) ++ 125 ∷ [])))))))
+    ≡ compact_text (json_of_spin spin)
+unfolding serde_json_on_literals
+spin_text spin events left e f = rw (e, f) refl
+
+pub status_text : (status : Status) (connections objects queued : ℕ) → connections ≡ status.connections → objects ≡ status.objects → queued ≡ status.queued →
+    codes "{\"bindings\":0,\"connections\":" ++ (compact_text (json_of_number connections)
+    ++ (codes ",\"group\":0,\"joins\":0,\"lost\":" ++ (compact_text (json_of_number status.lost)
+    ++ (codes ",\"mismatched\":" ++ (compact_text (json_of_number status.mismatched)
+    ++ (codes ",\"objects\":" ++ (compact_text (json_of_number objects)
+    ++ (codes ",\"publications\":0,\"queued\":" ++ (compact_text (json_of_number queued) ++ 125 ∷ [])))))))))
+    ≡ compact_text (json_of_status status)
+unfolding serde_json_on_literals digits
+status_text status connections objects queued e f g = rw (e, f, g) refl
