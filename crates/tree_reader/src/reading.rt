@@ -280,11 +280,7 @@ fn has_keys_of(word: &str, json: &Value) -> bool {
         "children" => has(json, &[], &[OBJECT]),
         "find" => has(json, &[OBJECT], &[NAME, CLASS]),
         "meta" => has(json, &[CLASS], &[]),
-        _ => {
-            has_keys_of_property(word, json)
-                || has_keys_of_signal(word, json)
-                || has_keys_of_event(word, json)
-        }
+        _ => has_keys_of_property(word, json) || has_keys_of_signal(word, json),
     }
 }
 
@@ -303,7 +299,7 @@ fn has_keys_of_signal(word: &str, json: &Value) -> bool {
         "connect" => has(json, &CONNECT, &[MODE, UNIQUE, SINGLE]),
         "disconnect" => has_keys_of_disconnect(json),
         "invoke" => has(json, &[OBJECT, METHOD, ARGS], &[MODE]),
-        _ => false,
+        _ => has_keys_of_event(word, json),
     }
 }
 
