@@ -1,7 +1,7 @@
 # make        builds the program, proved, as bin/metad
 # make run    answers the sample session
 # make test   proves everything from nothing, and runs every test
-# make bench  measures the program; with BEFORE=PROGRAM also beside an earlier one
+# make bench  measures the program; with BEFORE=PROGRAM or LAST=PROGRAM also beside an earlier one
 
 PROGRAM = meta_main
 CRATE = crates/$(PROGRAM)
@@ -79,7 +79,7 @@ bin/%.so: tools/%.c tools/growth.h
 	$(CC) -O2 -Wall -Wextra -shared -fPIC -o $@ $< -ldl
 
 bench: bin/metad bin/count_growth.so
-	python3 bench/bench.py bin/metad bin/count_growth.so $(BEFORE)
+	python3 bench/bench.py bin/metad bin/count_growth.so $(if $(BEFORE),--before $(BEFORE)) $(if $(LAST),--last $(LAST))
 
 clean:
 	rm -rf bin crates/*/out

@@ -1,7 +1,7 @@
 #!/usr/bin/env python3
 """Measures the built program on generated inputs, from file to file.
 
-Usage: bench.py PROGRAM COUNTER [BEFORE]. It prints, for each input, the lines a second (the best of three runs) and
+Usage: bench.py PROGRAM COUNTER [--before PROGRAM] [--last PROGRAM]. It prints, for each input, the lines a second (the best of three runs) and
 the peak of resident memory; for the first, a single line, only the peak. Then it prints how often the program asks
 for memory in a line that writes or reads, which COUNTER, preloaded, counts; how long `children`
 and `find` take for each object that they visit, among few and among many, and how much longer the
@@ -9,12 +9,14 @@ program takes to start with a class file as large as one may be than with a tiny
 ten runs). Inputs and class files are the same in every run, and every reply is compared with what it
 must be. Events are posted by a signal that has so many queued connections, and taken by one `spin`, again and again;
 each is posted and taken once, and told by the line of its call. Twice as many of them in the queue may take 2.4 times
-as long, posted and taken. With BEFORE, an earlier program, it also prints how many times as fast as that one the
-program is where no events are posted, by the best run of each in many rounds, since a machine's own speed changes.
-It ends with 1 where a mark is missed. First it prints the machine's pace, by how fast Python reads and writes JSON on it: figures of machines of
-another pace do not compare. No mark goes by it.
+as long, posted and taken. With an earlier program it also prints how many times as fast as that one the program is
+where no events are posted, by the best run of each in many rounds, since a machine's own speed changes: beside one
+from before, which built a tree of each line, and beside the last one, which none may fall behind. It ends with 1
+where a mark is missed. First it prints the machine's pace, by how fast Python reads and writes JSON on it: figures of
+machines of another pace do not compare. No mark goes by it.
 """
 
+import argparse
 import json
 import os
 import shutil
@@ -64,8 +66,10 @@ MOST_IDLE = 400
 # How often memory may be asked for in a line.
 MOST_ALLOCATIONS = 4
 
-# A line may take so many times as long as before, by the best of so many rounds.
-MOST_OF_BEFORE = 1.1
+# How many times as fast as a program that built a tree of each line; and as the last one, of which a line may take
+# 1.1 times the time; by the best of so many rounds.
+TIMES = {"plain": 2.5, "many sessions": 2, "spaces and escapes": 1.8, "lists": 2, "trees": 1}
+TIMES_OF_LAST = dict.fromkeys([*TIMES, "calls"], 1 / 1.1)
 ROUNDS_BESIDE = 30
 
 # A visit among many may take so many times as long as one among few.
@@ -344,16 +348,16 @@ class Beside:
             if Path(self.wrote).read_text() != self.wanted:
                 sys.exit(f"{self.name}: {program[0]} gives other replies")
 
-    def is_reached(self):
-        """Prints how many times as fast as before the program is; answers whether that is within the mark."""
+    def is_reached(self, mark):
+        """Prints how many times as fast as before the program is; answers whether that reaches the mark."""
         before, now = self.best.values()
-        missed = f"; over its mark of {MOST_OF_BEFORE} times as long" if now > MOST_OF_BEFORE * before else ""
+        missed = f"; under its mark of {mark:.2g} times" if before / now < mark else ""
         print(f"{self.name}: {self.count / now:,.0f} lines a second, {before / now:.2f} times as fast as before{missed}")
         return not missed
 
 
-def all_beside(program, before, room):
-    """The measures beside an earlier program, in rounds of one run of each."""
+def all_beside(program, before, times, room):
+    """The measures beside an earlier program, in rounds of one run of each; `times` has the mark of each."""
     inputs = {
         "plain": in_turn(1, LINES),
         "many sessions": in_turn(10_000, LINES),
@@ -363,11 +367,11 @@ def all_beside(program, before, room):
         "calls": bell_and_ears(ROUNDS),
     }
     words = (class_file(f"{room}/bells.json", [BELL]),)
-    besides = [Beside(name, lines, ((before, *words), (program, *words)), room) for name, lines in inputs.items()]
+    besides = [Beside(name, inputs[name], ((before, *words), (program, *words)), room) for name in times]
     for _ in range(ROUNDS_BESIDE):
         for it in besides:
             it.run()
-    return [it.is_reached() for it in besides]
+    return [it.is_reached(times[it.name]) for it in besides]
 
 
 def nanoseconds_of_visit(name, visit, number, command, room):
@@ -520,8 +524,22 @@ def measure_reading(program, room):
     return not missed
 
 
+def options():
+    """The words of the command line."""
+
+    def path(word):
+        return str(Path(word).resolve())
+
+    parser = argparse.ArgumentParser()
+    for name in ("program", "counter", "--before", "--last"):
+        parser.add_argument(name, type=path)
+    return parser.parse_args()
+
+
 def main():
-    program, counter, *before = (str(Path(it).resolve()) for it in sys.argv[1:4])
+    given = options()
+    program, counter = given.program, given.counter
+    besides = [(it, times) for it, times in ((given.before, TIMES), (given.last, TIMES_OF_LAST)) if it]
     with tempfile.TemporaryDirectory(prefix="metad-bench-") as room:
         declared, described = panel()
         with_panel = [program, class_file(f"{room}/panel.json", [declared])]
@@ -546,7 +564,7 @@ def main():
             measure_visits("find", lambda number: find_none("a", 1), [program], room),
             measure(f"{METAS} meta lines of {METHODS} methods", [meta("a", described)] * METAS, with_panel, room, LEAST_METAS),
             measure_reading(program, room),
-            *(it for earlier in before for it in all_beside(program, earlier, room)),
+            *(it for earlier, times in besides for it in all_beside(program, earlier, times, room)),
         ]
     return 0 if all(reached) else 1
 
