@@ -1,5 +1,6 @@
 //! The server.
 use crate::lines::{given, lamps, text_of};
+use plain_types::Items;
 use server_world::{
     Entry, Report, Server, Tagged, influence_is_least, leaving_out_keeps_sessions,
     slicing_keeps_a_session,
@@ -7,7 +8,8 @@ use server_world::{
 use std::alloc::{AllocError, Global};
 use std::test::Fail;
 use thread_model::{
-    actions_run_in_place, agenda_runs_to_its_end, commands_keep_sessions_sound, machine_is_lawful,
+    Line, actions_run_in_place, agenda_runs_to_its_end, commands_keep_sessions_sound,
+    machine_is_lawful,
 };
 
 fn fresh(alloc: Global) -> Result<Server, AllocError> {
@@ -17,6 +19,11 @@ fn fresh(alloc: Global) -> Result<Server, AllocError> {
 /// What a server reports. No clause says here what that is, so that the tests look only at it.
 fn report_of(server: &mut Server, list: &[Tagged]) -> Report {
     server.run(list)
+}
+
+/// What is told to a command; no clause says here what that is either.
+fn told_of(server: &mut Server, given: &Tagged) -> Result<Items<Line>, AllocError> {
+    server.step(given)
 }
 
 /// What one server reports to these lines.
@@ -43,7 +50,7 @@ fn stepped(alloc: Global, server: &mut Server, lines: &str) -> Result<String, Al
     let mut text = String::new(alloc);
     for line in lines.lines() {
         let given = given(alloc, line)?;
-        let told = server.step(&given)?;
+        let told = told_of(server, &given)?;
         text.push_str(text_of(alloc, &given.session, &told)?.as_str())?;
     }
     Ok(text)

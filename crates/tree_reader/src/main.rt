@@ -4,13 +4,14 @@
 
 mod reading;
 
+use plain_types::Items;
 use program_start::{Beginning, start};
 use reading::read_tree;
 use server_world::Server;
 use std::alloc::{AllocError, Global};
 use std::io::{Read, Write};
 use std::process::ExitCode;
-use thread_model::Tagged;
+use thread_model::{Line, Tagged};
 use wire_format::{ReadError, fault_text, is_blank, line_text};
 
 fn main(rt: HostRuntime) -> ExitCode {
@@ -35,31 +36,54 @@ fn answers(alloc: Global, beginning: Beginning, input: &[u8]) -> Result<String, 
     let Beginning { classes, turns } = beginning;
     let mut server = Server::new(alloc, classes, turns)?;
     let mut output = String::new(alloc);
+    answer_all(alloc, &mut server, input, &mut output)?;
+    Ok(output)
+}
+
+fn answer_all(
+    alloc: Global,
+    server: &mut Server,
+    input: &[u8],
+    output: &mut String,
+) -> Result<(), AllocError> {
     for line in input.split(|byte| *byte == b'\n') {
-        if is_blank(line) {
-            continue;
-        }
-        match read_tree(alloc, line) {
-            Ok(given) => answer(alloc, &mut server, &given, &mut output)?,
-            Err(ReadError::Fault(fault)) => {
-                output.push_str(fault_text(alloc, &fault)?.as_str())?;
-            }
-            Err(ReadError::Memory) => return Err(AllocError),
+        if !is_blank(line) {
+            answer(alloc, server, line, output)?;
         }
     }
-    Ok(output)
+    Ok(())
 }
 
 fn answer(
     alloc: Global,
     server: &mut Server,
-    given: &Tagged,
+    line: &[u8],
     output: &mut String,
 ) -> Result<(), AllocError> {
-    let lines = server.step(given)?;
-    for line in lines.as_slice() {
-        let text = line_text(alloc, given.session.as_str(), line)?;
-        output.push_str(text.as_str())?;
+    match read_tree(alloc, line) {
+        Ok(given) => {
+            let lines = step(server, &given)?;
+            tell(alloc, given.session.as_str(), lines.as_slice(), output)
+        }
+        Err(ReadError::Fault(fault)) => output.push_str(fault_text(alloc, &fault)?.as_str()),
+        Err(ReadError::Memory) => Err(AllocError),
+    }
+}
+
+/// The server's step. What it ensures is left behind here, since nothing of it is needed.
+fn step(server: &mut Server, given: &Tagged) -> Result<Items<Line>, AllocError> {
+    server.step(given)
+}
+
+/// Writes what a session is told.
+fn tell(
+    alloc: Global,
+    session: &str,
+    lines: &[Line],
+    output: &mut String,
+) -> Result<(), AllocError> {
+    for line in lines {
+        output.push_str(line_text(alloc, session, line)?.as_str())?;
     }
     Ok(())
 }
