@@ -7,7 +7,7 @@ PROGRAM = meta_main
 CRATE = crates/$(PROGRAM)
 CC ?= cc
 
-.PHONY: all run test budget rows plain examples ends pipes trees signals limits sessions classes respelled chance refusals bench clean
+.PHONY: all run test budget rows plain examples worked ends pipes trees signals limits sessions clients classes respelled chance refusals bench clean
 
 all: bin/metad
 
@@ -26,7 +26,7 @@ test: budget
 	mkdir -p bin
 	cp $(CRATE)/out/$(PROGRAM) bin/metad
 	cp crates/tree_reader/out/tree_reader bin/tree_reader
-	$(MAKE) --no-print-directory rows plain respelled chance examples ends pipes trees signals limits sessions classes refusals
+	$(MAKE) --no-print-directory rows plain respelled chance examples worked ends pipes trees signals limits sessions clients classes refusals
 
 budget:
 	python3 tools/budget.py .
@@ -47,7 +47,10 @@ chance:
 	python3 tools/chance.py bin/metad bin/tree_reader
 
 examples:
-	python3 tools/examples.py bin/metad README.md docs/PROTOCOL.md
+	python3 tools/examples.py bin/metad README.md docs/GUIDE.md docs/PROTOCOL.md
+
+worked:
+	python3 tools/worked_examples.py bin/metad examples docs/GUIDE.md
 
 ends:
 	python3 tools/ends.py bin/metad
@@ -69,6 +72,9 @@ limits:
 
 sessions:
 	python3 tools/sessions.py bin/metad
+
+clients:
+	python3 tools/clients.py bin/metad
 
 refusals: bin/refuse_growth.so
 	python3 tools/outcomes.py

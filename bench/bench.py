@@ -59,6 +59,9 @@ MOST_DOUBLED = 2.4
 # What is done beside other sessions or connections may take so many times as long as alone.
 MOST_BESIDE = 1.3
 
+# A call whose slot sets a property may take so many times as long as one whose slot does nothing.
+MOST_SETTING = 1.5
+
 # How many bytes one session more may take, one with an object that has a name and one without any.
 MOST_NAMED = 700
 MOST_IDLE = 400
@@ -87,7 +90,10 @@ ALL_EVENTS = 16_384
 FILLINGS = 40
 MANY_SESSIONS = 100_000
 BELL = """{"name":"Bell","super":"QObject","signals":["rang(int)"],"slots":[]},
-{"name":"Ear","super":"QObject","signals":[],"slots":[{"sig":"hear(int)","body":[]}]}"""
+{"name":"Ear","super":"QObject","signals":[],"slots":[{"sig":"hear(int)","body":[]}]},
+{"name":"Cell","super":"QObject","signals":["xChanged(int)"],
+"slots":[{"sig":"setX(int)","body":[{"set":"x","to":{"arg":0}}]}],
+"properties":[{"name":"x","type":"int","notify":"xChanged(int)"}]}"""
 METHODS_OF_QOBJECT = ["destroyed()", "objectNameChanged(QString)", "deleteLater()"]
 
 # One of many classes, of about 1,020 bytes.
@@ -235,6 +241,23 @@ def bell_and_one_ear(events):
     """A bell that is connected to one ear so many times, to be told later."""
     yield from ((f'{{"class":"{it}","do":"new","session":"a"}}\n', reply("a", at)) for at, it in ((1, "Bell"), (2, "Ear")))
     yield from (connect("a", 1, 2, number, "queued") for number in range(1, events + 1))
+
+
+def cells(slot):
+    """A Cell, and so many others that are called by this slot when it changes."""
+    others = range(2, EARS + 2)
+    kind = "Cell" if slot == "setX(int)" else "Ear"
+    yield f'{{"class":"Cell","do":"new","session":"a"}}\n', reply("a", 1)
+    yield from ((f'{{"class":"{kind}","do":"new","session":"a"}}\n', reply("a", it)) for it in others)
+    for it in others:
+        ends = f'"receiver":{it},"sender":1,"session":"a","signal":"xChanged(int)"'
+        yield f'{{"do":"connect","method":"{slot}",{ends}}}\n', reply("a", it - 1)
+
+
+def set_cell(slot, value):
+    """The first Cell is set, and all others are called."""
+    calls = "".join(f'{{"args":[{value}],"call":"{slot}","object":{it},"sender":1,"session":"a"}}\n' for it in range(2, EARS + 2))
+    return f'{{"do":"set","object":1,"property":"x","session":"a","value":{value}}}\n', calls + reply("a", True)
 
 
 def other_sessions():
@@ -466,6 +489,29 @@ def measure_full_queue(command, room):
     return not missed
 
 
+def measure_setters(command, room):
+    """Prints how much longer calls take whose slots set a property, by NOTIFY of another one; answers whether that is within the mark."""
+    seconds = {}
+    for slot in ("hear(int)", "setX(int)"):
+        lines = [set_cell(slot, value) for value in range(1, RINGS + 1)]
+        seconds[slot] = seconds_beside("setters", list(cells(slot)), lines, {"nothing": []}, command, room)["nothing"]
+    times = seconds["setX(int)"] / seconds["hear(int)"]
+    missed = f"; over its mark of {MOST_SETTING}" if times > MOST_SETTING else ""
+    print(f"calls of {EARS:,} slots that set a property: {times:.2f} times as long as of slots that do nothing{missed}")
+    return not missed
+
+
+def measure_sets(command, room):
+    """Prints how long a property takes to be set, beside other objects; answers whether the mark is reached."""
+    kind = f"{OBJECTS:,} objects"
+    made = [(f'{{"class":"Cell","do":"new","session":"a"}}\n', reply("a", 1))]
+    others = [(f'{{"class":"Cell","do":"new","session":"a"}}\n', reply("a", it)) for it in range(2, OBJECTS + 2)]
+    lines = [(f'{{"do":"set","object":1,"property":"x","session":"a","value":{it}}}\n', reply("a", True)) for it in range(LINES)]
+    seconds = seconds_beside("sets", made, lines, {"nothing": [], kind: others}, command, room)
+    print(f"a property that is set again and again: {len(lines) / seconds['nothing']:,.0f} lines a second")
+    return show_beside(kind, seconds[kind], seconds["nothing"])
+
+
 def measure_deletes(command, room):
     """Prints how long an object takes to come and go beside connections of others; answers whether the mark is reached."""
     kind = f"{ALL_CONNECTIONS:,} connections of others"
@@ -559,6 +605,8 @@ def main():
             measure_calls([program, class_file(f"{room}/bell.json", [BELL])], room),
             measure_events([program, f"{room}/bell.json"], room),
             measure_full_queue([program, f"{room}/bell.json"], room),
+            measure_setters([program, f"{room}/bell.json"], room),
+            measure_sets([program, f"{room}/bell.json"], room),
             measure_deletes([program, f"{room}/bell.json"], room),
             measure_visits("children", lambda number: children("a", 1, list(range(2, number + 2))), [program], room),
             measure_visits("find", lambda number: find_none("a", 1), [program], room),

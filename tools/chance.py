@@ -24,10 +24,11 @@ LINES_OF_SESSIONS = 1_200
 OBJECTS = 16
 
 SESSIONS = ("a", "b", "\\u0063")
-CLASSES = (*('"Probe"',) * 8, '"QObj\\u0065ct"', '"QObject"', '"Nope"', '"a b"', '""')
+CLASSES = (*('"Probe"',) * 12, *('"Cell"',) * 4, '"QObj\\u0065ct"', '"QObject"', '"Nope"', '"a b"', '""')
 WORDS = (
     *(*("new",) * 4, *("setParent", "children", "find", "set", "get") * 2, "delete", "meta", "jump", "n\\u0065w"),
-    *(*("connect", "invoke") * 4, "disconnect", "disconnect", "c\\u006fnnect"),
+    *(*("connect", "invoke") * 5, "disconnect", "disconnect", "c\\u006fnnect"),
+    *("set", "set", "get", "dynamicNames", "dynamicNam\\u0065s"),
     *("spin", "spin", "deleteLater", "block", "status", "sp\\u0069n", "delete\\u004cater"),
 )
 KEYS = (
@@ -35,9 +36,14 @@ KEYS = (
     *("sender", "signal", "receiver", "method", "type", "unique", "single", "connection", "args", "on"),
     *("s\\u0065nder", "typ\\u0065", "\\u006fn"),
 )
-SIGNALS = (*("ping()",) * 16, "p\\u0069ng()", "ping\\u0028void\\u0029", " ping(\\t)", "destroyed()", "objectNameChanged(QString)", "note()", "ping")
+SIGNALS = (*("ping()",) * 16, *("xChanged(int)",) * 2, "p\\u0069ng()", "ping\\u0028void\\u0029", " ping(\\t)", "destroyed()", "objectNameChanged(QString)", "note()", "ping")
+PROPERTIES = (
+    *("objectName",) * 4, *("x", "tag") * 3, *("y", "flag", "big", "obj\\u0065ctName", "t\\u0061g", "\\u0078", "X", "_"),
+    *("n" * 64, "n" * 65, "", "a b", "1a", "x ", "ä", "\\u0000"),
+)
 SLOTS = (
     *(*("note()", "late()", "swap()", "again()") * 4, "kill()", "rescue()", "drop()", "deleteLater()", "ping()"),
+    *("setX(int)", "setX(int)", "seen(int)"),
     *("not\\u0065()", "note ( void ) ", "nothing()", "note(int)", ""),
 )
 TYPES = (*('"auto"', '"direct"', '"queued"') * 4, '"dir\\u0065ct"', '"Queued"', '"blocking"', "0")
@@ -97,6 +103,9 @@ class Chance(random.Random):
         """A signal, by this share, or a slot."""
         return f'"{self.choice(SIGNALS if self.is_so(share) else SLOTS)}"'
 
+    def property_name(self):
+        return f'"{self.choice(PROPERTIES)}"'
+
     def connection(self):
         members = [("sender", self.object()), ("signal", self.method(1)), ("receiver", self.object()), ("method", self.method(0.2))]
         further = (("type", TYPES), ("unique", TRUTHS), ("single", TRUTHS))
@@ -108,8 +117,15 @@ class Chance(random.Random):
         further = [("signal", self.method(1)), ("receiver", self.object()), ("method", self.method(0.2))]
         return [("sender", self.object()), *(it for it in further if self.is_so(0.5))]
 
+    def values_for(self, method):
+        """The arguments of a call of this method: most times as many as it takes."""
+        if self.is_so(0.2):
+            return [self.value() for _ in range(self.randrange(3))]
+        return [] if "(int)" not in method else [self.choice(NUMBERS) if self.is_so(0.8) else self.value()]
+
     def invocation(self):
-        method, values = self.method(0.7), [self.value() for _ in range(self.choice((0, 0, 0, 0, 1, 2)))]
+        method = self.method(0.7)
+        values = self.values_for(method)
         if self.is_so(0.2):
             method, values = '"objectNameChanged ( const QString & )"', [self.text()]
         further = [("type", self.choice(TYPES))] if self.is_so(0.25) else []
@@ -118,9 +134,9 @@ class Chance(random.Random):
     def members_of(self, word):
         """The members of a command in form, but for its word and its session."""
         if word == "set":
-            return [("object", self.object()), ("property", '"objectName"'), ("value", self.value())]
+            return [("object", self.object()), ("property", self.property_name()), ("value", self.value())]
         if word == "get":
-            return [("object", self.object()), ("property", '"objectName"')]
+            return [("object", self.object()), ("property", self.property_name())]
         if word == "setParent":
             return [("object", self.object()), ("parent", self.choice((self.object(), "null")))]
         if word in ("connect", "c\\u006fnnect"):
@@ -131,6 +147,8 @@ class Chance(random.Random):
             return self.invocation()
         if word == "block":
             return [("object", self.object()), ("on", "true" if self.is_so(0.2) else "false")]
+        if word in ("dynamicNames", "dynamicNam\\u0065s"):
+            return [("object", self.object())]
         if word in ("delete", "deleteLater", "delete\\u004cater"):
             return [("object", str(self.randint(1, OBJECTS)))]
         members = []

@@ -1,5 +1,5 @@
 #!/usr/bin/env python3
-"""Takes the built program to the limits of signals, slots and events, on a stack of 8 MiB, and compares what it writes.
+"""Takes the built program to the limits of signals, slots, events and properties, on a stack of 8 MiB, and compares what it writes.
 
 What has to be written is worked out here from the rules. The runs that nest deep are also made on smaller
 stacks, to tell how much they need. Usage: limits.py PROGRAM
@@ -21,6 +21,7 @@ EVENTS = 16_384
 TURNS = 10_000
 LEVELS = 64
 TEXT_BYTES = 4_096
+DYNAMIC_PROPERTIES = 64
 E07, E08, E14, E22 = ({"error": code} for code in ("E07", "E08", "E14", "E22"))
 SPIN, STATUS, CHILDREN = ({"do": word} for word in ("spin", "status", "children"))
 
@@ -64,6 +65,14 @@ def invoke(number, method, *args, **more):
     return {"do": "invoke", "object": number, "method": method, "args": args, **more}
 
 
+def set_to(number, name, value):
+    return {"do": "set", "object": number, "property": name, "value": value}
+
+
+def get(number, name):
+    return {"do": "get", "object": number, "property": name}
+
+
 def delete(number):
     return {"do": "delete", "object": number}
 
@@ -93,14 +102,17 @@ def behind_choices(actions, count):
 
 DROP = [{"delete": "self"}]
 FALL = [{"emit": "down()", "args": []}, *DROP]
+NEXT = [{"set": "x", "to": {"+": [{"arg": 0}, {"const": 1}]}}]
 MORE = [{"connect": "down()", "to": "self", "method": it, "unique": it == "fall()"} for it in ("hear(QString,int)", "fall()", "note()")]
 SLOTS = {"note()": [], "hear(QString,int)": [], "more()": MORE, "fall()": FALL, "fallDeep()": behind_choices(FALL, 30)}
+SLOTS |= {"keep(int)": [{"set": "x", "to": {"arg": 0}}], "sink(int)": NEXT + DROP, "sinkDeep(int)": behind_choices(NEXT + DROP, 30)}
 SLOTS |= {"drop()": DROP, "dropDeep()": behind_choices(DROP, 31), "dropFirst()": [{"delete": 1}], "ask()": [{"deleteLater": "self"}]}
 CLASS = {
     "name": "A",
     "super": "QObject",
-    "signals": ["down()", "told(QString,int)"],
+    "signals": ["down()", "told(QString,int)", "xChanged(int)"],
     "slots": [{"sig": slot, "body": body} for slot, body in SLOTS.items()],
+    "properties": [{"name": "x", "type": "int", "notify": "xChanged(int)"}],
 }
 
 
@@ -139,7 +151,50 @@ def texts():
         yield SPIN, call("hear(QString,int)", 1, 0, longest, 1), spun(1)
 
 
-def falls(slot):
+def objects():
+    """As many objects as there may be, and names as long as may be."""
+    most = LEVELS * LEVELS
+    name = lambda size: {"do": "set", "object": 1, "property": "objectName", "value": "n" * size}
+    yield from ((new(), reply(number)) for number in range(1, most + 1))
+    yield new(), E14
+    yield name(TEXT_BYTES), reply(True)
+    yield name(TEXT_BYTES + 1), E14
+
+
+def values():
+    """As many dynamic properties as there may be, with texts as long as may be."""
+    names = [f"p{at}" for at in range(DYNAMIC_PROPERTIES)]
+    yield new(), reply(1)
+    for unit in ("x", "ä", "\U0001f600"):
+        longest = unit * (TEXT_BYTES // len(unit.encode()))
+        yield set_to(1, "objectName", longest), reply(True)
+        yield set_to(1, "objectName", longest + "x"), E14
+        yield get(1, "objectName"), reply(longest)
+        yield from ((set_to(1, name, longest), reply(False)) for name in names)
+        yield set_to(1, names[0], longest + "x"), E14
+        yield set_to(1, "one_more", longest), E14
+        yield set_to(1, "one_more", None), reply(False)
+        yield from ((get(1, name), reply(longest)) for name in names)
+        yield {"do": "dynamicNames", "object": 1}, reply(names)
+    yield delete(1), reply(True)
+
+
+def ring(count):
+    """Objects in a ring, each of which sets its property to what the one before it was set to."""
+    def calls(first, value):
+        return [call("keep(int)", number + 1, number, value) for number in range(first, first + LEVELS)]
+
+    yield from ((new(), reply(number)) for number in range(1, count + 1))
+    yield from ((connect(number, "xChanged(int)", number % count + 1, "keep(int)"), reply(number)) for number in range(1, count + 1))
+    yield set_to(1, "x", 7), *calls(1, 7), warning("E14", LEVELS + 1), reply(True)
+    yield get(LEVELS + 1, "x"), reply(7)
+    yield get(LEVELS + 2, "x"), reply(0)
+    yield set_to(1, "x", 7), reply(True)
+    yield set_to(count, "x", 7), call("keep(int)", 1, count, 7), reply(True)
+    yield set_to(LEVELS + 2, "x", 7), *calls(LEVELS + 2, 7), warning("E14", 2 * LEVELS + 2), reply(True)
+
+
+def falls(slot, signal="down()", start=None, args_of=lambda level: ()):
     """A ring of trees, each as deep as may be: the signal of a root calls the next root's slot, which sends on and deletes."""
     roots = [LEVELS * at + 1 for at in range(LEVELS)]
     after = roots[1:] + roots[:1]
@@ -147,10 +202,16 @@ def falls(slot):
     for number in range(1, LEVELS * LEVELS + 1):
         yield new(None if number in roots else number - 1), reply(number)
     yield new(), E14
-    yield from ((connect(root, "down()", other, slot), reply(at)) for at, (root, other) in enumerate(zip(roots, after), 1))
-    yield invoke(1, "down()"), *[call(slot, other, root) for root, other in zip(roots, after)], *too_deep, reply(True)
+    yield from ((connect(root, signal, other, slot), reply(at)) for at, (root, other) in enumerate(zip(roots, after), 1))
+    calls = [call(slot, other, root, *args_of(at)) for at, (root, other) in enumerate(zip(roots, after), 1)]
+    yield start or invoke(1, signal), *calls, *too_deep, reply(True)
     yield CHILDREN, reply([])
     yield new(), reply(LEVELS * LEVELS + 1)
+
+
+def changes(slot):
+    """The same ring, where each slot sets its object's property, which tells the next root, and deletes."""
+    return falls(slot, "xChanged(int)", set_to(1, "x", 1), lambda level: [level])
 
 
 def chain(slot):
@@ -220,13 +281,18 @@ def wide_rows():
         words = ("--turns", str(turns)) if turns else ()
         yield row_of(f"{CONNECTIONS} connections, turns {turns or 'by default'}", connections(turns or TURNS), *words)
     yield row_of(f"texts of {TEXT_BYTES} bytes", texts())
+    yield row_of(f"{LEVELS * LEVELS} objects, and names of {TEXT_BYTES} bytes", objects())
     yield row_of(f"{EVENTS} deletions of one object", deletions())
     yield row_of(f"calls that meet {EVENTS} events", lost_calls(), "--turns", str(EVENTS - 1))
+    yield row_of(f"{DYNAMIC_PROPERTIES} dynamic properties of {TEXT_BYTES} bytes", values())
+    yield row_of("a ring of objects that tell of their changes", ring(LEVELS * LEVELS))
 
 
 def deep_rows():
     yield row_of("trees deleted in nested signals", falls("fall()"))
     yield row_of("trees deleted in nested signals behind choices", falls("fallDeep()"))
+    yield row_of("trees deleted in nested changes", changes("sink(int)"))
+    yield row_of("trees deleted in nested changes behind choices", changes("sinkDeep(int)"))
     yield row_of("objects whose ends delete the next one", chain("drop()"))
     yield row_of("objects whose ends delete the next one behind choices", chain("dropDeep()"))
     yield row_of("trees whose ends delete the next one", ends("drop()", False))

@@ -11,6 +11,7 @@ DEPTH = 64
 CONNECTIONS = 16_384
 EVENTS = 16_384
 NESTED_SIGNALS = 64
+DYNAMIC_PROPERTIES = 64
 TEXT_BYTES = 4_096
 TURNS = 10_000
 
@@ -48,6 +49,11 @@ def is_of_kind(value, kind):
     if kind in RANGES:
         return is_number(value) and RANGES[kind][0] <= value <= RANGES[kind][1]
     return isinstance(value, bool if kind == "bool" else str)
+
+
+def is_value(value):
+    """Whether a value is of any kind, which is inferred from it."""
+    return is_of_kind(value, "bool") or is_of_kind(value, "QString") or is_number(value) and NUMBERS[0] <= value <= NUMBERS[1]
 
 
 def is_long(value):
@@ -89,13 +95,32 @@ def method_of(text, is_signal, body=()):
     return Method(*signature_of(text), is_signal, list(body))
 
 
+@dataclass
+class Property:
+    """A declared property; `notify` is the normal form of the signal that tells of its changes, where there is one."""
+
+    name: str
+    kind: str
+    notify: str | None = None
+
+    @property
+    def default(self):
+        return {"bool": False, "QString": ""}.get(self.kind, 0)
+
+
+def property_of(declared):
+    """A property as a class file has it."""
+    return Property(declared["name"], declared["type"], normal(declared["notify"]) if "notify" in declared else None)
+
+
 class Classes:
     """The classes of a class file."""
 
     def __init__(self, declared=()):
         self.above = {"QObject": None}
         later = [{"deleteLater": "self"}]
-        self.own = {
+        self.own_properties = {"QObject": [Property("objectName", "QString", "objectNameChanged(QString)")]}
+        self.own_methods = {
             "QObject": [
                 method_of("destroyed()", True),
                 method_of("objectNameChanged(QString)", True),
@@ -106,10 +131,11 @@ class Classes:
             signals = [method_of(text, True) for text in it.get("signals", ())]
             slots = [method_of(slot["sig"], False, slot["body"]) for slot in it.get("slots", ())]
             self.above[it["name"]] = it["super"]
-            self.own[it["name"]] = signals + slots
+            self.own_methods[it["name"]] = signals + slots
+            self.own_properties[it["name"]] = [property_of(one) for one in it.get("properties", ())]
 
     def __contains__(self, name):
-        return name in self.own
+        return name in self.above
 
     def chain(self, name):
         """A class and those above it."""
@@ -118,16 +144,22 @@ class Classes:
             name = self.above[name]
 
     def methods(self, name):
-        return [method for it in reversed(list(self.chain(name))) for method in self.own[it]]
+        return [method for it in reversed(list(self.chain(name))) for method in self.own_methods[it]]
+
+    def properties(self, name):
+        return [one for it in reversed(list(self.chain(name))) for one in self.own_properties[it]]
 
 
 @dataclass
 class Row:
+    """An object: the values of its declared properties, and of its dynamic ones in the order in which they were set first."""
+
     number: int
     class_name: str
     parent: int | None
     stamp: int
-    name: str = ""
+    values: dict
+    dynamic: dict = field(default_factory=dict)
     dying: bool = False
     blocked: bool = False
 
@@ -217,7 +249,8 @@ class Session:
             refuse("E14")
         self.last_number += 1
         self.last_stamp += 1
-        self.rows.append(Row(self.last_number, class_name, parent, self.last_stamp))
+        values = {it.name: it.default for it in self.classes.properties(class_name)}
+        self.rows.append(Row(self.last_number, class_name, parent, self.last_stamp, values))
         return self.last_number
 
     def set_parent(self, number, parent):
@@ -246,20 +279,56 @@ class Session:
         if class_name is not None and class_name not in self.classes:
             refuse("E03")
         for row in self.below(number):
-            if name in (None, row.name) and (class_name is None or class_name in self.classes.chain(row.class_name)):
+            is_named = name in (None, self.read(row, "objectName"))
+            if is_named and (class_name is None or class_name in self.classes.chain(row.class_name)):
                 return row.number
         return None
 
-    def set_name(self, number, value):
-        row = self.known(number)
-        if value is None:
-            return False
-        if not isinstance(value, str):
+    # Properties.
+
+    def declared(self, row, name):
+        """The declared property of this name, or None."""
+        return next((it for it in self.classes.properties(row.class_name) if it.name == name), None)
+
+    def read(self, row, name):
+        """The value of a property, declared or dynamic, or None."""
+        return row.values.get(name, row.dynamic.get(name))
+
+    def write(self, row, name, value, depth):
+        """Writes a property, null as `set` does, and answers what is sent of it at this depth."""
+        declared = self.declared(row, name)
+        if declared is None:
+            self.write_dynamic(row, name, value)
+        elif value is not None:
+            return self.write_declared(row, declared, value, depth)
+        return []
+
+    def write_declared(self, row, declared, value, depth):
+        if not is_of_kind(value, declared.kind):
             refuse("E22")
         if is_long(value):
             refuse("E14")
-        row.name = value
-        return True
+        before = row.values[declared.name]
+        row.values[declared.name] = value
+        return [] if value == before else self.notification(row, declared, depth)
+
+    def notification(self, row, declared, depth):
+        """The signal that tells of a property's change, where it has one, with as much of the value as it takes."""
+        if declared.notify is None:
+            return []
+        signal = self.signal(row.number, declared.notify)
+        kinds = self.methods(row.number)[signal].kinds
+        return [("emit", row.number, signal, [row.values[declared.name]] if kinds else [], depth)]
+
+    def write_dynamic(self, row, name, value):
+        if value is None:
+            row.dynamic.pop(name, None)
+            return
+        if not is_value(value):
+            refuse("E22")
+        if is_long(value) or name not in row.dynamic and len(row.dynamic) >= DYNAMIC_PROPERTIES:
+            refuse("E14")
+        row.dynamic[name] = value
 
     # Methods and connections.
 
@@ -344,8 +413,8 @@ class Session:
         if "arg" in form:
             return frame.args[form["arg"]]
         if "prop" in form:
-            row = self.known(self.target(frame, form.get("of", "self")))
-            return row.name if form["prop"] == "objectName" else refuse("E11")
+            value = self.read(self.known(self.target(frame, form.get("of", "self"))), form["prop"])
+            return refuse("E11") if value is None else value
         [(operator, parts)] = form.items()
         if operator == "if":
             test = self.value(frame, parts[0])
@@ -467,11 +536,8 @@ class Session:
         return self.acts(action["then"] if test else action.get("else", []), frame)
 
     def act_set(self, action, frame):
-        if action["set"] != "objectName":
-            refuse("E22")
-        number = self.target(frame, action.get("of", "self"))
-        self.known(number)
-        self.set_name(number, self.value(frame, action["to"]))
+        row = self.known(self.target(frame, action.get("of", "self")))
+        return self.write(row, action["set"], self.value(frame, action["to"]), frame.depth)
 
     def act_emit(self, action, frame):
         number = self.target(frame, action.get("of", "self"))
@@ -530,6 +596,19 @@ class Session:
         if "object" in command:
             self.known(command["object"])
         return [row.number for row in self.children(command.get("object"))]
+
+    def command_set(self, command):
+        name, value = command["property"], command["value"]
+        row = self.known(command["object"])
+        is_written = self.declared(row, name) is not None and value is not None
+        self.run(self.write(row, name, value, 0))
+        return is_written
+
+    def command_get(self, command):
+        return self.read(self.known(command["object"]), command["property"])
+
+    def command_dynamic_names(self, command):
+        return list(self.known(command["object"]).dynamic)
 
     def command_connect(self, command):
         sender, receiver = command["sender"], command["receiver"]
@@ -605,8 +684,9 @@ COMMANDS = {
     "setParent": lambda session, command: session.set_parent(command["object"], command["parent"]),
     "children": Session.command_children,
     "find": lambda session, command: session.find(command["object"], command.get("name"), command.get("class")),
-    "set": lambda session, command: session.set_name(command["object"], command["value"]),
-    "get": lambda session, command: session.known(command["object"]).name,
+    "set": Session.command_set,
+    "get": Session.command_get,
+    "dynamicNames": Session.command_dynamic_names,
     "connect": Session.command_connect,
     "disconnect": Session.command_disconnect,
     "invoke": Session.command_invoke,

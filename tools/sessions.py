@@ -25,8 +25,15 @@ CLASSES = [
         "super": "QObject",
         "signals": ["rang(int)"],
         "slots": [{"sig": "tell()", "body": []}, {"sig": "fall()", "body": [{"delete": "self"}]}],
+        "properties": [{"name": "pitch", "type": "int", "notify": "rang(int)"}],
     },
-    {"name": "Ear", "super": "QObject", "signals": [], "slots": [{"sig": "hear(int)", "body": []}]},
+    {
+        "name": "Ear",
+        "super": "QObject",
+        "signals": ["noted(int)"],
+        "slots": [{"sig": "hear(int)", "body": [{"set": "heard", "to": {"arg": 0}}, {"set": "last", "to": {"arg": 0}}]}],
+        "properties": [{"name": "heard", "type": "int", "notify": "noted(int)"}],
+    },
 ]
 
 LONG_SESSIONS = 50
@@ -40,6 +47,12 @@ def life_of(session):
     chance = random.Random(session)
     ears = range(2, OBJECTS + 1)
 
+    def set_to(number, name, value):
+        return {"do": "set", "object": number, "property": name, "value": value}
+
+    def get(number, name):
+        return {"do": "get", "object": number, "property": name}
+
     def ring():
         return {"do": "invoke", "object": 1, "method": "rang(int)", "args": [chance.randrange(1_000)]}
 
@@ -50,10 +63,13 @@ def life_of(session):
     yield {"do": "new", "class": "Bell"}
     yield from ({"do": "new", "class": "Ear", "parent": chance.randrange(1, ear)} for ear in ears)
     yield from map(connect, ears)
-    yield from ({"do": "set", "object": ear, "property": "objectName", "value": f"{session} {ear}"} for ear in chance.sample(ears, 9))
+    yield from (set_to(ear, "objectName", f"{session} {ear}") for ear in chance.sample(ears, 9))
+    yield from (set_to(ear, chance.choice(("tag", "note")), f"{ear} {session}") for ear in chance.sample(ears, 9))
     yield ring()
+    yield set_to(1, "pitch", chance.randrange(1_000))
     yield from ({"do": "disconnect", "connection": chance.randrange(1, OBJECTS)} for _ in range(5))
     yield from ({"do": "connect", "sender": ear, "signal": "destroyed()", "receiver": 1, "method": "tell()"} for ear in chance.sample(ears, 9))
+    yield from ({"do": "connect", "sender": ear, "signal": "noted(int)", "receiver": 1, "method": "tell()"} for ear in chance.sample(ears, 5))
     yield ring()
     yield {"do": "spin"}
     for ear in chance.sample(ears, 5):
@@ -71,9 +87,12 @@ def life_of(session):
     yield ring()
     yield {"do": "spin"}
     yield ring()
+    yield set_to(1, "pitch", session)
+    yield from ({"do": "dynamicNames", "object": number} for number in range(1, OBJECTS + 2))
+    yield from (get(number, name) for number in range(1, OBJECTS + 2) for name in ("heard", "last", "tag"))
     yield {"do": "invoke", "object": 1, "method": "fall()", "args": []}
     yield {"do": "spin"}
-    yield from ({"do": "get", "object": number, "property": "objectName"} for number in range(1, OBJECTS + 2))
+    yield from (get(number, "objectName") for number in range(1, OBJECTS + 2))
 
 
 def in_turn():

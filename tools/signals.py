@@ -1,11 +1,13 @@
 #!/usr/bin/env python3
-"""Compares the built program with a plain one on sessions with signals, slots and events.
+"""Compares the built program with a plain one on sessions with signals, slots, events and properties.
 
 Usage: signals.py PROGRAM [SEED]
 
 Each session has a class file of its own, whose slots emit, connect, disconnect, delete at once or later, block,
-reparent, choose and write by chance, and few turns. The commands are by chance too; most name objects and methods
-that are there. Connections of each type are made, many of them of `destroyed()`, and events are taken now and then.
+reparent, choose and write by chance, and few turns. What one class declares as a property, most times with a signal
+that tells of its changes, another one does not, so that it is dynamic there. The commands are by chance too; most
+name objects, methods and properties that are there. Connections of each type are made, many of them of `destroyed()`,
+and events are taken now and then.
 """
 
 import json
@@ -18,24 +20,41 @@ from pathlib import Path
 from plain_session import Classes, Server
 
 SESSIONS = 500
-COMMANDS = 80
+COMMANDS = 100
+LAMPS = 3
+CONNECTIONS = 12
 ACTIONS = 6
 OBJECTS = 40
+OLDEST = 4
 TURNS = (1, 2, 5, 20, 60)
 
 SIGNALS = ("fired()", "moved(int)", "named(QString)", "told(int,QString)")
 END = "destroyed()"
+NAME_CHANGED = "objectNameChanged(QString)"
 SLOTS = ("fire()", "move(int)", "name(QString)", "tell(int,QString)", "clear()", "follow()")
+NAME = "objectName"
+PROPERTIES = {"level": "int", "label": "QString", "lit": "bool", "step": "int", "count": "uint", "total": "qlonglong", "size": "qulonglong"}
+UNDECLARED = ("tag", "note", "nothing")
 TEXTS = ("x", "y", "z", "ä", "")
 COMMANDS_MADE = {
-    **{"new": 7, "connect": 14, "disconnect": 2, "invoke": 20, "delete": 1, "setParent": 2, "set": 2, "get": 1, "children": 1},
-    **{"deleteLater": 1, "block": 1, "spin": 6, "status": 1},
+    **{"new": 7, "connect": 16, "disconnect": 2, "invoke": 20, "delete": 1, "setParent": 2, "children": 1},
+    **{"set": 12, "get": 4, "dynamicNames": 1, "deleteLater": 1, "block": 1, "spin": 6, "status": 1},
 }
 NUMBERS = (0, 1, -1, 7, 2**31 - 1, 2**31, 2**63)
 
 
 def text_of(value):
     return json.dumps(value, separators=(",", ":"), sort_keys=True, ensure_ascii=False)
+
+
+def kind_of(name):
+    """The kind of a property that some class declares."""
+    return "QString" if name == NAME else PROPERTIES[name]
+
+
+def form_of(kind):
+    """The kind of which an expression is made that fits a property of some kind: all numbers are of one."""
+    return kind if kind in ("bool", "QString") else "int"
 
 
 def kinds_of(method):
@@ -49,12 +68,17 @@ class Chance(random.Random):
         return self.random() < share
 
     def signal(self, share=0.1):
-        """A signal, by this share the one that tells of an object's end."""
-        return END if self.is_so(share) else self.choice(SIGNALS)
+        """A signal, by this share one of `QObject`, which most times is the one that tells of an object's end."""
+        return self.choice((END, END, NAME_CHANGED)) if self.is_so(share) else self.choice(SIGNALS)
 
     def type(self, share):
         """The type of a connection or an invocation, which is named by this share."""
         return {"type": self.choice(("auto", "direct", "queued", "queued"))} if self.is_so(share) else {}
+
+    def property_name(self, form=None):
+        """The name of a property, most times of one of this form that some class declares."""
+        declared = [it for it in (NAME, *PROPERTIES) if form in (None, form_of(kind_of(it)))]
+        return self.choice(declared if self.is_so(0.9) else UNDECLARED)
 
     # Expressions and actions.
 
@@ -73,12 +97,12 @@ class Chance(random.Random):
             wanted = self.choice(("int", "QString", "bool"))
         if depth < 2 and self.is_so(0.15):
             return {"if": [self.expression(kinds, it, depth + 1) for it in ("bool", wanted, wanted)]}
+        if self.is_so(0.25):
+            return {"prop": self.property_name(wanted), **self.of()}
         if wanted == "bool":
             form, part = self.choice((("<", "int"), ("=", "int"), ("=", "QString")))
             return {form: [self.expression(kinds, part, depth + 1) for _ in "ab"]} if depth < 3 else {"const": self.is_so(0.5)}
         if wanted == "QString":
-            if self.is_so(0.3):
-                return {"prop": "objectName" if self.is_so(0.9) else "nothing", **self.of()}
             if depth < 2 and self.is_so(0.2):
                 return {"cat": [self.expression(kinds, wanted, depth + 1) for _ in "ab"]}
             return {"const": self.choice(TEXTS)}
@@ -97,16 +121,20 @@ class Chance(random.Random):
             "disconnect": lambda: self.disconnection(signal),
             "delete": lambda: {"delete": self.target()},
             "setParent": lambda: {"setParent": self.target() if self.is_so(0.7) else None, **self.of()},
-            "set": lambda: {"set": "objectName", "to": self.expression(kinds, "QString"), **self.of()},
+            "set": lambda: self.setting(kinds),
             "when": lambda: self.choice_of(kinds, depth),
             "block": lambda: {"block": self.is_so(0.3), **self.of()},
             "deleteLater": lambda: {"deleteLater": self.target()},
         }
-        weights = (8, 5, 3, 1, 2, 3, 0 if depth > 1 else 4, 0.7, 1)
+        weights = (7, 5, 3, 1, 2, 9, 0 if depth > 1 else 4, 0.7, 1)
         action = made[self.choices(list(made), weights)[0]]()
         if "emit" in action and self.is_so(0.05):
             action["args"].append({"const": 1})
         return action
+
+    def setting(self, kinds):
+        form = self.choice(("int", "int", "QString", "bool"))
+        return {"set": self.property_name(form), "to": self.expression(kinds, form), **self.of()}
 
     def connection(self, signal):
         wide = [slot for slot in (*SLOTS, *SIGNALS, "deleteLater()") if kinds_of(signal)[: len(kinds_of(slot))] == kinds_of(slot)]
@@ -126,18 +154,34 @@ class Chance(random.Random):
         action = {"when": self.expression(kinds, "bool"), "then": self.body(kinds, depth + 1)}
         return {**action, "else": self.body(kinds, depth + 1)} if self.is_so(0.7) else action
 
+    def declared_property(self, name):
+        """A declared property, most times with a signal that takes its value or nothing."""
+        signals = SIGNALS if self.is_so(0.8) else (END, NAME_CHANGED)
+        fitting = [it for it in signals if kinds_of(it) in ([], [PROPERTIES[name]])]
+        notify = {"notify": self.choice(fitting)} if self.is_so(0.8) else {}
+        return {"name": name, "type": PROPERTIES[name], **notify}
+
+    def declared_class(self, name, above, signals, slots, properties):
+        bodies = [{"sig": slot, "body": self.body(kinds_of(slot))} for slot in slots]
+        return {"name": name, "super": above, "signals": list(signals), "slots": bodies, "properties": list(map(self.declared_property, properties))}
+
     def classes(self):
         """Three classes, of which the second is below the first."""
-        for name, above in (("Lamp", "QObject"), ("Torch", "Lamp"), ("Switch", "QObject")):
-            slots = [] if above == "Lamp" else [{"sig": slot, "body": self.body(kinds_of(slot))} for slot in SLOTS]
-            yield {"name": name, "super": above, "signals": [] if above == "Lamp" else list(SIGNALS), "slots": slots}
+        names = self.sample(list(PROPERTIES), len(PROPERTIES))
+        yield self.declared_class("Lamp", "QObject", SIGNALS, SLOTS, names[:4])
+        yield self.declared_class("Torch", "Lamp", (), (), names[4:6])
+        yield self.declared_class("Switch", "QObject", SIGNALS, SLOTS, names[2:5])
 
     # Commands.
 
     def value(self, kind):
         if self.is_so(0.05):
             return self.choice((None, True, 1.5, "x", [1], 2**40))
-        return self.choice(NUMBERS[:5]) if kind == "int" else self.choice(TEXTS)
+        if kind == "bool":
+            return self.is_so(0.5)
+        if kind == "QString":
+            return self.choice(TEXTS)
+        return self.choice(NUMBERS[:5] if kind == "int" or self.is_so(0.7) else NUMBERS)
 
     def method(self):
         return self.choice(("nothing()", "nothing", "deleteLater()", "destroyed()")) if self.is_so(0.06) else self.choice((*SIGNALS, *SLOTS))
@@ -147,17 +191,20 @@ class Chance(random.Random):
         living = [row.number for row in session.rows]
         if len(living) > OBJECTS and self.is_so(0.3):
             return {"do": "delete", "object": self.choice(living)}
-        one, other = (self.choice(living) if living and self.is_so(0.95) else session.last_number + self.randint(1, 2) for _ in "ab")
-        return self.command_on(one, other)
+        one, other = (self.object(living) if living and self.is_so(0.95) else session.last_number + self.randint(1, 2) for _ in "ab")
+        return self.command_of(self.choices(list(COMMANDS_MADE), COMMANDS_MADE.values())[0], one, other)
 
-    def command_on(self, one, other):
-        """A command that names one of these objects or both."""
-        kind = self.choices(list(COMMANDS_MADE), COMMANDS_MADE.values())[0]
+    def object(self, living):
+        """An object that is there, often one of the oldest, of which most is asked."""
+        return self.choice(living[:OLDEST] if self.is_so(0.6) else living)
+
+    def command_of(self, kind, one, other):
+        """A command of this kind, that names one of these objects or both."""
         if kind in ("spin", "status"):
             return {"do": kind}
         if kind == "new":
             parent = {"parent": other} if self.is_so(0.5) else {}
-            return {"do": kind, "class": self.choice(("Lamp", "Torch", "Switch", "QObject")), **parent}
+            return {"do": kind, "class": self.choice(("Lamp", "Torch", "Torch", "Switch", "QObject")), **parent}
         if kind == "connect":
             made_of = self.connection(self.signal(0.25))
             kept = {key: made_of[key] for key in ("method", "unique", "single", "type") if key in made_of}
@@ -174,10 +221,16 @@ class Chance(random.Random):
         if kind == "block":
             command["on"] = self.is_so(0.3)
         if kind in ("set", "get"):
-            command["property"] = "objectName"
+            command["property"] = self.property_name()
         if kind == "set":
-            command["value"] = self.choice(TEXTS)
+            command["value"] = self.property_value(command["property"])
         return command
+
+    def property_value(self, name):
+        """What a property of this name is set to."""
+        if name in UNDECLARED:
+            return None if self.is_so(0.3) else self.value(self.choice(("int", "QString", "bool")))
+        return self.value(kind_of(name))
 
     def disconnect_command(self, one, other):
         if self.is_so(0.4):
@@ -193,13 +246,18 @@ class Chance(random.Random):
 
 
 def life_of(chance, server):
-    """Commands by chance in a session of a server, and all that it is told."""
-    commands, lines = [], []
+    """Commands by chance in a session of a server, which connect its first objects first, and what it is told to each."""
+    commands, answers = [], []
     for at in range(COMMANDS):
-        command = {"do": "new", "class": "Lamp"} if at < 3 else chance.command(server.session("a"))
+        if at < LAMPS:
+            command = {"do": "new", "class": "Lamp"}
+        elif at < LAMPS + CONNECTIONS:
+            command = chance.command_of("connect", chance.randint(1, LAMPS), chance.randint(1, LAMPS))
+        else:
+            command = chance.command(server.session("a"))
         commands.append({**command, "session": "a"})
-        lines += server.step(commands[-1])
-    return commands, lines
+        answers.append(server.step(commands[-1]))
+    return commands, answers
 
 
 def calls_in(lines):
@@ -212,25 +270,32 @@ def events_in(lines):
     return sum(reply["events"] for reply in replies if isinstance(reply, dict) and "events" in reply)
 
 
+def changes_in(commands, answers):
+    """How many calls told of what a command had set."""
+    return sum(calls_in(answer) for command, answer in zip(commands, answers) if command["do"] == "set")
+
+
 def main():
     program = str(Path(sys.argv[1]).resolve())
     first = int(sys.argv[2]) if len(sys.argv) > 2 else 1
-    failed, calls, events = 0, 0, 0
+    failed, calls, events, changes = 0, 0, 0, 0
     with tempfile.TemporaryDirectory(prefix="metad-signals-") as room:
         for seed in range(first, first + SESSIONS):
             chance = Chance(seed)
             declared, turns = list(chance.classes()), chance.choice(TURNS)
-            commands, wanted = life_of(chance, Server(Classes(declared), turns))
+            commands, answers = life_of(chance, Server(Classes(declared), turns))
+            wanted = [line for answer in answers for line in answer]
             path = Path(room) / "classes.json"
             path.write_text(text_of({"classes": declared}))
             given = "".join(text_of(command) + "\n" for command in commands)
             ran = subprocess.run([program, str(path), "--turns", str(turns)], input=given.encode(), capture_output=True, check=True)
             calls, events = calls + calls_in(wanted), events + events_in(wanted)
+            changes += changes_in(commands, answers)
             if ran.stdout.decode().splitlines() != list(map(text_of, wanted)):
                 failed += 1
                 print(f"by chance, {seed}: not what the plain program answers")
-    print(f"signals: {SESSIONS - failed} passed, {failed} failed; {calls:,} calls, {events:,} events")
-    return 1 if failed or not calls or not events else 0
+    print(f"signals: {SESSIONS - failed} passed, {failed} failed; {calls:,} calls, {events:,} events, {changes:,} calls that told of changes")
+    return 0 if not failed and calls and events and changes else 1
 
 
 if __name__ == "__main__":

@@ -1,5 +1,5 @@
 //! The table of classes, and what is looked up in it.
-ghost use Rattle.std.specs.Prelude.{◌≡◌, ◌≤◌, ◌++◌, ◌∷◌, List, [], Some, None, IsTrue, IfSome, IfNone, IfOk, OnOk, IfErr, length, map, slice_get, string_bytes};
+ghost use Rattle.std.specs.Prelude.{◌≡◌, ◌+◌, ◌≤◌, ◌++◌, ◌∷◌, List, [], Some, None, IsTrue, IfSome, IfNone, IfOk, OnOk, IfErr, length, map, slice_get, string_bytes};
 ghost use Rattle.std.specs.Option.{option_copied};
 ghost use Rattle.class_table.specs.declared.fault.ClassError.TheVariants.{Memory};
 ghost use Rattle.class_table.specs.Declaring.{q_object};
@@ -52,8 +52,10 @@ impl ClassTable {
         Ok(ClassTable { alloc, classes })
     }
 
-    pub(crate) fn len(&self) -> usize
-        ensures { result ≡ length self.now }
+    /// How many classes there are, `QObject` among them.
+    pub fn len(&self) -> usize
+        ensures value { result ≡ length self.now }
+        ensures few { result ≤ CLASSES + 1 }
     {
         self.classes.len()
     }
@@ -103,8 +105,9 @@ impl ClassTable {
         }
     }
 
-    /// How many properties the class has.
-    pub(crate) fn property_count(&self, class: u32) -> u32
+    /// How many properties the class has, those of its superclasses among them; a class that is not
+    /// there has none.
+    pub fn property_count(&self, class: u32) -> u32
         ensures value { result ≡ length (properties self.now class) }
         ensures few { result ≤ PROPERTIES }
         ensures once { IsTrue (are_distinct_properties (names (properties self.now class))) }

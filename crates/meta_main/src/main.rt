@@ -3,8 +3,6 @@
 #![tactic(auto)]
 
 mod status;
-#[cfg(test)]
-mod tests;
 
 use program_start::{Beginning, start};
 use server_world::Server;

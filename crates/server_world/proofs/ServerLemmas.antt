@@ -82,7 +82,9 @@ step_out old new name asked out well sound =
       memory = λ none. refused;
       blame = λ was now. inl refl;
       well = λ found. well (found_in_engine old found);
-      sound = λ other. subst (λ (sessions : List ℕ → Session). AreSound (record { settings = engine.settings old.engine; session = sessions; memory_refused = false })) (sym out.sessions) sound other;
+      sound = λ other.
+          let same : AreSound (record { settings = engine.settings old.engine; session = engine.sessions new.engine; memory_refused = false }) = subst (λ (sessions : List ℕ → Session). AreSound (record { settings = engine.settings old.engine; session = sessions; memory_refused = false })) (sym out.sessions) sound in
+          subst (λ (settings : Settings). AreSound (record { settings = settings; session = engine.sessions new.engine; memory_refused = false })) (sym out.settings) same other;
     }
 
 pub none_of_err : {T E : Type 0} (result : Result T E) → IsErr result → result_ok result ≡ None

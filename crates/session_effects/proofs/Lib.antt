@@ -1,2 +1,3 @@
 pub mod ActionLemmas
 pub mod FoundLemmas
+pub mod WritingLemmas

@@ -27,8 +27,9 @@ pub record Keeps (place : ℕ) (old new : Tables) : Type 0 where
 abbrev pub act_of : Slot → term.Act → Item
 act_of slot action = Act action slot.args.now slot.object slot.sender slot.depth
 
--- does an effect send a signal or delete an object
+-- may an effect send a signal or delete an object
 abbrev pub is_nested : Effect → Bool
+is_nested (e.Set of property value) = true
 is_nested (e.Emit of signal args) = true
 is_nested (e.Delete target) = true
 is_nested _ = false

@@ -1,3 +1,4 @@
 pub mod Setup
 pub mod Methods
 pub mod Actions
+pub mod Writing

@@ -12,14 +12,13 @@ ghost use Rattle.session_effects.specs.Setup.{settings_of};
 use crate::caller::Caller;
 use crate::connections::{Options, connection, pattern};
 use crate::evaluation::{
-    Reader, all_converted, all_evaluated, named_object_of, object_of, title_evaluated,
-    truth_evaluated,
+    Reader, all_converted, all_evaluated, named_object_of, object_of, truth_evaluated,
 };
 use crate::methods::{kinds_at, signal_with};
 use crate::slot::Slot;
 use event_queue::Event;
-use plain_types::{Items, Text};
-use refusals::{Code, Fault};
+use plain_types::Items;
+use refusals::Fault;
 use session_tables::Tables;
 use signature_core::Signature;
 use term_core::{Effect, Expr, Target};
@@ -34,7 +33,7 @@ pub struct Emission {
 }
 
 /// Where the expressions of a slot's body are evaluated.
-fn reader<'a>(caller: &Caller, tables: &'a Tables, slot: &Slot) -> Reader<'a>
+pub fn reader<'a>(caller: &Caller, tables: &'a Tables, slot: &Slot) -> Reader<'a>
     requires { IsPlaced tables.now caller.now.place }
     ensures tables { result.tables.now ≡ tables.now }
     ensures place { result.place ≡ caller.now.place }
@@ -101,8 +100,7 @@ pub fn deleted(caller: &Caller, tables: &Tables, slot: &Slot, target: &Target) -
     Ok(object)
 }
 
-/// Does an action that neither sends a signal nor deletes an object at once. A property other than the
-/// title is refused.
+/// Does an action that neither sends a signal nor deletes an object at once.
 pub fn change(
     caller: &Caller,
     tables: &mut Tables,
@@ -116,11 +114,6 @@ pub fn change(
     ensures keeps { Keeps caller.now.place tables.old tables.new }
 {
     match effect {
-        Effect::Set {
-            of,
-            property,
-            value,
-        } => set(caller, tables, slot, of, property, value),
         Effect::Connect {
             of,
             signal,
@@ -146,33 +139,8 @@ pub fn change(
         Effect::DeleteLater(target) => delete_later(caller, tables, slot, target),
         Effect::Block { of, on } => block(caller, tables, slot, of, *on),
         Effect::SetParent { of, parent } => set_parent(caller, tables, slot, of, parent),
-        Effect::Emit { .. } | Effect::Delete(_) => unreachable!(),
+        Effect::Set { .. } | Effect::Emit { .. } | Effect::Delete(_) => unreachable!(),
     }
-}
-
-/// Writes a property.
-fn set(
-    caller: &Caller,
-    tables: &mut Tables,
-    slot: &Slot,
-    of: &Target,
-    property: &Text,
-    value: &Expr,
-) -> Result<(), Fault>
-    requires { IsPlaced tables.old caller.now.place }
-    ensures tries { Tries caller.now slot.now (e.Set of.now property.now value.now) tables.old (λ _. []) tables.new result }
-    ensures err { OnErr result (tables.new ≡ tables.old) }
-    ensures keeps { Keeps caller.now.place tables.old tables.new }
-{
-    if property.as_str() != "objectName" {
-        return Err(Fault::Refused(Code::BadValue));
-    }
-    let reader = reader(caller, tables, slot);
-    let object = object_of(&reader, of)?;
-    tables.check_object(caller.place, object)?;
-    let title = title_evaluated(caller.setup.alloc, &reader, slot.args, value)?;
-    tables.set_title(caller.place, object, title)?;
-    Ok(())
 }
 
 /// Connects a signal to a method.

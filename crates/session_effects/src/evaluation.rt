@@ -1,7 +1,7 @@
 //! The objects that actions name, and the values of their expressions.
 ghost use Rattle.std.specs.Prelude.{◌≡◌, IfOk};
 ghost use Rattle.refusals.specs.Answers.{Answers};
-ghost use Rattle.thread_model.specs.Targets.{all_converted, all_evaluated, evaluated, named_object_of, object_of, title_evaluated, truth_evaluated};
+ghost use Rattle.thread_model.specs.Targets.{all_converted, all_evaluated, evaluated, named_object_of, object_of, truth_evaluated};
 ghost use Rattle.session_tables.specs.Tables.{IsPlaced, state_at};
 
 use plain_types::{Items, Text};
@@ -11,7 +11,7 @@ use signature_core::Kind;
 use std::alloc::{AllocError, Global};
 use term_core::{Expr, Target};
 use term_evaluation::{Halt, Reads, evaluate};
-use variant_value::{TEXT_BYTES, Value};
+use variant_value::Value;
 
 /// Where the expressions of a slot's body are evaluated: the session as it stands, the object whose slot
 /// it is, and the object that sent the signal, or 0.
@@ -37,10 +37,10 @@ impl Reads for Reader<'_> {
         if !self.tables.is_there(self.place, object) {
             return Err(Halt::Refused(Code::NoSuchObject));
         }
-        if name.as_str() != "objectName" {
-            return Err(Halt::Refused(Code::NoSuchProperty));
+        match self.tables.named(self.place, object, name.as_str()) {
+            Some(value) => Ok(value.copy(alloc)?),
+            None => Err(Halt::Refused(Code::NoSuchProperty)),
         }
-        Ok(self.tables.title(alloc, self.place, object)?)
     }
 }
 
@@ -115,26 +115,6 @@ pub fn truth_evaluated(
 {
     match evaluated(alloc, reader, args, expr)? {
         Value::Bool(truth) => Ok(truth),
-        _ => Err(Fault::Refused(Code::BadValue)),
-    }
-}
-
-/// The text that an expression is, as a title.
-pub fn title_evaluated(
-    alloc: Global,
-    reader: &Reader,
-    args: &[Value],
-    expr: &Expr,
-) -> Result<Value, Fault>
-    ensures { Answers result (title_evaluated (state_at reader.now.tables.now reader.now.place) reader.now.object reader.now.sender args.now expr.now) }
-{
-    match evaluated(alloc, reader, args, expr)? {
-        Value::Text(text) => {
-            if text.as_str().len() > TEXT_BYTES {
-                return Err(Fault::Refused(Code::Limit));
-            }
-            Ok(Value::Text(text))
-        }
         _ => Err(Fault::Refused(Code::BadValue)),
     }
 }

@@ -10,6 +10,7 @@ mod evaluation;
 mod methods;
 mod setup;
 mod slot;
+mod writing;
 
 pub use caller::Caller;
 pub use connections::{Options, asked_connection, asked_pattern};
@@ -17,3 +18,4 @@ pub use effects::{Emission, change, deleted, sent, truth};
 pub use methods::{kinds_at, method_at, method_with};
 pub use setup::Setup;
 pub use slot::Slot;
+pub use writing::{set, write_declared, write_dynamic};

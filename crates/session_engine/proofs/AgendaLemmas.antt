@@ -1,5 +1,5 @@
 -- An agenda by nested calls.
-use Rattle.std.proofs.Common.{◌≡◌, ◌<◌, ◌≤◌, ◌+◌, ◌-◌, ◌*◌, ◌==◌, ◌||◌, ◌&&◌, nat_lt, nat_le, ℕ, Bool, true, false, cond, not, is_some, List, [], ◌∷◌, ◌++◌, Option, Some, None, find, drop, take, length, refl, sym, subst, ap, ◌∙◌, if◌then◌else◌, arith}
+use Rattle.std.proofs.Common.{◌≡◌, ◌<◌, ◌≤◌, ◌+◌, ◌-◌, ◌*◌, ◌==◌, ◌&&◌, nat_lt, nat_le, ℕ, Bool, true, false, cond, not, is_some, List, [], ◌∷◌, ◌++◌, Option, Some, None, find, drop, take, length, refl, sym, subst, ap, ◌∙◌, if◌then◌else◌, arith}
 use Rattle.std.proofs.Common.{Result, Ok, Err, OnErr, OnOk, get_or, ⊎_elim, ◌⊎◌}
 use Rattle.std.proofs.lemmas.List.{drop_all}
 use Rattle.std.specs.List.{AllByRecursion}
@@ -36,7 +36,7 @@ use Rattle.thread_model.specs.Methods.{method_at}
 use Rattle.thread_model.specs.Targets.{truth_evaluated}
 use Rattle.thread_model.proofs.ActionLemmas as action
 use Rattle.thread_model.specs.Doing.{Doing, in_state, lost, posted, shot, told, turn_taken, used_up}
-use Rattle.thread_model.specs.Items.{Call, Emit, Item, Run, Warn, puts}
+use Rattle.thread_model.specs.Items.{Call, Emit, Item, Next, Run, Warn, puts}
 use Rattle.thread_model.specs.Posting.{is_queued}
 use Rattle.thread_model.specs.Run.{run}
 use Rattle.thread_model.specs.Settings.{Settings}
@@ -48,8 +48,10 @@ use Rattle.thread_model.proofs.LivingLemmas.{living_rows}
 use Rattle.thread_model.proofs.NextCallLemmas.{calls_to, emission_first, emission_next}
 use Rattle.thread_model.proofs.RemainingLemmas.{remaining}
 use Rattle.thread_model.proofs.RunLemmas.{after_first, at_end, by_change, by_step, run_shrinks}
+use Rattle.thread_model.proofs.FallLemmas.{falls}
 use Rattle.thread_model.proofs.ShrinkLemmas.{Shrinks}
 use Rattle.session_tables.specs.declared.tables.Tables.{Tables}
+use Rattle.session_tables.specs.Refused.{OnRefused}
 use Rattle.session_tables.specs.Tables.{IsPlaced, state_at, with_state}
 use Rattle.session_tables.proofs.TablesLemmas.{state_with}
 use Rattle.session_effects.specs.declared.slot.Slot.{Slot}
@@ -79,6 +81,12 @@ left_to_do place tables telling rank = 100 * left_at place tables telling + rank
 pub left_falls : (settings : Settings) (agenda : List Item) (place : ℕ) (old new : Tables) (before after : Telling) → run settings agenda (doing_at place old before) ≡ doing_at place new after → left_at place new after ≤ left_at place old before
 left_falls settings agenda place old new before after does =
     let shrinks : Shrinks (doing_at place old before) (doing_at place new after) = subst (Shrinks (doing_at place old before)) does (run_shrinks settings agenda (doing_at place old before)) in
+    omega (arith, shrinks.turns, shrinks.living)
+
+-- nor does an item that is done, whatever it puts in front
+pub left_stepped : (settings : Settings) (item : Item) (items : List Item) (place : ℕ) (old new : Tables) (telling : Telling) → step settings item (doing_at place old telling) ≡ puts items (doing_at place new telling) → left_at place new telling ≤ left_at place old telling
+left_stepped settings item items place old new telling is =
+    let shrinks : Shrinks (doing_at place old telling) (doing_at place new telling) = subst (λ (next : Next). Shrinks (doing_at place old telling) next.doing) is (falls settings item (doing_at place old telling)).shrinks in
     omega (arith, shrinks.turns, shrinks.living)
 
 -- a single-shot connection that goes leaves as much
@@ -239,6 +247,13 @@ pub effect_warned : {T : Type 0} (caller : Caller) (slot : Slot) (plain : Effect
     → run (settings_of caller.setup.now) (act_of slot (effect plain) ∷ []) (doing_at caller.place tables before) ≡ doing_at caller.place tables after
 effect_warned caller slot plain tables items new before after (Refused code) tried e = warned (settings_of caller.setup.now) slot caller.place tables before after (act_of slot (effect plain)) code (tried (doing_at caller.place tables before)) e
 effect_warned caller slot plain tables items new before after Memory tried e = absurd e
+
+-- the same of one that may have changed the session before memory was wanted
+pub effect_refused : {T : Type 0} (caller : Caller) (slot : Slot) (plain : Effect) (old : Tables) (items : T → List Item) (new : Tables) (before after : Telling) (fault : Fault) → Tries caller slot plain old items new (Err fault) → OnRefused {T = T} (Err fault) (new ≡ old)
+    → Warns fault slot.object before after → run (settings_of caller.setup.now) (act_of slot (effect plain) ∷ []) (doing_at caller.place old before) ≡ doing_at caller.place new after
+effect_refused caller slot plain old items new before after (Refused code) tried same e =
+    warned (settings_of caller.setup.now) slot caller.place old before after (act_of slot (effect plain)) code (tried (doing_at caller.place old before)) e ∙ ap (λ tables. doing_at caller.place tables after) (sym same)
+effect_refused caller slot plain old items new before after Memory tried same e = absurd e
 
 module _ (settings : Settings) (slot : Slot) (doing : Doing) (test : Term) (held failed : Acts) where
   abbrev its_acts : Acts → List Item

@@ -13,13 +13,18 @@ use Rattle.std.proofs.lemmas.List.Quantifiers.{position-Some}
 use Rattle.std.proofs.lemmas.Option.{slice_get-get_or}
 use Rattle.std.proofs.lemmas.Slice.Eq.{bytes_eq-Decides}
 use Rattle.indexmap.specs.IndexSet.{insert_key}
+use Rattle.property_store.specs.declared.field.Field.{Field}
+use Rattle.property_store.specs.Store.{fields_in}
+use Rattle.thread_model.specs.State.{fields_of}
 use Rattle.thread_model.specs.Thread.{Settings}
+use Rattle.thread_model.proofs.DeclaredLemmas.{keeps_declared}
 use Rattle.thread_model.proofs.LawLemmas.{keeps_sound}
 use Rattle.session_tables.specs.declared.tables.Tables.{Tables}
 use Rattle.session_tables.specs.Session.{Session, fresh, gone}
-use Rattle.session_tables.specs.Tables.{AreEven, AreSame, IsPlaced, session_at}
+use Rattle.session_tables.specs.Tables.{AreEven, AreLaid, AreSame, IsPlaced, session_at}
 use Rattle.session_tables.proofs.TablesLemmas.{even_opened, even_same, even_with, placed_by, session_each, session_elsewhere, session_opened, session_past, session_same, session_there}
-use Rattle.session_engine.specs.Engine.{Contents, IsKept, IsWhole, given_up, opened, place, refused_growth, sessions, with_session_at}
+use Rattle.session_engine.specs.Engine.{Contents, IsKept, IsWhole, given_up, opened, place, refused_growth, seen, sessions, with_session_at}
+use Rattle.session_engine.specs.Sessions.{AreSound}
 
 -- where nothing has a place, nothing passes
 none_passes : {X : Type 0} (p : X → Bool) (xs : List X) → length xs ≤ position_or_len p xs → list_any p xs ≡ false
@@ -84,8 +89,12 @@ named_at engine name at given there is =
     cc
 
 -- what holds of each session holds of that of a name
-pub kept_by_name : (engine : Contents) (name : List ℕ) → IsWhole engine → IsKept engine.memory_refused (sessions engine name)
-kept_by_name engine name whole = subst (IsKept engine.memory_refused) (sym (sessions-first engine name whole)) (whole.kept (first engine name))
+pub kept_by_name : (engine : Contents) (name : List ℕ) → IsWhole engine → IsKept engine.settings.classes engine.memory_refused (sessions engine name)
+kept_by_name engine name whole = subst (IsKept engine.settings.classes engine.memory_refused) (sym (sessions-first engine name whole)) (whole.kept (first engine name))
+
+-- so all are sound
+pub sound_by_name : (engine : Contents) → IsWhole engine → AreSound (seen engine)
+sound_by_name engine whole = λ name. ((kept_by_name engine name whole).sound, (kept_by_name engine name whole).declared)
 
 module _ (engine : Contents) (whole : IsWhole engine) where
   -- with another session at a place, its name has that session
@@ -105,24 +114,26 @@ module _ (engine : Contents) (whole : IsWhole engine) where
           ∙ sym (sessions-place engine other at' e)
 
   -- the engine stays whole, where that session is as it must be
-  pub whole_with : (name : List ℕ) (at : ℕ) (session : Session) → place engine name ≡ Some at → IsKept engine.memory_refused session → IsWhole (with_session_at engine at session)
+  pub whole_with : (name : List ℕ) (at : ℕ) (session : Session) → place engine name ≡ Some at → IsKept engine.settings.classes engine.memory_refused session → IsWhole (with_session_at engine at session)
   whole_with name at session there fine = record {
     even = even_with engine.tables at session whole.even;
     paired = whole.paired ∙ sym (length-set engine.tables.failed.places at session.failed);
-    kept = session_each (IsKept engine.memory_refused) engine.tables at session (placed engine name at whole there) fine whole.kept;
+    laid = whole.laid;
+    kept = session_each (IsKept engine.settings.classes engine.memory_refused) engine.tables at session (placed engine name at whole there) fine whole.kept;
   }
 
   -- and where memory was refused
   pub whole_refused : IsWhole (refused_growth engine)
-  whole_refused = record { even = whole.even; paired = whole.paired; kept = λ at. record { well = λ found. absurd (true≢false found); sound = (whole.kept at).sound } }
+  whole_refused = record { even = whole.even; paired = whole.paired; laid = whole.laid; kept = λ at. record { well = λ found. absurd (true≢false found); sound = (whole.kept at).sound; declared = (whole.kept at).declared } }
 
   -- so it does where a session has failed for it
   pub whole_given_up : (name : List ℕ) (at : ℕ) → place engine name ≡ Some at → IsWhole (given_up engine at)
   whole_given_up name at there = record {
     even = even_with engine.tables at gone whole.even;
     paired = whole.paired ∙ sym (length-set engine.tables.failed.places at true);
-    kept = session_each (IsKept true) engine.tables at gone (placed engine name at whole there)
-        (record { well = λ found. absurd (true≢false found); sound = keeps_sound.at_first }) whole_refused.kept;
+    laid = whole.laid;
+    kept = session_each (IsKept engine.settings.classes true) engine.tables at gone (placed engine name at whole there)
+        (record { well = λ found. absurd (true≢false found); sound = keeps_sound.at_first; declared = keeps_declared.at_first engine.settings.classes }) whole_refused.kept;
   }
 
   -- a new place changes no session: the new one is fresh, and was so before
@@ -130,7 +141,8 @@ module _ (engine : Contents) (whole : IsWhole engine) where
   whole_opened name = record {
     even = even_opened engine.tables whole.even;
     paired = grind (arith, common_steps, whole.paired);
-    kept = λ at. subst (IsKept engine.memory_refused) (sym (session_opened engine.tables at)) (whole.kept at);
+    laid = whole.laid;
+    kept = λ at. subst (IsKept engine.settings.classes engine.memory_refused) (sym (session_opened engine.tables at)) (whole.kept at);
   }
 
   pub sessions-opened : (name other : List ℕ) → sessions (opened engine name) other ≡ sessions engine other
@@ -156,7 +168,8 @@ pub whole_same : (engine : Contents) (ready : Tables) → AreSame engine.tables 
 whole_same engine ready same whole = record {
   even = even_same engine.tables ready same whole.even;
   paired = whole.paired ∙ sym (ap length same.failed);
-  kept = λ at. subst (IsKept engine.memory_refused) (sym (session_same engine.tables ready at same)) (whole.kept at);
+  laid = λ class. ap (λ layouts. fields_in layouts class) same.layouts ∙ whole.laid class;
+  kept = λ at. subst (IsKept engine.settings.classes engine.memory_refused) (sym (session_same engine.tables ready at same)) (whole.kept at);
 }
 
 pub sessions-same : (engine : Contents) (ready : Tables) → AreSame engine.tables ready → sessions (with_tables engine ready) ≡ sessions engine
@@ -164,15 +177,16 @@ sessions-same engine ready same =
     ap (λ (session : ℕ → Session). λ name. option_map_or session (place engine name) fresh) (fun_ext (λ at. session_same engine.tables ready at same))
 
 -- with no place there is none to speak of
-pub whole_new : (settings : Settings) (names : List (List ℕ)) (tables : Tables) → names ≡ [] → tables.forests.places ≡ [] → tables.titles.places ≡ [] → tables.connections.places ≡ [] → tables.queues.places ≡ [] → tables.failed.places ≡ []
-    → IsWhole (record { settings = settings; names = names; tables = tables; memory_refused = false })
-whole_new settings names tables no_names forests titles connections queues failed =
-    let even : AreEven tables = record { forests = ap length forests ∙ sym (ap length failed); titles = ap length titles ∙ sym (ap length failed); connections = ap length connections ∙ sym (ap length failed); queues = ap length queues ∙ sym (ap length failed) } in
+pub whole_new : (settings : Settings) (names : List (List ℕ)) (layouts : List (List Field)) (tables : Tables) → names ≡ [] → tables.forests.places ≡ [] → tables.stores.table.places ≡ [] → tables.connections.places ≡ [] → tables.queues.places ≡ [] → tables.failed.places ≡ []
+    → tables.stores.layouts ≡ layouts → ((class : ℕ) → fields_in layouts class ≡ fields_of settings.classes class) → IsWhole (record { settings = settings; names = names; tables = tables; memory_refused = false })
+whole_new settings names layouts tables no_names forests stores connections queues failed same laid =
+    let even : AreEven tables = record { forests = ap length forests ∙ sym (ap length failed); stores = ap length stores ∙ sym (ap length failed); connections = ap length connections ∙ sym (ap length failed); queues = ap length queues ∙ sym (ap length failed) } in
     let none : length tables.failed.places ≡ 0 = ap length failed in
     record {
       even = even;
       paired = ap length no_names ∙ sym none;
-      kept = λ at. subst (IsKept false) (sym (session_past tables at even (omega (arith, none)))) (record { well = λ found. refl; sound = keeps_sound.at_first });
+      laid = λ class. ap (λ layouts. fields_in layouts class) same ∙ laid class;
+      kept = λ at. subst (IsKept settings.classes false) (sym (session_past tables at even (omega (arith, none)))) (record { well = λ found. refl; sound = keeps_sound.at_first; declared = keeps_declared.at_first settings.classes });
     }
 
 -- a new name has the new place

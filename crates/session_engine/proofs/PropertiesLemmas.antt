@@ -1,24 +1,48 @@
--- What JSON is written as a title.
-use Rattle.std.proofs.Common.{◌≡◌, true, false, List, Result, Err, IsErrAnd, is_some, refl, ap, ◌∙◌}
+-- What JSON is written to a property.
+use Rattle.std.proofs.Common.{◌≡◌, ℕ, Bool, true, false, List, Option, Some, None, Result, Ok, Err, IsErrAnd, is_some, refl, sym, ap, ◌∙◌}
+use Rattle.std.specs.Prelude.{option_map}
+use Rattle.std.specs.Option.{option_map_or}
 use Rattle.std.specs.Result.{result_err}
 use Rattle.serde_json.specs.Data as d
+use Rattle.serde_json.specs.Data.{Data}
 use Rattle.serde_json.specs.Find.{as_null}
+use Rattle.refusals.specs.declared.code.Code.{Code}
 use Rattle.refusals.specs.declared.fault.Fault.{Fault}
 use Rattle.refusals.specs.declared.fault.Fault.TheVariants.{Refused, Memory}
-use Rattle.refusals.specs.Answers.{Answers}
-use Rattle.signature_core.specs.declared.kind.Kind.TheVariants as k
+use Rattle.signature_core.specs.declared.kind.Kind.{Kind}
 use Rattle.variant_value.specs.declared.value.Value.{Value}
-use Rattle.variant_value.specs.Values.{value_of}
+use Rattle.variant_value.specs.declared.value.Value.TheVariants as v
+use Rattle.variant_value.specs.Values.{inferred, value_of}
+use Rattle.property_store.specs.Store.{dynamic_refusal}
+use Rattle.thread_model.specs.declared.line.Answer.TheVariants as a
 use Rattle.thread_model.specs.declared.line.Line.{Line}
-use Rattle.thread_model.specs.Asked.{Asked}
-use Rattle.thread_model.specs.Refusing.{title_refusal}
+use Rattle.thread_model.specs.declared.line.Line.TheVariants as line
+use Rattle.thread_model.specs.Absence.{absence}
+use Rattle.thread_model.specs.Asked.{Asked, Set}
+use Rattle.thread_model.specs.Doing.{begun, told}
+use Rattle.thread_model.specs.Effects.{does_next, ended}
+use Rattle.thread_model.specs.Items.{Next}
+use Rattle.thread_model.specs.Methods.{Found, ◌>>=◌}
+use Rattle.thread_model.specs.Properties.{is_declared}
+use Rattle.thread_model.specs.Run.{run}
+use Rattle.thread_model.specs.State.{State}
+use Rattle.thread_model.specs.Writing.{Declared, Dynamic, Nothing, Place, Removed, Writing, asked_place, asked_writing, declared, dynamic_writing, written}
+use Rattle.thread_model.proofs.PropertyLemmas.{refusal_set, set_written}
+use Rattle.thread_model.proofs.ThreadLemmas.{replies_last}
 use Rattle.session_tables.specs.declared.tables.Tables.{Tables}
-use Rattle.session_tables.proofs.TablesLemmas.{changes_same}
+use Rattle.session_tables.specs.Refused.{OnRefused}
+use Rattle.session_tables.specs.Tables.{ChangesOnly, state_at}
+use Rattle.session_effects.specs.Actions.{Keeps}
 use Rattle.session_effects.specs.declared.caller.Caller.{Caller}
-use Rattle.session_engine.specs.Commands.{Performs}
-use Rattle.session_engine.proofs.CommandsLemmas.{its_refusal, starved, stopped}
+use Rattle.session_effects.specs.declared.effects.Emission.{Emission}
+use Rattle.session_effects.specs.Setup.{settings_of}
+use Rattle.session_effects.specs.Writing.{TriesToWrite, Writes, items_of}
+use Rattle.session_engine.specs.declared.telling.Telling.{Telling}
+use Rattle.session_engine.specs.Commands.{Performs, reply_after}
+use Rattle.session_engine.specs.Telling.{doing_at, fresh_telling}
+use Rattle.session_engine.proofs.CommandsLemmas.{its_refusal, or_second, replied_last, starved, stopped}
 
-pub is_null : (json : d.Data) → is_some (as_null json) ≡ true → json ≡ d.null
+pub is_null : (json : Data) → is_some (as_null json) ≡ true → json ≡ d.null
 is_null d.null h = refl
 is_null (d.boolean b) h = absurd (cc)
 is_null (d.number n) h = absurd (cc)
@@ -26,17 +50,77 @@ is_null (d.string s) h = absurd (cc)
 is_null (d.array ds) h = absurd (cc)
 is_null (d.object ms) h = absurd (cc)
 
--- all but null is read as a text
-pub title_refused : (json : d.Data) → is_some (as_null json) ≡ false → title_refusal json ≡ result_err (value_of k.Text json)
-title_refused d.null h = absurd (cc)
-title_refused (d.boolean b) h = refl
-title_refused (d.number n) h = refl
-title_refused (d.string s) h = refl
-title_refused (d.array ds) h = refl
-title_refused (d.object ms) h = refl
+-- all but null is read as a value of the property's kind
+place_valued : (json : Data) (place : Place) → is_some (as_null json) ≡ false → asked_place json place ≡ value_of place.kind json >>= λ value. Ok (Declared place.number value)
+place_valued d.null place h = absurd (cc)
+place_valued (d.boolean b) place h = refl
+place_valued (d.number n) place h = refl
+place_valued (d.string s) place h = refl
+place_valued (d.array ds) place h = refl
+place_valued (d.object ms) place h = refl
 
--- what is no title is refused, unless memory was wanted
-pub title_fault : {T : Type 0} (caller : Caller) (asked : Asked) (tables : Tables) (lines : T → List Line) (json : d.Data) (fault : Fault) (result : Result T Fault) → IsErrAnd result (λ other. other ≡ fault)
-    → its_refusal caller asked tables tables ≡ result_err (value_of k.Text json) → Answers {T = Value} (Err fault) (value_of k.Text json) → Performs caller asked tables tables lines result
-title_fault caller asked tables lines json (Refused code) result h is why = stopped caller asked tables tables lines code result h (is ∙ ap result_err why) refl
-title_fault caller asked tables lines json Memory result h is why = starved caller asked tables tables lines result h (changes_same tables tables caller.place refl)
+-- where no property is declared, by what was found of it
+absent_place : (found : Option Place) → ◌≡◌ {A = Option (ℕ × Kind)} None (option_map (λ (place : Place). (place.number, place.kind)) found) → found ≡ None
+absent_place None e = refl
+absent_place (Some place) e = absurd (cc)
+
+-- what a command writes
+module _ (state : State) (object : ℕ) (name : List ℕ) (json : Data) where
+  writing_at : (found : Option Place) → declared state object name ≡ found → asked_writing state object name json ≡ option_map_or (asked_place json) found (inferred json >>= dynamic_writing state object name)
+  writing_at found e = ap (λ found. option_map_or (asked_place json) found (inferred json >>= dynamic_writing state object name)) e
+
+  pub asked_dynamic : ◌≡◌ {A = Option (ℕ × Kind)} None (option_map (λ (place : Place). (place.number, place.kind)) (declared state object name)) → asked_writing state object name json ≡ inferred json >>= dynamic_writing state object name
+  asked_dynamic none = writing_at None (absent_place (declared state object name) none)
+
+  module _ (place : Place) (there : Some place ≡ declared state object name) where
+    pub asked_nothing : is_some (as_null json) ≡ true → asked_writing state object name json ≡ Ok Nothing
+    asked_nothing null = writing_at (Some place) (sym there) ∙ ap (λ json. asked_place json place) (is_null json null)
+
+    pub asked_value : is_some (as_null json) ≡ false → asked_writing state object name json ≡ value_of place.kind json >>= λ value. Ok (Declared place.number value)
+    asked_value other = writing_at (Some place) (sym there) ∙ place_valued json place other
+
+-- what is written to a dynamic property is no declared one
+pub dynamic_undeclared : (state : State) (object : ℕ) (name : List ℕ) (value : Value) (writing : Writing) → dynamic_writing state object name value ≡ Ok writing → is_declared writing ≡ false
+dynamic_undeclared state object name value writing e = by value e
+  where
+    given : (refusal : Option Code) (value : Value) → option_map_or Err refusal (Ok (Dynamic name value)) ≡ Ok writing → is_declared writing ≡ false
+    given None value e = let same : Dynamic name value ≡ writing = cc in sym (ap is_declared same)
+    given (Some code) value e = absurd (cc)
+
+    by : (value : Value) → dynamic_writing state object name value ≡ Ok writing → is_declared writing ≡ false
+    by v.Invalid e = let same : Removed name ≡ writing = cc in sym (ap is_declared same)
+    by (v.Bool b) e = given (dynamic_refusal state.store object name) (v.Bool b) e
+    by (v.Int z) e = given (dynamic_refusal state.store object name) (v.Int z) e
+    by (v.Uint n) e = given (dynamic_refusal state.store object name) (v.Uint n) e
+    by (v.Longlong z) e = given (dynamic_refusal state.store object name) (v.Longlong z) e
+    by (v.Ulonglong n) e = given (dynamic_refusal state.store object name) (v.Ulonglong n) e
+    by (v.Text text) e = given (dynamic_refusal state.store object name) (v.Text text) e
+
+-- a property's writing that is refused, or for which memory was wanted
+pub written_fault : {T U : Type 0} (caller : Caller) (asked : Asked) (old new : Tables) (lines : T → List Line) (object : ℕ) (wanted : Found Writing) (tell : U → Option Emission) (fault : Fault) (result : Result T Fault) → IsErrAnd result (λ other. other ≡ fault)
+    → its_refusal caller asked old new ≡ result_err wanted → TriesToWrite caller object wanted old tell new (Err fault) → OnRefused {T = U} (Err fault) (new ≡ old) → ChangesOnly caller.place old new → Performs caller asked old new lines result
+written_fault caller asked old new lines object wanted tell (Refused code) result h is why same only = stopped caller asked old new lines code result h (is ∙ ap result_err why) same
+written_fault caller asked old new lines object wanted tell Memory result h is why same only = starved caller asked old new lines result h only
+
+-- what is written is told of, and then replied
+pub performs_written : (caller : Caller) (object : ℕ) (property : List ℕ) (json : Data) (old middle new : Tables) (before after : Telling) (writing : Writing) (replied : Bool) (tell : Option Emission)
+    → is_declared writing ≡ replied
+    → None ≡ absence (state_at old caller.place) object → before ≡ fresh_telling caller.setup.now.turns
+    → asked_writing (state_at old caller.place) object property json ≡ Ok writing
+    → Writes caller object writing old tell middle
+    → run (settings_of caller.setup.now) (items_of 0 tell) (doing_at caller.place middle before) ≡ doing_at caller.place new after
+    → Keeps caller.place old new
+    → Performs caller (Set object property json) old new (reply_after after.lines) (Ok (a.Truth replied))
+performs_written caller object property json old middle new before after writing replied tell is there fresh asked writes does keeps =
+    let settings = settings_of caller.setup.now in
+    let state = state_at old caller.place in
+    let answer = a.Truth replied in
+    replied_last caller (Set object property json) old new after answer
+    (refusal_set settings caller.name.now state object property json ∙ or_second _ _ there ∙ ap result_err asked)
+    (set_written settings caller.name.now state object property json writing asked
+    ∙ ap (λ truth. does_next settings (written settings (begun settings state) object 0 writing) (a.Truth truth)) is
+    ∙ ap (λ (next : Next). does_next settings next answer) (writes 0 (begun settings state))
+    ∙ replies_last settings _ answer
+    ∙ ap (λ (telling : Telling). ended (told (run settings (items_of 0 tell) (doing_at caller.place middle telling)) (line.Reply answer))) (sym fresh)
+    ∙ ap (λ doing. ended (told doing (line.Reply answer))) does)
+    keeps

@@ -16,15 +16,16 @@ use Rattle.thread_model.specs.Asked.{Asked}
 use Rattle.thread_model.specs.Effects.{unless}
 use Rattle.thread_model.specs.Machine.{machine}
 use Rattle.thread_model.specs.Refusing.{refusal}
-use Rattle.thread_model.specs.State.{IsSound}
+use Rattle.thread_model.specs.State.{IsDeclared, IsSound}
 use Rattle.thread_model.specs.Thread.{Settings, does, joins_name, performs}
+use Rattle.thread_model.proofs.DeclaredLemmas.{keeps_declared}
 use Rattle.thread_model.proofs.Lawful.{lawful}
 use Rattle.thread_model.proofs.LawLemmas.{keeps_sound}
 use Rattle.session_tables.specs.Session.{Session, gone}
 use Rattle.session_tables.specs.Tables.{session_at}
 use Rattle.session_engine.specs.Engine.{Contents, IsWhole, given_up, place, seen, sessions, states, with_session_at}
 use Rattle.session_engine.specs.Sessions.{Fails, IsStep, Sessions, given_by, session_after, session_does, session_refusal}
-use Rattle.session_engine.proofs.EngineLemmas.{kept_by_name, sessions-others, sessions-own, sessions-place, whole_given_up, whole_with}
+use Rattle.session_engine.proofs.EngineLemmas.{kept_by_name, sessions-others, sessions-own, sessions-place, sound_by_name, whole_given_up, whole_with}
 
 some_if : {T : Type 0} (P : T → Type 0) (value : Option T) (x : T) → value ≡ Some x → P x → IfSome value P
 some_if P value x e h = subst (λ value. IfSome value P) (sym e) h
@@ -64,6 +65,14 @@ module _ (settings : Settings) (name : List ℕ) (session : Session) (asked : As
       by true = sound
       by false = keeps_sound.by_command settings name session.state asked sound
 
+  pub declared_after : IsSound session.state → IsDeclared settings.classes session.state → IsDeclared settings.classes (session_does settings name session asked).state
+  unfolding does
+  declared_after sound declared = by session.failed
+    where
+      by : (failed : Bool) → IsDeclared settings.classes (unless (if failed then Some SessionFailed else refusal settings name session.state asked) session.state (performs settings name session.state asked)).state
+      by true = declared
+      by false = keeps_declared.by_command settings name session.state asked sound declared
+
 module _ (old new : Contents) (at : ℕ) (name : List ℕ) (asked : Asked) (told : Option (List Line)) where
   -- what became of a command of the session at a place: it was told what the session does with it, or memory was wanted
   pub data Ends : Type 0 where
@@ -76,7 +85,11 @@ module _ (old new : Contents) (at : ℕ) (name : List ℕ) (asked : Asked) (told
 
     pub whole_after : Ends → IsWhole new
     whole_after (Told lines e) = subst IsWhole (sym e) (whole_with old whole name at _ there
-        (record { well = (whole.kept at).well; sound = sound_after old.settings name (session_at old.tables at) asked (whole.kept at).sound }))
+        (record {
+          well = (whole.kept at).well;
+          sound = sound_after old.settings name (session_at old.tables at) asked (whole.kept at).sound;
+          declared = declared_after old.settings name (session_at old.tables at) asked (whole.kept at).sound (whole.kept at).declared;
+        }))
     whole_after (GaveUp nothing e) = subst IsWhole (sym e)
         (whole_given_up old whole name at there)
 
@@ -122,7 +135,7 @@ module _ (old new : Contents) (at : ℕ) (name : List ℕ) (asked : Asked) (told
           memory = λ none. absurd (some_none _ (sym lines ∙ none));
           blame = λ was now. absurd (both_ways _ was (sym flag ∙ now));
           well = λ found other. (kept_by_name old other whole).well found;
-          sound = λ other. (kept_by_name new other (whole_after ends)).sound;
+          sound = sound_by_name new (whole_after ends);
         }
     step_of (GaveUp nothing e) =
         let flag : new.memory_refused ≡ true = ap (λ engine. engine.memory_refused) e in
@@ -139,7 +152,7 @@ module _ (old new : Contents) (at : ℕ) (name : List ℕ) (asked : Asked) (told
           memory = λ none. flag;
           blame = λ was now. inl nothing;
           well = λ found other. (kept_by_name old other whole).well found;
-          sound = λ other. (kept_by_name new other (whole_after ends)).sound;
+          sound = sound_by_name new (whole_after ends);
         }
 
 -- what memory was refused for, also while it told a refusal

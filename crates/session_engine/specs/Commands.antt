@@ -11,7 +11,7 @@ use Rattle.thread_model.specs.Thread.{performs}
 use Rattle.session_tables.specs.declared.tables.Tables.{Tables}
 use Rattle.session_tables.specs.Refused.{OnRefused}
 use Rattle.session_tables.specs.Session.{gone}
-use Rattle.session_tables.specs.Tables.{ChangesOnly, failed_at, session_at, state_at, with_session, with_state}
+use Rattle.session_tables.specs.Tables.{AreLaid, AreStored, ChangesOnly, failed_at, session_at, state_at, with_session, with_state}
 use Rattle.session_effects.specs.declared.caller.Caller.{Caller}
 use Rattle.session_engine.specs.Returning.{Returns}
 use Rattle.session_engine.specs.Sessions.{session_after, session_refusal}
@@ -24,6 +24,11 @@ reply_lines answer = Reply answer ∷ []
 -- the same of a reply behind what was told before it
 abbrev pub reply_after : List Line → Answer → List Line
 reply_after lines answer = lines ++ Reply answer ∷ []
+
+-- the tables know the properties that each class declares, and those of each object of the caller's session
+pub record KnowsProperties (caller : Caller) (tables : Tables) : Type 0 where
+  pub laid : AreLaid caller.setup.now.classes tables
+  pub stored : AreStored (state_at tables caller.place)
 
 -- a command of a session that has not failed; `lines` says what is told by what the call returns
 pub record Performs {T : Type 0} (caller : Caller) (asked : Asked) (old new : Tables) (lines : T → List Line) (result : Result T Fault) : Type 0 where

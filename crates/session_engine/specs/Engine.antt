@@ -1,12 +1,13 @@
 -- What contracts see of an engine.
 use Rattle.std.specs.Prelude.{◌≡◌, ℕ, Bool, true, List, ◌∷◌, ◌++◌, [], Option, Some, IsFalse, bytes_eq, length, position}
 use Rattle.std.specs.Option.{option_map_or}
-use Rattle.thread_model.specs.State.{IsSound, State}
+use Rattle.class_table.specs.declared.class.Class.{Class}
+use Rattle.thread_model.specs.State.{IsDeclared, IsSound, State}
 use Rattle.thread_model.specs.Thread.{Settings}
 use Rattle.session_tables.specs.declared.tables.Tables.{Tables}
 use Rattle.session_tables.specs.Session.{Session, fresh, gone}
 use Rattle.session_tables.specs.Tables as tables
-use Rattle.session_tables.specs.Tables.{AreEven, session_at, with_session}
+use Rattle.session_tables.specs.Tables.{AreEven, AreLaid, session_at, with_session}
 use Rattle.session_effects.specs.declared.setup.Setup.{Setup}
 use Rattle.session_engine.specs.Sessions.{Sessions}
 use Rattle.session_effects.specs.Setup.{settings_of}
@@ -76,13 +77,16 @@ refused_growth engine = record { settings = engine.settings; names = engine.name
 abbrev pub given_up : Contents → ℕ → Contents
 given_up engine at = refused_growth (with_session_at engine at gone)
 
--- what holds of every session: it has failed only where memory was refused, and its state is sound
-pub record IsKept (memory_refused : Bool) (session : Session) : Type 0 where
+-- what holds of every session: it has failed only where memory was refused, its state is sound, and each
+-- object has the properties that its class declares
+pub record IsKept (classes : List Class) (memory_refused : Bool) (session : Session) : Type 0 where
   pub well : IsFalse memory_refused → IsFalse session.failed
   pub sound : IsSound session.state
+  pub declared : IsDeclared classes session.state
 
--- each name has its place in every table, and every session is as it must be
+-- each name has its place in every table, the tables know the classes, and every session is as it must be
 pub record IsWhole (engine : Contents) : Type 0 where
   pub even : AreEven engine.tables
   pub paired : length engine.names ≡ length engine.tables.failed.places
-  pub kept : (at : ℕ) → IsKept engine.memory_refused (session_at engine.tables at)
+  pub laid : AreLaid engine.settings.classes engine.tables
+  pub kept : (at : ℕ) → IsKept engine.settings.classes engine.memory_refused (session_at engine.tables at)

@@ -10,7 +10,7 @@ use Rattle.thread_model.specs.Asked.{Asked}
 use Rattle.thread_model.specs.Effects.{unless}
 use Rattle.thread_model.specs.Machine.{machine}
 use Rattle.thread_model.specs.Refusing.{refusal}
-use Rattle.thread_model.specs.State.{IsSound, State}
+use Rattle.thread_model.specs.State.{IsDeclared, IsSound, State}
 use Rattle.thread_model.specs.Thread.{Settings, performs}
 use Rattle.session_tables.specs.Session.{Session, gone}
 
@@ -54,9 +54,9 @@ AnotherFails old new name = (other : List ℕ) × IsFalse (bytes_eq other name) 
 abbrev pub AreWell : Sessions → Type 0
 AreWell sessions = IsFalse sessions.memory_refused → (name : List ℕ) → IsFalse (sessions.session name).failed
 
--- the state of every session is sound
+-- the state of every session is sound, and each object has the properties that its class declares
 abbrev pub AreSound : Sessions → Type 0
-AreSound sessions = (name : List ℕ) → IsSound (sessions.session name).state
+AreSound sessions = (name : List ℕ) → IsSound (states_of sessions name) × IsDeclared sessions.settings.classes (states_of sessions name)
 
 -- the session of this name has failed for memory that was refused
 pub record Fails (old new : Sessions) (name : List ℕ) : Type 0 where

@@ -1,20 +1,19 @@
 //! An agenda by nested calls. Each function does what the item of its name does, and calls the others
 //! where that puts items in front. The calls come to an end, since each way round takes a turn, or marks
 //! an object that lives as dying; no action gives a turn back, or makes an object.
-ghost use Rattle.std.specs.Prelude.{◌≡◌, ◌∷◌, [], ◌≤◌, ◌<◌, OnOk, OnErr, Some, take, if◌then◌else◌};
+ghost use Rattle.std.specs.Prelude.{◌≡◌, ◌∷◌, [], ◌≤◌, ◌<◌, OnOk, OnErr, Some, take};
 ghost use Rattle.term_core.specs.Act.{acts_of, effect};
 ghost use Rattle.thread_model.specs.declared.call.TheConstants.{NESTED_SIGNALS};
 ghost use Rattle.thread_model.specs.Acts as model;
-ghost use Rattle.event_queue.specs.declared.event.Event.TheVariants as event;
-ghost use Rattle.event_queue.specs.Queue.{has_room};
 ghost use Rattle.thread_model.specs.Agenda.{call_line, connection_of};
 ghost use Rattle.thread_model.specs.Doing.{told};
 ghost use Rattle.thread_model.specs.Items.{Call, Emit};
 ghost use Rattle.thread_model.specs.Posting.{is_queued};
-ghost use Rattle.thread_model.specs.State.{with_event, with_lost};
+ghost use Rattle.thread_model.specs.State.{with_call};
 ghost use Rattle.class_table.specs.Sound.{IsMethod};
 ghost use Rattle.session_tables.specs.Tables.{IsPlaced, state_at, with_state};
 ghost use Rattle.session_effects.specs.Actions.{Keeps, act_of};
+ghost use Rattle.session_effects.specs.Writing.{items_of};
 ghost use Rattle.session_engine.specs.Agenda.{Does};
 ghost use Rattle.session_engine.specs.Telling.{doing_at};
 
@@ -25,7 +24,7 @@ use connection_list::Connection;
 use connection_types::{Callee, ConnectionType};
 use event_queue::QueuedCall;
 use refusals::Code;
-use session_effects::{Caller, Slot, change, deleted, method_at, sent, truth};
+use session_effects::{Caller, Emission, Slot, change, deleted, method_at, sent, set, truth};
 use session_tables::Tables;
 use std::alloc::AllocError;
 use term_core::{Action, Effect, Step};
@@ -72,6 +71,34 @@ pub fn emit(
         after = connection.number;
     }
     Ok(())
+}
+
+/// Sends what tells of a change, where there is such a signal.
+#[cycle(agenda)]
+pub fn notify(
+    caller: &Caller,
+    tables: &mut Tables,
+    telling: &mut Telling,
+    told: &Option<Emission>,
+    depth: u32,
+) -> Result<(), AllocError>
+    requires placed { IsPlaced tables.old caller.now.place }
+    requires depth { depth ≤ NESTED_SIGNALS }
+    ensures does { OnOk result (Does caller.now (items_of depth told.now) (doing_at caller.now.place tables.old telling.old) tables.new telling.new) }
+    ensures keeps { Keeps caller.now.place tables.old tables.new }
+{
+    match told {
+        Some(sent) => emit(
+            caller,
+            tables,
+            telling,
+            sent.object,
+            sent.signal,
+            sent.args.as_slice(),
+            depth,
+        ),
+        None => Ok(()),
+    }
 }
 
 /// Calls what a connection calls, which stands: later, by an event, or at once. A single-shot connection
@@ -134,10 +161,8 @@ fn call_later(
     args: &[Value],
 ) -> Result<(), AllocError>
     requires { IsPlaced tables.old caller.now.place }
-    ensures ok { OnOk result (tables.new ≡ with_state tables.old caller.now.place
-        (if has_room (state_at tables.old caller.now.place).queue
-        then with_event (state_at tables.old caller.now.place) (event.Call (record { object = connection.now.receiver; callee = connection.now.callee; sender = connection.now.sender; args = args.now }))
-        else with_lost (state_at tables.old caller.now.place))) }
+    ensures ok { OnOk result (tables.new ≡ with_state tables.old caller.now.place (with_call (state_at tables.old caller.now.place)
+        (record { object = connection.now.receiver; callee = connection.now.callee; sender = connection.now.sender; args = args.now }))) }
     ensures err { OnErr result (tables.new ≡ tables.old) }
 {
     let call = QueuedCall {
@@ -251,6 +276,14 @@ fn effect(
         }
         Effect::Delete(target) => match deleted(caller, tables, slot, target) {
             Ok(object) => delete(caller, tables, telling, object, slot.depth),
+            Err(fault) => telling.warn_of(fault, slot.object),
+        },
+        Effect::Set {
+            of,
+            property,
+            value,
+        } => match set(caller, tables, slot, of, property, value) {
+            Ok(told) => notify(caller, tables, telling, &told, slot.depth),
             Err(fault) => telling.warn_of(fault, slot.object),
         },
         _ => match change(caller, tables, slot, plain) {

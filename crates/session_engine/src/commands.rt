@@ -2,7 +2,7 @@
 ghost use Rattle.std.specs.Prelude.{◌≡◌, ◌∷◌, [], IfOk};
 ghost use Rattle.thread_model.specs.Asked.{asked};
 ghost use Rattle.session_tables.specs.Tables.{IsPlaced};
-ghost use Rattle.session_engine.specs.Commands.{Obeys, Performs, reply_after};
+ghost use Rattle.session_engine.specs.Commands.{KnowsProperties, Obeys, Performs, reply_after};
 ghost use Rattle.session_engine.specs.Telling.{fresh_telling};
 ghost use Rattle.session_engine.specs.Returning.{wants_memory};
 
@@ -10,7 +10,7 @@ use crate::classes::describe;
 use crate::connections::{connect, disconnect, disconnect_one};
 use crate::events::{block, delete_later, spin, status};
 use crate::invocation::invoke;
-use crate::properties::{set_title, title};
+use crate::properties::{dynamic_names, get, set};
 use crate::telling::Telling;
 use crate::trees::{children, delete_object, find, new_object, set_parent};
 use plain_types::Items;
@@ -22,7 +22,8 @@ use thread_model::{Answer, Command, Line};
 
 /// Lets a session do a command. Where memory is wanted and not found, it has failed.
 pub fn obey(caller: &Caller, tables: &mut Tables, command: &Command) -> Result<Items<Line>, Fault>
-    requires { IsPlaced tables.old caller.now.place }
+    requires placed { IsPlaced tables.old caller.now.place }
+    requires known { KnowsProperties caller.now tables.old }
     ensures { Obeys caller.now (asked command.now) tables.old tables.new result }
 {
     if tables.failed(caller.place) {
@@ -37,7 +38,8 @@ pub fn obey(caller: &Caller, tables: &mut Tables, command: &Command) -> Result<I
 
 /// Does a command, and returns what is told.
 fn reply(caller: &Caller, tables: &mut Tables, command: &Command) -> Result<Items<Line>, Fault>
-    requires { IsPlaced tables.old caller.now.place }
+    requires placed { IsPlaced tables.old caller.now.place }
+    requires known { KnowsProperties caller.now tables.old }
     ensures { Performs caller.now (asked command.now) tables.old tables.new (λ lines. lines) result }
 {
     let mut telling = Telling::new(caller.setup);
@@ -55,6 +57,7 @@ fn perform(
     command: &Command,
 ) -> Result<Answer, Fault>
     requires placed { IsPlaced tables.old caller.now.place }
+    requires known { KnowsProperties caller.now tables.old }
     requires fresh { telling.old ≡ fresh_telling caller.now.setup.now.turns }
     ensures { Performs caller.now (asked command.now) tables.old tables.new (reply_after telling.new.lines) result }
 {
@@ -68,8 +71,13 @@ fn perform(
             name,
             class,
         } => find(caller, tables, *object, name, class),
-        Command::Set { object, value } => set_title(caller, tables, *object, value),
-        Command::Get { object } => title(caller, tables, *object),
+        Command::Set {
+            object,
+            property,
+            value,
+        } => set(caller, tables, telling, *object, property, value),
+        Command::Get { object, property } => get(caller, tables, *object, property),
+        Command::DynamicNames { object } => dynamic_names(caller, tables, *object),
         Command::Meta { class } => describe(caller, tables, class),
         Command::Connect {
             sender,

@@ -12,6 +12,7 @@ ghost use Rattle.session_engine.specs.Sessions.{AreSound, AreWell, Fails, IsStep
 ghost use Rattle.session_engine.specs.Engine.{IsPlace, OfSession, failed, names, place, seen, sessions, settings, states, was_refused};
 
 use crate::commands::{obey, one_line, wants_memory};
+use crate::layouts::layouts;
 use class_table::ClassTable;
 use indexmap::IndexSet;
 use plain_types::{Items, Text};
@@ -56,9 +57,10 @@ impl Engine {
         ensures settings { IfOk result (λ engine. settings engine ≡ record { turns = turns; classes = classes }) }
         ensures refused { IfOk result (λ engine. IsFalse (was_refused engine)) }
     {
+        let layouts = layouts(alloc, &classes)?;
         Ok(Engine {
             names: IndexSet::new(alloc),
-            tables: Tables::new(alloc),
+            tables: Tables::new(alloc, layouts),
             memory_refused: false,
             setup: Setup {
                 alloc,

@@ -9,6 +9,7 @@ mod deletion;
 mod engine;
 mod events;
 mod invocation;
+mod layouts;
 mod properties;
 mod telling;
 mod trees;

@@ -1,39 +1,65 @@
 //! The commands for properties.
+ghost use Rattle.std.specs.Prelude.{◌≡◌};
 ghost use Rattle.serde_json.specs.View.{view};
-ghost use Rattle.thread_model.specs.Asked.{Get, Set};
+ghost use Rattle.thread_model.specs.Asked.{DynamicNames, Get, Set};
 ghost use Rattle.session_tables.specs.Tables.{IsPlaced};
-ghost use Rattle.session_engine.specs.Commands.{Performs, reply_lines};
+ghost use Rattle.session_engine.specs.Commands.{Performs, reply_after, reply_lines};
+ghost use Rattle.session_engine.specs.Telling.{fresh_telling};
 
+use crate::agenda::notify;
+use crate::telling::Telling;
+use plain_types::Text;
 use refusals::Fault;
-use session_effects::Caller;
+use session_effects::{Caller, write_declared, write_dynamic};
 use session_tables::Tables;
-use signature_core::Kind;
 use thread_model::Answer;
 use variant_value::Value;
 
-pub fn set_title(
+/// Writes a property, and replies whether it is one that the object's class declares and was written.
+/// Null leaves a declared property as it is, and takes a dynamic one away.
+pub fn set(
     caller: &Caller,
     tables: &mut Tables,
+    telling: &mut Telling,
     object: u32,
+    property: &Text,
     value: &serde_json::Value,
 ) -> Result<Answer, Fault>
-    requires { IsPlaced tables.old caller.now.place }
-    ensures { Performs caller.now (Set object (view value.now)) tables.old tables.new reply_lines result }
+    requires placed { IsPlaced tables.old caller.now.place }
+    requires fresh { telling.old ≡ fresh_telling caller.now.setup.now.turns }
+    ensures { Performs caller.now (Set object property.now (view value.now)) tables.old tables.new (reply_after telling.new.lines) result }
 {
     tables.check_object(caller.place, object)?;
+    let Some((number, kind)) = tables.declared(caller.place, object, property.as_str()) else {
+        let value = Value::infer(caller.setup.alloc, value)?;
+        write_dynamic(caller, tables, object, property, value)?;
+        return Ok(Answer::Truth(false));
+    };
     if value.is_null() {
         return Ok(Answer::Truth(false));
     }
-    let title = Value::from_json(caller.setup.alloc, Kind::Text, value)?;
-    tables.set_title(caller.place, object, title)?;
+    let value = Value::from_json(caller.setup.alloc, kind, value)?;
+    let told = write_declared(caller, tables, object, number, value)?;
+    notify(caller, tables, telling, &told, 0)?;
     Ok(Answer::Truth(true))
 }
 
-pub fn title(caller: &Caller, tables: &Tables, object: u32) -> Result<Answer, Fault>
+/// Reads a property of an object, which is invalid where there is none of this name.
+pub fn get(caller: &Caller, tables: &Tables, object: u32, property: &Text) -> Result<Answer, Fault>
     requires { IsPlaced tables.now caller.now.place }
-    ensures { Performs caller.now (Get object) tables.now tables.now reply_lines result }
+    ensures { Performs caller.now (Get object property.now) tables.now tables.now reply_lines result }
 {
     tables.check_object(caller.place, object)?;
-    let title = tables.title(caller.setup.alloc, caller.place, object)?;
-    Ok(Answer::Value(title))
+    let value = tables.property(caller.place, object, property.as_str())?;
+    Ok(Answer::Value(value))
+}
+
+/// The names of an object's dynamic properties, that first set first.
+pub fn dynamic_names(caller: &Caller, tables: &Tables, object: u32) -> Result<Answer, Fault>
+    requires { IsPlaced tables.now caller.now.place }
+    ensures { Performs caller.now (DynamicNames object) tables.now tables.now reply_lines result }
+{
+    tables.check_object(caller.place, object)?;
+    let names = tables.dynamic_names(caller.place, object)?;
+    Ok(Answer::Names(names))
 }

@@ -2,7 +2,7 @@
 ghost use Rattle.std.specs.Prelude.{◌≡◌};
 ghost use Rattle.thread_model.specs.Asked.{Children, Delete, Find, New, SetParent};
 ghost use Rattle.session_tables.specs.Tables.{IsPlaced};
-ghost use Rattle.session_engine.specs.Commands.{Performs, reply_after, reply_lines};
+ghost use Rattle.session_engine.specs.Commands.{KnowsProperties, Performs, reply_after, reply_lines};
 ghost use Rattle.session_engine.specs.Telling.{fresh_telling};
 
 use crate::deletion::delete;
@@ -19,12 +19,13 @@ pub fn new_object(
     class: &Text,
     parent: Option<u32>,
 ) -> Result<Answer, Fault>
-    requires { IsPlaced tables.old caller.now.place }
+    requires placed { IsPlaced tables.old caller.now.place }
+    requires known { KnowsProperties caller.now tables.old }
     ensures { Performs caller.now (New class.now parent) tables.old tables.new reply_lines result }
 {
     tables.check_parent(caller.place, parent)?;
     let class = caller.setup.class_index(class)?;
-    let number = tables.make(caller.setup.alloc, caller.place, parent, class)?;
+    let number = tables.make(caller.place, parent, class)?;
     Ok(Answer::Number(number))
 }
 

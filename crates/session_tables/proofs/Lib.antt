@@ -1,2 +1,2 @@
-pub mod TitlesLemmas
 pub mod TablesLemmas
+pub mod StoredLemmas

@@ -1,4 +1,3 @@
 pub mod Session
 pub mod Refused
-pub mod Titles
 pub mod Tables

@@ -1,32 +1,36 @@
 -- What contracts see of the tables: a session for each place.
-use Rattle.std.specs.Prelude.{◌≡◌, ◌≤◌, ℕ, Bool, false, [], length, slice_index_or}
+use Rattle.std.specs.Prelude.{◌≡◌, ◌≤◌, ℕ, Bool, false, List, [], length, map, slice_index_or}
 use Rattle.places.specs.Table as places
 use Rattle.places.specs.Table.{ChangesAt, IsPlace, with_place}
+use Rattle.class_table.specs.declared.class.Class.{Class}
 use Rattle.connection_list.specs.Rows.{no_rows}
 use Rattle.connection_list.specs.Table.{rows_at, with_rows}
 use Rattle.event_queue.specs.Queue.{empty_queue}
 use Rattle.event_queue.specs.Table.{queue_at, with_queue}
 use Rattle.object_tree.specs.Forest.{empty_forest}
+use Rattle.object_tree.specs.Rows.{numbers}
 use Rattle.object_tree.specs.Table.{forest_at, with_forest}
-use Rattle.thread_model.specs.State.{State}
+use Rattle.property_store.specs.Table as shelves
+use Rattle.property_store.specs.Table.{store_at, with_store}
+use Rattle.thread_model.specs.State.{State, fields_of}
 use Rattle.session_tables.specs.declared.tables.Tables.{Tables}
 use Rattle.session_tables.specs.Session.{Session}
 
 -- the place has been opened in each table
 abbrev pub IsPlaced : Tables → ℕ → Type 0
-IsPlaced tables place = IsPlace tables.forests place × IsPlace tables.titles place × IsPlace tables.connections place × IsPlace tables.queues place × IsPlace tables.failed place
+IsPlaced tables place = IsPlace tables.forests place × IsPlace tables.stores.table place × IsPlace tables.connections place × IsPlace tables.queues place × IsPlace tables.failed place
 
 -- one more place can be opened in each without memory
 abbrev pub HasRoom : Tables → Type 0
-HasRoom tables = (1 ≤ tables.forests.room) × (1 ≤ tables.titles.room) × (1 ≤ tables.connections.room) × (1 ≤ tables.queues.room) × (1 ≤ tables.failed.room)
+HasRoom tables = (1 ≤ tables.forests.room) × (1 ≤ tables.stores.table.room) × (1 ≤ tables.connections.room) × (1 ≤ tables.queues.room) × (1 ≤ tables.failed.room)
 
 -- with one more place, for a session that has had no command
 abbrev pub opened : Tables → Tables
-opened tables = record { forests = places.opened tables.forests empty_forest; titles = places.opened tables.titles []; connections = places.opened tables.connections no_rows; queues = places.opened tables.queues empty_queue; failed = places.opened tables.failed false }
+opened tables = record { forests = places.opened tables.forests empty_forest; stores = record tables.stores { table = places.opened tables.stores.table [] }; connections = places.opened tables.connections no_rows; queues = places.opened tables.queues empty_queue; failed = places.opened tables.failed false }
 
 -- the state of the session at a place
 abbrev pub state_at : Tables → ℕ → State
-state_at tables place = record { forest = forest_at tables.forests place; titles = slice_index_or tables.titles.places place []; connections = rows_at tables.connections place; queue = queue_at tables.queues place }
+state_at tables place = record { forest = forest_at tables.forests place; store = store_at tables.stores place; connections = rows_at tables.connections place; queue = queue_at tables.queues place }
 
 -- has the session at a place failed
 abbrev pub failed_at : Tables → ℕ → Bool
@@ -38,16 +42,18 @@ session_at tables place = record { state = state_at tables place; failed = faile
 
 -- with another state at a place, and all else as before
 abbrev pub with_state : Tables → ℕ → State → Tables
-with_state tables place state = record { forests = with_forest tables.forests place state.forest; titles = with_place tables.titles place state.titles; connections = with_rows tables.connections place state.connections; queues = with_queue tables.queues place state.queue; failed = tables.failed }
+with_state tables place state = record { forests = with_forest tables.forests place state.forest; stores = with_store tables.stores place state.store; connections = with_rows tables.connections place state.connections; queues = with_queue tables.queues place state.queue; failed = tables.failed }
 
 -- with another session at a place, and all else as before
 abbrev pub with_session : Tables → ℕ → Session → Tables
-with_session tables place session = record { forests = with_forest tables.forests place session.state.forest; titles = with_place tables.titles place session.state.titles; connections = with_rows tables.connections place session.state.connections; queues = with_queue tables.queues place session.state.queue; failed = with_place tables.failed place session.failed }
+with_session tables place session = record { forests = with_forest tables.forests place session.state.forest; stores = with_store tables.stores place session.state.store; connections = with_rows tables.connections place session.state.connections; queues = with_queue tables.queues place session.state.queue; failed = with_place tables.failed place session.failed }
 
 -- no session but the one at this place has changed
 pub record ChangesOnly (place : ℕ) (old new : Tables) : Type 0 where
   pub forests : ChangesAt empty_forest place old.forests new.forests
-  pub titles : ChangesAt [] place old.titles new.titles
+  -- and what classes declare stays
+  pub layouts : new.stores.layouts ≡ old.stores.layouts
+  pub stores : ChangesAt [] place old.stores.table new.stores.table
   pub connections : ChangesAt no_rows place old.connections new.connections
   pub queues : ChangesAt empty_queue place old.queues new.queues
   pub failed : ChangesAt false place old.failed new.failed
@@ -55,7 +61,8 @@ pub record ChangesOnly (place : ℕ) (old new : Tables) : Type 0 where
 -- each place is as before, and there may be more room
 pub record AreSame (old new : Tables) : Type 0 where
   pub forests : new.forests.places ≡ old.forests.places
-  pub titles : new.titles.places ≡ old.titles.places
+  pub layouts : new.stores.layouts ≡ old.stores.layouts
+  pub stores : new.stores.table.places ≡ old.stores.table.places
   pub connections : new.connections.places ≡ old.connections.places
   pub queues : new.queues.places ≡ old.queues.places
   pub failed : new.failed.places ≡ old.failed.places
@@ -63,6 +70,14 @@ pub record AreSame (old new : Tables) : Type 0 where
 -- the tables have as many places
 pub record AreEven (tables : Tables) : Type 0 where
   pub forests : length tables.forests.places ≡ length tables.failed.places
-  pub titles : length tables.titles.places ≡ length tables.failed.places
+  pub stores : length tables.stores.table.places ≡ length tables.failed.places
   pub connections : length tables.connections.places ≡ length tables.failed.places
   pub queues : length tables.queues.places ≡ length tables.failed.places
+
+-- the tables know the properties that each class declares
+abbrev pub AreLaid : List Class → Tables → Type 0
+AreLaid classes tables = (class : ℕ) → shelves.fields_of tables.stores class ≡ fields_of classes class
+
+-- every object of a session has its properties, and nothing else has any
+abbrev pub AreStored : State → Type 0
+AreStored state = map (λ of. of.object) state.store ≡ numbers state.forest.rows

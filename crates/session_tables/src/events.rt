@@ -1,14 +1,13 @@
 //! The events of sessions, the objects whose signals are blocked, and how much there is.
-ghost use Rattle.std.specs.Prelude.{◌≡◌, IfOk, OnOk, OnErr, length, nat_lt, if◌then◌else◌};
+ghost use Rattle.std.specs.Prelude.{◌≡◌, IfOk, OnOk, OnErr, length, nat_lt};
 ghost use Rattle.std.specs.List.{slice_get};
 ghost use Rattle.std.specs.Option.{option_map};
 ghost use Rattle.std.specs.Result.{result_err};
-ghost use Rattle.event_queue.specs.declared.event.Event.TheVariants.{Call};
 ghost use Rattle.event_queue.specs.Queue.{IsSound, has_room};
 ghost use Rattle.object_tree.specs.Rows.{row_of};
 ghost use Rattle.thread_model.specs.Events.{is_blocked, status};
-ghost use Rattle.thread_model.specs.Posting.{post_refusal};
-ghost use Rattle.thread_model.specs.State.{with_blocking, with_event, with_lost, without_events, without_first};
+ghost use Rattle.thread_model.specs.Posting.{post_refusal, spin_after};
+ghost use Rattle.thread_model.specs.State.{with_blocking, with_call, with_event, without_events, without_first};
 ghost use Rattle.session_tables.specs.Tables.{IsPlaced, state_at, with_state};
 
 use crate::tables::Tables;
@@ -33,9 +32,7 @@ impl Tables {
     pub fn post_call(&mut self, place: usize, call: QueuedCall) -> Result<(), AllocError>
         requires { IsPlaced self.old place }
         ensures ok { OnOk result (self.new ≡ with_state self.old place
-            (if has_room (state_at self.old place).queue
-            then with_event (state_at self.old place) (Call call)
-            else with_lost (state_at self.old place))) }
+            (with_call (state_at self.old place) call)) }
         ensures err { OnErr result (self.new ≡ self.old) }
     {
         if !self.queues.post(place, Event::Call(call))? {
@@ -120,8 +117,7 @@ impl Tables {
     /// What came of taking this many events.
     pub fn spun(&self, place: usize, taken: u32) -> Spin
         requires { IsPlaced self.now place }
-        ensures { result ≡ (let queue = (state_at self.now place).queue in
-            record { events = taken; left = length queue.events; lost = queue.lost; mismatched = queue.mismatched }) }
+        ensures { result ≡ spin_after taken (state_at self.now place).queue }
     {
         let events = self.queues.counts(place);
         Spin {

@@ -7,7 +7,6 @@ mod events;
 mod properties;
 mod signals;
 mod tables;
-mod titles;
 mod trees;
 
 pub use tables::Tables;

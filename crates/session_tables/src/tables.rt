@@ -4,18 +4,19 @@ ghost use Rattle.session_tables.specs.Session.{gone};
 ghost use Rattle.session_tables.specs.Tables.{AreSame, HasRoom, IsPlaced, failed_at, opened, with_session, with_state};
 ghost use Rattle.thread_model.specs.State.{empty};
 
-use crate::titles::Titles;
 use connection_list::Connections;
 use event_queue::Queues;
 use object_tree::Forests;
 use places::Places;
+use plain_types::Items;
+use property_store::{Field, Stores};
 use std::alloc::{AllocError, Global};
 
 /// What a server keeps of each session.
 #[derive(Drop)]
 pub struct Tables {
     pub(crate) forests: Forests,
-    pub(crate) titles: Titles,
+    pub(crate) stores: Stores,
     pub(crate) connections: Connections,
     pub(crate) queues: Queues,
     /// Memory was wanted for the session and not found. Its objects, connections and events are gone,
@@ -24,17 +25,19 @@ pub struct Tables {
 }
 
 impl Tables {
-    /// Tables with no place, which take no memory yet.
-    pub fn new(alloc: Global) -> Tables
+    /// Tables with no place, which take no memory yet. An object of a class has the properties that
+    /// stand here at the class's number.
+    pub fn new(alloc: Global, layouts: Items<Items<Field>>) -> Tables
         ensures forests { result.forests.places ≡ [] }
-        ensures titles { result.titles.places ≡ [] }
+        ensures layouts { result.stores.layouts ≡ layouts }
+        ensures stores { result.stores.table.places ≡ [] }
         ensures connections { result.connections.places ≡ [] }
         ensures queues { result.queues.places ≡ [] }
         ensures failed { result.failed.places ≡ [] }
     {
         Tables {
             forests: Forests::new(alloc),
-            titles: Titles::new(alloc),
+            stores: Stores::new(alloc, layouts),
             connections: Connections::new(alloc),
             queues: Queues::new(alloc),
             failed: Places::new(alloc),
@@ -47,7 +50,7 @@ impl Tables {
         ensures room { OnOk result (HasRoom self.new) }
     {
         self.forests.ready()?;
-        self.titles.ready()?;
+        self.stores.ready()?;
         self.connections.ready()?;
         self.queues.ready()?;
         self.failed.ready()
@@ -60,7 +63,7 @@ impl Tables {
         ensures opened { self.new ≡ opened self.old }
     {
         self.forests.open();
-        self.titles.open();
+        self.stores.open();
         self.connections.open();
         self.queues.open();
         self.failed.open(false)
@@ -73,7 +76,7 @@ impl Tables {
         ensures { self.new ≡ with_state self.old place empty }
     {
         self.forests.clear(place);
-        self.titles.clear(place);
+        self.stores.clear(place);
         self.connections.clear(place);
         self.queues.clear(place);
     }

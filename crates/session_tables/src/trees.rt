@@ -12,37 +12,33 @@ ghost use Rattle.thread_model.specs.State.{is_text, title_of, with_object, with_
 ghost use Rattle.thread_model.specs.Absence.{absence, named_absence};
 ghost use Rattle.thread_model.specs.Trees.{has_title, is_of_class};
 ghost use Rattle.session_tables.specs.Refused.{OnRefused};
-ghost use Rattle.session_tables.specs.Tables.{ChangesOnly, IsPlaced, state_at, with_state};
+ghost use Rattle.session_tables.specs.Tables.{AreLaid, AreStored, ChangesOnly, IsPlaced, state_at, with_state};
 
 use crate::tables::Tables;
 use class_table::ClassTable;
 use plain_types::Text;
 use refusals::{Code, Fault};
-use std::alloc::{AllocError, Global};
+use std::alloc::AllocError;
+use thread_model::OBJECT_NAME;
 use variant_value::Value;
 
 impl Tables {
-    /// Makes an object below a parent, or a root, whose title is the empty text, and returns its
+    /// Makes an object below a parent, or a root, whose properties have their defaults, and returns its
     /// number. The refusals are those of [`Forests::add`](object_tree::Forests::add).
     #[tactic(auto, using(crate::proofs::TablesLemmas::changes_with))]
-    pub fn make(
-        &mut self,
-        alloc: Global,
-        place: usize,
-        parent: Option<u32>,
-        class: u32,
-    ) -> Result<u32, Fault>
-        requires { IsPlaced self.old place }
+    pub fn make(&mut self, place: usize, parent: Option<u32>, class: u32) -> Result<u32, Fault>
+        requires place { IsPlaced self.old place }
+        requires stored { AreStored (state_at self.old place) }
         ensures refusal { RefusedBy (add_refusal (state_at self.old place).forest parent) result }
         ensures number { IfOk result (λ number. number ≡ (state_at self.old place).forest.last_number + 1) }
-        ensures ok { OnOk result (self.new ≡ with_state self.old place
-            (with_object (state_at self.old place) parent class)) }
+        ensures ok { OnOk result ((classes : _) → AreLaid classes self.old → self.new ≡ with_state self.old place
+            (with_object classes (state_at self.old place) parent class)) }
         ensures refused { OnRefused result (self.new ≡ self.old) }
         ensures only { ChangesOnly place self.old self.new }
     {
+        self.forests.sound(place);
         let number = self.forests.add(place, parent, class)?;
-        let title = Value::Text(Text::from_string(String::new(alloc)));
-        self.titles.put(place, number, title)?;
+        self.stores.add_object(place, number, class)?;
         Ok(number)
     }
 
@@ -67,13 +63,13 @@ impl Tables {
         self.forests.mark_dying(place, object);
     }
 
-    /// Takes an object out with its title; its children become roots.
+    /// Takes an object out with its properties; its children become roots.
     pub fn remove(&mut self, place: usize, object: u32)
         requires { IsPlaced self.old place }
         ensures { self.new ≡ with_state self.old place (without_object (state_at self.old place) object) }
     {
         self.forests.remove(place, object);
-        self.titles.remove(place, object);
+        self.stores.drop_object(place, object);
     }
 
     /// The children of an object by age; of none, the roots.
@@ -149,10 +145,10 @@ impl Tables {
     pub fn child(&self, place: usize, object: u32, title: &str) -> Result<Option<u32>, AllocError>
         requires { IsPlaced self.now place }
         ensures { IfOk result (λ found. found ≡ found_below (state_at self.now place).forest.rows object
-            (λ number. is_text title.now (title_of (state_at self.now place).titles number))) }
+            (λ number. is_text title.now (title_of (state_at self.now place) number))) }
     {
         self.forests.find_child(place, object, |number| {
-            Ok(self.titles.is_titled(place, number, title))
+            Ok(self.is_titled(place, number, title))
         })
     }
 
@@ -202,13 +198,25 @@ impl Tables {
         })
     }
 
+    /// Whether an object has this text for its title, which is its property `objectName`.
+    fn is_titled(&self, place: usize, object: u32, wanted: &str) -> bool
+        requires { IsPlaced self.now place }
+        ensures { result ≡ is_text wanted.now (title_of (state_at self.now place) object) }
+    {
+        match self.stores.value(place, object, OBJECT_NAME as usize) {
+            Some(Value::Text(text)) => text.as_str() == wanted,
+            Some(_) => false,
+            None => false,
+        }
+    }
+
     /// Whether an object has this title, where one is wanted.
     fn has_title(&self, place: usize, object: u32, title: &Option<Text>) -> bool
         requires { IsPlaced self.now place }
         ensures { result ≡ has_title (state_at self.now place) title.now object }
     {
         match title {
-            Some(wanted) => self.titles.is_titled(place, object, wanted.as_str()),
+            Some(wanted) => self.is_titled(place, object, wanted.as_str()),
             None => true,
         }
     }

@@ -11,6 +11,7 @@ use slab::Slab;
 use std::alloc::{AllocError, Global};
 use std::collections::VecDeque;
 use std::marker::Model;
+use std::mem;
 
 /// The rows of each place. A place is opened by `ready` and then `open`, and is never closed.
 #[derive(Drop)]
@@ -169,15 +170,16 @@ impl<R: Numbered> SharedRows<R> {
         Ok(key)
     }
 
-    /// Puts a row for the one under a key, which has the same number.
-    pub fn replace(&mut self, place: usize, key: usize, row: R)
-    where
-        R: Drop,
+    /// Puts a row for the one under a key, which has the same number, and returns the one that stood
+    /// there.
+    pub fn replace(&mut self, place: usize, key: usize, row: R) -> R
         requires place { IsPlace self.old place }
         requires number { option_map R.number (row_under (rows_at self.old place) key) ≡ Some (R.number row) }
-        ensures { self.new ≡ with_place self.old place (with_row (rows_at self.old place) key row) }
+        ensures old { row_under (rows_at self.old place) key ≡ Some result }
+        ensures new { self.new ≡ with_place self.old place (with_row (rows_at self.old place) key row) }
     {
-        self.slab[key] = Slot { place, row };
+        let slot = Slot { place, row };
+        mem::replace(&mut self.slab[key], slot).row
     }
 
     /// Takes out the row under a key.

@@ -1,5 +1,6 @@
-//! Tests of signatures, values, expressions, bodies and classes: examples from outside, and that each
-//! call succeeds where there is memory.
+//! Tests of what only a call can show of expressions, bodies and classes: examples from outside of what no
+//! command reaches so far, and that each such call succeeds where there is memory. What lines and class
+//! files show of them stands in the rows and the tools of the built program.
 #![tactic(auto)]
 
 #[cfg(test)]
@@ -10,7 +11,3 @@ mod cases;
 mod class_files;
 #[cfg(test)]
 mod expressions;
-#[cfg(test)]
-mod signatures;
-#[cfg(test)]
-mod values;

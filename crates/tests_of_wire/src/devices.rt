@@ -1,7 +1,11 @@
 //! Sources and sinks by themselves.
-use crate::fakes::{SlowSink, SlowSource, Troubled};
+use crate::fakes::{SlowSink, Troubled};
+use std::alloc::Global;
 use std::io::ErrorKind;
 use wire_devices::{Counted, Failed, Sink, Source, write_all};
+
+/// What a call of a device comes to, and how often the device has failed then.
+type Answer = (Result<usize, Failed>, u64);
 
 #[test]
 fn slices_and_vectors_move_their_bytes(rt: HostRuntime) {
@@ -20,64 +24,66 @@ fn slices_and_vectors_move_their_bytes(rt: HostRuntime) {
     assert!(rt; sink.into_inner().as_slice() == b"abc".as_slice());
 }
 
+fn read_behind(kind: ErrorKind, times: u32) -> Answer {
+    let left: &[u8] = b"x";
+    let mut source = Counted::new(Troubled { kind, times, left });
+    (source.read(&mut [0; 4]), source.failures())
+}
+
+fn write_behind(kind: ErrorKind, times: u32) -> Answer {
+    let mut sink = Counted::new(Troubled {
+        kind,
+        times,
+        left: b"",
+    });
+    (sink.write(b"abcd"), sink.failures())
+}
+
 #[test]
 fn only_interrupted_calls_are_made_again(rt: HostRuntime) {
-    let kinds = [
-        (ErrorKind::Interrupted, 0, Ok(1), 0),
-        (ErrorKind::Interrupted, 1_000, Ok(1), 0),
-        (ErrorKind::Interrupted, 1_001, Err(Failed), 1),
-        (ErrorKind::WouldBlock, 1, Err(Failed), 1),
-    ];
-    for (kind, times, wanted, failures) in kinds {
-        let left: &[u8] = b"x";
-        let mut source = Counted::new(Troubled { kind, times, left });
-        let read = source.read(&mut [0; 4]);
-        assert!(rt;
-            read == wanted && source.failures() == failures,
-            "read, after {times}"
-        );
-        let mut sink = Counted::new(Troubled { kind, times, left });
-        let written = sink.write(b"abcd");
-        assert!(rt;
-            written == wanted && sink.failures() == failures,
-            "write, after {times}"
-        );
+    for (kind, times, wanted) in [
+        (ErrorKind::Interrupted, 0, (Ok(1), 0)),
+        (ErrorKind::Interrupted, 1_000, (Ok(1), 0)),
+        (ErrorKind::Interrupted, 1_001, (Err(Failed), 1)),
+        (ErrorKind::WouldBlock, 1, (Err(Failed), 1)),
+    ] {
+        assert!(rt; read_behind(kind, times) == wanted, "after {times}");
+        assert!(rt; write_behind(kind, times) == wanted, "after {times}");
     }
 }
 
 #[test]
-fn devices_go_on_after_a_failure(rt: HostRuntime) {
-    let mut source = SlowSource::new(b"abc", 2, 2);
-    let mut buffer = [0; 2];
-    for (wanted, failures) in [(Ok(2), 0), (Err(Failed), 1), (Ok(1), 1)] {
-        let count = source.read(&mut buffer);
-        assert!(rt;
-            count == wanted && source.failures == failures,
-            "after {failures}"
-        );
-    }
+fn a_sink_that_is_full_goes_on(rt: HostRuntime) {
     let mut room = [0; 2];
     let mut full = Counted::new(&mut room[..]);
     for (bytes, failures) in [(b"abc".as_slice(), 1), (b"", 1)] {
         let written = write_all(&mut full, bytes);
         assert!(rt; written.is_err() == (bytes.len() == 3) && full.failures() == failures);
     }
+}
+
+/// How many bytes a sink has taken that fails at one call or takes nothing at one, by how many calls, and
+/// how often it failed.
+fn taken(alloc: Global, failing: u32, idle: u32) -> (usize, u32, u64) {
     let text: &[u8] = b"twenty bytes of text";
-    for (failing, idle, held, calls) in [
-        (0, 0, 20, 3),
-        (3, 0, 14, 3),
-        (0, 3, 14, 3),
-        (1, 0, 0, 1),
+    let mut sink = SlowSink::new(alloc, failing, idle);
+    let written = write_all(&mut sink, text);
+    if written.is_err() == (sink.failures == 0) || !text.starts_with(&sink.held) {
+        return (0, 0, 0);
+    }
+    (sink.held.len(), sink.calls, sink.failures)
+}
+
+#[test]
+fn sinks_may_fail_at_any_call(rt: HostRuntime) {
+    for (failing, idle, wanted) in [
+        (0, 0, (20, 3, 0)),
+        (3, 0, (14, 3, 1)),
+        (0, 3, (14, 3, 1)),
+        (1, 0, (0, 1, 1)),
     ] {
-        let mut sink = SlowSink::new(rt.alloc(), failing, idle);
-        let written = write_all(&mut sink, text);
-        assert!(rt; written.is_ok() == (held == 20), "at {failing}, {idle}");
         assert!(rt;
-            sink.failures == u64::from(held < 20) && sink.calls == calls,
-            "at {failing}, {idle}"
-        );
-        assert!(rt;
-            text.starts_with(&sink.held) && sink.held.len() == held,
+            taken(rt.alloc(), failing, idle) == wanted,
             "at {failing}, {idle}"
         );
     }

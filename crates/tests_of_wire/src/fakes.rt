@@ -1,12 +1,10 @@
-//! Sources, sinks, readers and processes that give, take or fail as they are told.
-ghost use Rattle.std.specs.Prelude.{Some, None, bytes_eq, if◌then◌else◌};
+//! Sources, sinks and readers that give, take or fail as they are told.
+ghost use Rattle.std.specs.Prelude.{Some};
 
-use program_start::{ClassFileError, ClassFiles};
 use std::alloc::Global;
-use std::env::{Env, FillError};
 use std::io;
 use std::io::{ErrorKind, Read, Write};
-use wire_devices::{Counted, Failed, Sink, Source};
+use wire_devices::{Failed, Sink, Source};
 
 /// Gives the bytes of a slice, a few a call, and fails at one of its calls.
 #[derive(Drop)]
@@ -126,71 +124,5 @@ impl<'a> Write for Troubled<'a> {
 
     fn flush(&mut self) -> io::Result<()> {
         Ok(())
-    }
-}
-
-/// One class file at one path.
-#[derive(Drop)]
-pub struct Shelf<'a> {
-    pub alloc: Global,
-    pub path: &'a str,
-    pub file: &'a [u8],
-}
-
-impl<'a> Alloc for Shelf<'a> {
-    type A = Global;
-
-    fn alloc(&self) -> Global {
-        self.alloc
-    }
-}
-
-impl<'a> ClassFiles for Shelf<'a> {
-    type File = Counted<&'a [u8]>;
-
-    ghost holds = { λ shelf path. if bytes_eq path shelf.path.now then Some shelf.file.now else None };
-
-    fn class_file(&self, path: &str) -> Result<Counted<&'a [u8]>, ClassFileError> {
-        if path == self.path {
-            Ok(Counted::new(self.file))
-        } else {
-            Err(ClassFileError::Unreadable)
-        }
-    }
-}
-
-/// A process that was given these words.
-#[derive(Drop)]
-pub struct Process<'a> {
-    pub alloc: Global,
-    pub words: &'a [&'a [u8]],
-}
-
-impl<'a> Alloc for Process<'a> {
-    type A = Global;
-
-    fn alloc(&self) -> Global {
-        self.alloc
-    }
-}
-
-impl<'a> Env for Process<'a> {
-    fn arg(&self, i: usize, buf: &mut [u8]) -> Result<usize, FillError> {
-        let Some(word) = self.words.get(i) else {
-            return Err(FillError::NotPresent);
-        };
-        if word.len() > buf.len() {
-            return Err(FillError::TooLong);
-        }
-        buf[..word.len()].copy_from_slice(word);
-        Ok(word.len())
-    }
-
-    fn var(&self, _name: &str, _buf: &mut [u8]) -> Result<usize, FillError> {
-        Err(FillError::NotPresent)
-    }
-
-    fn var_at(&self, _i: usize, _buf: &mut [u8]) -> Result<usize, FillError> {
-        Err(FillError::NotPresent)
     }
 }

@@ -1,5 +1,6 @@
-//! Tests of the sessions and of the crates between the bytes and them, over their public calls. Most say
-//! what no clause says: that all of it happens where memory is found.
+//! Tests of what only a call can show of the sessions and of the crates between the bytes and them: that
+//! devices may be slow and fail, that sessions fail alone, that runs go on, and that all of it happens
+//! where memory is found. What lines show of them stands in the rows of the built program.
 #![tactic(auto)]
 
 #[cfg(test)]
@@ -13,14 +14,8 @@ mod fakes;
 #[cfg(test)]
 mod lines;
 #[cfg(test)]
-mod readings;
-#[cfg(test)]
 mod runs;
 #[cfg(test)]
 mod server;
 #[cfg(test)]
-mod tables;
-#[cfg(test)]
-mod words;
-#[cfg(test)]
-mod writings;
+mod sessions;

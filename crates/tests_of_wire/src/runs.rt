@@ -1,6 +1,6 @@
 //! Whole runs where memory is found, over sources and sinks that give, take or fail as they are told.
 use crate::fakes::{SlowSink, SlowSource};
-use class_table::ClassTable;
+use crate::lines::lamps;
 use server_world::Server;
 use std::alloc::{AllocError, Global};
 use std::test::Fail;
@@ -20,12 +20,53 @@ const NOT_THERE: &str = "{\"error\":\"E04\",\"session\":\"b\"}\n";
 
 const UNREADABLE: &str = "{\"error\":\"E01\",\"session\":\"-\"}\n";
 
-/// A server with no class but `QObject`.
-fn fresh(alloc: Global) -> Result<Server, AllocError> {
-    match ClassTable::from_text(alloc, b"{\"classes\":[]}") {
-        Ok(classes) => Server::new(alloc, classes, 10),
-        Err(_) => Err(AllocError),
+/// How a run ended, what it had written by then, and how often its devices failed.
+#[derive(Drop)]
+struct Outcome {
+    ended: Result<Summary, RunFault>,
+    written: Vec<u8>,
+    failures: u64,
+}
+
+impl Outcome {
+    fn is(&self, ended: Result<Summary, RunFault>, written: &[u8]) -> bool {
+        self.ended == ended
+            && self.written.as_slice() == written
+            && self.failures == u64::from(ended.is_err())
     }
+}
+
+/// How a run ends. What it ensures is left behind here, since the tests look only at what it did.
+fn end_of_run(
+    alloc: Global,
+    reader: &mut SlowSource<'_>,
+    writer: &mut SlowSink,
+    server: &mut Server,
+) -> Result<Summary, RunFault> {
+    run(alloc, reader, writer, server)
+}
+
+/// How a run ends on a server of its own.
+fn end_of_fresh_run(
+    alloc: Global,
+    reader: &mut SlowSource<'_>,
+    writer: &mut SlowSink,
+) -> Result<Result<Summary, RunFault>, AllocError> {
+    let mut server = Server::new(alloc, lamps(alloc)?, 10)?;
+    Ok(end_of_run(alloc, reader, writer, &mut server))
+}
+
+fn outcome_of(
+    alloc: Global,
+    mut reader: SlowSource<'_>,
+    mut writer: SlowSink,
+) -> Result<Outcome, AllocError> {
+    let ended = end_of_fresh_run(alloc, &mut reader, &mut writer)?;
+    Ok(Outcome {
+        ended,
+        written: writer.held,
+        failures: reader.failures.saturating_add(writer.failures),
+    })
 }
 
 fn counted(lines: u64) -> Result<Summary, RunFault> {
@@ -35,13 +76,40 @@ fn counted(lines: u64) -> Result<Summary, RunFault> {
     })
 }
 
-/// Texts one behind another, each so often and then filled up with spaces to so many bytes.
-fn joined(alloc: Global, parts: &[(&str, usize, usize)]) -> Result<Vec<u8>, AllocError> {
+/// A text so often, each then filled up with spaces to so many bytes.
+struct Part(&'static str, usize, usize);
+
+/// Lines of any form and length.
+const ODD_LINES: [Part; 13] = [
+    Part("\n \t\r\n", 1, 0),
+    Part("nonsense\n", 3_000, 0),
+    Part(GET, 1, 65_536),
+    Part("\n", 1, 0),
+    Part(GET, 1, 65_537),
+    Part("\n", 1, 0),
+    Part("", 1, 65_536),
+    Part("\n", 1, 0),
+    Part("", 1, 65_537),
+    Part("\n", 1, 0),
+    Part(GET, 1, 0),
+    Part("\r\n", 1, 0),
+    Part(LAMP, 1, 0),
+];
+
+const ODD_LINES_TOLD: [Part; 5] = [
+    Part(UNREADABLE, 3_000, 0),
+    Part(NOT_THERE, 1, 0),
+    Part(UNREADABLE, 2, 0),
+    Part(NOT_THERE, 1, 0),
+    Part(LAMP_TOLD, 1, 0),
+];
+
+fn joined(alloc: Global, parts: &[Part]) -> Result<Vec<u8>, AllocError> {
     let mut bytes = Vec::new(alloc);
-    for (text, times, size) in parts {
-        for _ in 0..*times {
-            let end = bytes.len().saturating_add(*size);
-            bytes.extend_from_slice(text.as_bytes())?;
+    for part in parts {
+        for _ in 0..part.1 {
+            let end = bytes.len().saturating_add(part.2);
+            bytes.extend_from_slice(part.0.as_bytes())?;
             if bytes.len() < end {
                 bytes.resize(end, b' ')?;
             }
@@ -50,114 +118,120 @@ fn joined(alloc: Global, parts: &[(&str, usize, usize)]) -> Result<Vec<u8>, Allo
     Ok(bytes)
 }
 
+/// Whether an input is answered by this where so many of its bytes come at once.
+fn is_answered_at(
+    alloc: Global,
+    input: &[u8],
+    at_once: usize,
+    wanted: &[u8],
+    lines: u64,
+) -> Result<bool, AllocError> {
+    let source = SlowSource::new(input, at_once, 0);
+    let outcome = outcome_of(alloc, source, SlowSink::new(alloc, 0, 0))?;
+    Ok(outcome.is(counted(lines), wanted))
+}
+
+/// The same however many come.
+fn is_answered(alloc: Global, input: &[u8], wanted: &[u8], lines: u64) -> Result<bool, AllocError> {
+    for at_once in [1, 7, 65_536] {
+        if !is_answered_at(alloc, input, at_once, wanted, lines)? {
+            return Ok(false);
+        }
+    }
+    Ok(true)
+}
+
+fn odd_lines_are_answered(alloc: Global) -> Result<bool, AllocError> {
+    let odd = joined(alloc, &ODD_LINES)?;
+    let told = joined(alloc, &ODD_LINES_TOLD)?;
+    is_answered(alloc, odd.as_slice(), told.as_slice(), 3_010)
+}
+
 #[test]
 fn inputs_are_answered_in_pieces_of_any_size(rt: HostRuntime) -> Result<(), Fail> {
     let alloc = rt.alloc();
-    let odd_lines = [
-        ("\n \t\r\n", 1, 0),
-        ("nonsense\n", 3_000, 0),
-        (GET, 1, 65_536),
-        ("\n", 1, 0),
-        (GET, 1, 65_537),
-        ("\n", 1, 0),
-        ("", 1, 65_537),
-        ("\n", 1, 0),
-        (GET, 1, 0),
-        ("\r\n", 1, 0),
-        (LAMP, 1, 0),
-    ];
-    let told = [
-        (UNREADABLE, 3_000, 0),
-        (NOT_THERE, 1, 0),
-        (UNREADABLE, 2, 0),
-        (NOT_THERE, 1, 0),
-        (LAMP_TOLD, 1, 0),
-    ];
-    let odd = joined(alloc, &odd_lines)?;
-    let told_of_odd = joined(alloc, &told)?;
-    let cases = [
-        (b"".as_slice(), b"".as_slice(), 0),
-        (LAMP.trim_end().as_bytes(), LAMP_TOLD.as_bytes(), 3),
-        (odd.as_slice(), told_of_odd.as_slice(), 3_009),
-    ];
-    for (input, wanted, lines) in cases {
-        for at_once in [1, 7, 65_536] {
-            let mut server = fresh(alloc)?;
-            let mut reader = SlowSource::new(input, at_once, 0);
-            let mut writer = SlowSink::new(alloc, 0, 0);
-            let ended = run(alloc, &mut reader, &mut writer, &mut server);
-            assert!(rt;
-                ended == counted(lines),
-                "{lines} lines, {at_once} bytes at once"
-            );
-            assert!(rt;
-                writer.held.as_slice() == wanted,
-                "{lines} lines, {at_once} bytes at once"
-            );
-        }
-    }
+    assert!(rt; is_answered(alloc, b"", b"", 0)?);
+    let lamp = LAMP.trim_end().as_bytes();
+    assert!(rt; is_answered(alloc, lamp, LAMP_TOLD.as_bytes(), 3)?);
+    assert!(rt; odd_lines_are_answered(alloc)?);
     Ok(())
 }
 
-/// How a run over three lines ends, what it has written and how often its devices failed.
-fn lamp_told(
+/// Whether a run over three lines ends by a fault when it has written so many bytes, or by none when it
+/// has written all.
+fn breaks_off(
     alloc: Global,
-    reader: &mut SlowSource<'_>,
-    writer: &mut SlowSink,
-) -> Result<Option<RunFault>, AllocError> {
-    let mut server = fresh(alloc)?;
-    match run(alloc, reader, writer, &mut server) {
-        Ok(summary) if summary.lines != 3 || summary.memory_refused => Err(AllocError),
-        Ok(_) => Ok(None),
-        Err(fault) => Ok(Some(fault)),
+    source: SlowSource<'_>,
+    sink: SlowSink,
+    fault: Option<RunFault>,
+    bytes: usize,
+) -> Result<bool, AllocError> {
+    let Some(written) = LAMP_TOLD.as_bytes().get(..bytes) else {
+        return Ok(false);
+    };
+    let ended = match fault {
+        Some(fault) => Err(fault),
+        None => counted(3),
+    };
+    let outcome = outcome_of(alloc, source, sink)?;
+    Ok(outcome.is(ended, written))
+}
+
+/// The same where a source fails at this call.
+fn reading_breaks_off(
+    alloc: Global,
+    call: u32,
+    fault: Option<RunFault>,
+    bytes: usize,
+) -> Result<bool, AllocError> {
+    let source = SlowSource::new(LAMP.as_bytes(), 30, call);
+    breaks_off(alloc, source, SlowSink::new(alloc, 0, 0), fault, bytes)
+}
+
+/// The same where a sink fails at a call, or takes nothing at one.
+fn writing_breaks_off(
+    alloc: Global,
+    failing: u32,
+    idle: u32,
+    fault: Option<RunFault>,
+    bytes: usize,
+) -> Result<bool, AllocError> {
+    let source = SlowSource::new(LAMP.as_bytes(), 65_536, 0);
+    breaks_off(
+        alloc,
+        source,
+        SlowSink::new(alloc, failing, idle),
+        fault,
+        bytes,
+    )
+}
+
+/// The bytes that are written before the source fails at its first call, its second, and so on. The three
+/// lines come by seven calls; the eighth says that there is no more.
+const BEFORE_READS: [usize; 8] = [0, 0, 26, 26, 26, 55, 55, 86];
+
+/// The same for a sink that takes seven bytes a call, so that 86 bytes take 13 calls.
+const BEFORE_WRITES: [usize; 13] = [0, 7, 14, 21, 28, 35, 42, 49, 56, 63, 70, 77, 84];
+
+#[test]
+fn sources_may_fail_at_any_call(rt: HostRuntime) -> Result<(), Fail> {
+    let (alloc, fault) = (rt.alloc(), Some(RunFault::Read));
+    for (bytes, call) in BEFORE_READS.iter().zip(1..=8) {
+        let breaks_off = reading_breaks_off(alloc, call, fault, *bytes)?;
+        assert!(rt; breaks_off, "at {call}");
     }
+    assert!(rt; reading_breaks_off(alloc, 9, None, 86)?);
+    Ok(())
 }
 
 #[test]
-fn devices_may_fail_at_any_call(rt: HostRuntime) -> Result<(), Fail> {
-    let alloc = rt.alloc();
-    // The three lines come by seven calls; the eighth says that there is no more.
-    let told_before = [0, 0, 26, 26, 26, 55, 55, 86, 86];
-    for (before, failing) in told_before.iter().zip(1..=9) {
-        let mut reader = SlowSource::new(LAMP.as_bytes(), 30, failing);
-        let mut writer = SlowSink::new(alloc, 0, 0);
-        let fault = lamp_told(alloc, &mut reader, &mut writer)?;
-        let wanted = if failing < 9 {
-            Some(RunFault::Read)
-        } else {
-            None
-        };
-        assert!(rt;
-            fault == wanted && reader.failures == u64::from(failing < 9),
-            "at {failing}"
-        );
-        let written = writer.held.as_slice();
-        assert!(rt;
-            LAMP_TOLD.as_bytes().starts_with(written) && written.len() == *before,
-            "at {failing}"
-        );
+fn sinks_may_fail_or_take_nothing_at_any_call(rt: HostRuntime) -> Result<(), Fail> {
+    let (alloc, fault) = (rt.alloc(), Some(RunFault::Write));
+    for (bytes, call) in BEFORE_WRITES.iter().zip(1..=13) {
+        let fails = writing_breaks_off(alloc, call, 0, fault, *bytes)?;
+        let idles = writing_breaks_off(alloc, 0, call, fault, *bytes)?;
+        assert!(rt; fails && idles, "at {call}");
     }
-    // It takes 13 calls to write 86 bytes, seven at once.
-    for (before, failing) in (0..98usize).step_by(7).zip(1..=14) {
-        for (failing, idle) in [(failing, 0), (0, failing)] {
-            let mut reader = SlowSource::new(LAMP.as_bytes(), 65_536, 0);
-            let mut writer = SlowSink::new(alloc, failing, idle);
-            let fault = lamp_told(alloc, &mut reader, &mut writer)?;
-            let wanted = if before < 86 {
-                Some(RunFault::Write)
-            } else {
-                None
-            };
-            assert!(rt;
-                fault == wanted && writer.failures == u64::from(before < 86),
-                "at {failing}, {idle}"
-            );
-            let written = writer.held.as_slice();
-            assert!(rt;
-                LAMP_TOLD.as_bytes().starts_with(written) && written.len() == before.min(86),
-                "at {failing}, {idle}"
-            );
-        }
-    }
+    assert!(rt; writing_breaks_off(alloc, 14, 14, None, 86)?);
     Ok(())
 }

@@ -1,6 +1,5 @@
 //! The server.
 use crate::lines::{given, lamps, text_of};
-use plain_types::Items;
 use server_world::{
     Entry, Report, Server, Tagged, influence_is_least, leaving_out_keeps_sessions,
     slicing_keeps_a_session,
@@ -8,9 +7,9 @@ use server_world::{
 use std::alloc::{AllocError, Global};
 use std::test::Fail;
 use thread_model::{
-    Line, actions_run_in_place, agenda_runs_to_its_end, commands_keep_sessions_sound,
-    machine_is_lawful,
+    actions_run_in_place, agenda_runs_to_its_end, commands_keep_sessions_sound, machine_is_lawful,
 };
+use wire_format::sessions_are_isolated;
 
 fn fresh(alloc: Global) -> Result<Server, AllocError> {
     Server::new(alloc, lamps(alloc)?, 1000)
@@ -21,23 +20,18 @@ fn report_of(server: &mut Server, list: &[Tagged]) -> Report {
     server.run(list)
 }
 
-/// What is told to a command; no clause says here what that is either.
-fn told_of(server: &mut Server, given: &Tagged) -> Result<Items<Line>, AllocError> {
-    server.step(given)
-}
-
-/// What one server reports to these lines.
-fn reported(alloc: Global, server: &mut Server, lines: &str) -> Result<String, AllocError> {
+fn commands(alloc: Global, lines: &str) -> Result<Vec<Tagged>, AllocError> {
     let mut list = Vec::new(alloc);
     for line in lines.lines() {
         list.push(given(alloc, line)?)?;
     }
-    let report = report_of(server, list.as_slice());
-    if report.memory_refused || report.lines.len() != list.len() {
-        return Err(AllocError);
-    }
+    Ok(list)
+}
+
+/// What is told to each of these commands.
+fn texts(alloc: Global, list: &[Tagged], entries: &[Entry]) -> Result<String, AllocError> {
     let mut text = String::new(alloc);
-    for (given, entry) in list.iter().zip(report.lines.as_slice()) {
+    for (given, entry) in list.iter().zip(entries) {
         if let Entry::Lines(lines) = entry {
             text.push_str(text_of(alloc, &given.session, lines)?.as_str())?;
         }
@@ -45,70 +39,92 @@ fn reported(alloc: Global, server: &mut Server, lines: &str) -> Result<String, A
     Ok(text)
 }
 
-/// What is told where these lines are done one by one.
-fn stepped(alloc: Global, server: &mut Server, lines: &str) -> Result<String, AllocError> {
+/// What is reported to these commands.
+fn report_text(alloc: Global, list: &[Tagged], report: &Report) -> Result<String, AllocError> {
+    if report.memory_refused || report.lines.len() != list.len() {
+        return Err(AllocError);
+    }
+    texts(alloc, list, report.lines.as_slice())
+}
+
+fn text_reported(
+    alloc: Global,
+    server: &mut Server,
+    list: &[Tagged],
+) -> Result<String, AllocError> {
+    let report = report_of(server, list);
+    report_text(alloc, list, &report)
+}
+
+/// What one server reports to these lines.
+fn reported(alloc: Global, server: &mut Server, lines: &str) -> Result<String, AllocError> {
+    let list = commands(alloc, lines)?;
+    text_reported(alloc, server, list.as_slice())
+}
+
+/// The lines of three runs, one after the other on one server.
+const RUNS: [&str; 3] = [
+    r#"{"class":"QObject","do":"new","session":"a"}
+{"class":"Lamp","do":"new","session":"b"}
+{"class":"Lamp","do":"new","session":"a"}"#,
+    r#"{"do":"children","session":"b"}
+{"do":"children","session":"a"}
+{"do":"get","object":1,"property":"objectName","session":"c"}"#,
+    r#"{"class":"Switch","do":"new","session":"b"}
+{"do":"connect","method":"dim(int)","receiver":1,"sender":2,"session":"b","signal":"pressed(int)"}
+{"args":[5],"do":"invoke","method":"pressed(int)","object":2,"session":"b"}
+{"args":[5],"do":"invoke","method":"pressed(int)","object":2,"session":"a"}"#,
+];
+
+/// What they tell.
+const TOLD: &str = r#"{"reply":1,"session":"a"}
+{"reply":1,"session":"b"}
+{"reply":2,"session":"a"}
+{"reply":[1],"session":"b"}
+{"reply":[1,2],"session":"a"}
+{"error":"E04","session":"c"}
+{"reply":2,"session":"b"}
+{"reply":1,"session":"b"}
+{"args":[5],"call":"dim(int)","object":1,"sender":2,"session":"b"}
+{"reply":true,"session":"b"}
+{"reply":false,"session":"a"}
+"#;
+
+fn report_all(alloc: Global, server: &mut Server) -> Result<String, AllocError> {
     let mut text = String::new(alloc);
-    for line in lines.lines() {
-        let given = given(alloc, line)?;
-        let told = told_of(server, &given)?;
-        text.push_str(text_of(alloc, &given.session, &told)?.as_str())?;
+    for lines in RUNS {
+        text.push_str(reported(alloc, server, lines)?.as_str())?;
     }
     Ok(text)
 }
 
-/// Runs, one after the other on one server, and what they tell.
-const RUNS: [(&str, &str); 3] = [
-    (
-        r#"{"class":"QObject","do":"new","session":"a"}
-{"class":"Lamp","do":"new","session":"b"}
-{"class":"Lamp","do":"new","session":"a"}"#,
-        r#"{"reply":1,"session":"a"}
-{"reply":1,"session":"b"}
-{"reply":2,"session":"a"}"#,
-    ),
-    (
-        r#"{"do":"children","session":"b"}
-{"do":"children","session":"a"}
-{"do":"get","object":1,"property":"objectName","session":"c"}"#,
-        r#"{"reply":[1],"session":"b"}
-{"reply":[1,2],"session":"a"}
-{"error":"E04","session":"c"}"#,
-    ),
-    (
-        r#"{"class":"Switch","do":"new","session":"b"}
-{"do":"connect","method":"dim(int)","receiver":1,"sender":2,"session":"b","signal":"pressed(int)"}
-{"args":[5],"do":"invoke","method":"pressed(int)","object":2,"session":"b"}
-{"args":[5],"do":"invoke","method":"pressed(int)","object":2,"session":"a"}"#,
-        r#"{"reply":2,"session":"b"}
-{"reply":1,"session":"b"}
-{"args":[5],"call":"dim(int)","object":1,"sender":2,"session":"b"}
-{"reply":true,"session":"b"}
-{"reply":false,"session":"a"}"#,
-    ),
-];
-
-#[test]
-fn runs_on_one_server_go_on(rt: HostRuntime) -> Result<(), Fail> {
-    let alloc = rt.alloc();
+fn all_reported(alloc: Global) -> Result<String, AllocError> {
     let mut server = fresh(alloc)?;
-    for (lines, wanted) in RUNS {
-        let told = reported(alloc, &mut server, lines)?;
-        assert!(rt; told.as_str().trim_end() == wanted, "{told}");
-    }
-    Ok(())
+    report_all(alloc, &mut server)
 }
 
 #[test]
-fn steps_on_one_server_go_on(rt: HostRuntime) -> Result<(), Fail> {
-    let alloc = rt.alloc();
-    let mut server = fresh(alloc)?;
-    for (lines, wanted) in RUNS {
-        let told = stepped(alloc, &mut server, lines)?;
-        assert!(rt; told.as_str().trim_end() == wanted, "{told}");
-    }
-    assert!(rt; !server.memory_refused());
+fn runs_on_one_server_go_on(rt: HostRuntime) -> Result<(), Fail> {
+    let told = all_reported(rt.alloc())?;
+    assert!(rt; told.as_str() == TOLD, "{told}");
+    Ok(())
+}
+
+/// Whether a server says that memory was refused once that is noted, and not before.
+fn notes(server: &mut Server) -> bool {
+    let before = server.memory_refused();
     server.note_memory_refused();
-    assert!(rt; server.memory_refused());
+    !before && server.memory_refused()
+}
+
+fn fresh_one_notes(alloc: Global) -> Result<bool, AllocError> {
+    let mut server = fresh(alloc)?;
+    Ok(notes(&mut server))
+}
+
+#[test]
+fn refused_memory_is_noted(rt: HostRuntime) -> Result<(), Fail> {
+    assert!(rt; fresh_one_notes(rt.alloc())?);
     Ok(())
 }
 
@@ -121,4 +137,5 @@ fn laws_hold() {
     agenda_runs_to_its_end();
     commands_keep_sessions_sound();
     actions_run_in_place();
+    sessions_are_isolated();
 }

@@ -3,10 +3,8 @@ use Rattle.std.proofs.Common.{◌≡◌, ℕ, Bool, true, false, cond, List, [],
 use Rattle.std.specs.Option.{option_or}
 use Rattle.std.specs.Result.{result_err}
 use Rattle.refusals.specs.declared.code.Code.{Code}
-use Rattle.refusals.specs.declared.code.Code.TheVariants.{BadValue, DoesNotFit, Limit, NoSuchObject}
-use Rattle.signature_core.specs.declared.kind.Kind.TheVariants as k
+use Rattle.refusals.specs.declared.code.Code.TheVariants.{DoesNotFit, Limit, NoSuchObject}
 use Rattle.variant_value.specs.declared.value.Value.{Value}
-use Rattle.variant_value.specs.Values.{IsOfKind}
 use Rattle.term_core.specs.declared.action.Effect.{Effect}
 use Rattle.term_core.specs.declared.action.Effect.TheVariants as e
 use Rattle.connection_types.specs.declared.callee.Callee.TheVariants.{Method}
@@ -20,14 +18,14 @@ use Rattle.event_queue.specs.declared.event.Event.TheVariants.{Deletion}
 use Rattle.event_queue.specs.Queue.{has_room}
 use Rattle.thread_model.specs.Acts.{act_refusal, acted, connection, emission, pattern, warns_or, with_found}
 use Rattle.thread_model.specs.Connecting.{connection_refusal, fits_at, new_connection}
-use Rattle.thread_model.specs.Doing.{Doing, adopted, blocking, linked, posted, retitled, unlinked}
+use Rattle.thread_model.specs.Doing.{Doing, adopted, blocking, linked, posted, unlinked}
 use Rattle.thread_model.specs.Items.{Delete, Emit, Next, Warn, puts}
-use Rattle.thread_model.specs.Methods.{Found}
+use Rattle.thread_model.specs.Methods.{Found, ◌>>=◌}
 use Rattle.thread_model.specs.Settings.{Settings}
 use Rattle.thread_model.specs.State.{State}
-use Rattle.thread_model.specs.Targets.{evaluated, is_title, object_of, title_evaluated}
+use Rattle.thread_model.specs.Targets.{evaluated, object_of}
+use Rattle.thread_model.specs.Writing.{Writing, acted_writing, written}
 use Rattle.thread_model.proofs.ConnectionLemmas.{IsAllowed, allowed}
-use Rattle.thread_model.proofs.TitleLemmas.{title_text}
 
 -- a connection that is made has the sender and the receiver that were asked for
 pub record Joins (one other : ℕ) (new : NewConnection) : Type 0 where
@@ -51,19 +49,22 @@ module _ (settings : Settings) (doing : Doing) (self sender : ℕ) (args : List 
     (warns : (code : Code) → P (puts (Warn code (Some self) ∷ []) doing))
     (sends : (target signal : ℕ) (values : List Value) → P (puts (Emit target signal values depth ∷ []) doing))
     (deletes : (target : ℕ) → P (puts (Delete target depth ∷ []) doing))
-    (titles : (target : ℕ) (title : Value) → is_there doing.state.forest.rows target ≡ true → IsOfKind k.Text title → P (puts [] (retitled doing target title)))
+    (writes : (target : ℕ) (name : List ℕ) (value : Value) (writing : Writing) → is_there doing.state.forest.rows target ≡ true → acted_writing doing.state target name value ≡ Ok writing → P (written settings doing target depth writing))
     (moves : (target : ℕ) (parent : Option ℕ) → set_parent_refusal doing.state.forest target parent ≡ None → P (puts [] (adopted doing target parent)))
     (connects : (new : NewConnection) → IsAllowed doing.state.connections → object_refusal doing.state.forest.rows new.sender ≡ None → object_refusal doing.state.forest.rows new.receiver ≡ None → P (puts [] (linked doing new)))
     (breaks : (pattern : Pattern) → P (puts [] (unlinked doing pattern)))
     (posts : (target : ℕ) → object_refusal doing.state.forest.rows target ≡ None → P (puts [] (posted doing (Deletion target))))
     (blocks : (target : ℕ) (on : Bool) → P (puts [] (blocking doing target on)))
   where
-    titled_by : (of : ℕ) (declared there : Bool) (found : Found Value) → is_there doing.state.forest.rows of ≡ there → ((title : Value) → found ≡ Ok title → IsOfKind k.Text title)
-        → P (warns_or (cond declared (option_or (cond there None (Some NoSuchObject)) (result_err found)) (Some BadValue)) self doing (with_found found (λ title. puts [] (retitled doing of title)) doing))
-    titled_by of false there found is texts = warns BadValue
-    titled_by of true false found is texts = warns NoSuchObject
-    titled_by of true true (Ok title) is texts = titles of title is (texts title refl)
-    titled_by of true true (Err code) is texts = warns code
+    written_by : (of : ℕ) (there : Bool) (name : List ℕ) (value : Found Value) → is_there doing.state.forest.rows of ≡ there
+        → P (warns_or (option_or (cond there None (Some NoSuchObject)) (result_err (value >>= acted_writing doing.state of name))) self doing (with_found (value >>= acted_writing doing.state of name) (λ writing. written settings doing of depth writing) doing))
+    written_by of false name value is = warns NoSuchObject
+    written_by of true name (Err code) is = warns code
+    written_by of true name (Ok value) is = by (acted_writing doing.state of name value) refl
+      where
+        by : (found : Found Writing) → acted_writing doing.state of name value ≡ found → P (warns_or (result_err found) self doing (with_found found (λ writing. written settings doing of depth writing) doing))
+        by (Ok writing) e = writes of name value writing is e
+        by (Err code) e = warns code
 
     sent_by : (of : ℕ) (there : Bool) (found : Found (ℕ × List Value))
         → P (warns_or (option_or (cond there None (Some NoSuchObject)) (result_err found)) self doing (with_found found (λ emitted. puts (Emit of emitted.0 emitted.1 depth ∷ []) doing) doing))
@@ -111,8 +112,7 @@ module _ (settings : Settings) (doing : Doing) (self sender : ℕ) (args : List 
     -- an action is refused, or has one of these effects
     pub acted_cases : (plain : Effect) → P (warns_or (act_refusal settings doing.state self sender args plain) self doing (acted settings doing self sender args depth plain))
     acted_cases (e.Set of property value) =
-        titled_by (object_of doing.state self sender of) (is_title property) (is_there doing.state.forest.rows (object_of doing.state self sender of)) (title_evaluated doing.state self sender args value) refl
-        (title_text (evaluated doing.state self sender args value))
+        written_by (object_of doing.state self sender of) (is_there doing.state.forest.rows (object_of doing.state self sender of)) property (evaluated doing.state self sender args value) refl
     acted_cases (e.Emit of signal sent) = sent_by (object_of doing.state self sender of) (is_there doing.state.forest.rows (object_of doing.state self sender of)) (emission settings doing.state self sender args (object_of doing.state self sender of) signal sent)
     acted_cases (e.Connect of signal to method mode unique single) =
         linked_by unique _ _ (connection settings doing.state (object_of doing.state self sender of) signal (object_of doing.state self sender to) method mode single)

@@ -3,7 +3,7 @@ use Rattle.std.proofs.Common.{◌≡◌, ℕ, Bool, true, false, cond, List, [],
 use Rattle.std.specs.Option.{option_or}
 use Rattle.std.specs.Result.{result_err}
 use Rattle.refusals.specs.declared.code.Code.{Code}
-use Rattle.refusals.specs.declared.code.Code.TheVariants.{BadValue, Limit, NoSuchObject}
+use Rattle.refusals.specs.declared.code.Code.TheVariants.{Limit, NoSuchObject}
 use Rattle.signature_core.specs.declared.signature.Signature.{Signature}
 use Rattle.variant_value.specs.declared.value.Value.{Value}
 use Rattle.term_core.specs.declared.action.Effect.{Effect}
@@ -20,15 +20,16 @@ use Rattle.event_queue.specs.Queue.{has_room}
 use Rattle.object_tree.specs.Refusing.{object_refusal, set_parent_refusal}
 use Rattle.object_tree.specs.Rows.{is_there}
 use Rattle.thread_model.specs.Absence.{named_absence}
-use Rattle.thread_model.specs.Acts.{act_refusal, acted, acts, chosen, connection, emission, pattern, warns_or, with_found}
+use Rattle.thread_model.specs.Acts.{act_refusal, acted, acts, chosen, connection, emission, pattern, warns_or, with_found, writing}
 use Rattle.thread_model.specs.Agenda.{step}
 use Rattle.thread_model.specs.Connecting.{connection_refusal}
-use Rattle.thread_model.specs.Doing.{Doing, adopted, blocking, linked, posted, retitled, unlinked}
+use Rattle.thread_model.specs.Doing.{Doing, adopted, blocking, linked, posted, unlinked}
 use Rattle.thread_model.specs.Items.{Act, Delete, Emit, Next, Warn, puts}
 use Rattle.thread_model.specs.Methods.{Found}
 use Rattle.thread_model.specs.Posting.{post_refusal}
 use Rattle.thread_model.specs.Settings.{Settings}
-use Rattle.thread_model.specs.Targets.{is_title, named_object_of, object_of, title_evaluated, truth_evaluated}
+use Rattle.thread_model.specs.Targets.{named_object_of, object_of, truth_evaluated}
+use Rattle.thread_model.specs.Writing.{Writing, written}
 
 module _ (settings : Settings) (self sender : ℕ) (args : List Value) (depth : ℕ) (doing : Doing) where
   -- what an action comes to that has one effect
@@ -59,34 +60,29 @@ module _ (settings : Settings) (self sender : ℕ) (args : List Value) (depth : 
   absent there = cond there None (Some NoSuchObject)
 
   -- writing a property
-  module _ (of : Target) (property : List ℕ) (value : Term) where
-    set_next : ℕ → Bool → Bool → Found Value → Next
-    set_next target declared there found = warns_or (cond declared (option_or (absent there) (result_err found)) (Some BadValue)) self doing (with_found found (λ title. puts [] (retitled doing target title)) doing)
+  module _ (of : Target) (property : List ℕ) (value : Term) (target : ℕ) (is : target ≡ object of) where
+    set_next : ℕ → Bool → Found Writing → Next
+    set_next target there found = warns_or (option_or (absent there) (result_err found)) self doing (with_found found (λ writing. written settings doing target depth writing) doing)
 
-    -- no property but the title can be written yet
-    pub set_other : is_title property ≡ false → comes_to (e.Set of property value) ≡ warned BadValue
+    by_owner : (there : Bool) → is_there doing.state.forest.rows target ≡ there → comes_to (e.Set of property value) ≡ set_next target there (writing doing.state self sender args target property value)
     unfolding set_next
-    set_other other = ap (λ declared. set_next (object of) declared (is_there doing.state.forest.rows (object of)) (title_evaluated doing.state self sender args value)) other
+    by_owner there e =
+        ap (λ target. set_next target (is_there doing.state.forest.rows target) (writing doing.state self sender args target property value)) (sym is)
+        ∙ ap (λ there. set_next target there (writing doing.state self sender args target property value)) e
 
-    module _ (declared : is_title property ≡ true) (target : ℕ) (is : target ≡ object of) where
-      by_target : (there : Bool) → is_there doing.state.forest.rows target ≡ there → comes_to (e.Set of property value) ≡ set_next target true there (title_evaluated doing.state self sender args value)
-      unfolding set_next
-      by_target there e =
-          ap (λ declared. set_next (object of) declared (is_there doing.state.forest.rows (object of)) (title_evaluated doing.state self sender args value)) declared
-          ∙ ap (λ target. set_next target true (is_there doing.state.forest.rows target) (title_evaluated doing.state self sender args value)) (sym is)
-          ∙ ap (λ there. set_next target true there (title_evaluated doing.state self sender args value)) e
+    pub set_absent : is_there doing.state.forest.rows target ≡ false → comes_to (e.Set of property value) ≡ warned NoSuchObject
+    unfolding set_next
+    set_absent there = by_owner false there
 
-      pub set_absent : is_there doing.state.forest.rows target ≡ false → comes_to (e.Set of property value) ≡ warned NoSuchObject
+    module _ (there : is_there doing.state.forest.rows target ≡ true) where
+      pub set_faulty : (code : Code) → writing doing.state self sender args target property value ≡ Err code → comes_to (e.Set of property value) ≡ warned code
       unfolding set_next
-      set_absent there = by_target false there
+      set_faulty code found = by_owner true there ∙ ap (set_next target true) found
 
-      pub set_faulty : (code : Code) → is_there doing.state.forest.rows target ≡ true → title_evaluated doing.state self sender args value ≡ Err code → comes_to (e.Set of property value) ≡ warned code
+      -- what is written is written, and then told of
+      pub set_done : (found : Writing) → writing doing.state self sender args target property value ≡ Ok found → comes_to (e.Set of property value) ≡ written settings doing target depth found
       unfolding set_next
-      set_faulty code there found = by_target true there ∙ ap (set_next target true true) found
-
-      pub set_done : (title : Value) → is_there doing.state.forest.rows target ≡ true → title_evaluated doing.state self sender args value ≡ Ok title → comes_to (e.Set of property value) ≡ puts [] (retitled doing target title)
-      unfolding set_next
-      set_done title there found = by_target true there ∙ ap (set_next target true true) found
+      set_done _ found = by_owner true there ∙ ap (set_next target true) found
 
   -- sending a signal
   module _ (of : Target) (signal : Signature) (sent : List Term) (target : ℕ) (is : target ≡ object of) where

@@ -23,7 +23,7 @@ use Rattle.thread_model.specs.declared.line.Line.TheVariants as line
 use Rattle.thread_model.specs.declared.line.Line.TheVariants.{Warning}
 use Rattle.thread_model.specs.Acts.{acts, chosen}
 use Rattle.thread_model.specs.Agenda.{call_items, call_line, callee_called, called, calls_of, connection_of, emitted, event_items, is_held_back, kins, lives, lives_below, method_called, method_items, queued, ran, spun, step, with_turn}
-use Rattle.thread_model.specs.Doing.{Doing, adopted, blocking, dying, first_taken, forgotten, gone, linked, posted, retitled, shot, told, turn_taken, unlinked, untied, used_up}
+use Rattle.thread_model.specs.Doing.{Doing, adopted, blocking, dying, first_taken, forgotten, gone, in_state, linked, posted, shot, told, turn_taken, unlinked, untied, used_up}
 use Rattle.thread_model.specs.Items.{Act, Call, Cut, Delete, Emit, Gone, Item, Kin, Next, Reply, ReplySpun, Run, Spin, Warn, puts}
 use Rattle.thread_model.specs.Methods.{Found, method_at}
 use Rattle.thread_model.specs.Posting.{is_queued, spin_of}
@@ -31,10 +31,12 @@ use Rattle.thread_model.specs.Run.{Most, deletion_weight, most, turn_weight, wei
 use Rattle.thread_model.specs.Settings.{Settings}
 use Rattle.thread_model.specs.State.{State}
 use Rattle.thread_model.specs.Targets.{truth_evaluated}
+use Rattle.thread_model.specs.Writing.{Writing, with_writing, written}
 use Rattle.thread_model.proofs.ActLemmas.{acted_cases}
 use Rattle.thread_model.proofs.LivingLemmas.{few_children, filter-fewer, living_rows}
 use Rattle.thread_model.proofs.WeightLemmas.{act-some, acts-weight, body-size, calls-weight, choice-weight, kins-weight, weight-some, weights-append}
-use Rattle.thread_model.proofs.ShrinkLemmas.{Shrinks, adopted_shrinks, blocking_shrinks, both, dying_less, dying_shrinks, first_taken-turns, forgotten_shrinks, gone_shrinks, linked_shrinks, posted_shrinks, queued_shrinks, retitled_shrinks, same, shot_shrinks, taken_shrinks, told_shrinks, turn_shrinks, turn_taken-less, unlinked_shrinks, untied_shrinks, used_up_shrinks}
+use Rattle.thread_model.proofs.WritingLemmas.{written_cases}
+use Rattle.thread_model.proofs.ShrinkLemmas.{Shrinks, adopted_shrinks, blocking_shrinks, both, dying_less, dying_shrinks, first_taken-turns, forgotten_shrinks, gone_shrinks, linked_shrinks, posted_shrinks, queued_shrinks, same, shot_shrinks, taken_shrinks, told_shrinks, turn_shrinks, turn_taken-less, unlinked_shrinks, untied_shrinks, used_up_shrinks, written_shrinks}
 
 abbrev pub total : Most → Doing → ℕ → ℕ
 total n doing items = doing.turns * turn_weight n + living_rows doing.state.forest.rows * deletion_weight n + items
@@ -73,6 +75,15 @@ module _ (settings : Settings) (item : Item) (doing : Doing) where
   -- nothing is put in front, and nothing grows
   pub idle : (new : Doing) → Shrinks doing new → FallsTo settings item doing (puts [] new)
   idle new shrinks = let some = weight-some (most settings doing) item in lighter (puts [] new) shrinks (omega (arith, some))
+
+-- a writing falls to what tells of it
+written_falls : (settings : Settings) (item : Item) (doing : Doing) (target depth : ℕ) (writing : Writing) → (most settings doing).connections + 2 < weight (most settings doing) item → FallsTo settings item doing (written settings doing target depth writing)
+written_falls settings item doing target depth writing more =
+    let new = in_state doing (with_writing doing.state target writing) in
+    let shrinks = written_shrinks doing target writing in
+    written_cases settings doing target depth writing (FallsTo settings item doing)
+    (idle settings item doing new shrinks)
+    (λ signal values. lighter settings item doing (puts (Emit target signal values depth ∷ []) new) shrinks (omega (arith, more)))
 
 -- a method that is called comes to less than a turn may
 method_weight : (n : Most) (target index sender : ℕ) (args : List Value) (sent_at run_at : ℕ) (method : Method) → weights n (method_items target index sender args sent_at run_at method) < turn_weight n
@@ -200,7 +211,7 @@ falls settings (Act (effect plain) args self sender depth) doing =
     (λ code. lighter settings item doing (puts (Warn code (Some self) ∷ []) doing) (same doing) (omega arith))
     (λ target signal values. lighter settings item doing (puts (Emit target signal values depth ∷ []) doing) (same doing) (omega arith))
     (λ target. lighter settings item doing (puts (Delete target depth ∷ []) doing) (same doing) (omega arith))
-    (λ target title there text. idle settings item doing (retitled doing target title) (retitled_shrinks doing target title))
+    (λ target name value writing there found. written_falls settings item doing target depth writing (omega arith))
     (λ target parent passed. idle settings item doing (adopted doing target parent) (adopted_shrinks doing target parent))
     (λ new allowed sender' receiver'. idle settings item doing (linked doing new) (linked_shrinks doing new allowed))
     (λ pattern. idle settings item doing (unlinked doing pattern) (unlinked_shrinks doing pattern))

@@ -1,10 +1,10 @@
 -- An action over the arguments of its slot does what it does with them put in.
-use Rattle.std.proofs.Common.{◌≡◌, ℕ, Bool, true, false, List, [], ◌∷◌, ◌++◌, Some, Ok, Err, map, if◌then◌else◌, refl, sym, ap, ◌∙◌}
-use Rattle.std.specs.Option.{ok_or, option_map_or, option_or}
+use Rattle.std.proofs.Common.{◌≡◌, ℕ, Bool, true, false, List, [], ◌∷◌, ◌++◌, Ok, Err, map, refl, sym, ap, ◌∙◌}
+use Rattle.std.specs.Option.{ok_or, option_or}
 use Rattle.std.specs.Result.{result_err}
 use Rattle.refusals.specs.declared.code.Code.TheVariants.{BadValue}
 use Rattle.variant_value.specs.declared.value.Value.{Value}
-use Rattle.variant_value.specs.Values.{text_in, text_of, truth_in}
+use Rattle.variant_value.specs.Values.{truth_in}
 use Rattle.term_core.specs.declared.action.Effect.{Effect}
 use Rattle.term_core.specs.declared.action.Effect.TheVariants as e
 use Rattle.term_core.specs.Act as term
@@ -15,14 +15,15 @@ use Rattle.term_evaluation.proofs.EvaluationLemmas.{in_place}
 use Rattle.thread_model.specs.Absence.{absence}
 use Rattle.thread_model.specs.Acts.{acts, chosen, warns_or, with_found}
 use Rattle.thread_model.specs.Agenda.{step}
-use Rattle.thread_model.specs.Doing.{Doing, retitled}
+use Rattle.thread_model.specs.Doing.{Doing}
 use Rattle.thread_model.specs.Items.{Act, Emit, Next, puts}
 use Rattle.thread_model.specs.Laws.{ActsInPlace}
 use Rattle.thread_model.specs.Methods.{Found, ◌>>=◌, kinds_at, methods_of, signal_with}
 use Rattle.thread_model.specs.Run.{run}
 use Rattle.thread_model.specs.Settings.{Settings}
 use Rattle.thread_model.specs.State.{State}
-use Rattle.thread_model.specs.Targets.{all_converted, all_evaluated, evaluated, is_title, object_of, outcome, reads, truth_evaluated}
+use Rattle.thread_model.specs.Targets.{all_converted, all_evaluated, evaluated, object_of, outcome, reads, truth_evaluated}
+use Rattle.thread_model.specs.Writing.{acted_writing, written}
 use Rattle.thread_model.proofs.RunLemmas.{at_item, behind_nothing, in_parts}
 
 module _ (settings : Settings) (self sender : ℕ) (args : List Value) where
@@ -38,9 +39,11 @@ module _ (settings : Settings) (self sender : ℕ) (args : List Value) where
 
   -- what an effect comes to
   effect-put_in : (depth : ℕ) (doing : Doing) (plain : Effect) → step settings (Act (effect plain) args self sender depth) doing ≡ step settings (Act (effect (unfolded_effect args plain)) [] self sender depth) doing
-  effect-put_in depth doing (e.Set of property value) = ap
-      (λ found. let title = found >>= λ value. option_map_or text_of (text_in value) (Err BadValue) in
-      warns_or (if is_title property then option_or (absence doing.state (object_of doing.state self sender of)) (result_err title) else Some BadValue) self doing (with_found title (λ title. puts [] (retitled doing (object_of doing.state self sender of) title)) doing))
+  effect-put_in depth doing (e.Set of property value) =
+      let object = object_of doing.state self sender of in
+      ap
+      (λ found. let writing = found >>= acted_writing doing.state object property in
+      warns_or (option_or (absence doing.state object) (result_err writing)) self doing (with_found writing (λ writing. written settings doing object depth writing) doing))
       (evaluated-put_in doing.state value)
   effect-put_in depth doing (e.Emit of signal sent) =
       let object = object_of doing.state self sender of in

@@ -30,10 +30,13 @@ use Rattle.thread_model.specs.Posting.{is_queued, spin_of}
 use Rattle.thread_model.specs.Settings.{Settings}
 use Rattle.thread_model.specs.State.{IsTied, State, without_connections}
 use Rattle.thread_model.specs.Targets.{truth_evaluated}
+use Rattle.thread_model.specs.Writing.{Writing, with_writing, written}
 use Rattle.thread_model.specs.UnderWay.{IsBrokenInTime, IsUnderWay, is_gone}
 use Rattle.thread_model.proofs.ActLemmas.{acted_cases}
 use Rattle.thread_model.proofs.ConnectionLemmas.{of_found}
-use Rattle.thread_model.proofs.UnderWayLemmas.{adopted_under, behind, blocking_under, cut_under, dying_under, first_taken_under, gone_under, in_front, linked_under, meant_under, queued_under, retitled_under, shot_under, told_under, turn_under, unlinked_under, used_up_under}
+use Rattle.thread_model.proofs.UnderWayLemmas.{adopted_under, behind, blocking_under, cut_under, dying_under, first_taken_under, gone_under, in_front, linked_under, meant_under, queued_under, shot_under, told_under, turn_under, unlinked_under, used_up_under, writing_under}
+use Rattle.thread_model.proofs.WritingLemmas.{written_cases}
+use Rattle.thread_model.proofs.FitLemmas.{IsFit, acted_fit}
 
 -- actions, calls, children and what is called let nothing go
 acts_stay : (body : Acts) (args : List Value) (self sender depth : ℕ) → list_any is_gone (acts body args self sender depth) ≡ false
@@ -116,6 +119,13 @@ module _ (settings : Settings) (agenda : List Item) (doing : Doing) (under : IsU
       let said = call_line method target sender args in
       in_front _ agenda (told doing said).state (acts_stay (acts_of method.body.actions) args target sender (depth + 1)) (told_under agenda doing under said)
 
+  -- what is written fits its object
+  written_kept : (target depth : ℕ) (writing : Writing) → IsFit doing.state target writing → Keeps agenda (written settings doing target depth writing)
+  written_kept target depth writing fit =
+      let after = with_writing doing.state target writing in
+      let rest = writing_under agenda doing under target writing fit in
+      written_cases settings doing target depth writing (Keeps agenda) rest (λ signal values. in_front (Emit target signal values depth ∷ []) agenda after refl rest)
+
   chosen_kept : (truth : Found Bool) (held failed : Acts) (args : List Value) (self sender depth : ℕ) → Keeps agenda (chosen truth held failed args self sender depth doing)
   chosen_kept (Ok true) held failed args self sender depth = in_front _ agenda doing.state (acts_stay held args self sender depth) under
   chosen_kept (Ok false) held failed args self sender depth = in_front _ agenda doing.state (acts_stay failed args self sender depth) under
@@ -167,7 +177,7 @@ item_under_way settings (Act (effect plain) args self sender depth) agenda doing
     (λ code. in_front (Warn code (Some self) ∷ []) agenda doing.state refl rest)
     (λ target signal values. in_front (Emit target signal values depth ∷ []) agenda doing.state refl rest)
     (λ target. in_front (Delete target depth ∷ []) agenda doing.state refl rest)
-    (λ target title there text. retitled_under agenda doing rest target title there text)
+    (λ target name value writing there found. written_kept settings agenda doing rest target depth writing (acted_fit doing.state target name value writing found))
     (λ target parent passed. adopted_under agenda doing rest target parent passed)
     (λ new allowed sender' receiver'. linked_under agenda doing rest new allowed sender' receiver')
     (λ pattern. unlinked_under agenda doing rest pattern)

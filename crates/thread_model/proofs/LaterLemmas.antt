@@ -8,7 +8,6 @@ use Rattle.std.proofs.lemmas.List.Elements.{filter-append}
 use Rattle.std.proofs.lemmas.List.Elements.{All-append, All-cons, All-filter, All-nil, All-weaker}
 use Rattle.refusals.specs.declared.code.Code.TheVariants.{Limit, TurnsUsedUp}
 use Rattle.variant_value.specs.declared.value.Value.{Value}
-use Rattle.variant_value.specs.declared.value.Value.TheVariants.{Invalid}
 use Rattle.term_core.specs.Act.{Acts, effect, when}
 use Rattle.class_table.specs.declared.class.Method.{Method}
 use Rattle.connection_types.specs.declared.callee.Callee.{Callee}
@@ -31,7 +30,7 @@ use Rattle.thread_model.specs.declared.line.Line.TheVariants as line
 use Rattle.thread_model.specs.declared.line.Line.TheVariants.{Warning}
 use Rattle.thread_model.specs.Acts.{chosen}
 use Rattle.thread_model.specs.Agenda.{call_line, callee_called, called, calls_of, connection_of, emitted, event_items, is_held_back, lives, lives_below, method_called, method_items, queued, ran, spun, step, with_turn}
-use Rattle.thread_model.specs.Doing.{Doing, adopted, blocking, dying, first_taken, forgotten, gone, in_state, linked, lost, posted, retitled, shot, told, turn_taken, unlinked, untied, used_up}
+use Rattle.thread_model.specs.Doing.{Doing, adopted, blocking, dying, first_taken, forgotten, gone, in_state, linked, lost, posted, shot, told, turn_taken, unlinked, untied, used_up}
 use Rattle.thread_model.specs.Items.{Act, Call, Cut, Delete, Emit, Gone, Item, Kin, Next, Reply, ReplySpun, Run, Spin, Warn, puts}
 use Rattle.thread_model.specs.Methods.{Found, method_at}
 use Rattle.thread_model.specs.Posting.{is_queued, spin_of}
@@ -39,9 +38,11 @@ use Rattle.thread_model.specs.Run.{run}
 use Rattle.thread_model.specs.Settings.{Settings}
 use Rattle.thread_model.specs.State.{without_connections}
 use Rattle.thread_model.specs.Targets.{truth_evaluated}
+use Rattle.thread_model.specs.Writing.{Declared, Dynamic, Nothing, Removed, Writing, with_writing, written}
 use Rattle.thread_model.proofs.ActLemmas.{acted_cases}
 use Rattle.thread_model.proofs.FilterLemmas.{filter-all, filter-both}
 use Rattle.thread_model.proofs.RunLemmas.{run_keeps}
+use Rattle.thread_model.proofs.WritingLemmas.{written_cases}
 
 -- of the connections some are left, and those that were made since have greater numbers
 pub record IsLater (old new : Rows) : Type 0 where
@@ -135,9 +136,20 @@ module _ (settings : Settings) where
   unfolding unlinked
   unlinked_later doing pattern = later_without (matches pattern) doing.state.connections
 
-  others_later : (doing : Doing) (target : ℕ) (title : Value) (parent : Option ℕ) → Later doing (retitled doing target title) × Later doing (adopted doing target parent) × Later doing (dying doing target) × Later doing (gone doing target)
-  unfolding retitled adopted dying gone
-  others_later doing target title parent = (unchanged doing, unchanged doing, unchanged doing, unchanged doing)
+  others_later : (doing : Doing) (target : ℕ) (parent : Option ℕ) → Later doing (adopted doing target parent) × Later doing (dying doing target) × Later doing (gone doing target)
+  unfolding adopted dying gone
+  others_later doing target parent = (unchanged doing, unchanged doing, unchanged doing)
+
+  -- what is written concerns no connection
+  with_writing_later : (doing : Doing) (target : ℕ) (writing : Writing) → Later doing (in_state doing (with_writing doing.state target writing))
+  with_writing_later doing target (Declared number value) = unchanged doing
+  with_writing_later doing target (Dynamic name value) = unchanged doing
+  with_writing_later doing target (Removed name) = unchanged doing
+  with_writing_later doing target Nothing = unchanged doing
+
+  written_later : (doing : Doing) (target depth : ℕ) (writing : Writing) → Later doing (written settings doing target depth writing).doing
+  written_later doing target depth writing =
+      written_cases settings doing target depth writing (λ (next : Next). Later doing next.doing) (with_writing_later doing target writing) (λ signal values. with_writing_later doing target writing)
 
   emitted_later : (target signal : ℕ) (args : List Value) (depth : ℕ) (doing : Doing) (found : Option Row) → Later doing (option_map_or (emitted doing target signal args depth) found (puts [] doing)).doing
   emitted_later target signal args depth doing None = unchanged doing
@@ -193,8 +205,8 @@ module _ (settings : Settings) where
       (λ code. unchanged doing)
       (λ target signal values. unchanged doing)
       (λ target. unchanged doing)
-      (λ target title there text. (others_later doing target title None).0)
-      (λ target parent passed. (others_later doing target Invalid parent).1)
+      (λ target name value writing there found. written_later doing target depth writing)
+      (λ target parent passed. (others_later doing target parent).0)
       (λ new allowed sender' receiver'. linked_later doing new)
       (λ pattern. unlinked_later doing pattern)
       (λ target passed. posted_later doing (event.Deletion target))
@@ -203,11 +215,11 @@ module _ (settings : Settings) where
   step_later (Act (when test held failed) args self sender depth) doing = chosen_later (truth_evaluated doing.state self sender args test) held failed args self sender depth doing
   step_later (Warn code object) doing = told_later doing (line.Warning code object)
   step_later (Delete target depth) doing =
-      cond_both (lives doing target) (puts (Emit target DESTROYED [] depth ∷ Cut target depth ∷ Gone target depth ∷ []) (dying doing target)) (puts [] doing) (λ (next : Next). Later doing next.doing) (λ living. (others_later doing target Invalid None).2) (λ absent. unchanged doing)
+      cond_both (lives doing target) (puts (Emit target DESTROYED [] depth ∷ Cut target depth ∷ Gone target depth ∷ []) (dying doing target)) (puts [] doing) (λ (next : Next). Later doing next.doing) (λ living. (others_later doing target None).1) (λ absent. unchanged doing)
   step_later (Cut target depth) doing = kins_later target depth doing
   step_later (Kin parent child depth) doing =
       cond_both (lives_below doing parent child) (puts (Delete child depth ∷ []) doing) (puts [] doing) (λ (next : Next). Later doing next.doing) (λ living. unchanged doing) (λ other. unchanged doing)
-  step_later (Gone target depth) doing = (others_later doing target Invalid None).3
+  step_later (Gone target depth) doing = (others_later doing target None).2
   step_later Spin doing = spun_later doing doing.state.queue.events
   step_later (Reply answer) doing = told_later doing (line.Reply answer)
   step_later ReplySpun doing = told_later doing (line.Reply (a.Spun (spin_of doing)))

@@ -1,17 +1,14 @@
 -- Commands, posts and items keep a session sound.
-use Rattle.std.proofs.Common.{◌≡◌, ◌==◌, ℕ, Bool, true, false, cond, List, [], ◌∷◌, ◌++◌, Option, Some, None, Result, Ok, Err, refl, sym, ap, ◌∙◌, arith}
+use Rattle.std.proofs.Common.{◌≡◌, ◌==◌, ℕ, Bool, true, false, cond, List, [], ◌∷◌, ◌++◌, Option, Some, None, Ok, Err, refl, sym, ap, ◌∙◌, arith}
 use Rattle.std.specs.List.{list_any}
 use Rattle.std.specs.Option.{option_or}
-use Rattle.std.specs.Result.{result_ok}
 use Rattle.std.proofs.lemmas.Bool.{cond_both}
 use Rattle.std.proofs.lemmas.List.Elements.{All-weaker}
 use Rattle.isolation.specs.Machine.{Effect}
 use Rattle.refusals.specs.declared.code.Code.{Code}
 use Rattle.refusals.specs.declared.code.Code.TheVariants.{NoSuchObject}
 use Rattle.serde_json.specs.Data.{Data}
-use Rattle.signature_core.specs.declared.kind.Kind.TheVariants as k
 use Rattle.variant_value.specs.declared.value.Value.{Value}
-use Rattle.variant_value.specs.Values.{value_of}
 use Rattle.object_tree.specs.declared.row.Row.{Row}
 use Rattle.object_tree.specs.Rows.{is_there}
 use Rattle.object_tree.specs.Refusing.{parent_refusal}
@@ -29,7 +26,7 @@ use Rattle.thread_model.specs.declared.line.Line.{Line}
 use Rattle.thread_model.specs.declared.post.Post.{Post}
 use Rattle.thread_model.specs.Absence.{absence}
 use Rattle.thread_model.specs.Agenda.{with_turn}
-use Rattle.thread_model.specs.Asked.{Asked, New, Delete, SetParent, Children, Find, Set, Get, Meta, Connect, DisconnectOne, Disconnect, Invoke, Spin, DeleteLater, Block, Status}
+use Rattle.thread_model.specs.Asked.{Asked, New, Delete, SetParent, Children, Find, Set, Get, DynamicNames, Meta, Connect, DisconnectOne, Disconnect, Invoke, Spin, DeleteLater, Block, Status}
 use Rattle.thread_model.specs.Connecting.{connection_refusal}
 use Rattle.thread_model.specs.Doing.{Doing, begun, turn_taken, used_up}
 use Rattle.thread_model.specs.Effects.{does_next, unless}
@@ -39,21 +36,23 @@ use Rattle.thread_model.specs.Items.{Emit, Item, Next, Run, puts}
 use Rattle.thread_model.specs.Laws.{KeepsSound, KeepsUnderWay}
 use Rattle.thread_model.specs.Methods.{Found, is_signal_at, methods_of}
 use Rattle.thread_model.specs.Posting.{is_queued}
-use Rattle.thread_model.specs.Properties.{stores}
+use Rattle.thread_model.specs.Properties.{is_declared, sets}
 use Rattle.thread_model.specs.Refusing.{class_refusal, refusal}
 use Rattle.thread_model.specs.Run.{run}
 use Rattle.thread_model.specs.Signals.{asked_connection, asked_method, asked_pattern, connects, disconnects, invoked, invoked_later, invokes}
-use Rattle.thread_model.specs.State.{IsMeant, IsSound, IsWhole, State, with_event, with_title}
+use Rattle.thread_model.specs.State.{IsMeant, IsSound, State, with_event}
 use Rattle.thread_model.specs.Thread.{Settings, arrives, does, performs}
 use Rattle.thread_model.specs.UnderWay.{IsUnderWay, is_gone}
+use Rattle.thread_model.specs.Writing.{Writing, asked_writing, with_writing, written}
 use Rattle.thread_model.proofs.ActLemmas.{Joins, joins}
 use Rattle.thread_model.proofs.ConnectionLemmas.{allowed}
 use Rattle.thread_model.proofs.DyingLemmas.{each_added, each_blocked, each_reparented}
+use Rattle.thread_model.proofs.FitLemmas.{IsFit, asked_fit}
 use Rattle.thread_model.proofs.ItemLemmas.{item_under_way}
 use Rattle.thread_model.proofs.RunLemmas.{run_keeps}
-use Rattle.thread_model.proofs.StateLemmas.{whole_empty, whole_with_blocking, whole_with_connection, whole_with_event, whole_with_object, whole_with_parent, whole_with_title, whole_without_connections}
-use Rattle.thread_model.proofs.TitleLemmas.{text_read}
-use Rattle.thread_model.proofs.UnderWayLemmas.{IsGoing, none_goes, turn_under, untied_staying, used_up_under}
+use Rattle.thread_model.proofs.StateLemmas.{whole_empty, whole_with_blocking, whole_with_connection, whole_with_event, whole_with_object, whole_with_parent, whole_without_connections}
+use Rattle.thread_model.proofs.UnderWayLemmas.{IsGoing, none_goes, turn_under, untied_staying, used_up_under, writing_under}
+use Rattle.thread_model.proofs.WritingLemmas.{written_cases}
 
 -- between commands no agenda needs to let an object go
 under_way : (agenda : List Item) (state : State) → list_any is_gone agenda ≡ false → IsSound state → IsUnderWay agenda state
@@ -95,11 +94,6 @@ is_present state target passed = by (is_there state.forest.rows target) passed
     by true e = refl
     by false e = absurd (cc)
 
--- a title that was read is stored
-stored_sound : (state : State) (target : ℕ) (read : Result Value Code) → ((title : Value) → read ≡ Ok title → IsWhole (with_title state target title)) → IsSound state → IsSound (stores state target (result_ok read)).state
-stored_sound state target (Ok title) whole sound = record { whole = whole title refl; living = sound.living }
-stored_sound state target (Err code) whole sound = sound
-
 -- a connection that is not refused is made
 connected_sound : (state : State) (sender receiver : ℕ) (unique : Bool) (found : Found NewConnection) → ((new : NewConnection) → found ≡ Ok new → Joins sender receiver new)
     → is_there state.forest.rows sender ≡ true → is_there state.forest.rows receiver ≡ true → connection_refusal state.connections found unique ≡ None → IsSound state → IsSound (connects state found).state
@@ -115,10 +109,22 @@ disconnected_sound : (state : State) (found : Found Pattern) → IsSound state �
 disconnected_sound state (Err code) sound = sound
 disconnected_sound state (Ok pattern) sound = record { whole = whole_without_connections state (matches pattern) sound.whole; living = sound.living }
 
--- what an invocation begins with is sound, and lets nothing go
+-- what a command begins with is sound, and lets nothing go
 record Begins (next : Next) : Type 0 where
-  pub none : list_any is_gone (next.items ++ to_do.Reply (a.Truth true) ∷ []) ≡ false
+  pub none : (answer : Answer) → list_any is_gone (next.items ++ to_do.Reply answer ∷ []) ≡ false
   pub sound : IsSound next.doing.state
+
+-- properties are written
+writing_sound : (doing : Doing) (target : ℕ) (writing : Writing) → IsFit doing.state target writing → IsSound doing.state → IsSound (with_writing doing.state target writing)
+writing_sound doing target writing fit sound = sound_at_end (with_writing doing.state target writing) (writing_under [] doing (under_way [] doing.state refl sound) target writing fit)
+
+set_sound : (settings : Settings) (state : State) (target : ℕ) (found : Found Writing) → ((writing : Writing) → found ≡ Ok writing → IsFit state target writing) → IsSound state → IsSound (sets settings state target found).state
+set_sound settings state target (Err code) fits sound = sound
+set_sound settings state target (Ok writing) fits sound =
+    let after = writing_sound (begun settings state) target writing (fits writing refl) sound in
+    let begins : Begins (written settings (begun settings state) target 0 writing) =
+    written_cases settings (begun settings state) target 0 writing Begins (record { none = λ answer. refl; sound = after }) (λ signal values. record { none = λ answer. refl; sound = after }) in
+    done_sound settings (written settings (begun settings state) target 0 writing) (a.Truth (is_declared writing)) (begins.none _) begins.sound
 
 used_up_sound : (doing : Doing) → IsSound doing.state → IsSound (used_up doing).state
 used_up_sound doing sound = sound_at_end (used_up doing).state (used_up_under [] doing (under_way [] doing.state refl sound))
@@ -130,10 +136,10 @@ invoked_begins : (settings : Settings) (state : State) (target index : ℕ) (val
 invoked_begins settings state target index values sound =
     let doing = begun settings state in
     cond_both (is_signal_at (methods_of settings state target) index) (puts (Emit target index values 0 ∷ []) doing) (with_turn doing (puts (Run target index 0 values 0 ∷ []))) Begins
-    (λ signal. record { none = refl; sound = sound })
+    (λ signal. record { none = λ answer. refl; sound = sound })
     (λ slot. cond_both (doing.turns == 0) (puts [] (used_up doing)) (puts (Run target index 0 values 0 ∷ []) (turn_taken doing)) Begins
-    (λ spent. record { none = refl; sound = used_up_sound doing sound })
-    (λ some. record { none = refl; sound = turn_sound doing sound }))
+    (λ spent. record { none = λ answer. refl; sound = used_up_sound doing sound })
+    (λ some. record { none = λ answer. refl; sound = turn_sound doing sound }))
 
 -- an event that is posted names an object that stands
 posted_sound : (state : State) (event : Event) → IsMeant state event → IsSound state → IsSound (with_event state event)
@@ -145,7 +151,7 @@ invokes_sound settings state target args mode (Some index) there sound =
     let begins = invoked_begins settings state target index _ sound in
     cond_both (is_queued mode) (invoked_later state target index _) (does_next settings (invoked settings state target index _) (a.Truth true)) (λ (effect : Effect State Line Post). IsSound effect.state)
     (λ later. posted_sound state (Call (record { object = target; callee = Method index; sender = 0; args = _ })) there sound)
-    (λ now. done_sound settings (invoked settings state target index _) (a.Truth true) begins.none begins.sound)
+    (λ now. done_sound settings (invoked settings state target index _) (a.Truth true) (begins.none _) begins.sound)
 
 spins_sound : (settings : Settings) (state : State) → IsSound state → IsSound (spins settings state).state
 spins_sound settings state sound = run_sound settings (to_do.Spin ∷ to_do.ReplySpun ∷ []) (begun settings state) refl sound
@@ -154,16 +160,15 @@ performed_sound : (settings : Settings) (self : List ℕ) (state : State) (asked
 unfolding refusal performs
 performed_sound settings self state (New class parent) passed sound =
     let allowed = (or_none (class_refusal settings.classes class) _ (or_none (parent_refusal state.forest.rows parent) _ passed).1).1 in
-    record { whole = whole_with_object state parent _ allowed sound.whole; living = each_added (λ number dying. dying ≡ false) state.forest parent _ refl sound.living }
+    record { whole = whole_with_object settings.classes state parent _ allowed sound.whole; living = each_added (λ number dying. dying ≡ false) state.forest parent _ refl sound.living }
 performed_sound settings self state (Delete target) passed sound = done_sound settings (puts (to_do.Delete target 0 ∷ []) (begun settings state)) (a.Truth true) refl sound
 performed_sound settings self state (SetParent target parent) passed sound =
     record { whole = whole_with_parent state target parent passed sound.whole; living = each_reparented (λ number dying. dying ≡ false) state.forest target parent sound.living }
 performed_sound settings self state (Children target) passed sound = sound
 performed_sound settings self state (Find target title class) passed sound = sound
-performed_sound settings self state (Set target value) passed sound =
-    let there = is_present state target (or_none (absence state target) _ passed).0 in
-    stored_sound state target (value_of k.Text value) (λ title read. whole_with_title state target title there (text_read value title read) sound.whole) sound
-performed_sound settings self state (Get target) passed sound = sound
+performed_sound settings self state (Set target property value) passed sound = set_sound settings state target (asked_writing state target property value) (asked_fit state target property value) sound
+performed_sound settings self state (Get target property) passed sound = sound
+performed_sound settings self state (DynamicNames target) passed sound = sound
 performed_sound settings self state (Meta class) passed sound = sound
 performed_sound settings self state (Connect sender signal receiver method mode unique single) passed sound =
     let one = or_none (absence state sender) _ passed in

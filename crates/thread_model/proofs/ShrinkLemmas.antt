@@ -3,7 +3,6 @@ use Rattle.std.proofs.Common.{◌≡◌, ◌≤◌, ◌+◌, ◌==◌, ℕ, Bool
 use Rattle.std.proofs.lemmas.List.{length-append, length-map}
 use Rattle.std.proofs.lemmas.Bool.{cond_both, eqb-false}
 use Rattle.refusals.specs.declared.code.Code.TheVariants.{TurnsUsedUp}
-use Rattle.variant_value.specs.declared.value.Value.{Value}
 use Rattle.connection_list.specs.declared.connection.Connection.{Connection}
 use Rattle.connection_list.specs.declared.connection.NewConnection.{NewConnection}
 use Rattle.connection_list.specs.declared.limit.TheConstants.{CONNECTIONS}
@@ -20,8 +19,9 @@ use Rattle.event_queue.specs.Queue.{has_room}
 use Rattle.thread_model.specs.declared.line.Line.{Line}
 use Rattle.thread_model.specs.declared.line.Line.TheVariants.{Warning}
 use Rattle.thread_model.specs.Agenda.{lives, queued}
-use Rattle.thread_model.specs.Doing.{Doing, adopted, blocking, dying, first_taken, forgotten, gone, in_state, linked, lost, posted, retitled, shot, told, turn_taken, unlinked, untied, used_up}
+use Rattle.thread_model.specs.Doing.{Doing, adopted, blocking, dying, first_taken, forgotten, gone, in_state, linked, lost, posted, shot, told, turn_taken, unlinked, untied, used_up}
 use Rattle.thread_model.specs.State.{without_connections}
+use Rattle.thread_model.specs.Writing.{Declared, Dynamic, Nothing, Removed, Writing, with_writing}
 use Rattle.thread_model.proofs.ConnectionLemmas.{IsAllowed}
 use Rattle.thread_model.proofs.LivingLemmas.{all_orphaned-living, changed-as_many, filter-fewer, filter-living, living_rows, marked-one, reparented-as_many}
 
@@ -131,9 +131,12 @@ linked_shrinks doing new allowed = record {
   connections = omega (arith, allowed.room, length-append doing.state.connections.rows (numbered (doing.state.connections.last_number + 1) new ∷ []));
 }
 
-pub retitled_shrinks : (doing : Doing) (target : ℕ) (title : Value) → Shrinks doing (retitled doing target title)
-unfolding retitled
-retitled_shrinks doing target title = record { turns = omega arith; taken = omega arith; living = omega arith; objects = omega arith; connections = omega arith }
+-- what is written bounds nothing
+pub written_shrinks : (doing : Doing) (target : ℕ) (writing : Writing) → Shrinks doing (in_state doing (with_writing doing.state target writing))
+written_shrinks doing target (Declared number value) = record { turns = omega arith; taken = omega arith; living = omega arith; objects = omega arith; connections = omega arith }
+written_shrinks doing target (Dynamic name value) = record { turns = omega arith; taken = omega arith; living = omega arith; objects = omega arith; connections = omega arith }
+written_shrinks doing target (Removed name) = record { turns = omega arith; taken = omega arith; living = omega arith; objects = omega arith; connections = omega arith }
+written_shrinks doing target Nothing = same doing
 
 pub adopted_shrinks : (doing : Doing) (target : ℕ) (parent : Option ℕ) → Shrinks doing (adopted doing target parent)
 unfolding adopted

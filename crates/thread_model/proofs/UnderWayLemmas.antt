@@ -6,9 +6,6 @@ use Rattle.std.proofs.lemmas.Bool.{cond_both, or_left, or_right}
 use Rattle.std.proofs.lemmas.List.Elements.{All-filter, All-from_recursion, All-push, All-weaker, recursion_from_All}
 use Rattle.std.proofs.lemmas.List.Folds.{list_any-append}
 use Rattle.refusals.specs.declared.code.Code.TheVariants.{TurnsUsedUp}
-use Rattle.signature_core.specs.declared.kind.Kind.TheVariants as k
-use Rattle.variant_value.specs.declared.value.Value.{Value}
-use Rattle.variant_value.specs.Values.{IsOfKind}
 use Rattle.connection_list.specs.declared.connection.Connection.{Connection}
 use Rattle.connection_list.specs.declared.connection.NewConnection.{NewConnection}
 use Rattle.connection_list.specs.declared.pattern.Pattern.{Pattern}
@@ -23,14 +20,16 @@ use Rattle.object_tree.specs.Rows.{is_there}
 use Rattle.thread_model.specs.declared.line.Line.{Line}
 use Rattle.thread_model.specs.declared.line.Line.TheVariants.{Warning}
 use Rattle.thread_model.specs.Agenda.{queued}
-use Rattle.thread_model.specs.Doing.{Doing, adopted, blocking, dying, first_taken, forgotten, gone, in_state, linked, lost, posted, retitled, shot, told, turn_taken, unlinked, untied, used_up}
+use Rattle.thread_model.specs.Doing.{Doing, adopted, blocking, dying, first_taken, forgotten, gone, in_state, linked, lost, posted, shot, told, turn_taken, unlinked, untied, used_up}
 use Rattle.thread_model.specs.Items.{Cut, Gone, Item}
-use Rattle.thread_model.specs.State.{IsTied, State, without_connections}
+use Rattle.thread_model.specs.State.{IsTied, IsWhole, State, without_connections}
+use Rattle.thread_model.specs.Writing.{Declared, Dynamic, Nothing, Removed, Writing, with_writing}
 use Rattle.thread_model.specs.UnderWay.{IsBrokenInTime, IsForgottenInTime, IsUnderWay, is_gone, is_untied_first, lets_go, unties}
 use Rattle.thread_model.proofs.ConnectionLemmas.{IsAllowed, OfEnds}
 use Rattle.thread_model.proofs.DyingLemmas.{Stands, each_blocked, each_marked, each_removed, each_reparented, of_row, stands_living}
 use Rattle.thread_model.proofs.QueueLemmas.{each_posted, each_taken, others_named}
-use Rattle.thread_model.proofs.StateLemmas.{whole_with_blocking, whole_with_connection, whole_with_dying, whole_with_event, whole_with_lost, whole_with_parent, whole_with_title, whole_without_connections, whole_without_events, whole_without_first, whole_without_object}
+use Rattle.thread_model.proofs.FitLemmas.{IsFit}
+use Rattle.thread_model.proofs.StateLemmas.{whole_with_blocking, whole_with_connection, whole_with_dying, whole_with_event, whole_with_lost, whole_with_parent, whole_with_writing, whole_without_connections, whole_without_events, whole_without_first, whole_without_object}
 
 -- an object is dying exactly where an agenda is to let it go
 abbrev pub IsGoing : List Item → ℕ → Bool → Type 0
@@ -194,9 +193,15 @@ module _ (agenda : List Item) (doing : Doing) (under : IsUnderWay agenda doing.s
     forgotten = under.forgotten;
   }
 
-  pub retitled_under : (target : ℕ) (title : Value) → is_there doing.state.forest.rows target ≡ true → IsOfKind k.Text title → IsUnderWay agenda (retitled doing target title).state
-  unfolding retitled
-  retitled_under target title there text = record { whole = whole_with_title doing.state target title there text under.whole; going = under.going; in_time = under.in_time; forgotten = under.forgotten }
+  -- properties may be written, which leaves all else
+  pub writing_under : (target : ℕ) (writing : Writing) → IsFit doing.state target writing → IsUnderWay agenda (with_writing doing.state target writing)
+  writing_under target writing fit = by writing (whole_with_writing doing.state target writing fit under.whole)
+    where
+      by : (writing : Writing) → IsWhole (with_writing doing.state target writing) → IsUnderWay agenda (with_writing doing.state target writing)
+      by (Declared number value) whole = record { whole = whole; going = under.going; in_time = under.in_time; forgotten = under.forgotten }
+      by (Dynamic name value) whole = record { whole = whole; going = under.going; in_time = under.in_time; forgotten = under.forgotten }
+      by (Removed name) whole = record { whole = whole; going = under.going; in_time = under.in_time; forgotten = under.forgotten }
+      by Nothing whole = under
 
   pub adopted_under : (target : ℕ) (parent : Option ℕ) → set_parent_refusal doing.state.forest target parent ≡ None → IsUnderWay agenda (adopted doing target parent).state
   unfolding adopted

@@ -1,9 +1,8 @@
 -- What an action of a slot's body does, and why it is refused.
-use Rattle.std.specs.Prelude.{ℕ, Bool, true, false, List, [], ◌∷◌, Option, Some, None, Ok, Err, if◌then◌else◌}
+use Rattle.std.specs.Prelude.{ℕ, Bool, true, false, List, [], ◌∷◌, Option, Some, None, Ok, Err}
 use Rattle.std.specs.Option.{option_map, option_or}
 use Rattle.std.specs.Result.{result_err}
 use Rattle.refusals.specs.declared.code.Code.{Code}
-use Rattle.refusals.specs.declared.code.Code.TheVariants.{BadValue}
 use Rattle.signature_core.specs.declared.signature.Signature.{Signature}
 use Rattle.variant_value.specs.declared.value.Value.{Value}
 use Rattle.term_core.specs.declared.action.Effect.{Effect}
@@ -19,12 +18,13 @@ use Rattle.thread_model.specs.Absence.{absence, named_absence}
 use Rattle.thread_model.specs.Connecting.{connection_refusal, new_connection, pattern_with}
 use Rattle.thread_model.specs.Posting.{post_refusal}
 use Rattle.event_queue.specs.declared.event.Event.TheVariants.{Deletion}
-use Rattle.thread_model.specs.Doing.{Doing, adopted, blocking, linked, posted, retitled, unlinked}
+use Rattle.thread_model.specs.Doing.{Doing, adopted, blocking, linked, posted, unlinked}
 use Rattle.thread_model.specs.Items.{Act, Delete, Emit, Item, Next, Warn, puts}
 use Rattle.thread_model.specs.Methods.{Found, ◌>>=◌, kinds_at, method_with, methods_of, signal_with}
 use Rattle.thread_model.specs.Settings.{Settings}
 use Rattle.thread_model.specs.State.{State}
-use Rattle.thread_model.specs.Targets.{all_converted, all_evaluated, is_title, named_object_of, object_of, title_evaluated}
+use Rattle.thread_model.specs.Targets.{all_converted, all_evaluated, evaluated, named_object_of, object_of}
+use Rattle.thread_model.specs.Writing.{Writing, acted_writing, written}
 
 -- the actions of a body or of a branch, each to be done
 abbrev pub acts : Acts → List Value → ℕ → ℕ → ℕ → List Item
@@ -53,18 +53,20 @@ pattern settings state object signal receiver method =
     object (option_map (signal_with (methods_of settings state object)) signal)
     receiver (λ receiver. option_map (method_with (methods_of settings state receiver)) method)
 
+-- what is written to a property of an object: the value that an expression has
+abbrev pub writing : State → ℕ → ℕ → List Value → ℕ → List ℕ → Term → Found Writing
+writing state self sender args object name value = evaluated state self sender args value >>= acted_writing state object name
+
 module _ (settings : Settings) (state : State) (self sender : ℕ) (args : List Value) where
   -- the number of the object that a target is; 0 where there is none
   abbrev object : Target → ℕ
   object target = object_of state self sender target
 
-  -- why an action of the slot of `self` is refused: the first of these. Properties other than the title
-  -- are refused at once, since they are not there yet
+  -- why an action of the slot of `self` is refused: the first of these
   abbrev pub act_refusal : Effect → Option Code
   act_refusal (e.Set of property value) =
-      if is_title property
-      then option_or (absence state (object of)) (result_err (title_evaluated state self sender args value))
-      else Some BadValue
+      option_or (absence state (object of))
+      (result_err (writing state self sender args (object of) property value))
   act_refusal (e.Emit of signal sent) =
       option_or (absence state (object of))
       (result_err (emission settings state self sender args (object of) signal sent))
@@ -96,8 +98,8 @@ module _ (settings : Settings) (doing : Doing) (self sender : ℕ) (args : List 
   -- what an action comes to that is not refused
   abbrev pub acted : Effect → Next
   acted (e.Set of property value) =
-      with_found (title_evaluated doing.state self sender args value)
-      (λ title. puts [] (retitled doing (acted_object of) title)) doing
+      with_found (writing doing.state self sender args (acted_object of) property value)
+      (λ writing. written settings doing (acted_object of) depth writing) doing
   acted (e.Emit of signal sent) =
       with_found (emission settings doing.state self sender args (acted_object of) signal sent)
       (λ emitted. puts (Emit (acted_object of) emitted.0 emitted.1 depth ∷ []) doing) doing

@@ -20,10 +20,12 @@ pub data Asked : Type 0 where
   Children : (target : Option ℕ) → Asked
   -- the nearest object below another one, of this title and class where they are given
   Find : (target : ℕ) (title class : Option (List ℕ)) → Asked
-  -- write `objectName` of this object
-  Set : (target : ℕ) (value : Data) → Asked
-  -- read `objectName` of this object
-  Get : (target : ℕ) → Asked
+  -- write a property of this object
+  Set : (target : ℕ) (property : List ℕ) (value : Data) → Asked
+  -- read a property of this object
+  Get : (target : ℕ) (property : List ℕ) → Asked
+  -- the names of the dynamic properties of this object
+  DynamicNames : (target : ℕ) → Asked
   -- describe this class
   Meta : (class : List ℕ) → Asked
   -- connect a signal of the sender to a method of the receiver
@@ -50,8 +52,9 @@ asked (c.Delete target) = Delete target
 asked (c.SetParent target parent) = SetParent target parent
 asked (c.Children target) = Children target
 asked (c.Find target title class) = Find target title class
-asked (c.Set target value) = Set target (view value)
-asked (c.Get target) = Get target
+asked (c.Set target property value) = Set target property (view value)
+asked (c.Get target property) = Get target property
+asked (c.DynamicNames target) = DynamicNames target
 asked (c.Meta class) = Meta class
 asked (c.Connect sender signal receiver method mode unique single) = Connect sender signal receiver method mode unique single
 asked (c.DisconnectOne connection) = DisconnectOne connection

@@ -1,7 +1,6 @@
 -- A session while it does a command, and what becomes of it.
 use Rattle.std.specs.Prelude.{◌+◌, ◌-◌, ℕ, Bool, true, false, List, [], ◌∷◌, ◌++◌, Option, None, if◌then◌else◌}
 use Rattle.refusals.specs.declared.code.Code.TheVariants.{TurnsUsedUp}
-use Rattle.variant_value.specs.declared.value.Value.{Value}
 use Rattle.object_tree.specs.Changes.{marked}
 use Rattle.connection_list.specs.declared.connection.Connection.{Connection}
 use Rattle.connection_list.specs.declared.connection.NewConnection.{NewConnection}
@@ -12,7 +11,7 @@ use Rattle.event_queue.specs.declared.event.Event.{Event}
 use Rattle.thread_model.specs.declared.line.Line.{Line}
 use Rattle.thread_model.specs.declared.line.Line.TheVariants.{Warning}
 use Rattle.thread_model.specs.Settings.{Settings}
-use Rattle.thread_model.specs.State.{State, with_blocking, with_connection, with_event, with_lost, with_parent, with_title, without_connections, without_events, without_first, without_object}
+use Rattle.thread_model.specs.State.{State, with_blocking, with_connection, with_event, with_lost, with_parent, without_connections, without_events, without_first, without_object}
 
 pub record Doing : Type 0 where
   pub state : State
@@ -79,10 +78,6 @@ gone doing target = in_state doing (without_object doing.state target)
 -- an object has another parent
 unfoldable pub adopted : Doing → ℕ → Option ℕ → Doing
 adopted doing target parent = in_state doing (with_parent doing.state target parent)
-
--- an object has another title
-unfoldable pub retitled : Doing → ℕ → Value → Doing
-retitled doing target title = in_state doing (with_title doing.state target title)
 
 -- one more connection is made
 unfoldable pub linked : Doing → NewConnection → Doing

@@ -1,5 +1,5 @@
 -- What the commands for events do, where they are not refused.
-use Rattle.std.specs.Prelude.{ℕ, Bool, true, false, List, [], ◌∷◌, length}
+use Rattle.std.specs.Prelude.{ℕ, Bool, true, false, [], ◌∷◌, length}
 use Rattle.std.specs.Option.{option_map_or}
 use Rattle.isolation.specs.Machine.{Effect}
 use Rattle.event_queue.specs.declared.event.Event.TheVariants.{Deletion}

@@ -4,6 +4,7 @@ use Rattle.std.specs.List.{list_any}
 use Rattle.variant_value.specs.declared.value.Value.{Value}
 use Rattle.term_core.specs.Act.{Act}
 use Rattle.term_evaluation.specs.Unfolding.{unfolded}
+use Rattle.class_table.specs.declared.class.Class.{Class}
 use Rattle.thread_model.specs.declared.post.Post.{Post}
 use Rattle.thread_model.specs.Agenda.{step}
 use Rattle.thread_model.specs.Asked.{Asked}
@@ -11,7 +12,7 @@ use Rattle.thread_model.specs.Doing.{Doing}
 use Rattle.thread_model.specs.Items as to_do
 use Rattle.thread_model.specs.Items.{Item}
 use Rattle.thread_model.specs.Run.{run}
-use Rattle.thread_model.specs.State.{IsSound, State, empty}
+use Rattle.thread_model.specs.State.{IsDeclared, IsSound, State, empty}
 use Rattle.thread_model.specs.Thread.{Settings, arrives, does}
 use Rattle.thread_model.specs.UnderWay.{IsUnderWay, is_gone}
 
@@ -29,6 +30,14 @@ pub record KeepsUnderWay : Type 0 where
   pub at_first : (agenda : List Item) (state : State) → IsFalse (list_any is_gone agenda) → IsSound state → IsUnderWay agenda state
   pub by_item : (settings : Settings) (item : Item) (agenda : List Item) (doing : Doing) → IsUnderWay (item ∷ agenda) doing.state → IsUnderWay ((step settings item doing).items ++ agenda) (step settings item doing).doing.state
   pub at_end : (state : State) → IsUnderWay [] state → IsSound state
+
+-- each object has the properties that its class declares: before the first command, item by item while a
+-- command is done, after it, and after each post of another session
+pub record KeepsDeclared : Type 0 where
+  pub at_first : (classes : List Class) → IsDeclared classes empty
+  pub by_item : (settings : Settings) (item : Item) (doing : Doing) → IsDeclared settings.classes doing.state → IsDeclared settings.classes (step settings item doing).doing.state
+  pub by_command : (settings : Settings) (self : List ℕ) (state : State) (asked : Asked) → IsSound state → IsDeclared settings.classes state → IsDeclared settings.classes (does settings self state asked).state
+  pub by_post : (classes : List Class) (state : State) (from : List ℕ) (post : Post) → IsDeclared classes state → IsDeclared classes (arrives state from post)
 
 -- an action over the arguments of its slot does what it does with them put in, over none
 abbrev pub ActsInPlace : Type 0

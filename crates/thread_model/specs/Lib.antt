@@ -8,6 +8,7 @@ pub mod Methods
 pub mod Connecting
 pub mod Posting
 pub mod Targets
+pub mod Writing
 pub mod Acts
 pub mod Agenda
 pub mod Run

@@ -18,6 +18,9 @@ is_queued Queued = true
 abbrev pub post_refusal : Queue → Option Code
 post_refusal queue = if has_room queue then None else Some Limit
 
--- what came of taking events
+-- what came of taking this many events
+abbrev pub spin_after : ℕ → Queue → Spin
+spin_after taken queue = record { events = taken; left = length queue.events; lost = queue.lost; mismatched = queue.mismatched }
+
 abbrev pub spin_of : Doing → Spin
-spin_of doing = record { events = doing.taken; left = length doing.state.queue.events; lost = doing.state.queue.lost; mismatched = doing.state.queue.mismatched }
+spin_of doing = spin_after doing.taken doing.state.queue

@@ -1,26 +1,31 @@
 -- What the commands for properties do, where they are not refused.
-use Rattle.std.specs.Prelude.{ℕ, true, false, Option, Some, None}
-use Rattle.std.specs.Result.{result_ok}
-use Rattle.serde_json.specs.Data.{Data}
+use Rattle.std.specs.Prelude.{ℕ, Bool, true, false, List, Ok, Err}
 use Rattle.isolation.specs.Machine.{Effect}
-use Rattle.signature_core.specs.declared.kind.Kind.TheVariants as k
-use Rattle.variant_value.specs.declared.value.Value.{Value}
-use Rattle.variant_value.specs.Values.{value_of}
+use Rattle.property_store.specs.Store.{dynamic_names, value_named}
 use Rattle.thread_model.specs.declared.line.Answer.TheVariants as a
 use Rattle.thread_model.specs.declared.line.Line.{Line}
 use Rattle.thread_model.specs.declared.post.Post.{Post}
-use Rattle.thread_model.specs.Effects.{replies}
-use Rattle.thread_model.specs.State.{State, title_of, with_title}
+use Rattle.thread_model.specs.Doing.{begun}
+use Rattle.thread_model.specs.Effects.{does_next, refuses, replies}
+use Rattle.thread_model.specs.Methods.{Found}
+use Rattle.thread_model.specs.Settings.{Settings}
+use Rattle.thread_model.specs.State.{State}
+use Rattle.thread_model.specs.Writing.{Writing, Declared, written}
 
--- storing a title replies true; where there is none nothing changes, and the reply is false
-abbrev pub stores : State → ℕ → Option Value → Effect State Line Post
-stores state target (Some title) = replies (with_title state target title) (a.Truth true)
-stores state target None = replies state (a.Truth false)
+-- is a declared property written
+abbrev pub is_declared : Writing → Bool
+is_declared (Declared number value) = true
+is_declared _ = false
 
--- writing the title of an object stores the text that a value is; null is none
-abbrev pub sets : State → ℕ → Data → Effect State Line Post
-sets state target value = stores state target (result_ok (value_of k.Text value))
+-- writing a property replies at the end whether it is declared and was written
+abbrev pub sets : Settings → State → ℕ → Found Writing → Effect State Line Post
+sets settings state target (Ok writing) = does_next settings (written settings (begun settings state) target 0 writing) (a.Truth (is_declared writing))
+sets settings state target (Err code) = refuses state code
 
--- reading the title of an object
-abbrev pub gets : State → ℕ → Effect State Line Post
-gets state target = replies state (a.Value (title_of state.titles target))
+-- reading a property of an object, which is invalid where there is none of this name
+abbrev pub gets : State → ℕ → List ℕ → Effect State Line Post
+gets state target name = replies state (a.Value (value_named state.store target name))
+
+-- the names of the dynamic properties of an object, that first set first
+abbrev pub names : State → ℕ → Effect State Line Post
+names state target = replies state (a.Names (dynamic_names state.store target))

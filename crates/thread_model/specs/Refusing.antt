@@ -2,23 +2,22 @@
 use Rattle.std.specs.Prelude.{ℕ, ◌&&◌, List, Option, Some, None, is_some, if◌then◌else◌}
 use Rattle.std.specs.Option.{option_map_or, option_or}
 use Rattle.std.specs.Result.{result_err}
-use Rattle.serde_json.specs.Data.{Data, null}
+use Rattle.serde_json.specs.Data.{Data}
 use Rattle.refusals.specs.declared.code.Code.{Code}
 use Rattle.refusals.specs.declared.code.Code.TheVariants.{NoSuchClass}
-use Rattle.signature_core.specs.declared.kind.Kind.TheVariants as k
-use Rattle.variant_value.specs.Values.{value_of}
 use Rattle.class_table.specs.declared.class.Class.{Class}
 use Rattle.class_table.specs.Lookup.{index_of}
 use Rattle.connection_types.specs.declared.connection_type.ConnectionType.{ConnectionType}
 use Rattle.object_tree.specs.Refusing.{add_refusal, parent_refusal, set_parent_refusal}
 use Rattle.thread_model.specs.Absence.{absence, named_absence}
-use Rattle.thread_model.specs.Asked.{Asked, New, Delete, SetParent, Children, Find, Set, Get, Meta, Connect, DisconnectOne, Disconnect, Invoke, Spin, DeleteLater, Block, Status}
+use Rattle.thread_model.specs.Asked.{Asked, New, Delete, SetParent, Children, Find, Set, Get, DynamicNames, Meta, Connect, DisconnectOne, Disconnect, Invoke, Spin, DeleteLater, Block, Status}
 use Rattle.thread_model.specs.Connecting.{connection_refusal}
 use Rattle.thread_model.specs.Methods.{signature_in}
 use Rattle.thread_model.specs.Posting.{is_queued, post_refusal}
 use Rattle.thread_model.specs.Settings.{Settings}
 use Rattle.thread_model.specs.Signals.{asked_connection, asked_method, asked_pattern, asked_values}
 use Rattle.thread_model.specs.State.{State}
+use Rattle.thread_model.specs.Writing.{asked_writing}
 
 -- no class has this name
 abbrev pub class_refusal : List Class → List ℕ → Option Code
@@ -27,11 +26,6 @@ class_refusal classes class = if is_some (index_of class classes) then None else
 -- the same of a class that need not be named
 abbrev pub named_class_refusal : List Class → Option (List ℕ) → Option Code
 named_class_refusal classes class = option_map_or (class_refusal classes) class None
-
--- a value is no text, or too long a one; null is no text and is not refused
-abbrev pub title_refusal : Data → Option Code
-title_refusal null = None
-title_refusal value = result_err (value_of k.Text value)
 
 -- the arguments do not serve the method that is called, where there is one
 abbrev pub values_refusal : Settings → State → ℕ → List Data → Option ℕ → Option Code
@@ -53,10 +47,11 @@ refusal settings self state (Children target) = named_absence state target
 refusal settings self state (Find target title class) =
     option_or (absence state target)
     (named_class_refusal settings.classes class)
-refusal settings self state (Set target value) =
+refusal settings self state (Set target property value) =
     option_or (absence state target)
-    (title_refusal value)
-refusal settings self state (Get target) = absence state target
+    (result_err (asked_writing state target property value))
+refusal settings self state (Get target property) = absence state target
+refusal settings self state (DynamicNames target) = absence state target
 refusal settings self state (Meta class) = class_refusal settings.classes class
 refusal settings self state (Connect sender signal receiver method mode unique single) =
     option_or (absence state sender) (

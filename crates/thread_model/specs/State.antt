@@ -1,36 +1,35 @@
 -- What a session holds.
-use Rattle.std.specs.Prelude.{◌≡◌, ◌+◌, ℕ, Bool, false, List, [], Option, IsFalse, IsTrue, bytes_eq}
-use Rattle.std.specs.BTreeMap.{insert_entry, is_at}
+use Rattle.std.specs.Prelude.{◌≡◌, ◌+◌, ℕ, Bool, false, List, [], Option, Some, IsFalse, IsTrue, bytes_eq, map, option_map, if◌then◌else◌}
 use Rattle.std.specs.List.{All}
-use Rattle.std.specs.Map.{keys_of, lookup, remove_entry, values_of}
 use Rattle.std.specs.Option.{unwrap_or}
-use Rattle.std.specs.Ordering.{nat_cmp}
+use Rattle.class_table.specs.declared.class.Class.{Class}
+use Rattle.class_table.specs.declared.class.Property.{Property}
+use Rattle.class_table.specs.Lookup.{properties}
 use Rattle.connection_list.specs.declared.connection.Connection.{Connection}
 use Rattle.connection_list.specs.declared.connection.NewConnection.{NewConnection}
 use Rattle.connection_list.specs.Rows as list
 use Rattle.connection_list.specs.Rows.{Rows, connected, no_rows, without}
 use Rattle.event_queue.specs.declared.event.Event.{Event}
+use Rattle.event_queue.specs.declared.event.Event.TheVariants.{Call}
+use Rattle.event_queue.specs.declared.event.QueuedCall.{QueuedCall}
 use Rattle.event_queue.specs.Queue as events
-use Rattle.event_queue.specs.Queue.{Queue, dropped, empty_queue, object_of, posted, taken}
+use Rattle.event_queue.specs.Queue.{Queue, dropped, empty_queue, has_room, object_of, posted, taken}
 use Rattle.object_tree.specs.Forest as tree
 use Rattle.object_tree.specs.Forest.{Forest, empty_forest}
 use Rattle.object_tree.specs.Rows.{is_there, numbers}
 use Rattle.object_tree.specs.Changes.{added, reparented, removed, with_blocked}
-use Rattle.signature_core.specs.declared.kind.Kind.TheVariants as k
+use Rattle.property_store.specs.declared.field.Field.{Field}
+use Rattle.property_store.specs.Store as stored
+use Rattle.property_store.specs.Store.{Properties, Store, changed, properties_of, value_at}
 use Rattle.variant_value.specs.declared.value.Value.{Value}
 use Rattle.variant_value.specs.declared.value.Value.TheVariants as v
-use Rattle.variant_value.specs.Values.{IsOfKind}
-
--- the titles of objects, each behind the object's number, by rising number; an object's title is its
--- property `objectName`
-abbrev pub Titles : Type 0
-Titles = List (ℕ × Value)
+use Rattle.thread_model.specs.declared.call.TheConstants.{OBJECT_NAME}
 
 pub record State : Type 0 where
   -- the objects in their trees
   pub forest : Forest
-  -- the title of each
-  pub titles : Titles
+  -- the properties of each
+  pub store : Store
   -- the connections between them
   pub connections : Rows
   -- the events that are to be taken
@@ -38,40 +37,40 @@ pub record State : Type 0 where
 
 -- the state of a session that has had no command
 abbrev pub empty : State
-empty = record { forest = empty_forest; titles = []; connections = no_rows; queue = empty_queue }
+empty = record { forest = empty_forest; store = []; connections = no_rows; queue = empty_queue }
 
--- is a title that of this object
-abbrev pub is_of : ℕ → ℕ → Bool
-is_of number = is_at (nat_cmp number)
+-- a property that a class declares, as an object has it
+abbrev pub field_of : Property → Field
+field_of property = record { name = property.name; kind = property.kind; bindable = property.bindable }
 
--- the title of an object
-abbrev pub title_of : Titles → ℕ → Value
-title_of titles number = unwrap_or (lookup (is_of number) titles) v.Invalid
+-- the properties that an object of a class has, by number
+abbrev pub fields_of : List Class → ℕ → List Field
+fields_of classes class = map field_of (properties classes class)
+
+-- the title of an object: its property `objectName`
+abbrev pub title_of : State → ℕ → Value
+title_of state number = unwrap_or (value_at state.store number OBJECT_NAME) v.Invalid
 
 -- is a title this text
 abbrev pub is_text : List ℕ → Value → Bool
 is_text wanted (v.Text text) = bytes_eq text wanted
 is_text wanted _ = false
 
--- the titles, with this one for an object
-abbrev pub titled : Titles → ℕ → Value → Titles
-titled titles number title = insert_entry nat_cmp titles number title
-
--- the state with one more object, whose title is the empty text
-abbrev pub with_object : State → Option ℕ → ℕ → State
-with_object state parent class = record state { forest = added state.forest parent class; titles = titled state.titles (state.forest.last_number + 1) (v.Text []) }
+-- the state with one more object, whose properties have their defaults
+abbrev pub with_object : List Class → State → Option ℕ → ℕ → State
+with_object classes state parent class = record state { forest = added state.forest parent class; store = stored.added state.store (state.forest.last_number + 1) (fields_of classes class) }
 
 -- the state with another parent of an object
 abbrev pub with_parent : State → ℕ → Option ℕ → State
 with_parent state number parent = record state { forest = reparented state.forest number parent }
 
--- the state with another title of an object
-abbrev pub with_title : State → ℕ → Value → State
-with_title state number title = record state { titles = titled state.titles number title }
+-- the state where the properties of an object are changed
+abbrev pub with_properties : State → ℕ → (Properties → Properties) → State
+with_properties state number change = record state { store = changed change number state.store }
 
 -- the state without an object: its children have become roots
 abbrev pub without_object : State → ℕ → State
-without_object state number = record state { forest = removed state.forest number; titles = remove_entry (is_of number) state.titles }
+without_object state number = record state { forest = removed state.forest number; store = stored.without number state.store }
 
 -- the state with one more connection, which has the next number
 abbrev pub with_connection : State → NewConnection → State
@@ -97,6 +96,10 @@ without_first state = record state { queue = taken state.queue }
 abbrev pub with_lost : State → State
 with_lost state = record state { queue = events.with_lost state.queue }
 
+-- the state with one more call among its events; where there is no room for it, it is lost
+abbrev pub with_call : State → QueuedCall → State
+with_call state call = if has_room state.queue then with_event state (Call call) else with_lost state
+
 -- the state with the signals of an object blocked, or not
 abbrev pub with_blocking : State → ℕ → Bool → State
 with_blocking state number on = record state { forest = with_blocked state.forest number on }
@@ -113,10 +116,10 @@ pub record IsTied (state : State) (row : Connection) : Type 0 where
 -- what holds of every session, also while it does a command
 pub record IsWhole (state : State) : Type 0 where
   pub forest : tree.IsSound state.forest
-  -- every object has a title, and nothing else has
-  pub titles : keys_of state.titles ≡ numbers state.forest.rows
-  -- a title is a text that is not too long
-  pub texts : All (IsOfKind k.Text) (values_of state.titles)
+  -- every object has its properties, and nothing else has any
+  pub objects : map (λ of. of.object) state.store ≡ numbers state.forest.rows
+  -- a value is of its property's kind, and no text is too long
+  pub properties : stored.IsSound state.store
   -- the numbers of connections rise, and there are not too many
   pub connections : list.IsSound state.connections
   -- no connection has an end that is gone
@@ -125,6 +128,10 @@ pub record IsWhole (state : State) : Type 0 where
   pub queue : events.IsSound state.queue
   -- no event names an object that is gone
   pub meant : All (IsMeant state) state.queue.events
+
+-- each object has the properties that its class declares
+abbrev pub IsDeclared : List Class → State → Type 0
+IsDeclared classes state = All (λ row. option_map (λ of. of.fields) (properties_of state.store row.number) ≡ Some (fields_of classes row.class)) state.forest.rows
 
 -- what holds of every session between commands
 pub record IsSound (state : State) : Type 0 where

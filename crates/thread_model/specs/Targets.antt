@@ -1,10 +1,11 @@
 -- The objects that an action names, and the values of its expressions.
-use Rattle.std.specs.Prelude.{ℕ, Bool, List, [], ◌∷◌, Option, Ok, Err, codes, bytes_eq, if◌then◌else◌}
-use Rattle.std.specs.Option.{ok_or, option_map, option_map_or, unwrap_or}
+use Rattle.std.specs.Prelude.{ℕ, Bool, List, [], ◌∷◌, Option, Ok, Err, option_and_then, if◌then◌else◌}
+use Rattle.std.specs.Option.{ok_or, option_map, unwrap_or}
 use Rattle.refusals.specs.declared.code.Code.TheVariants.{BadValue, NoSuchObject, NoSuchProperty}
 use Rattle.signature_core.specs.declared.kind.Kind.{Kind}
 use Rattle.variant_value.specs.declared.value.Value.{Value}
-use Rattle.variant_value.specs.Values.{converted, text_in, text_of, truth_in}
+use Rattle.variant_value.specs.Values.{converted, truth_in}
+use Rattle.property_store.specs.Store.{named_value, properties_of}
 use Rattle.term_core.specs.declared.target.Target.{Target}
 use Rattle.term_core.specs.declared.target.Target.TheVariants.{Itself, Sender, Child, Object}
 use Rattle.term_core.specs.Term.{Term}
@@ -20,22 +21,18 @@ use Rattle.thread_model.specs.State.{State, is_text, title_of}
 abbrev pub object_of : State → ℕ → ℕ → Target → ℕ
 object_of state self sender Itself = self
 object_of state self sender Sender = sender
-object_of state self sender (Child title) = unwrap_or (found_below state.forest.rows self (λ number. is_text title (title_of state.titles number))) 0
+object_of state self sender (Child title) = unwrap_or (found_below state.forest.rows self (λ number. is_text title (title_of state number))) 0
 object_of state self sender (Object number) = number
 
 -- the number of the object that a target is, where a target is named
 abbrev pub named_object_of : State → ℕ → ℕ → Option Target → Option ℕ
 named_object_of state self sender target = option_map (object_of state self sender) target
 
--- is this the name of the property that is an object's title
-abbrev pub is_title : List ℕ → Bool
-is_title name = bytes_eq name (codes "objectName")
-
--- the value of a property of an object
+-- the value of a property of an object, whether its class declares it or not
 abbrev pub property_of : State → ℕ → List ℕ → Answer (Unit {0})
 property_of state object name =
     if is_there state.forest.rows object
-    then (if is_title name then Ok (title_of state.titles object) else Err (refused NoSuchProperty))
+    then ok_or (option_and_then (named_value name) (properties_of state.store object)) (refused NoSuchProperty)
     else Err (refused NoSuchObject)
 
 -- the value of a property that the slot of `self` reads
@@ -63,10 +60,6 @@ all_evaluated state self sender args (term ∷ rest) =
 -- the truth that an expression is
 abbrev pub truth_evaluated : State → ℕ → ℕ → List Value → Term → Found Bool
 truth_evaluated state self sender args term = evaluated state self sender args term >>= λ value. ok_or (truth_in value) BadValue
-
--- the text that an expression is, as a title
-abbrev pub title_evaluated : State → ℕ → ℕ → List Value → Term → Found Value
-title_evaluated state self sender args term = evaluated state self sender args term >>= λ value. option_map_or text_of (text_in value) (Err BadValue)
 
 -- as many values as there are kinds, each as one of its kind
 abbrev pub all_converted : List Kind → List Value → Found (List Value)

@@ -4,15 +4,16 @@ use Rattle.std.specs.Prelude.{ℕ, Bool, false, List}
 use Rattle.isolation.specs.Machine.{Effect}
 use Rattle.thread_model.specs.declared.line.Line.{Line}
 use Rattle.thread_model.specs.declared.post.Post.{Post}
-use Rattle.thread_model.specs.Asked.{Asked, New, Delete, SetParent, Children, Find, Set, Get, Meta, Connect, DisconnectOne, Disconnect, Invoke, Spin, DeleteLater, Block, Status}
+use Rattle.thread_model.specs.Asked.{Asked, New, Delete, SetParent, Children, Find, Set, Get, DynamicNames, Meta, Connect, DisconnectOne, Disconnect, Invoke, Spin, DeleteLater, Block, Status}
 use Rattle.thread_model.specs.Classes.{describes}
 use Rattle.thread_model.specs.Effects.{unless}
 use Rattle.thread_model.specs.Events.{blocks, counts, deletes_later, spins}
-use Rattle.thread_model.specs.Properties.{gets, sets}
+use Rattle.thread_model.specs.Properties.{gets, names, sets}
 use Rattle.thread_model.specs.Refusing.{refusal}
 use Rattle.thread_model.specs.Signals.{asked_connection, asked_method, asked_pattern, connects, disconnects, disconnects_one, invokes}
 use Rattle.thread_model.specs.State.{State}
 use Rattle.thread_model.specs.Trees.{deletes, finds, lists, makes, reparents}
+use Rattle.thread_model.specs.Writing.{asked_writing}
 pub use Rattle.thread_model.specs.Settings.{Settings}
 
 -- what a command does that is not refused, in a session of this name and state
@@ -22,8 +23,9 @@ performs settings self state (Delete target) = deletes settings state target
 performs settings self state (SetParent target parent) = reparents state target parent
 performs settings self state (Children target) = lists state target
 performs settings self state (Find target title class) = finds settings.classes state target title class
-performs settings self state (Set target value) = sets state target value
-performs settings self state (Get target) = gets state target
+performs settings self state (Set target property value) = sets settings state target (asked_writing state target property value)
+performs settings self state (Get target property) = gets state target property
+performs settings self state (DynamicNames target) = names state target
 performs settings self state (Meta class) = describes settings.classes state class
 performs settings self state (Connect sender signal receiver method mode unique single) = connects state (asked_connection settings state sender signal receiver method mode single)
 performs settings self state (DisconnectOne connection) = disconnects_one state connection

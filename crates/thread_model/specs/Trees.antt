@@ -18,7 +18,7 @@ use Rattle.thread_model.specs.State.{State, is_text, title_of, with_object, with
 
 -- making an object of a class replies its number, which is the next one
 abbrev pub makes : List Class → State → List ℕ → Option ℕ → Effect State Line Post
-makes classes state class parent = replies (with_object state parent (class_index classes class)) (Number (state.forest.last_number + 1))
+makes classes state class parent = replies (with_object classes state parent (class_index classes class)) (Number (state.forest.last_number + 1))
 
 -- deleting an object, and all below it, replies true at the end
 abbrev pub deletes : Settings → State → ℕ → Effect State Line Post
@@ -35,7 +35,7 @@ lists state target = replies state (Numbers (children state.forest.rows target))
 -- has an object this title, where one is wanted
 abbrev pub has_title : State → Option (List ℕ) → ℕ → Bool
 has_title state None number = true
-has_title state (Some wanted) number = is_text wanted (title_of state.titles number)
+has_title state (Some wanted) number = is_text wanted (title_of state number)
 
 -- is an object of this class or one below it, where one is wanted
 abbrev pub is_of_class : List Class → State → Option ℕ → ℕ → Bool

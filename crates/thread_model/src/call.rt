@@ -8,6 +8,10 @@ pub const NESTED_SIGNALS: u32 = 64;
 /// The index of the signal `destroyed()` among the methods of every class: those of `QObject` come first.
 pub const DESTROYED: u32 = 0;
 
+/// The number of the property `objectName` among the properties of every class: those of `QObject` come
+/// first.
+pub const OBJECT_NAME: u32 = 0;
+
 /// A slot as it is called.
 #[derive(Debug, Drop)]
 pub struct Call {

@@ -30,13 +30,22 @@ pub enum Command {
         name: Option<Text>,
         class: Option<Text>,
     },
-    /// Writes the property `objectName` of an object, its title. The value is any JSON.
+    /// Writes a property of an object, and replies whether its class declares one of this name; another
+    /// name is that of a dynamic property, which null takes away (`QObject::setProperty`). The value is any
+    /// JSON.
     Set {
         object: u32,
+        property: Text,
         value: serde_json::Value,
     },
-    /// Reads the property `objectName` of an object.
+    /// Reads a property of an object (`QObject::property`).
     Get {
+        object: u32,
+        property: Text,
+    },
+    /// Lists the names of an object's dynamic properties, that first set first
+    /// (`QObject::dynamicPropertyNames`).
+    DynamicNames {
         object: u32,
     },
     /// Describes a class.

@@ -5,7 +5,7 @@
 
 ghost use Rattle.thread_model.specs.Machine.{IsMetadLawful};
 ghost use Rattle.thread_model.specs.Run.{RunsToItsEnd};
-ghost use Rattle.thread_model.specs.Laws.{ActsInPlace, KeepsSound, KeepsUnderWay};
+ghost use Rattle.thread_model.specs.Laws.{ActsInPlace, KeepsDeclared, KeepsSound, KeepsUnderWay};
 
 mod call;
 mod command;
@@ -13,7 +13,7 @@ mod line;
 mod meta;
 mod post;
 
-pub use call::{Call, DESTROYED, NESTED_SIGNALS};
+pub use call::{Call, DESTROYED, NESTED_SIGNALS, OBJECT_NAME};
 pub use command::{Command, Tagged};
 pub use line::{Answer, Line, Spin, Status};
 pub use meta::MetaObject;
@@ -32,12 +32,14 @@ pub fn agenda_runs_to_its_end()
     ensures { RunsToItsEnd }
 {}
 
-/// A session stays sound: between commands its objects stand in trees within the limits, each has a
-/// title, none is being deleted, and both ends of every connection stand. Its events are no more than
-/// there may be, and the object that an event names stands: what is deleted takes its events with it.
+/// A session stays sound: between commands its objects stand in trees within the limits, none is being
+/// deleted, and both ends of every connection stand. Each has the properties that its class declares, with
+/// values of their kinds, and no more dynamic ones than it may have. Its events are no more than there may
+/// be, and the object that an event names stands: what is deleted takes its events with it.
 pub fn commands_keep_sessions_sound()
     ensures commands { KeepsSound }
     ensures items { KeepsUnderWay }
+    ensures properties { KeepsDeclared }
 {}
 
 /// An action does over the arguments of its slot what it does with them put in, over none. So a body is

@@ -1,7 +1,7 @@
 //! What clients are told.
 use crate::call::Call;
 use crate::meta::MetaObject;
-use plain_types::Items;
+use plain_types::{Items, Text};
 use refusals::Code;
 use variant_value::Value;
 
@@ -16,6 +16,8 @@ pub enum Answer {
     Numbers(Items<u32>),
     Truth(bool),
     Value(Value),
+    /// The names of properties, in order.
+    Names(Items<Text>),
     /// What there is in a class.
     Meta(MetaObject),
     Spun(Spin),

@@ -58,7 +58,8 @@ fn command_in(alloc: Global, json: &Value) -> Result<Option<Command>, AllocError
     match word {
         "new" => new_in(alloc, json),
         "find" => find_in(alloc, json),
-        "set" => set_in(json),
+        "set" => set_in(alloc, json),
+        "get" => get_in(alloc, json),
         "meta" => meta_in(alloc, json),
         "connect" => connect_in(alloc, json),
         "disconnect" => disconnect_in(alloc, json),
@@ -91,7 +92,7 @@ fn object_command_in(word: &str, object: u32, json: &Value) -> Option<Command> {
             let parent = number_at(json, "parent");
             Some(Command::SetParent { object, parent })
         }
-        "get" => Some(Command::Get { object }),
+        "dynamicNames" => Some(Command::DynamicNames { object }),
         _ => None,
     }
 }
@@ -115,12 +116,29 @@ fn find_in(alloc: Global, json: &Value) -> Result<Option<Command>, AllocError> {
     }))
 }
 
-fn set_in(json: &Value) -> Result<Option<Command>, AllocError> {
+fn set_in(alloc: Global, json: &Value) -> Result<Option<Command>, AllocError> {
     let (Some(object), Some(value)) = (number_at(json, "object"), json.get("value")) else {
         return Ok(None);
     };
+    let Some(property) = text_at(alloc, json, "property")? else {
+        return Ok(None);
+    };
     let value = value.clone()?;
-    Ok(Some(Command::Set { object, value }))
+    Ok(Some(Command::Set {
+        object,
+        property,
+        value,
+    }))
+}
+
+fn get_in(alloc: Global, json: &Value) -> Result<Option<Command>, AllocError> {
+    let Some(object) = number_at(json, "object") else {
+        return Ok(None);
+    };
+    let Some(property) = text_at(alloc, json, "property")? else {
+        return Ok(None);
+    };
+    Ok(Some(Command::Get { object, property }))
 }
 
 fn meta_in(alloc: Global, json: &Value) -> Result<Option<Command>, AllocError> {
@@ -225,7 +243,6 @@ enum Kind {
     Words,
     Number,
     NumberOrNull,
-    ObjectName,
     Truth,
     Mode,
     List,
@@ -254,7 +271,7 @@ const PARENT: Key = ("parent", Kind::Number);
 
 const PARENT_OR_NULL: Key = ("parent", Kind::NumberOrNull);
 
-const PROPERTY: Key = ("property", Kind::ObjectName);
+const PROPERTY: Key = ("property", Kind::Name);
 
 const RECEIVER: Key = ("receiver", Kind::Number);
 
@@ -289,6 +306,7 @@ fn has_keys_of_property(word: &str, json: &Value) -> bool {
     match word {
         "set" => has(json, &[OBJECT, PROPERTY, VALUE], &[]),
         "get" => has(json, &[OBJECT, PROPERTY], &[]),
+        "dynamicNames" => has(json, &[OBJECT], &[]),
         _ => false,
     }
 }
@@ -343,7 +361,6 @@ fn is_of(kind: Kind, value: &Value) -> bool {
         Kind::Words => value.as_str().is_some(),
         Kind::Number => number_of(value).is_some(),
         Kind::NumberOrNull => value.is_null() || number_of(value).is_some(),
-        Kind::ObjectName => value.as_str() == Some("objectName"),
         Kind::Truth => value.is_boolean(),
         Kind::Mode => matches!(value.as_str(), Some("auto" | "direct" | "queued")),
         Kind::List => value.is_array(),

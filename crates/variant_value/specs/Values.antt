@@ -1,6 +1,7 @@
 -- Values, their kinds and their JSON.
-use Rattle.std.specs.Prelude.{◌≡◌, ◌≤◌, ◌&&◌, ◌^◌, ◌-◌, ℕ, ℤ, pos, neg_ℤ, Bool, List, length, Option, Some, None, Result, Ok, Err, option_map, option_and_then, if◌then◌else◌, int_le, nat_le, unsigned_abs}
+use Rattle.std.specs.Prelude.{◌≡◌, ◌≤◌, ◌&&◌, ◌^◌, ◌-◌, ℕ, ℤ, pos, neg_ℤ, Bool, List, length, true, false, not, bytes_eq, ◌==◌, Option, Some, None, Result, Ok, Err, option_map, option_and_then, if◌then◌else◌, int_le, nat_le, unsigned_abs}
 use Rattle.std.specs.Option.{ok_or, option_or, option_map_or}
+use Rattle.std.specs.Ordering.{int_eq}
 use Rattle.serde_json.specs.Data.{Data, null, boolean, number, string, array, object, unsigned}
 use Rattle.serde_json.specs.Find.{as_bool, as_number, as_str, as_integer, of_integer}
 use Rattle.signature_core.specs.declared.kind.Kind.{Kind}
@@ -128,3 +129,14 @@ converted k.Uint value = option_and_then (number_of k.Uint) (number_in value)
 converted k.Longlong value = option_and_then (number_of k.Longlong) (number_in value)
 converted k.Ulonglong value = option_and_then (number_of k.Ulonglong) (number_in value)
 converted k.Text value = option_map v.Text (text_in value)
+
+-- are two values one: of one kind, and with the same content
+abbrev pub is_same : Value → Value → Bool
+is_same v.Invalid v.Invalid = true
+is_same (v.Bool a) (v.Bool b) = if a then b else not b
+is_same (v.Int a) (v.Int b) = int_eq a b
+is_same (v.Uint a) (v.Uint b) = a == b
+is_same (v.Longlong a) (v.Longlong b) = int_eq a b
+is_same (v.Ulonglong a) (v.Ulonglong b) = a == b
+is_same (v.Text a) (v.Text b) = bytes_eq a b
+is_same _ _ = false

@@ -1,9 +1,10 @@
 //! The values of a slot's parameters.
-ghost use Rattle.std.specs.Prelude.{◌≡◌, IfOk};
+ghost use Rattle.std.specs.Prelude.{◌≡◌, ◌<◌, ◌∷◌, [], IfOk, length, slice_get, slice_set};
 
 use crate::value::Value;
 use std::alloc::{AllocError, Global};
 use std::marker::Model;
+use std::mem;
 
 /// One value is kept here itself, and takes no memory.
 #[derive(Debug, Drop)]
@@ -40,6 +41,36 @@ impl Args {
             _ => Kept::List(copies(alloc, values)?),
         };
         Ok(Args { kept })
+    }
+
+    /// One value; this takes no memory.
+    pub fn one(value: Value) -> Args
+        ensures { result ≡ value ∷ [] }
+    {
+        Args {
+            kept: Kept::One(value),
+        }
+    }
+
+    /// The values of a vector; this takes no memory.
+    pub fn from_vec(values: Vec<Value>) -> Args
+        ensures { result ≡ values.items }
+    {
+        Args {
+            kept: Kept::List(values),
+        }
+    }
+
+    /// Puts a value at a position, and returns the one that stood there; this takes no memory.
+    pub fn replace(&mut self, at: usize, value: Value) -> Value
+        requires { at < length self.old }
+        ensures old { slice_get self.old at ≡ Some result }
+        ensures new { self.new ≡ slice_set self.old at value }
+    {
+        match &mut self.kept {
+            Kept::One(kept) => mem::replace(kept, value),
+            Kept::List(values) => mem::replace(&mut values[at], value),
+        }
     }
 
     pub fn as_slice(&self) -> &[Value]

@@ -1,9 +1,9 @@
 //! A value and its JSON.
-ghost use Rattle.std.specs.Prelude.{◌≡◌, Some, Ok, IfOk};
+ghost use Rattle.std.specs.Prelude.{◌≡◌, ◌↔◌, Some, Ok, IfOk, IsTrue};
 ghost use Rattle.std.specs.Option.{ok_or};
 ghost use Rattle.serde_json.specs.View.{view};
 ghost use Rattle.refusals.specs.Answers.{Answers};
-ghost use Rattle.variant_value.specs.Values.{IsOfKind, IsShort, value_of, json_of, kind_of, inferred, converted, number_of, inferred_number, number_in, whole_number, text_of};
+ghost use Rattle.variant_value.specs.Values.{IsOfKind, IsShort, is_same, value_of, json_of, kind_of, inferred, converted, number_of, inferred_number, number_in, whole_number, text_of};
 
 use plain_types::Text;
 use refusals::{Code, Fault};
@@ -134,6 +134,14 @@ impl Value {
             Value::Ulonglong(number) => Some(i128::from(*number)),
             Value::Invalid | Value::Bool(_) | Value::Text(_) => None,
         }
+    }
+
+    /// Whether the other value is of the same kind and has the same content.
+    pub fn is_same(&self, other: &Value) -> bool
+        ensures is { result ≡ is_same self.now other.now }
+        ensures decides { IsTrue result ↔ (self.now ≡ other.now) }
+    {
+        self == other
     }
 
     /// An equal value in memory of its own.

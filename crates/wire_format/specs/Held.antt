@@ -88,9 +88,6 @@ reads h.Name json = do
 reads h.Text json = option_map text (as_str json)
 reads h.Number json = option_map number (number_in json)
 reads h.NumberOrNull json = if is_some (as_null json) then Some none else option_map number (number_in json)
-reads h.ObjectName json = do
-  name ← as_str json
-  when (bytes_eq name (codes "objectName")) (text name)
 reads h.Truth json = option_map truth (as_bool json)
 reads h.Mode json = option_map mode (option_and_then mode_named (as_str json))
 reads h.List json = when (is_some (as_array json)) (list (elements_of json))

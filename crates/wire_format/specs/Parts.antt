@@ -25,6 +25,7 @@ is_plain_answer (answer.Found found) = true
 is_plain_answer (answer.Numbers ns) = false
 is_plain_answer (answer.Truth truth) = true
 is_plain_answer (answer.Value value) = is_plain_value value
+is_plain_answer (answer.Names names) = false
 is_plain_answer (answer.Meta meta) = false
 is_plain_answer (answer.Spun spin) = false
 is_plain_answer (answer.Status status) = false

@@ -6,7 +6,7 @@ use Rattle.serde_json.specs.Written.{compact_text}
 use Rattle.plain_types.specs.Names.{is_name}
 use Rattle.refusals.specs.Codes.{code_text}
 use Rattle.thread_model.specs.declared.line.Answer.{Answer}
-use Rattle.thread_model.specs.declared.line.Answer.TheVariants.{Number, Found, Numbers, Truth, Value, Meta, Spun, Status as Counted}
+use Rattle.thread_model.specs.declared.line.Answer.TheVariants.{Number, Found, Numbers, Truth, Value, Names, Meta, Spun, Status as Counted}
 use Rattle.thread_model.specs.declared.line.Spin.{Spin}
 use Rattle.thread_model.specs.declared.line.Status.{Status}
 use Rattle.thread_model.specs.declared.line.Line.{Line}
@@ -71,6 +71,7 @@ json_of_answer (Found found) = json_of_found found
 json_of_answer (Numbers ns) = array_of json_of_number ns
 json_of_answer (Truth truth) = boolean truth
 json_of_answer (Value value) = json_of value
+json_of_answer (Names names) = array_of string names
 json_of_answer (Meta meta) = json_of_meta meta
 json_of_answer (Spun spin) = json_of_spin spin
 json_of_answer (Counted status) = json_of_status status

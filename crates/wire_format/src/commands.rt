@@ -14,7 +14,7 @@ use crate::events::{
 };
 use crate::held::{Held, held_by};
 use crate::keys::Key;
-use crate::properties::{GET, SET, get_of, set_of};
+use crate::properties::{DYNAMIC_NAMES, GET, SET, dynamic_names_of, get_of, set_of};
 use crate::signals::{CONNECT, DISCONNECT, INVOKE, connect_of, disconnect_of, invoke_of};
 use crate::trees::{
     CHILDREN, DELETE, FIND, NEW, SET_PARENT, children_of, delete_of, find_of, new_of, set_parent_of,
@@ -33,6 +33,7 @@ pub enum Word {
     Find,
     Set,
     Get,
+    DynamicNames,
     Meta,
     Connect,
     Disconnect,
@@ -54,6 +55,7 @@ fn word_named(name: &str) -> Option<Word>
         "find" => Some(Word::Find),
         "set" => Some(Word::Set),
         "get" => Some(Word::Get),
+        "dynamicNames" => Some(Word::DynamicNames),
         "meta" => Some(Word::Meta),
         "connect" => Some(Word::Connect),
         "disconnect" => Some(Word::Disconnect),
@@ -78,6 +80,7 @@ fn keys_of(word: Word) -> &'static [Key]
         Word::Find => &FIND,
         Word::Set => &SET,
         Word::Get => &GET,
+        Word::DynamicNames => &DYNAMIC_NAMES,
         Word::Meta => &META,
         Word::Connect => &CONNECT,
         Word::Disconnect => &DISCONNECT,
@@ -104,7 +107,8 @@ fn asked_with(
         Word::Children => Ok(children_of(held)),
         Word::Find => find_of(alloc, held),
         Word::Set => set_of(alloc, held),
-        Word::Get => Ok(get_of(held)),
+        Word::Get => get_of(alloc, held),
+        Word::DynamicNames => Ok(dynamic_names_of(held)),
         Word::Meta => meta_of(alloc, held),
         Word::Connect => connect_of(alloc, held),
         Word::Disconnect => disconnect_of(alloc, held),

@@ -150,10 +150,6 @@ fn read<'m, 'a>(holds: Holds, field: &'m Field<'a>) -> Option<Held<'m, 'a>>
         Holds::Number => Some(Held::Number(number_in(field)?)),
         Holds::NumberOrNull if field.is_null() => Some(Held::Null),
         Holds::NumberOrNull => Some(Held::Number(number_in(field)?)),
-        Holds::ObjectName => field
-            .as_text()
-            .filter(|text| *text == "objectName")
-            .map(Held::Text),
         Holds::Truth => Some(Held::Truth(field.as_truth()?)),
         Holds::Mode => Some(Held::Mode(mode_named(field.as_text()?)?)),
         Holds::List if field.is_list() => Some(Held::List(field)),

@@ -7,7 +7,7 @@ pub(crate) const MOST_KEYS: usize = 8;
 /// What a key holds.
 #[derive(Clone, Copy)]
 pub enum Holds {
-    /// A name, as that of a class.
+    /// A name, as that of a class or of a property.
     Name,
     /// Any text.
     Text,
@@ -15,8 +15,6 @@ pub enum Holds {
     Number,
     /// The number of an object, or null for none.
     NumberOrNull,
-    /// The name of the only property that is written and read.
-    ObjectName,
     /// True or false.
     Truth,
     /// How calls are made: `auto`, `direct` or `queued`.

@@ -8,6 +8,7 @@ ghost use Rattle.wire_format.specs.Shown.{is_plain_shown, text_of_shown};
 ghost use Rattle.wire_format.specs.Text.{json_of_answer, json_of_found};
 
 use itoa::Buffer as Digits;
+use plain_types::Text;
 use thread_model::{Answer, MetaObject, Spin, Status};
 use variant_value::Value;
 
@@ -19,6 +20,7 @@ pub(crate) enum Shown<'a> {
     /// Between quotes, with what JSON escapes.
     Text(&'a str),
     Numbers(&'a [u32]),
+    Names(&'a [Text]),
     Meta(&'a MetaObject),
     Spun(&'a Spin),
     Status(&'a Status),
@@ -35,6 +37,7 @@ pub(crate) fn shown_as<'a>(answer: &'a Answer, digits: &'a mut Digits) -> Shown<
         Answer::Numbers(numbers) => Shown::Numbers(numbers.as_slice()),
         Answer::Truth(truth) => Shown::Word(truth_word(*truth)),
         Answer::Value(value) => shown_value(value, digits),
+        Answer::Names(names) => Shown::Names(names.as_slice()),
         Answer::Meta(meta) => Shown::Meta(meta),
         Answer::Spun(spin) => Shown::Spun(spin),
         Answer::Status(status) => Shown::Status(status),

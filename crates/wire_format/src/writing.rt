@@ -203,6 +203,7 @@ fn push_shown(alloc: Global, buffer: &mut String, shown: Shown<'_>) -> Result<()
         Shown::Word(word) => buffer.push_str(word),
         Shown::Text(text) => push_text(alloc, buffer, text),
         Shown::Numbers(numbers) => push_numbers(buffer, numbers),
+        Shown::Names(names) => push_texts(alloc, buffer, names),
         Shown::Meta(meta) => push_meta(alloc, buffer, meta),
         Shown::Spun(spin) => push_spin(buffer, spin),
         Shown::Status(status) => push_status(buffer, status),

@@ -1,4 +1,4 @@
-use Rattle.std.proofs.Common.{◌≡◌, ◌<◌, ◌≤◌, ◌+◌, ◌*◌, ◌∷◌, [], ℕ, take, true, false, Ok, Some, refl, sym, ap, subst, ◌∙◌, arith}
+use Rattle.std.proofs.Common.{◌≡◌, ◌<◌, ◌≤◌, ◌+◌, ◌*◌, ◌∷◌, [], ℕ, take, true, false, Ok, Option, Some, refl, sym, ap, subst, ◌∙◌, arith}
 use Rattle.term_core.specs.Act.{acts_of, count, counts, effect, when}
 use Rattle.term_core.specs.Steps.{act_at}
 use Rattle.term_core.proofs.Counts.{count_within}
@@ -8,16 +8,16 @@ use Rattle.thread_model.specs.Acts as model
 use Rattle.thread_model.specs.Items.{Delete, Emit}
 use Rattle.thread_model.specs.Run.{run}
 use Rattle.thread_model.specs.Targets.{truth_evaluated}
-use Rattle.thread_model.proofs.EmissionLemmas as rule
 use Rattle.thread_model.proofs.NextCallLemmas.{emission_end}
-use Rattle.thread_model.proofs.RunLemmas.{by_change, by_step}
+use Rattle.thread_model.proofs.RunLemmas.{at_end, by_change}
 use Rattle.session_tables.specs.Tables.{state_at}
 use Rattle.session_effects.specs.declared.effects.Emission.{Emission}
 use Rattle.session_effects.specs.Actions.{act_of}
 use Rattle.session_effects.specs.Setup.{settings_of}
+use Rattle.session_effects.specs.Writing.{items_of}
 use Rattle.session_engine.specs.Telling.{doing_at}
 use Rattle.session_effects.proofs.ActionLemmas.{keeps_same, keeps_twice, keeps_with, placed_kept}
-use Rattle.session_engine.proofs.AgendaLemmas.{OnOk-map, acts_end, acts_go_on, call_absent, call_functor, call_queued, call_signal, call_slot, call_spent, effect_done, effect_warned, emission_absent, emission_begins, emission_deep, emission_goes_on, emission_held_back, failed_done, found_stands, held_done, is_held, is_let_through, keeps_posted, last_stays, left_at, left_falls, left_shot, left_to_do, next_smaller, test_warned, told_is, warn_done}
+use Rattle.session_engine.proofs.AgendaLemmas.{OnOk-map, acts_end, acts_go_on, call_absent, call_functor, call_queued, call_signal, call_slot, call_spent, effect_done, effect_refused, effect_warned, emission_absent, emission_begins, emission_deep, emission_goes_on, emission_held_back, failed_done, found_stands, held_done, is_held, is_let_through, keeps_posted, last_stays, left_at, left_falls, left_shot, left_stepped, left_to_do, next_smaller, test_warned, told_is, warn_done}
 use Rattle.thread_model.specs.Agenda.{lives, lives_below}
 use Rattle.session_engine.proofs.DeletionLemmas.{cut_first, cut_last, cut_next, delete_done, delete_none, kin_none, kin_some, left_forgotten, left_marked, left_untied}
 use Rattle.session_engine.proofs.+agenda.Goals as goal
@@ -166,6 +166,37 @@ agenda::effect-returns-in-Err-deleted-clause-does t c =
     (effect_warned {T = ℕ} c.args.caller.now slot (e.Delete c.in-Delete.target) c.args.tables.now (λ object. Delete object slot.depth ∷ []) c.args.tables.now c.args.telling.now c.warn_of-in-Err-deleted.new.self c.in-Err-deleted.fault c.in-Err-deleted.ensures)
     c.warn_of-in-Err-deleted.ensures)
 
+pub agenda::effect-notify-requires : goal.agenda::effect-notify-requires
+agenda::effect-notify-requires t c =
+    let settings = settings_of c.args.caller.now.setup.now in
+    let place = c.args.caller.now.place in
+    let slot = c.args.slot.now in
+    let less = left_stepped settings (act_of slot (effect (e.Set c.in-Set.of c.in-Set.property c.in-Set.value))) _ place c.args.tables.now c.set.new.tables c.args.telling.now (c.in-Ok-set.ensures.tries (doing_at place c.args.tables.now c.args.telling.now)) in
+    let falls : left_to_do place c.set.new.tables c.args.telling.now 4 < left_to_do place c.args.tables.now c.args.telling.now 5 = omega (arith, less) in
+    (grind (arith, falls), (placed_kept _ _ _ c.in-Ok-set.ensures.keeps c.requires.placed, c.requires.depth))
+
+pub agenda::effect-returns-in-Ok-set : goal.agenda::effect-returns-in-Ok-set
+agenda::effect-returns-in-Ok-set t c =
+    let settings = settings_of c.args.caller.now.setup.now in
+    let place = c.args.caller.now.place in
+    let slot = c.args.slot.now in
+    record {
+      does = rw c.in-Set.is (OnOk-map c.notify.result
+          (effect_done c.args.caller.now slot (e.Set c.in-Set.of c.in-Set.property c.in-Set.value) c.args.tables.now (items_of slot.depth c.in-Ok-set.told) c.set.new.tables c.notify.new.tables c.args.telling.now c.notify.new.telling (c.in-Ok-set.ensures.tries (doing_at place c.args.tables.now c.args.telling.now)))
+          c.notify.ensures.does);
+      keeps = keeps_twice _ _ _ _ c.in-Ok-set.ensures.keeps c.notify.ensures.keeps;
+    }
+
+pub agenda::effect-returns-in-Err-set : goal.agenda::effect-returns-in-Err-set
+agenda::effect-returns-in-Err-set t c =
+    let slot = c.args.slot.now in
+    record {
+      does = rw c.in-Set.is (OnOk-map c.warn_of-in-Err-set.result
+          (effect_refused {T = Option Emission} c.args.caller.now slot (e.Set c.in-Set.of c.in-Set.property c.in-Set.value) c.args.tables.now (items_of slot.depth) c.set.new.tables c.args.telling.now c.warn_of-in-Err-set.new.self c.in-Err-set.fault c.in-Err-set.ensures.tries c.in-Err-set.ensures.refused)
+          c.warn_of-in-Err-set.ensures);
+      keeps = c.in-Err-set.ensures.keeps;
+    }
+
 pub agenda::effect-returns-in-Ok-change : goal.agenda::effect-returns-in-Ok-change
 agenda::effect-returns-in-Ok-change t c =
     let settings = settings_of c.args.caller.now.setup.now in
@@ -252,6 +283,10 @@ pub agenda::emit-returns-clause-does : goal.agenda::emit-returns-clause-does
 agenda::emit-returns-clause-does t c =
     let place = c.args.caller.now.place in
     sym c.calls.invariant.runs ∙ emission_end (settings_of c.args.caller.now.setup.now) c.args.target c.args.signal c.args.args.now c.args.depth c.last_connection-up_to.result c.calls.after (doing_at place c.calls.tables c.calls.telling) (sym c.in_default-next_connection.ensures.next)
+
+pub agenda::notify-returns-in-None-clause-does : goal.agenda::notify-returns-in-None-clause-does
+agenda::notify-returns-in-None-clause-does t c =
+    rw c.in-None.is (at_end (settings_of c.args.caller.now.setup.now) (doing_at c.args.caller.now.place c.args.tables.now c.args.telling.now))
 
 pub agenda::run_slot-returns-clause-does : goal.agenda::run_slot-returns-clause-does
 agenda::run_slot-returns-clause-does t c =

@@ -19,6 +19,9 @@ decreases-agenda::call l = left_to_do l.caller.now.place l.tables.now l.telling.
 abbrev pub decreases-agenda::emit : goal.decreases-agenda::emit
 decreases-agenda::emit l = left_to_do l.caller.now.place l.tables.now l.telling.now 3
 
+abbrev pub decreases-agenda::notify : goal.decreases-agenda::notify
+decreases-agenda::notify l = left_to_do l.caller.now.place l.tables.now l.telling.now 4
+
 abbrev pub decreases-agenda::effect : goal.decreases-agenda::effect
 decreases-agenda::effect l = left_to_do l.caller.now.place l.tables.now l.telling.now 5
 

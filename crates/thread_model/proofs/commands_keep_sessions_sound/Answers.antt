@@ -1,3 +1,4 @@
+use Rattle.thread_model.proofs.DeclaredLemmas.{keeps_declared}
 use Rattle.thread_model.proofs.LawLemmas.{keeps_sound, keeps_under_way}
 use Rattle.thread_model.proofs.commands_keep_sessions_sound.Goals as goal
 
@@ -6,3 +7,6 @@ returns-clause-commands c = keeps_sound
 
 pub returns-clause-items : goal.returns-clause-items
 returns-clause-items c = keeps_under_way
+
+pub returns-clause-properties : goal.returns-clause-properties
+returns-clause-properties c = keeps_declared

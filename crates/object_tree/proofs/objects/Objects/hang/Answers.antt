@@ -21,10 +21,10 @@ replace-requires-2 c = subst (Contains c.get_mut.result.now.children.links) (sym
 
 pub invariant_of-self : goal.invariant_of-self
 invariant_of-self c =
-    hung_kept c.self.inside.rows c.self.inside.kinships c.args.self.now c.args.place c.self.invariant c.self.view_is c.requires c.in-Some.key c.args.number c.get-row.result.now c.get-row.ensures.sound c.get-row.ensures.row c.in-Some.ensures.stands (hangs c.args.parent c.args.stamp) c.replace.new.self c.replace.ensures c.get_mut.result.now c.get_mut.ensures.value c.replace-2.new.self
+    hung_kept c.self.inside.rows c.self.inside.kinships c.args.self.now c.args.place c.self.invariant c.self.view_is c.requires c.in-Some.key c.args.number c.get-row.result.now c.get-row.ensures.sound c.get-row.ensures.row c.in-Some.ensures.stands (hangs c.args.parent c.args.stamp) c.replace.new.self c.replace.ensures.new c.get_mut.result.now c.get_mut.ensures.value c.replace-2.new.self
     (ap (λ (l : Linked Child). l.links) c.replace-2.ensures ∙ λ i. with_link child_cmp (without_link child_cmp c.get_mut.result.now.children.links (c.child_of.ensures i)) (c.child_of-2.ensures i))
 
 pub returns : goal.returns
 returns c =
-    hung_seen c.self.inside.rows c.self.inside.kinships c.args.self.now c.args.place c.self.invariant c.self.view_is c.requires c.in-Some.key c.args.number c.get-row.result.now c.get-row.ensures.sound c.get-row.ensures.row c.in-Some.ensures.stands (hangs c.args.parent c.args.stamp) c.replace.new.self c.replace.ensures c.get_mut.result.now c.get_mut.ensures.value c.replace-2.new.self
+    hung_seen c.self.inside.rows c.self.inside.kinships c.args.self.now c.args.place c.self.invariant c.self.view_is c.requires c.in-Some.key c.args.number c.get-row.result.now c.get-row.ensures.sound c.get-row.ensures.row c.in-Some.ensures.stands (hangs c.args.parent c.args.stamp) c.replace.new.self c.replace.ensures.new c.get_mut.result.now c.get_mut.ensures.value c.replace-2.new.self
     (ap (λ (l : Linked Child). l.links) c.replace-2.ensures ∙ λ i. with_link child_cmp (without_link child_cmp c.get_mut.result.now.children.links (c.child_of.ensures i)) (c.child_of-2.ensures i))

@@ -12,11 +12,11 @@ pub find-requires : goal.find-requires
 find-requires c = in_rows c.self.inside.rows c.self.inside.kinships c.args.self.now c.args.place c.self.invariant c.self.view_is c.requires
 
 pub invariant_of-self : goal.invariant_of-self
-invariant_of-self c = changed_kept c.self.inside.rows c.self.inside.kinships c.args.self.now c.args.place c.self.invariant c.self.view_is c.requires c.in-Some.key c.args.number c.get-row.result.now c.get-row.ensures.sound c.get-row.ensures.row c.in-Some.ensures.stands mark c.replace.new.self c.replace.ensures (λ row. refl)
+invariant_of-self c = changed_kept c.self.inside.rows c.self.inside.kinships c.args.self.now c.args.place c.self.invariant c.self.view_is c.requires c.in-Some.key c.args.number c.get-row.result.now c.get-row.ensures.sound c.get-row.ensures.row c.in-Some.ensures.stands mark c.replace.new.self c.replace.ensures.new (λ row. refl)
 
 pub returns-in-Some : goal.returns-in-Some
 returns-in-Some c =
-    changed_seen c.self.inside.rows c.self.inside.kinships c.args.self.now c.args.place c.self.invariant c.self.view_is c.requires c.in-Some.key c.args.number c.get-row.result.now c.get-row.ensures.sound c.get-row.ensures.row c.in-Some.ensures.stands mark c.replace.new.self c.replace.ensures
+    changed_seen c.self.inside.rows c.self.inside.kinships c.args.self.now c.args.place c.self.invariant c.self.view_is c.requires c.in-Some.key c.args.number c.get-row.result.now c.get-row.ensures.sound c.get-row.ensures.row c.in-Some.ensures.stands mark c.replace.new.self c.replace.ensures.new
     ∙ ap (with_forest c.args.self.now c.args.place) (marked_is (forest_at c.args.self.now c.args.place) c.args.number _ refl)
 
 pub returns-in_default : goal.returns-in_default

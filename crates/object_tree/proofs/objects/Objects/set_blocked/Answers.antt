@@ -21,12 +21,12 @@ returns-in_default-clause-after c =
     ∙ ap (with_forest c.args.self.now c.args.place) (blocked_is (forest_at c.args.self.now c.args.place) c.args.number c.args.on _ refl)
 
 pub invariant_of-self : goal.invariant_of-self
-invariant_of-self c = changed_kept c.self.inside.rows c.self.inside.kinships c.args.self.now c.args.place c.self.invariant c.self.view_is c.requires c.in-Some.key c.args.number c.get-row.result.now c.get-row.ensures.sound c.get-row.ensures.row c.in-Some.ensures.stands (block c.args.on) c.replace.new.self c.replace.ensures (λ row. refl)
+invariant_of-self c = changed_kept c.self.inside.rows c.self.inside.kinships c.args.self.now c.args.place c.self.invariant c.self.view_is c.requires c.in-Some.key c.args.number c.get-row.result.now c.get-row.ensures.sound c.get-row.ensures.row c.in-Some.ensures.stands (block c.args.on) c.replace.new.self c.replace.ensures.new (λ row. refl)
 
 pub returns-clause-before : goal.returns-clause-before
 returns-clause-before c = ap (λ found. option_map_or (λ (row : Row). row.blocked) found false) (sym (is_row c.self.inside.rows c.self.inside.kinships c.args.self.now c.args.place c.self.invariant c.self.view_is c.requires c.in-Some.key c.args.number c.get-row.result.now c.get-row.ensures.sound c.get-row.ensures.row c.in-Some.ensures.stands))
 
 pub returns-clause-after : goal.returns-clause-after
 returns-clause-after c =
-    changed_seen c.self.inside.rows c.self.inside.kinships c.args.self.now c.args.place c.self.invariant c.self.view_is c.requires c.in-Some.key c.args.number c.get-row.result.now c.get-row.ensures.sound c.get-row.ensures.row c.in-Some.ensures.stands (block c.args.on) c.replace.new.self c.replace.ensures
+    changed_seen c.self.inside.rows c.self.inside.kinships c.args.self.now c.args.place c.self.invariant c.self.view_is c.requires c.in-Some.key c.args.number c.get-row.result.now c.get-row.ensures.sound c.get-row.ensures.row c.in-Some.ensures.stands (block c.args.on) c.replace.new.self c.replace.ensures.new
     ∙ ap (with_forest c.args.self.now c.args.place) (blocked_is (forest_at c.args.self.now c.args.place) c.args.number c.args.on _ refl)

@@ -1,7 +1,7 @@
 use Rattle.std.proofs.Common.{true, refl, sym, ap, subst, ◌∙◌}
 use Rattle.session_tables.specs.Session.{gone}
 use Rattle.session_engine.specs.Engine.{IsWhole, contents, place, sessions}
-use Rattle.session_engine.proofs.EngineLemmas.{kept_by_name, sessions-others, sessions-own, whole_given_up}
+use Rattle.session_engine.proofs.EngineLemmas.{sessions-others, sessions-own, sound_by_name, whole_given_up}
 use Rattle.session_engine.proofs.engine.Engine.give_up.Goals as goal
 
 pub invariant_of-self : goal.invariant_of-self
@@ -17,5 +17,5 @@ returns-clause-fails c = λ name at.
       others = λ other elsewhere. ap (λ engine. sessions engine other) new ∙ sessions-others _ c.self.invariant name other c.args.at gone there elsewhere ∙ ap (λ engine. sessions engine other) c.self.view_is;
       settings = ap (λ engine. engine.settings) c.self.view_is;
       memory = refl;
-      sound = λ other. (kept_by_name _ other (invariant_of-self c)).sound;
+      sound = sound_by_name _ (invariant_of-self c);
     }

@@ -1,0 +1,219 @@
+-- The stores of places in rows.
+use Rattle.std.proofs.Common.{◌≡◌, ◌∙◌, ℕ, ◌<◌, ◌==◌, nat_lt, not, Bool, true, false, cond, List, [], ◌∷◌, ◌++◌, Some, None, filter, find, length, get_or, refl, sym, ap, subst, arith, ⊎_elim}
+use Rattle.std.specs.List.{AllPairs}
+use Rattle.std.specs.Option.{option_map}
+use Rattle.std.proofs.lemmas.Bool.{cases_Bool, eq-eqb}
+use Rattle.std.proofs.lemmas.List.{get_or-map, length-map, map-set}
+use Rattle.std.proofs.lemmas.List.Elements.{All-append, All-filter, All-map, All-set}
+use Rattle.places.specs.Table.{IsPlace, Table, with_place}
+use Rattle.places.proofs.TableLemmas.{with_same, with_there, with_twice}
+use Rattle.shared_rows.specs.Rows.{Keyed, inserted, key_of, row_under, rows_at, with_row, without}
+use Rattle.shared_rows.specs.Rows as table
+use Rattle.property_store.specs.declared.field.Field.{Field}
+use Rattle.property_store.specs.declared.row.Row.{Row}
+use Rattle.property_store.specs.Inside.{AreKept, AreRows, row_of, shelves_of, shown, store_of}
+use Rattle.property_store.specs.Store.{AreSound, Properties, Store, added, changed, fields_in, fresh, properties_of}
+use Rattle.property_store.specs.Store as store
+use Rattle.property_store.specs.Table.{Shelves, store_at, with_store}
+use Rattle.property_store.proofs.ListLemmas.{found, map_at, map_over_map, map_same, mapped, unmapped}
+use Rattle.property_store.proofs.KindLemmas.{fresh_sound}
+use Rattle.property_store.proofs.StoreLemmas.{IsRowOf, absent_none, absent_unchanged, added_shown, changed_shown, number, properties_shown, row_stands, there}
+
+module _ (layouts : List (List Field)) (rows : Table (List (Keyed Row))) (seen : Shelves) (view_is : shelves_of layouts rows ≡ seen) (place : ℕ) where
+  pub rows_open : IsPlace seen.table place → IsPlace rows place
+  rows_open is_place = omega (arith, is_place, ap (λ (s : Shelves). length s.table.places) view_is, length-map rows.places (store_of layouts))
+
+  pub store_there : IsPlace seen.table place → store_at seen place ≡ store_of layouts (rows_at rows place)
+  store_there is_place =
+      ap (λ (s : Shelves). store_at s place) (sym view_is)
+      ∙ get_or-map (store_of layouts) rows.places place [] [] (rows_open is_place)
+
+  pub after : (new : Table (List (Keyed Row))) (list : List (Keyed Row)) (store : Store) → new ≡ with_place rows place list → store_of layouts list ≡ store → shelves_of layouts new ≡ with_store seen place store
+  after new list store e is =
+      ap (shelves_of layouts) e
+      ∙ (ap {B = Shelves} (λ places. record { layouts = layouts; table = record { places = places; room = rows.room } }) (map-set (store_of layouts) rows.places place list)
+      ∙ (ap (λ s. with_store (shelves_of layouts rows) place s) is ∙ ap (λ shelves. with_store shelves place store) view_is))
+
+pub unchanged_store : (seen : Shelves) (place : ℕ) (store : Store) → store ≡ store_at seen place → seen ≡ with_store seen place store
+unchanged_store seen place store is = sym (ap (with_store seen place) is ∙ ap {B = Shelves} (λ table. record seen { table = table }) (with_same [] seen.table place))
+
+module _ (layouts : List (List Field)) where
+  module _ (rows : List (Keyed Row)) (sound : AreRows layouts rows) where
+    pub with_row_sound : (key : ℕ) (row : Row) → AreSound (shown layouts row) → AreRows layouts (with_row rows key row)
+    with_row_sound key row is = All-map (λ (keyed : Keyed Row). AreSound (shown layouts keyed.row)) (λ (keyed : Keyed Row). cond (keyed.key == key) (record { key = key; row = row }) keyed) rows (λ k d within. by (get_or rows k d) ((get_or rows k d).key == key) (sound k d within))
+      where
+        by : (keyed : Keyed Row) (here : Bool) → AreSound (shown layouts keyed.row) → AreSound (shown layouts (cond here (record { key = key; row = row }) keyed).row)
+        by keyed true other = is
+        by keyed false other = other
+
+    pub without_sound : (key : ℕ) → AreRows layouts (without rows key)
+    without_sound key = All-filter (λ (keyed : Keyed Row). not (keyed.key == key)) (λ (keyed : Keyed Row). AreSound (shown layouts keyed.row)) rows sound
+
+    pub inserted_sound : (key : ℕ) (row : Row) → AreSound (shown layouts row) → AreRows layouts (inserted number rows key row)
+    inserted_sound key row is =
+        let P : Keyed Row → Type 0 = λ keyed. AreSound (shown layouts keyed.row) in
+        All-append P (filter (λ keyed. nat_lt keyed.row.object row.object) rows) (record { key = key; row = row } ∷ filter (λ keyed. nat_lt row.object keyed.row.object) rows)
+        (All-filter (λ (keyed : Keyed Row). nat_lt keyed.row.object row.object) P rows sound)
+        (All-append P (record { key = key; row = row } ∷ []) (filter (λ keyed. nat_lt row.object keyed.row.object) rows) (λ k d within. subst P (alone k d within) is) (All-filter (λ (keyed : Keyed Row). nat_lt row.object keyed.row.object) P rows sound))
+      where
+        alone : (k : ℕ) (d : Keyed Row) → k < 1 → record { key = key; row = row } ≡ get_or (record { key = key; row = row } ∷ []) k d
+        alone k d within = let first : k ≡ 0 = omega (arith, within) in rw first refl
+
+  pub kept_with : (rows : Table (List (Keyed Row))) → AreKept layouts rows → (place : ℕ) (new : Table (List (Keyed Row))) (list : List (Keyed Row)) → new ≡ with_place rows place list → AreRows layouts list → AreKept layouts new
+  kept_with rows kept place new list e sound = subst (AreKept layouts) (sym e) (All-set (AreRows layouts) rows.places place list sound kept)
+
+-- a row that is taken out, and put back
+pub row_put : (rows : List (Keyed Row)) (key : ℕ) (old row : Row) → row_under rows key ≡ Some old → row_under (with_row rows key row) key ≡ Some row
+row_put [] key old row under = absurd (cc)
+row_put (first ∷ rows) key old row under = ⊎_elim
+    (λ (here : (first.key == key) ≡ true). let itself : (key == key) ≡ true = eq-eqb key key refl in rw (here, itself) refl)
+    (λ (other : (first.key == key) ≡ false). let rest : row_under rows key ≡ Some old = rw other at under in rw (other, other) (row_put rows key old row rest))
+    (cases_Bool (first.key == key))
+
+put_twice : (rows : List (Keyed Row)) (key : ℕ) (first row : Row) → with_row (with_row rows key first) key row ≡ with_row rows key row
+put_twice rows key first row =
+    map_over_map (λ (keyed : Keyed Row). cond (keyed.key == key) (record { key = key; row = row }) keyed) (λ (keyed : Keyed Row). cond (keyed.key == key) (record { key = key; row = first }) keyed) rows
+    ∙ map_at (λ (keyed : Keyed Row). put row (put first keyed)) (put row) rows (λ k d within. same (get_or rows k d))
+  where
+    put : Row → Keyed Row → Keyed Row
+    put row keyed = cond (keyed.key == key) (record { key = key; row = row }) keyed
+
+    same : (keyed : Keyed Row) → put row (put first keyed) ≡ put row keyed
+    same keyed = ⊎_elim
+        (λ (here : (keyed.key == key) ≡ true). let itself : (key == key) ≡ true = eq-eqb key key refl in rw (here, itself) refl)
+        (λ (other : (keyed.key == key) ≡ false). rw (other, other) refl)
+        (cases_Bool (keyed.key == key))
+
+module _ (rows middle : Table (List (Keyed Row))) (place key : ℕ) (is_place : IsPlace rows place) (empty : Row) (taken : middle ≡ with_place rows place (with_row (rows_at rows place) key empty)) where
+  middle_rows : rows_at middle place ≡ with_row (rows_at rows place) key empty
+  middle_rows = ap (λ t. rows_at t place) taken ∙ with_there [] rows place (with_row (rows_at rows place) key empty) is_place
+
+  pub stands_between : (old row : Row) → row_under (rows_at rows place) key ≡ Some old → row.object ≡ empty.object → option_map number (row_under (rows_at middle place) key) ≡ Some row.object
+  stands_between old row under same = ap (λ list. option_map number (row_under list key)) middle_rows ∙ (ap (option_map number) (row_put (rows_at rows place) key old empty under) ∙ ap Some (sym same))
+
+  pub put_back : (new : Table (List (Keyed Row))) (row : Row) → new ≡ with_place middle place (with_row (rows_at middle place) key row) → new ≡ with_place rows place (with_row (rows_at rows place) key row)
+  put_back new row e =
+      e ∙ (ap (λ list. with_place middle place (with_row list key row)) middle_rows
+      ∙ (ap (with_place middle place) (put_twice (rows_at rows place) key empty row)
+      ∙ (ap (λ t. with_place t place (with_row (rows_at rows place) key row)) taken
+      ∙ with_twice rows place (with_row (rows_at rows place) key empty) (with_row (rows_at rows place) key row))))
+
+-- a row that stands under a key is one of the rows
+pub under_sound : (layouts : List (List Field)) (rows : List (Keyed Row)) → AreRows layouts rows → (key : ℕ) (row : Row) → row_under rows key ≡ Some row → AreSound (shown layouts row)
+under_sound layouts rows sound key row under =
+    let there = mapped (λ (keyed : Keyed Row). keyed.row) (find (λ keyed. keyed.key == key) rows) row under in
+    let is = found (λ (keyed : Keyed Row). keyed.key == key) rows there.x there.is in
+    subst (λ (r : Row). AreSound (shown layouts r)) there.gives (subst (λ (keyed : Keyed Row). AreSound (shown layouts keyed.row)) (is.is there.x) (sound is.at there.x is.within))
+
+pub store_sound : (layouts : List (List Field)) (rows : List (Keyed Row)) → table.IsSound number rows → AreRows layouts rows → store.IsSound (store_of layouts rows)
+store_sound layouts rows sound each = record { rising = rising rows sound; each = All-map AreSound (λ (keyed : Keyed Row). shown layouts keyed.row) rows each }
+  where
+    rising : (rows : List (Keyed Row)) → table.IsSound number rows → AllPairs (λ earlier later. earlier.object < later.object) (store_of layouts rows)
+    rising [] sound i j d lt within = absurd (omega (arith, within))
+    rising (first ∷ rest) sound i j d lt within =
+        let inside : j < length (first ∷ rest) = omega (arith, within, length-map (first ∷ rest) (λ (keyed : Keyed Row). shown layouts keyed.row)) in
+        let at_i : (get_or (store_of layouts (first ∷ rest)) i d).object ≡ (get_or (first ∷ rest) i first).row.object = ap (λ (of : Properties). of.object) (get_or-map (λ (keyed : Keyed Row). shown layouts keyed.row) (first ∷ rest) i first d (omega (arith, lt, inside))) in
+        let at_j : (get_or (store_of layouts (first ∷ rest)) j d).object ≡ (get_or (first ∷ rest) j first).row.object = ap (λ (of : Properties). of.object) (get_or-map (λ (keyed : Keyed Row). shown layouts keyed.row) (first ∷ rest) j first d inside) in
+        let rise = sound.rising i j first lt inside in
+        omega (arith, rise, at_i, at_j)
+
+-- what is read of a place
+module _ (layouts : List (List Field)) (rows : Table (List (Keyed Row))) (seen : Shelves) (view_is : shelves_of layouts rows ≡ seen) (place : ℕ) (is_place : IsPlace seen.table place) (n : ℕ) where
+  properties_there : properties_of (store_at seen place) n ≡ option_map (shown layouts) (row_of (rows_at rows place) n)
+  properties_there = ap (λ s. properties_of s n) (store_there layouts rows seen view_is place is_place) ∙ properties_shown layouts (rows_at rows place) n
+
+  pub one_there : (row : Row) → Some row ≡ row_of (rows_at rows place) n → properties_of (store_at seen place) n ≡ Some (shown layouts row)
+  one_there row e = properties_there ∙ ap (option_map (shown layouts)) (sym e)
+
+  pub none_there : None ≡ row_of (rows_at rows place) n → properties_of (store_at seen place) n ≡ None
+  none_there e = properties_there ∙ ap (option_map (shown layouts)) (sym e)
+
+  -- no row has the number
+  module _ (none : key_of number (rows_at rows place) n ≡ None) where
+    pub nothing : properties_of (store_at seen place) n ≡ None
+    nothing = ap (λ s. properties_of s n) (store_there layouts rows seen view_is place is_place) ∙ absent_none layouts (rows_at rows place) n none
+
+    pub nothing_changed : (change : Properties → Properties) → seen ≡ with_store seen place (changed change n (store_at seen place))
+    nothing_changed change =
+        let there = store_there layouts rows seen view_is place is_place in
+        unchanged_store seen place (changed change n (store_at seen place)) (ap (changed change n) there ∙ (absent_unchanged layouts (rows_at rows place) n none change ∙ sym there))
+
+-- a row that is taken out
+pub record IsTaken (layouts : List (List Field)) (rows : Table (List (Keyed Row))) (seen : Shelves) (place key n : ℕ) (old : Row) (middle : Table (List (Keyed Row))) : Type 0 where
+  pub kept : AreKept layouts rows
+  pub view_is : shelves_of layouts rows ≡ seen
+  pub is_place : IsPlace seen.table place
+  pub sound : table.IsSound number (rows_at rows place)
+  pub found : key_of number (rows_at rows place) n ≡ Some key
+  pub under : row_under (rows_at rows place) key ≡ Some old
+  pub empty : Row
+  pub numbered : empty.object ≡ n
+  pub taken : middle ≡ with_place rows place (with_row (rows_at rows place) key empty)
+
+module _ (layouts : List (List Field)) (rows : Table (List (Keyed Row))) (seen : Shelves) (place key n : ℕ) (old : Row) (middle : Table (List (Keyed Row))) (t : IsTaken layouts rows seen place key n old middle) where
+  open_rows : IsPlace rows place
+  open_rows = rows_open layouts rows seen t.view_is place t.is_place
+
+  is_row : IsRowOf (rows_at rows place) key n old
+  is_row = row_stands (rows_at rows place) t.sound key n old t.found t.under
+
+  pub old_there : properties_of (store_at seen place) n ≡ Some (shown layouts old)
+  old_there = ap (λ s. properties_of s n) (store_there layouts rows seen t.view_is place t.is_place) ∙ there layouts (rows_at rows place) key n old is_row
+
+  pub old_sound : AreSound (shown layouts old)
+  old_sound = under_sound layouts (rows_at rows place) (t.kept place [] open_rows) key old t.under
+
+  pub goes_back : (row : Row) → row.object ≡ old.object → option_map number (row_under (rows_at middle place) key) ≡ Some row.object
+  goes_back row same = stands_between rows middle place key open_rows t.empty t.taken old row t.under (same ∙ (is_row.numbered ∙ sym t.numbered))
+
+  module _ (new : Table (List (Keyed Row))) (row : Row) (back : new ≡ with_place middle place (with_row (rows_at middle place) key row)) where
+    is_back : new ≡ with_place rows place (with_row (rows_at rows place) key row)
+    is_back = put_back rows middle place key open_rows t.empty t.taken new row back
+
+    pub kept_back : AreSound (shown layouts row) → AreKept layouts new
+    kept_back sound = kept_with layouts rows t.kept place new (with_row (rows_at rows place) key row) is_back (with_row_sound layouts (rows_at rows place) (t.kept place [] open_rows) key row sound)
+
+    pub view_back : (change : Properties → Properties) → shown layouts row ≡ change (shown layouts old) → shelves_of layouts new ≡ with_store seen place (changed change n (store_at seen place))
+    view_back change e =
+        after layouts rows seen t.view_is place new (with_row (rows_at rows place) key row) (changed change n (store_at seen place)) is_back
+        (changed_shown layouts (rows_at rows place) key n old is_row row change e ∙ ap (changed change n) (sym (store_there layouts rows seen t.view_is place t.is_place)))
+
+    pub view_same : shown layouts row ≡ shown layouts old → shelves_of layouts new ≡ seen
+    view_same e =
+        view_back (λ of. of) e
+        ∙ sym (unchanged_store seen place (changed (λ of. of) n (store_at seen place)) (map_same (λ (of : Properties). cond (of.object == n) of of) (store_at seen place) (λ k d within. either ((get_or (store_at seen place) k d).object == n) (get_or (store_at seen place) k d))))
+      where
+        either : (b : Bool) (of : Properties) → cond b of of ≡ of
+        either true of = refl
+        either false of = refl
+
+-- a row that is found is one of the rows
+pub found_sound : (layouts : List (List Field)) (rows : List (Keyed Row)) → AreRows layouts rows → (n : ℕ) (row : Row) → Some row ≡ row_of rows n → AreSound (shown layouts row)
+found_sound layouts rows sound n row e =
+    let there = mapped (λ (keyed : Keyed Row). keyed.row) (find (λ keyed. keyed.row.object == n) rows) row (sym e) in
+    let is = found (λ (keyed : Keyed Row). keyed.row.object == n) rows there.x there.is in
+    subst (λ (r : Row). AreSound (shown layouts r)) there.gives (subst (λ (keyed : Keyed Row). AreSound (shown layouts keyed.row)) (is.is there.x) (sound is.at there.x is.within))
+
+-- an object that comes
+module _ (layouts : List (List Field)) (rows : Table (List (Keyed Row))) (seen : Shelves) (view_is : shelves_of layouts rows ≡ seen) (place : ℕ) (is_place : IsPlace seen.table place) (n : ℕ) where
+  pub no_key : properties_of (store_at seen place) n ≡ None → key_of number (rows_at rows place) n ≡ None
+  no_key none =
+      let nowhere = unmapped (shown layouts) (row_of (rows_at rows place) n) (sym (properties_there layouts rows seen view_is place is_place n) ∙ none) in
+      ap (option_map (λ (keyed : Keyed Row). keyed.key)) (unmapped (λ (keyed : Keyed Row). keyed.row) (find (λ keyed. keyed.row.object == n) (rows_at rows place)) nowhere)
+
+  module _ (kept : AreKept layouts rows) (class key : ℕ) (row : Row) (is : shown layouts row ≡ fresh n (fields_in layouts class)) (new : Table (List (Keyed Row))) (e : new ≡ with_place rows place (inserted number (rows_at rows place) key row)) where
+    pub new_kept : AreKept layouts new
+    new_kept =
+        kept_with layouts rows kept place new (inserted number (rows_at rows place) key row) e
+        (inserted_sound layouts (rows_at rows place) (kept place [] (rows_open layouts rows seen view_is place is_place)) key row (subst AreSound (sym is) (fresh_sound n (fields_in layouts class))))
+
+    pub new_added : shelves_of layouts new ≡ with_store seen place (added (store_at seen place) n (fields_in seen.layouts class))
+    new_added =
+        let there = store_there layouts rows seen view_is place is_place in
+        let object : row.object ≡ n = ap (λ (of : Properties). of.object) is in
+        after layouts rows seen view_is place new (inserted number (rows_at rows place) key row) (added (store_at seen place) n (fields_in seen.layouts class)) e
+        (added_shown layouts (rows_at rows place) key row
+        ∙ (ap (λ m. filter (λ (of : Properties). nat_lt of.object m) (store_of layouts (rows_at rows place)) ++ shown layouts row ∷ filter (λ (of : Properties). nat_lt m of.object) (store_of layouts (rows_at rows place))) object
+        ∙ (ap (λ of. filter (λ (of : Properties). nat_lt of.object n) (store_of layouts (rows_at rows place)) ++ of ∷ filter (λ (of : Properties). nat_lt n of.object) (store_of layouts (rows_at rows place))) is
+        ∙ (ap (λ s. added s n (fields_in layouts class)) (sym there)
+        ∙ ap (λ (s : Shelves). added (store_at seen place) n (fields_in s.layouts class)) view_is))))

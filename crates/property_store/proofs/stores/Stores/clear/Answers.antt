@@ -1,0 +1,6 @@
+use Rattle.std.proofs.Common.{[], refl}
+use Rattle.property_store.proofs.PlaceLemmas.{after}
+use Rattle.property_store.proofs.stores.Stores.clear.Goals as goal
+
+pub returns : goal.returns
+returns c = after c.self.inside.layouts c.self.inside.rows c.args.self.now c.self.view_is c.args.place c.clear.new.self [] [] c.clear.ensures refl

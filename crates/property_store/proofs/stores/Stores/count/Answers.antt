@@ -1,0 +1,10 @@
+use Rattle.std.proofs.Common.{subst, sym}
+use Rattle.shared_rows.specs.Rows.{rows_at}
+use Rattle.property_store.specs.Store.{IsSound}
+use Rattle.property_store.proofs.PlaceLemmas.{rows_open, store_sound, store_there}
+use Rattle.property_store.proofs.stores.Stores.count.Goals as goal
+
+pub returns-clause-sound : goal.returns-clause-sound
+returns-clause-sound c =
+    subst IsSound (sym (store_there c.self.inside.layouts c.self.inside.rows c.args.self.now c.self.view_is c.args.place c.requires))
+    (store_sound c.self.inside.layouts (rows_at c.self.inside.rows c.args.place) c.len.ensures.sound (c.self.invariant c.args.place _ (rows_open c.self.inside.layouts c.self.inside.rows c.args.self.now c.self.view_is c.args.place c.requires)))

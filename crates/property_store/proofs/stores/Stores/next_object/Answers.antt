@@ -1,0 +1,12 @@
+use Rattle.std.proofs.Common.{◌∙◌, ap, sym}
+use Rattle.shared_rows.specs.Rows.{rows_at}
+use Rattle.property_store.specs.Store.{next_object}
+use Rattle.property_store.proofs.PlaceLemmas.{store_there}
+use Rattle.property_store.proofs.StoreLemmas.{next_shown}
+use Rattle.property_store.proofs.stores.Stores.next_object.Goals as goal
+
+pub returns : goal.returns
+returns c =
+    c.first_above.ensures
+    ∙ (sym (next_shown c.self.inside.layouts (rows_at c.self.inside.rows c.args.place) c.args.after)
+    ∙ ap (λ store. next_object store c.args.after) (sym (store_there c.self.inside.layouts c.self.inside.rows c.args.self.now c.self.view_is c.args.place c.requires)))

@@ -1,0 +1,4 @@
+pub mod Store
+pub mod Table
+pub mod Inside
+pub mod Storing

@@ -1,0 +1,22 @@
+-- What contracts see of the stores of all places.
+use Rattle.std.specs.Prelude.{ℕ, List, [], slice_index_or}
+use Rattle.places.specs.Table.{Table, with_place}
+use Rattle.property_store.specs.declared.field.Field.{Field}
+use Rattle.property_store.specs.Store.{Store, fields_in}
+
+pub record Shelves : Type 0 where
+  -- the properties that each class declares
+  pub layouts : List (List Field)
+  pub table : Table Store
+
+-- the store of a place
+abbrev pub store_at : Shelves → ℕ → Store
+store_at shelves place = slice_index_or shelves.table.places place []
+
+-- with another store at a place, and all else as before
+abbrev pub with_store : Shelves → ℕ → Store → Shelves
+with_store shelves place store = record shelves { table = with_place shelves.table place store }
+
+-- the properties that a class declares
+abbrev pub fields_of : Shelves → ℕ → List Field
+fields_of shelves class = fields_in shelves.layouts class

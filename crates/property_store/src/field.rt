@@ -1,0 +1,122 @@
+//! Declared properties.
+ghost use Rattle.std.specs.Prelude.{◌≡◌, ◌<◌, IfOk, IfSome, false, length, map, not, slice_get};
+ghost use Rattle.std.specs.Option.{option_map, option_map_or};
+ghost use Rattle.variant_value.specs.Values.{is_same};
+ghost use Rattle.std.specs.Result.{result_err};
+ghost use Rattle.property_store.specs.Store.{default_of, field_number, fields_in};
+ghost use Rattle.property_store.specs.Storing.{change_in, refusal_in, stored_in};
+
+use plain_types::{Items, Text};
+use refusals::Code;
+use signature_core::Kind;
+use std::alloc::{AllocError, Global};
+use variant_value::{Args, Value};
+
+/// A declared property, as a store knows it.
+#[derive(Debug, Drop)]
+pub struct Field {
+    pub name: Text,
+    pub kind: Kind,
+    /// Whether it may be bound to an expression.
+    pub bindable: bool,
+}
+
+/// The properties that a class declares; a class that is not there declares none.
+pub(crate) fn fields_in(layouts: &Items<Items<Field>>, class: u32) -> &[Field]
+    ensures { result.now ≡ fields_in layouts.now class }
+{
+    match layouts.get(class as usize) {
+        Some(fields) => fields.as_slice(),
+        None => &[],
+    }
+}
+
+/// The number of the property of this name.
+pub(crate) fn field_number(fields: &[Field], name: &str) -> Option<usize>
+    ensures number { result ≡ field_number name.now fields.now }
+    ensures within { IfSome result (λ number. number < length fields.now) }
+{
+    fields.iter().position(|field| field.name.as_str() == name)
+}
+
+/// What each property of a new object is.
+pub(crate) fn defaults(alloc: Global, fields: &[Field]) -> Result<Args, AllocError>
+    ensures { IfOk result (λ values. values ≡ map (λ field. default_of field.kind) fields.now) }
+{
+    Ok(match fields {
+        [field] => Args::one(default_of(alloc, field.kind)),
+        _ => Args::from_vec(all_defaults(alloc, fields)?),
+    })
+}
+
+fn all_defaults(alloc: Global, fields: &[Field]) -> Result<Vec<Value>, AllocError>
+    ensures { IfOk result (λ values. values.items ≡ map (λ field. default_of field.kind) fields.now) }
+{
+    let mut values = Vec::with_capacity(alloc, fields.len())?;
+    for field in fields {
+        values.push(default_of(alloc, field.kind))?;
+    }
+    Ok(values)
+}
+
+fn default_of(alloc: Global, kind: Kind) -> Value
+    ensures { result ≡ default_of kind }
+{
+    match kind {
+        Kind::Bool => Value::Bool(false),
+        Kind::Int => Value::Int(0),
+        Kind::Uint => Value::Uint(0),
+        Kind::Longlong => Value::Longlong(0),
+        Kind::Ulonglong => Value::Ulonglong(0),
+        Kind::Text => Value::Text(Text::from_string(String::new(alloc))),
+    }
+}
+
+/// The value of this number.
+pub(crate) fn value_at(values: &Args, number: usize) -> Option<&Value>
+    ensures { option_map (λ value. value.now) result ≡ slice_get values.now number }
+{
+    values.as_slice().get(number)
+}
+
+/// Whether this is another value than the one of this number.
+fn is_other(values: &Args, number: usize, value: &Value) -> bool
+    ensures { result ≡ option_map_or (λ stands. not (is_same stands value.now)) (slice_get values.now number) false }
+{
+    match value_at(values, number) {
+        Some(stands) => !stands.is_same(value),
+        None => false,
+    }
+}
+
+/// The kind of the property of this number.
+fn kind_at(fields: &[Field], number: usize) -> Option<Kind>
+    ensures { result ≡ option_map (λ field. field.kind) (slice_get fields.now number) }
+{
+    let field = fields.get(number)?;
+    Some(field.kind)
+}
+
+/// Stores a value as one of the property's kind, and returns whether it is another than the one that
+/// stood. Where there is no such property nothing is stored; a value that does not fit is `BadValue`.
+pub(crate) fn store(
+    fields: &[Field],
+    values: &mut Args,
+    number: usize,
+    value: Value,
+) -> Result<bool, Code>
+    requires { length values.old ≡ length fields.now }
+    ensures refused { result_err result ≡ refusal_in fields.now number value }
+    ensures answer { IfOk result (λ answer. answer ≡ change_in fields.now values.old number value) }
+    ensures new { values.new ≡ stored_in fields.now number value values.old }
+{
+    let Some(kind) = kind_at(fields, number) else {
+        return Ok(false);
+    };
+    let Ok(value) = value.convert(kind) else {
+        return Err(Code::BadValue);
+    };
+    let is_change = is_other(values, number, &value);
+    values.replace(number, value);
+    Ok(is_change)
+}

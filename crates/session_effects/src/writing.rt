@@ -1,0 +1,180 @@
+//! Writing properties, and the signals that tell of it.
+ghost use Rattle.std.specs.Prelude.{◌≡◌, ◌∷◌, [], IfOk, None, Ok, Some, length, option_and_then, option_map, take};
+ghost use Rattle.term_core.specs.declared.action.Effect.TheVariants as e;
+ghost use Rattle.variant_value.specs.Values.{IsShort};
+ghost use Rattle.property_store.specs.Store.{fitting};
+ghost use Rattle.thread_model.specs.Writing.{Declared, acted_writing, declared, dynamic_writing, notification, property_at, short};
+ghost use Rattle.session_tables.specs.Refused.{OnRefused};
+ghost use Rattle.session_tables.specs.Tables.{IsPlaced, state_at};
+ghost use Rattle.session_effects.specs.Actions.{Keeps, Tries};
+ghost use Rattle.session_effects.specs.Setup.{settings_of};
+ghost use Rattle.session_effects.specs.Writing.{TriesToWrite, Writes, item_of, items_of, standing};
+
+use crate::caller::Caller;
+use crate::effects::{Emission, reader};
+use crate::evaluation::{evaluated, object_of};
+use crate::methods::kinds_at;
+use crate::slot::Slot;
+use plain_types::{Items, Text};
+use refusals::{Code, Fault};
+use session_tables::Tables;
+use signature_core::Kind;
+use std::alloc::{AllocError, Global};
+use term_core::{Expr, Target};
+use variant_value::{TEXT_BYTES, Value};
+
+/// Does an action that writes a property, and returns the signal that is to be sent for it, where the
+/// property's value has changed and there is one that tells of it.
+pub fn set(
+    caller: &Caller,
+    tables: &mut Tables,
+    slot: &Slot,
+    of: &Target,
+    property: &Text,
+    value: &Expr,
+) -> Result<Option<Emission>, Fault>
+    requires { IsPlaced tables.old caller.now.place }
+    ensures tries { Tries caller.now slot.now (e.Set of.now property.now value.now) tables.old (items_of slot.now.depth) tables.new result }
+    ensures refused { OnRefused result (tables.new ≡ tables.old) }
+    ensures keeps { Keeps caller.now.place tables.old tables.new }
+{
+    let reader = reader(caller, tables, slot);
+    let object = object_of(&reader, of)?;
+    tables.check_object(caller.place, object)?;
+    let value = evaluated(caller.setup.alloc, &reader, slot.args, value)?;
+    write(caller, tables, object, property, value)
+}
+
+/// Writes the value of an expression to a property: to a declared one as a value of its kind, and else to
+/// a dynamic one.
+fn write(
+    caller: &Caller,
+    tables: &mut Tables,
+    object: u32,
+    property: &Text,
+    value: Value,
+) -> Result<Option<Emission>, Fault>
+    requires { IsPlaced tables.old caller.now.place }
+    ensures writes { TriesToWrite caller.now object (acted_writing (state_at tables.old caller.now.place) object property.now value) tables.old (λ told. told) tables.new result }
+    ensures refused { OnRefused result (tables.new ≡ tables.old) }
+    ensures keeps { Keeps caller.now.place tables.old tables.new }
+{
+    let Some((number, kind)) = tables.declared(caller.place, object, property.as_str()) else {
+        write_dynamic(caller, tables, object, property, short(value)?)?;
+        return Ok(None);
+    };
+    let Ok(value) = value.convert(kind) else {
+        return Err(Fault::Refused(Code::BadValue));
+    };
+    Ok(write_declared(caller, tables, object, number, short(value)?)?)
+}
+
+/// The value, where it is no text that is too long.
+fn short(value: Value) -> Result<Value, Code>
+    ensures value { result ≡ short value }
+    ensures short { IfOk result IsShort }
+{
+    if let Value::Text(text) = &value
+        && text.as_str().len() > TEXT_BYTES
+    {
+        return Err(Code::Limit);
+    }
+    Ok(value)
+}
+
+/// Gives a declared property a value of its kind, and returns the signal that is to be sent for it, where
+/// the value is another one now and there is a signal that tells of it.
+pub fn write_declared(
+    caller: &Caller,
+    tables: &mut Tables,
+    object: u32,
+    number: usize,
+    value: Value,
+) -> Result<Option<Emission>, AllocError>
+    requires placed { IsPlaced tables.old caller.now.place }
+    requires short { IsShort value }
+    requires fits { fitting (state_at tables.old caller.now.place).store object number value ≡ Some value }
+    ensures writes { IfOk result (λ told. Writes caller.now object (Declared number value) tables.old told tables.new) }
+    ensures keeps { Keeps caller.now.place tables.old tables.new }
+{
+    if tables.write(caller.place, object, number, value) {
+        notification(caller, tables, object, number)
+    } else {
+        Ok(None)
+    }
+}
+
+/// Gives a dynamic property a value, or takes it away where the value is invalid. More than `DYNAMIC` of
+/// one object are `Limit`.
+pub fn write_dynamic(
+    caller: &Caller,
+    tables: &mut Tables,
+    object: u32,
+    name: &Text,
+    value: Value,
+) -> Result<(), Fault>
+    requires placed { IsPlaced tables.old caller.now.place }
+    requires short { IsShort value }
+    ensures writes { TriesToWrite caller.now object (dynamic_writing (state_at tables.old caller.now.place) object name.now value) tables.old (λ _. None) tables.new result }
+    ensures refused { OnRefused result (tables.new ≡ tables.old) }
+    ensures keeps { Keeps caller.now.place tables.old tables.new }
+{
+    if let Value::Invalid = value {
+        tables.remove_dynamic(caller.place, object, name.as_str());
+        return Ok(());
+    }
+    let name = name.copy(caller.setup.alloc)?;
+    tables.set_dynamic(caller.place, object, name, value)
+}
+
+/// The signal that tells that a declared property has changed (NOTIFY), where it has one, with the
+/// property's value where the signal takes one.
+fn notification(
+    caller: &Caller,
+    tables: &Tables,
+    object: u32,
+    number: usize,
+) -> Result<Option<Emission>, AllocError>
+    requires { IsPlaced tables.now caller.now.place }
+    ensures { IfOk result (λ told. (depth : _) → option_map (item_of depth) told
+        ≡ option_and_then (notification (settings_of caller.now.setup.now) (state_at tables.now caller.now.place) depth) (standing (state_at tables.now caller.now.place) object number)) }
+{
+    let Some(value) = tables.value(caller.place, object, number) else {
+        return Ok(None);
+    };
+    let Some(signal) = notify_signal(caller, tables, object, number) else {
+        return Ok(None);
+    };
+    let kinds = kinds_at(caller, tables, object, signal);
+    let args = told_value(caller.setup.alloc, kinds, value)?;
+    Ok(Some(Emission {
+        object,
+        signal,
+        args,
+    }))
+}
+
+/// The index of the signal that tells of changes of a property.
+fn notify_signal(caller: &Caller, tables: &Tables, object: u32, number: usize) -> Option<u32>
+    requires { IsPlaced tables.now caller.now.place }
+    ensures { result ≡ option_and_then (λ property. property.notify) (property_at (settings_of caller.now.setup.now) (state_at tables.now caller.now.place) object number) }
+{
+    let classes = &caller.setup.classes;
+    let class = tables.class_of(caller.place, object)?;
+    if number >= classes.property_count(class) as usize {
+        return None;
+    }
+    classes.property_row(class, number as u32)?.notify
+}
+
+/// What a signal is sent with that tells of a value: the value, where the signal has a parameter.
+fn told_value(alloc: Global, kinds: &[Kind], value: &Value) -> Result<Items<Value>, AllocError>
+    ensures { IfOk result (λ args. args ≡ take (length kinds.now) (value.now ∷ [])) }
+{
+    let mut args = Items::new(alloc);
+    if kinds.is_empty() {
+        return Ok(args);
+    }
+    args.push(value.copy(alloc)?)?;
+    Ok(args)
+}

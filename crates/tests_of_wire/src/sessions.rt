@@ -1,0 +1,396 @@
+//! Worked sessions, from bytes to bytes on a fresh server with ample memory, none of which is refused.
+use class_table::ClassTable;
+use program_start::DEMONSTRATION;
+use server_world::Server;
+use std::alloc::{AllocError, Global};
+use std::test::Fail;
+use wire_devices::Counted;
+use wire_lines::{Summary, run};
+
+/// The turns of a command where the command line does not say.
+const TURNS: u32 = 10_000;
+
+/// Lines and what is answered to them, line by line.
+type Session = (&'static str, &'static str);
+
+const NOTHING: Session = ("", "");
+
+const LAMP: Session = (
+    r#"{"class":"QObject","do":"new","session":"a"}
+{"do":"set","object":1,"property":"objectName","session":"a","value":"lamp"}
+{"do":"get","object":1,"property":"objectName","session":"a"}"#,
+    r#"{"reply":1,"session":"a"}
+{"reply":true,"session":"a"}
+{"reply":"lamp","session":"a"}"#,
+);
+
+const TWO_SESSIONS: Session = (
+    r#"{"class":"QObject","do":"new","session":"a"}
+{"class":"QObject","do":"new","session":"b"}
+{"class":"QObject","do":"new","session":"a"}"#,
+    r#"{"reply":1,"session":"a"}
+{"reply":1,"session":"b"}
+{"reply":2,"session":"a"}"#,
+);
+
+/// The same without the line of `b`.
+const ONE_SESSION: Session = (
+    r#"{"class":"QObject","do":"new","session":"a"}
+{"class":"QObject","do":"new","session":"a"}"#,
+    r#"{"reply":1,"session":"a"}
+{"reply":2,"session":"a"}"#,
+);
+
+const NAMES: Session = (
+    r#"{"class":"QObject","do":"new","session":"a"}
+{"do":"get","object":1,"property":"objectName","session":"a"}
+{"do":"set","object":1,"property":"objectName","session":"a","value":null}
+{"do":"set","object":1,"property":"objectName","session":"a","value":5}
+{"do":"set","object":2,"property":"objectName","session":"a","value":"x"}
+{"class":"Nope","do":"new","session":"a"}"#,
+    r#"{"reply":1,"session":"a"}
+{"reply":"","session":"a"}
+{"reply":false,"session":"a"}
+{"error":"E22","session":"a"}
+{"error":"E04","session":"a"}
+{"error":"E03","session":"a"}"#,
+);
+
+const NO_COMMANDS: Session = (
+    r#"nonsense
+{"do":"jump","session":"a"}
+{"do":"status","session":"a b"}
+{"do":"get","object":0,"property":"objectName","session":"a"}
+{"do":"get","object":4294967296,"property":"objectName","session":"a"}
+{"do":"get","object":1,"property":"objectName","session":"a","x":1}"#,
+    r#"{"error":"E01","session":"-"}
+{"error":"E02","session":"a"}
+{"error":"E02","session":"-"}
+{"error":"E02","session":"a"}
+{"error":"E02","session":"a"}
+{"error":"E02","session":"a"}"#,
+);
+
+const CLASSES: Session = (
+    r#"{"class":"Probe","do":"meta","session":"a"}
+{"class":"QObject","do":"meta","session":"a"}
+{"class":"Cell","do":"meta","session":"a"}
+{"class":"Nope","do":"meta","session":"a"}
+{"class":"Probe","do":"new","session":"a"}
+{"class":"Cell","do":"new","session":"a"}
+{"class":"probe","do":"new","session":"a"}
+{"do":"get","object":2,"property":"objectName","session":"a"}"#,
+    r#"{"reply":{"class":"Probe","methodOffset":3,"methods":["destroyed()","objectNameChanged(QString)","deleteLater()","ping()","note()","late()","swap()","again()","kill()","rescue()","drop()"],"properties":["objectName"],"propertyOffset":1,"super":"QObject"},"session":"a"}
+{"reply":{"class":"QObject","methodOffset":0,"methods":["destroyed()","objectNameChanged(QString)","deleteLater()"],"properties":["objectName"],"propertyOffset":0,"super":null},"session":"a"}
+{"reply":{"class":"Cell","methodOffset":3,"methods":["destroyed()","objectNameChanged(QString)","deleteLater()","xChanged(int)","seen(int)","setX(int)"],"properties":["objectName","x","y","z","flag","big"],"propertyOffset":1,"super":"QObject"},"session":"a"}
+{"error":"E03","session":"a"}
+{"reply":1,"session":"a"}
+{"reply":2,"session":"a"}
+{"error":"E03","session":"a"}
+{"reply":"","session":"a"}"#,
+);
+
+const TREES: Session = (
+    r#"{"class":"Probe","do":"new","session":"a"}
+{"class":"Probe","do":"new","parent":1,"session":"a"}
+{"class":"Probe","do":"new","parent":2,"session":"a"}
+{"class":"Probe","do":"new","parent":1,"session":"a"}
+{"do":"set","object":3,"property":"objectName","session":"a","value":"k"}
+{"do":"set","object":4,"property":"objectName","session":"a","value":"k"}
+{"do":"find","name":"k","object":1,"session":"a"}
+{"do":"children","object":1,"session":"a"}
+{"do":"setParent","object":2,"parent":null,"session":"a"}
+{"do":"setParent","object":2,"parent":1,"session":"a"}
+{"do":"children","object":1,"session":"a"}"#,
+    r#"{"reply":1,"session":"a"}
+{"reply":2,"session":"a"}
+{"reply":3,"session":"a"}
+{"reply":4,"session":"a"}
+{"reply":true,"session":"a"}
+{"reply":true,"session":"a"}
+{"reply":4,"session":"a"}
+{"reply":[2,4],"session":"a"}
+{"reply":true,"session":"a"}
+{"reply":true,"session":"a"}
+{"reply":[4,2],"session":"a"}"#,
+);
+
+const DELETIONS: Session = (
+    r#"{"class":"QObject","do":"new","session":"a"}
+{"class":"QObject","do":"new","parent":1,"session":"a"}
+{"class":"QObject","do":"new","parent":2,"session":"a"}
+{"do":"setParent","object":1,"parent":3,"session":"a"}
+{"do":"delete","object":1,"session":"a"}
+{"do":"children","session":"a"}
+{"do":"get","object":3,"property":"objectName","session":"a"}
+{"class":"QObject","do":"new","session":"a"}"#,
+    r#"{"reply":1,"session":"a"}
+{"reply":2,"session":"a"}
+{"reply":3,"session":"a"}
+{"error":"E12","session":"a"}
+{"reply":true,"session":"a"}
+{"reply":[],"session":"a"}
+{"error":"E04","session":"a"}
+{"reply":4,"session":"a"}"#,
+);
+
+const CONNECTIONS: Session = (
+    r#"{"class":"Probe","do":"new","session":"a"}
+{"class":"Probe","do":"new","session":"a"}
+{"do":"connect","method":"note()","receiver":2,"sender":1,"session":"a","signal":"ping()"}
+{"do":"connect","method":"note()","receiver":2,"sender":1,"session":"a","signal":"ping()"}
+{"do":"connect","method":"note()","receiver":2,"sender":1,"session":"a","signal":"ping()","unique":true}
+{"args":[],"do":"invoke","method":"ping()","object":1,"session":"a"}
+{"do":"disconnect","method":"note()","receiver":2,"sender":1,"session":"a","signal":"ping()"}
+{"args":[],"do":"invoke","method":"ping()","object":1,"session":"a"}
+{"connection":1,"do":"disconnect","session":"a"}"#,
+    r#"{"reply":1,"session":"a"}
+{"reply":2,"session":"a"}
+{"reply":1,"session":"a"}
+{"reply":2,"session":"a"}
+{"error":"E08","session":"a"}
+{"args":[],"call":"note()","object":2,"sender":1,"session":"a"}
+{"args":[],"call":"note()","object":2,"sender":1,"session":"a"}
+{"reply":true,"session":"a"}
+{"reply":2,"session":"a"}
+{"reply":true,"session":"a"}
+{"reply":false,"session":"a"}"#,
+);
+
+const CONNECTED_MEANWHILE: Session = (
+    r#"{"class":"Probe","do":"new","session":"a"}
+{"class":"Probe","do":"new","session":"a"}
+{"do":"connect","method":"swap()","receiver":2,"sender":1,"session":"a","signal":"ping()"}
+{"do":"connect","method":"note()","receiver":2,"sender":1,"session":"a","signal":"ping()"}
+{"args":[],"do":"invoke","method":"ping()","object":1,"session":"a"}
+{"args":[],"do":"invoke","method":"ping()","object":1,"session":"a"}"#,
+    r#"{"reply":1,"session":"a"}
+{"reply":2,"session":"a"}
+{"reply":1,"session":"a"}
+{"reply":2,"session":"a"}
+{"args":[],"call":"swap()","object":2,"sender":1,"session":"a"}
+{"reply":true,"session":"a"}
+{"args":[],"call":"swap()","object":2,"sender":1,"session":"a"}
+{"args":[],"call":"late()","object":2,"sender":1,"session":"a"}
+{"reply":true,"session":"a"}"#,
+);
+
+const SINGLE_SHOT: Session = (
+    r#"{"class":"Probe","do":"new","session":"a"}
+{"class":"Probe","do":"new","session":"a"}
+{"do":"connect","method":"again()","receiver":2,"sender":1,"session":"a","signal":"ping()","single":true}
+{"do":"connect","method":"note()","receiver":2,"sender":1,"session":"a","signal":"ping()"}
+{"args":[],"do":"invoke","method":"ping()","object":1,"session":"a"}"#,
+    r#"{"reply":1,"session":"a"}
+{"reply":2,"session":"a"}
+{"reply":1,"session":"a"}
+{"reply":2,"session":"a"}
+{"args":[],"call":"again()","object":2,"sender":1,"session":"a"}
+{"args":[],"call":"note()","object":2,"sender":1,"session":"a"}
+{"args":[],"call":"note()","object":2,"sender":1,"session":"a"}
+{"reply":true,"session":"a"}"#,
+);
+
+const SENDER_DELETED: Session = (
+    r#"{"class":"Probe","do":"new","session":"a"}
+{"class":"Probe","do":"new","session":"a"}
+{"do":"connect","method":"kill()","receiver":2,"sender":1,"session":"a","signal":"ping()"}
+{"do":"connect","method":"note()","receiver":2,"sender":1,"session":"a","signal":"ping()"}
+{"args":[],"do":"invoke","method":"ping()","object":1,"session":"a"}
+{"do":"get","object":1,"property":"objectName","session":"a"}"#,
+    r#"{"reply":1,"session":"a"}
+{"reply":2,"session":"a"}
+{"reply":1,"session":"a"}
+{"reply":2,"session":"a"}
+{"args":[],"call":"kill()","object":2,"sender":1,"session":"a"}
+{"object":2,"session":"a","warning":"E04"}
+{"reply":true,"session":"a"}
+{"error":"E04","session":"a"}"#,
+);
+
+const SIGNAL_TO_ITSELF: Session = (
+    r#"{"class":"Probe","do":"new","session":"a"}
+{"do":"connect","method":"ping()","receiver":1,"sender":1,"session":"a","signal":"ping()"}
+{"args":[],"do":"invoke","method":"ping()","object":1,"session":"a"}"#,
+    r#"{"reply":1,"session":"a"}
+{"reply":1,"session":"a"}
+{"object":1,"session":"a","warning":"E14"}
+{"reply":true,"session":"a"}"#,
+);
+
+const UNIQUE: Session = (
+    r#"{"class":"Probe","do":"new","session":"a"}
+{"do":"connect","method":"note()","receiver":1,"sender":1,"session":"a","signal":"ping()","single":true,"unique":true}
+{"do":"connect","method":"note()","receiver":1,"sender":1,"session":"a","signal":"ping()","type":"direct","unique":true}
+{"args":[],"do":"invoke","method":"ping()","object":1,"session":"a"}
+{"connection":1,"do":"disconnect","session":"a"}"#,
+    r#"{"reply":1,"session":"a"}
+{"reply":1,"session":"a"}
+{"error":"E08","session":"a"}
+{"args":[],"call":"note()","object":1,"sender":1,"session":"a"}
+{"reply":true,"session":"a"}
+{"reply":false,"session":"a"}"#,
+);
+
+const RESCUED_CHILD: Session = (
+    r#"{"class":"Probe","do":"new","session":"a"}
+{"class":"Probe","do":"new","parent":1,"session":"a"}
+{"class":"Probe","do":"new","parent":1,"session":"a"}
+{"do":"set","object":2,"property":"objectName","session":"a","value":"c"}
+{"do":"connect","method":"rescue()","receiver":1,"sender":1,"session":"a","signal":"destroyed()"}
+{"do":"delete","object":1,"session":"a"}
+{"do":"children","session":"a"}
+{"do":"get","object":3,"property":"objectName","session":"a"}"#,
+    r#"{"reply":1,"session":"a"}
+{"reply":2,"session":"a"}
+{"reply":3,"session":"a"}
+{"reply":true,"session":"a"}
+{"reply":1,"session":"a"}
+{"args":[],"call":"rescue()","object":1,"sender":1,"session":"a"}
+{"object":1,"session":"a","warning":"E13"}
+{"reply":true,"session":"a"}
+{"reply":[2],"session":"a"}
+{"error":"E04","session":"a"}"#,
+);
+
+const EVENTS: Session = (
+    r#"{"class":"Probe","do":"new","session":"a"}
+{"class":"Probe","do":"new","session":"a"}
+{"do":"connect","method":"note()","receiver":1,"sender":2,"session":"a","signal":"ping()","type":"queued"}
+{"args":[],"do":"invoke","method":"ping()","object":2,"session":"a"}
+{"do":"deleteLater","object":1,"session":"a"}
+{"do":"deleteLater","object":1,"session":"a"}
+{"args":[],"do":"invoke","method":"ping()","object":2,"session":"a"}
+{"do":"spin","session":"a"}"#,
+    r#"{"reply":1,"session":"a"}
+{"reply":2,"session":"a"}
+{"reply":1,"session":"a"}
+{"reply":true,"session":"a"}
+{"reply":true,"session":"a"}
+{"reply":true,"session":"a"}
+{"reply":true,"session":"a"}
+{"args":[],"call":"note()","object":1,"sender":2,"session":"a"}
+{"reply":{"events":2,"left":0,"lost":0,"mismatched":0},"session":"a"}"#,
+);
+
+const BLOCKED: Session = (
+    r#"{"class":"Probe","do":"new","session":"a"}
+{"class":"Probe","do":"new","session":"a"}
+{"do":"connect","method":"note()","receiver":2,"sender":1,"session":"a","signal":"ping()"}
+{"do":"connect","method":"late()","receiver":2,"sender":1,"session":"a","signal":"destroyed()"}
+{"do":"block","object":1,"on":true,"session":"a"}
+{"args":[],"do":"invoke","method":"ping()","object":1,"session":"a"}
+{"do":"block","object":1,"on":true,"session":"a"}
+{"do":"delete","object":1,"session":"a"}"#,
+    r#"{"reply":1,"session":"a"}
+{"reply":2,"session":"a"}
+{"reply":1,"session":"a"}
+{"reply":2,"session":"a"}
+{"reply":false,"session":"a"}
+{"reply":true,"session":"a"}
+{"reply":true,"session":"a"}
+{"args":[],"call":"late()","object":2,"sender":1,"session":"a"}
+{"reply":true,"session":"a"}"#,
+);
+
+const DYNAMIC_PROPERTY: Session = (
+    r#"{"class":"Cell","do":"new","session":"a"}
+{"do":"set","object":1,"property":"tag","session":"a","value":5}
+{"do":"get","object":1,"property":"tag","session":"a"}
+{"do":"dynamicNames","object":1,"session":"a"}
+{"do":"set","object":1,"property":"tag","session":"a","value":null}
+{"do":"get","object":1,"property":"tag","session":"a"}
+{"do":"dynamicNames","object":1,"session":"a"}
+{"do":"set","object":1,"property":"x","session":"a","value":null}"#,
+    r#"{"reply":1,"session":"a"}
+{"reply":false,"session":"a"}
+{"reply":5,"session":"a"}
+{"reply":["tag"],"session":"a"}
+{"reply":false,"session":"a"}
+{"reply":null,"session":"a"}
+{"reply":[],"session":"a"}
+{"reply":false,"session":"a"}"#,
+);
+
+const CELLS: Session = (
+    r#"{"class":"Cell","do":"new","session":"a"}
+{"class":"Cell","do":"new","session":"a"}
+{"do":"connect","method":"setX(int)","receiver":2,"sender":1,"session":"a","signal":"xChanged(int)"}
+{"do":"set","object":1,"property":"x","session":"a","value":4}
+{"do":"get","object":2,"property":"x","session":"a"}
+{"do":"set","object":1,"property":"x","session":"a","value":4}
+{"do":"connect","method":"setX(int)","receiver":1,"sender":2,"session":"a","signal":"xChanged(int)"}
+{"do":"set","object":1,"property":"x","session":"a","value":5}"#,
+    r#"{"reply":1,"session":"a"}
+{"reply":2,"session":"a"}
+{"reply":1,"session":"a"}
+{"args":[4],"call":"setX(int)","object":2,"sender":1,"session":"a"}
+{"reply":true,"session":"a"}
+{"reply":4,"session":"a"}
+{"reply":true,"session":"a"}
+{"reply":2,"session":"a"}
+{"args":[5],"call":"setX(int)","object":2,"sender":1,"session":"a"}
+{"args":[5],"call":"setX(int)","object":1,"sender":2,"session":"a"}
+{"reply":true,"session":"a"}"#,
+);
+
+/// Each from a fresh server.
+const SESSIONS: [Session; 20] = [
+    NOTHING,
+    LAMP,
+    TWO_SESSIONS,
+    ONE_SESSION,
+    NAMES,
+    NO_COMMANDS,
+    CLASSES,
+    TREES,
+    DELETIONS,
+    CONNECTIONS,
+    CONNECTED_MEANWHILE,
+    SINGLE_SHOT,
+    SENDER_DELETED,
+    SIGNAL_TO_ITSELF,
+    UNIQUE,
+    RESCUED_CHILD,
+    EVENTS,
+    BLOCKED,
+    DYNAMIC_PROPERTY,
+    CELLS,
+];
+
+/// What a server writes for an input, and how the run ended.
+fn answers(
+    alloc: Global,
+    server: &mut Server,
+    input: &[u8],
+) -> Result<(Vec<u8>, Summary), AllocError> {
+    let mut reader = Counted::new(input);
+    let mut writer = Counted::new(Vec::new(alloc));
+    match run(alloc, &mut reader, &mut writer, server) {
+        Ok(summary) => Ok((writer.into_inner(), summary)),
+        Err(_) => Err(AllocError),
+    }
+}
+
+fn demonstration(alloc: Global) -> Result<ClassTable, AllocError> {
+    match ClassTable::from_text(alloc, DEMONSTRATION.as_bytes()) {
+        Ok(classes) => Ok(classes),
+        Err(_) => Err(AllocError),
+    }
+}
+
+/// Whether a fresh server with the demonstration classes answers a session so, and no memory is refused.
+fn is_answered(alloc: Global, session: Session) -> Result<bool, AllocError> {
+    let (given, wanted) = session;
+    let mut server = Server::new(alloc, demonstration(alloc)?, TURNS)?;
+    let (wrote, summary) = answers(alloc, &mut server, given.as_bytes())?;
+    Ok(!summary.memory_refused && wrote.as_slice().trim_ascii_end() == wanted.as_bytes())
+}
+
+#[test]
+fn sessions_are_answered(rt: HostRuntime) -> Result<(), Fail> {
+    for session in SESSIONS {
+        assert!(rt; is_answered(rt.alloc(), session)?, "{}", session.0);
+    }
+    Ok(())
+}

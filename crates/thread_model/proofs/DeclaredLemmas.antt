@@ -1,0 +1,345 @@
+-- Each object keeps the properties that its class declares.
+use Rattle.std.proofs.Common.{◌≡◌, ◌+◌, ◌≤◌, ◌==◌, ℕ, Bool, true, false, not, cond, List, [], ◌∷◌, ◌++◌, Option, Some, None, Ok, Err, filter, get_or, length, nat_le, take, refl, ap, ◌∙◌, arith}
+use Rattle.std.specs.List.{All}
+use Rattle.std.specs.Option.{option_map, option_map_or}
+use Rattle.std.proofs.lemmas.Bool.{cond_both, not-true}
+use Rattle.std.proofs.lemmas.Bool.Decides.{nat_tests}
+use Rattle.std.proofs.lemmas.List.Elements.{All-filter, All-map, All-push, All-weaker, filter_passes}
+use Rattle.isolation.specs.Machine.{Effect}
+use Rattle.refusals.specs.declared.code.Code.{Code}
+use Rattle.refusals.specs.declared.code.Code.TheVariants.{Limit}
+use Rattle.serde_json.specs.Data.{Data}
+use Rattle.variant_value.specs.declared.value.Value.{Value}
+use Rattle.term_core.specs.Act.{Acts, effect, when}
+use Rattle.class_table.specs.declared.class.Class.{Class}
+use Rattle.class_table.specs.declared.class.Method.{Method}
+use Rattle.connection_types.specs.declared.callee.Callee.{Callee}
+use Rattle.connection_types.specs.declared.callee.Callee.TheVariants as callee
+use Rattle.connection_types.specs.declared.connection_type.ConnectionType.{ConnectionType}
+use Rattle.connection_list.specs.declared.connection.Connection.{Connection}
+use Rattle.connection_list.specs.declared.connection.NewConnection.{NewConnection}
+use Rattle.connection_list.specs.declared.pattern.Pattern.{Pattern}
+use Rattle.connection_list.specs.Rows.{has_number as has_connection_number}
+use Rattle.event_queue.specs.declared.event.Event.{Event}
+use Rattle.event_queue.specs.declared.event.Event.TheVariants as event
+use Rattle.event_queue.specs.declared.event.QueuedCall.{QueuedCall}
+use Rattle.event_queue.specs.Queue.{has_room}
+use Rattle.object_tree.specs.declared.row.Row.{Row}
+use Rattle.object_tree.specs.Forest.{Forest}
+use Rattle.object_tree.specs.Rows.{has_number, has_parent, row_of}
+use Rattle.object_tree.specs.Refusing.{keeps_parent}
+use Rattle.object_tree.specs.Changes.{added, changed, marked, moved, orphaned, removed, reparented, with_blocked}
+use Rattle.property_store.specs.Store.{Properties, properties_of}
+use Rattle.property_store.proofs.SoundLemmas.{added_found, added_others, changed_fields, without_others}
+use Rattle.thread_model.specs.declared.call.TheConstants.{DESTROYED, NESTED_SIGNALS}
+use Rattle.thread_model.specs.declared.line.Answer.{Answer}
+use Rattle.thread_model.specs.declared.line.Answer.TheVariants as a
+use Rattle.thread_model.specs.declared.line.Line.{Line}
+use Rattle.thread_model.specs.declared.line.Line.TheVariants as line
+use Rattle.thread_model.specs.declared.post.Post.{Post}
+use Rattle.thread_model.specs.Acts.{chosen}
+use Rattle.thread_model.specs.Agenda.{call_line, called, callee_called, calls_of, connection_of, emitted, event_items, is_held_back, lives, lives_below, method_called, method_items, queued, ran, spun, step, with_turn}
+use Rattle.thread_model.specs.Asked.{Asked, New, Delete, SetParent, Children, Find, Set, Get, DynamicNames, Meta, Connect, DisconnectOne, Disconnect, Invoke, Spin as TakeEvents, DeleteLater, Block, Status}
+use Rattle.thread_model.specs.Doing.{Doing, adopted, begun, blocking, dying, first_taken, forgotten, gone, in_state, linked, lost, posted, shot, told, turn_taken, unlinked, untied, used_up}
+use Rattle.thread_model.specs.Effects.{does_next, unless}
+use Rattle.thread_model.specs.Items.{Act, Call, Cut, Delete as ToDelete, Emit, Gone, Item, Kin, Next, Reply, ReplySpun, Run, Spin, Warn, puts}
+use Rattle.thread_model.specs.Laws.{KeepsDeclared}
+use Rattle.thread_model.specs.Methods.{Found, is_signal_at, method_at, methods_of}
+use Rattle.thread_model.specs.Posting.{is_queued, spin_of}
+use Rattle.thread_model.specs.Properties.{is_declared, sets}
+use Rattle.thread_model.specs.Refusing.{refusal}
+use Rattle.thread_model.specs.Run.{run}
+use Rattle.thread_model.specs.Signals.{asked_connection, asked_method, asked_pattern, connects, disconnects, invoked, invoked_later, invokes}
+use Rattle.thread_model.specs.State.{IsDeclared, IsSound, State, fields_of, with_object, with_properties, without_connections}
+use Rattle.thread_model.specs.Targets.{truth_evaluated}
+use Rattle.thread_model.specs.Thread.{Settings, arrives, does, performs}
+use Rattle.thread_model.specs.Writing.{Declared, Dynamic, Nothing, Removed, Writing, asked_writing, with_writing, written}
+use Rattle.thread_model.proofs.ActLemmas.{acted_cases}
+use Rattle.thread_model.proofs.RunLemmas.{run_keeps}
+
+-- something that is said of an object by its number and its class
+module _ (G : ℕ → ℕ → Type 0) where
+  abbrev OfEach : List Row → Type 0
+  OfEach rows = All (λ row. G row.number row.class) rows
+
+  -- it holds after a change of a row that leaves both
+  each_changed : (change : Row → Row) (number : ℕ) → ((row : Row) → G row.number row.class → G (change row).number (change row).class) → (rows : List Row) → OfEach rows → OfEach (changed change number rows)
+  each_changed change number same rows all =
+      All-map (λ (row : Row). G row.number row.class) (λ row. cond (has_number number row) (change row) row) rows
+      (All-weaker (λ (row : Row). G row.number row.class) (λ (row : Row). G (cond (has_number number row) (change row) row).number (cond (has_number number row) (change row) row).class) (λ row. one row (has_number number row)) rows all)
+    where
+      one : (row : Row) (is : Bool) → G row.number row.class → G (cond is (change row) row).number (cond is (change row) row).class
+      one row true holds = same row holds
+      one row false holds = holds
+
+  each_reparented : (forest : Forest) (number : ℕ) (parent : Option ℕ) → OfEach forest.rows → OfEach (reparented forest number parent).rows
+  unfolding moved
+  each_reparented forest number parent all = by (keeps_parent forest.rows number parent)
+    where
+      by : (keeps : Bool) → OfEach (cond keeps forest (moved forest number parent)).rows
+      by true = all
+      by false = each_changed (λ row. record row { parent = parent; stamp = forest.last_stamp + 1 }) number (λ row holds. holds) forest.rows all
+
+  each_marked : (forest : Forest) (number : ℕ) → OfEach forest.rows → OfEach (marked forest number).rows
+  unfolding marked
+  each_marked forest number all = each_changed (λ row. record row { dying = true }) number (λ row holds. holds) forest.rows all
+
+  each_blocked : (forest : Forest) (number : ℕ) (on : Bool) → OfEach forest.rows → OfEach (with_blocked forest number on).rows
+  unfolding with_blocked
+  each_blocked forest number on all = each_changed (λ row. record row { blocked = on }) number (λ row holds. holds) forest.rows all
+
+-- it holds of what stays after an object has gone
+each_removed : (G H : ℕ → ℕ → Type 0) (forest : Forest) (number : ℕ) → ((n class : ℕ) → (n == number) ≡ false → G n class → H n class) → OfEach G forest.rows → OfEach H (removed forest number).rows
+unfolding removed
+each_removed G H forest number others all = All-map (λ (row : Row). H row.number row.class) (orphaned number) kept (λ index default within. root (get_or kept index default) (has_parent (Some number) (get_or kept index default))
+    (others (get_or kept index default).number (get_or kept index default).class (not-true (has_number number (get_or kept index default)) (filter_passes (λ row. not (has_number number row)) forest.rows index default within))
+    (All-filter (λ row. not (has_number number row)) (λ (row : Row). G row.number row.class) forest.rows all index default within)))
+  where
+    kept : List Row
+    kept = filter (λ row. not (has_number number row)) forest.rows
+
+    root : (row : Row) (child : Bool) → H row.number row.class → H (cond child (record row { parent = None }) row).number (cond child (record row { parent = None }) row).class
+    root row true holds = holds
+    root row false holds = holds
+
+-- an object of this number has the properties that this class declares
+abbrev Has : List Class → State → ℕ → ℕ → Type 0
+Has classes state number class = option_map (λ of. of.fields) (properties_of state.store number) ≡ Some (fields_of classes class)
+
+module _ (classes : List Class) (state : State) (declared : IsDeclared classes state) where
+  declared_with_properties : (number : ℕ) (change : Properties → Properties) → ((of : Properties) → (change of).object ≡ of.object) → ((of : Properties) → (change of).fields ≡ of.fields) → IsDeclared classes (with_properties state number change)
+  declared_with_properties number change same fields =
+      All-weaker (λ row. Has classes state row.number row.class) (λ row. Has classes (with_properties state number change) row.number row.class)
+      (λ row has. changed_fields change number same fields state.store row.number ∙ has) state.forest.rows declared
+
+  declared_with_writing : (object : ℕ) (writing : Writing) → IsDeclared classes (with_writing state object writing)
+  declared_with_writing object (Declared number value) = declared_with_properties object _ (λ of. refl) (λ of. refl)
+  declared_with_writing object (Dynamic name value) = declared_with_properties object _ (λ of. refl) (λ of. refl)
+  declared_with_writing object (Removed name) = declared_with_properties object _ (λ of. refl) (λ of. refl)
+  declared_with_writing object Nothing = declared
+
+  -- a new object has those of its class, and its number is new
+  declared_with_object : (parent : Option ℕ) (class : ℕ) → All (λ row. row.number ≤ state.forest.last_number) state.forest.rows → IsDeclared classes (with_object classes state parent class)
+  unfolding added
+  declared_with_object parent class known = All-push (λ (row : Row). Has classes (with_object classes state parent class) row.number row.class) state.forest.rows _
+      (λ index default within. old (get_or state.forest.rows index default) (known index default within) (declared index default within))
+      (ap (option_map (λ of. of.fields)) (added_found state.store (state.forest.last_number + 1) (fields_of classes class)))
+    where
+      old : (row : Row) → row.number ≤ state.forest.last_number → Has classes state row.number row.class → Has classes (with_object classes state parent class) row.number row.class
+      old row below has =
+          let apart : (state.forest.last_number + 1 == row.number) ≡ false = grind (arith, nat_tests, below) in
+          ap (option_map (λ of. of.fields)) (added_others state.store (state.forest.last_number + 1) (fields_of classes class) row.number apart) ∙ has
+
+module _ (classes : List Class) (doing : Doing) (declared : IsDeclared classes doing.state) where
+  told_declared : (said : Line) → IsDeclared classes (told doing said).state
+  unfolding told
+  told_declared said = declared
+
+  turn_declared : IsDeclared classes (turn_taken doing).state
+  unfolding turn_taken
+  turn_declared = declared
+
+  used_up_declared : IsDeclared classes (used_up doing).state
+  unfolding used_up
+  used_up_declared = cond_both doing.spent doing _ (λ (new : Doing). IsDeclared classes new.state) (λ spent. declared) (λ fresh. declared)
+
+  shot_declared : (row : Connection) → IsDeclared classes (shot doing row).state
+  unfolding shot
+  shot_declared row = cond_both row.single (in_state doing (without_connections doing.state (has_connection_number row.number))) doing (λ (new : Doing). IsDeclared classes new.state) (λ single. declared) (λ lasting. declared)
+
+  cut_declared : (target : ℕ) → IsDeclared classes (forgotten (untied doing target) target).state
+  unfolding forgotten untied
+  cut_declared target = declared
+
+  unlinked_declared : (pattern : Pattern) → IsDeclared classes (unlinked doing pattern).state
+  unfolding unlinked
+  unlinked_declared pattern = declared
+
+  linked_declared : (new : NewConnection) → IsDeclared classes (linked doing new).state
+  unfolding linked
+  linked_declared new = declared
+
+  posted_declared : (event : Event) → IsDeclared classes (posted doing event).state
+  unfolding posted
+  posted_declared event = declared
+
+  queued_declared : (call : QueuedCall) → IsDeclared classes (queued doing call).state
+  unfolding lost
+  queued_declared call = cond_both (has_room doing.state.queue) (posted doing (event.Call call)) (lost doing) (λ (new : Doing). IsDeclared classes new.state) (λ room. posted_declared (event.Call call)) (λ full. declared)
+
+  first_declared : IsDeclared classes (first_taken doing).state
+  unfolding first_taken
+  first_declared = declared
+
+  blocking_declared : (target : ℕ) (on : Bool) → IsDeclared classes (blocking doing target on).state
+  unfolding blocking
+  blocking_declared target on = each_blocked (Has classes doing.state) doing.state.forest target on declared
+
+  adopted_declared : (target : ℕ) (parent : Option ℕ) → IsDeclared classes (adopted doing target parent).state
+  unfolding adopted
+  adopted_declared target parent = each_reparented (Has classes doing.state) doing.state.forest target parent declared
+
+  dying_declared : (target : ℕ) → IsDeclared classes (dying doing target).state
+  unfolding dying
+  dying_declared target = each_marked (Has classes doing.state) doing.state.forest target declared
+
+  gone_declared : (target : ℕ) → IsDeclared classes (gone doing target).state
+  unfolding gone
+  gone_declared target = each_removed (Has classes doing.state) (Has classes (gone doing target).state) doing.state.forest target
+      (λ number class apart has. ap (option_map (λ of. of.fields)) (without_others doing.state.store target number apart) ∙ has) declared
+
+-- so it is in what an item comes to
+abbrev Keeps : List Class → Next → Type 0
+Keeps classes next = IsDeclared classes next.doing.state
+
+module _ (settings : Settings) (doing : Doing) (declared : IsDeclared settings.classes doing.state) where
+  emitted_declared : (target signal : ℕ) (args : List Value) (depth : ℕ) (found : Option Row) → Keeps settings.classes (option_map_or (emitted doing target signal args depth) found (puts [] doing))
+  emitted_declared target signal args depth None = declared
+  emitted_declared target signal args depth (Some row) =
+      cond_both (is_held_back signal row) (puts [] doing) (cond (nat_le NESTED_SIGNALS depth) (puts (Warn Limit (Some target) ∷ []) doing) (puts (calls_of doing target signal args depth) doing)) (Keeps settings.classes)
+      (λ held. declared)
+      (λ free. cond_both (nat_le NESTED_SIGNALS depth) (puts (Warn Limit (Some target) ∷ []) doing) (puts (calls_of doing target signal args depth) doing) (Keeps settings.classes) (λ deep. declared) (λ shallow. declared))
+
+  callee_declared : (connection : Connection) (args : List Value) (depth : ℕ) (to : Callee) → Keeps settings.classes (callee_called settings connection args depth doing to)
+  callee_declared connection args depth (callee.Functor index) = declared
+  callee_declared connection args depth (callee.Method index) = by (method_at settings doing.state connection.receiver index)
+    where
+      by : (found : Option Method) → Keeps settings.classes (option_map_or (method_called connection index args depth doing) found (puts [] doing))
+      by None = declared
+      by (Some method) =
+          let given = take (length method.signature.kinds) args in
+          let call : QueuedCall = record { object = connection.receiver; callee = callee.Method index; sender = connection.sender; args = given } in
+          cond_both (is_queued connection.mode) (puts [] (queued doing call)) (puts (method_items connection.receiver index connection.sender given (depth + 1) depth method) doing) (Keeps settings.classes)
+          (λ later. queued_declared settings.classes doing declared call)
+          (λ now. declared)
+
+  ran_declared : (target sender : ℕ) (args : List Value) (depth : ℕ) (found : Option Method) → Keeps settings.classes (option_map_or (ran doing target sender args depth) found (puts [] doing))
+  ran_declared target sender args depth None = declared
+  ran_declared target sender args depth (Some method) = told_declared settings.classes doing declared (call_line method target sender args)
+
+  chosen_declared : (truth : Found Bool) (held failed : Acts) (args : List Value) (self sender depth : ℕ) → Keeps settings.classes (chosen truth held failed args self sender depth doing)
+  chosen_declared (Ok truth) held failed args self sender depth = declared
+  chosen_declared (Err code) held failed args self sender depth = declared
+
+module _ (settings : Settings) (doing : Doing) (declared : IsDeclared settings.classes doing.state) where
+  -- a turn is taken, where one is left
+  turned_declared : (next : Doing → Next) → ((doing : Doing) → IsDeclared settings.classes doing.state → Keeps settings.classes (next doing)) → Keeps settings.classes (with_turn doing next)
+  turned_declared next keeps =
+      cond_both (doing.turns == 0) (puts [] (used_up doing)) (next (turn_taken doing)) (Keeps settings.classes)
+      (λ none. used_up_declared settings.classes doing declared)
+      (λ some. keeps (turn_taken doing) (turn_declared settings.classes doing declared))
+
+  found_declared : (args : List Value) (depth : ℕ) (found : Option Connection) → Keeps settings.classes (option_map_or (λ connection. with_turn doing (called settings connection args depth)) found (puts [] doing))
+  found_declared args depth None = declared
+  found_declared args depth (Some connection) = turned_declared (called settings connection args depth)
+      (λ doing declared. callee_declared settings (shot doing connection) (shot_declared settings.classes doing declared connection) connection args depth connection.callee)
+
+  spun_declared : (events : List Event) → Keeps settings.classes (spun settings doing events)
+  spun_declared [] = declared
+  spun_declared (first ∷ later) = turned_declared (λ doing. puts (event_items settings doing.state first ++ Spin ∷ []) (first_taken doing)) (λ doing declared. first_declared settings.classes doing declared)
+
+item_declared : (settings : Settings) (item : Item) (doing : Doing) → IsDeclared settings.classes doing.state → IsDeclared settings.classes (step settings item doing).doing.state
+item_declared settings (Emit target signal args depth) doing declared = emitted_declared settings doing declared target signal args depth (row_of doing.state.forest.rows target)
+item_declared settings (Call number args depth) doing declared = found_declared settings doing declared args depth (connection_of doing number)
+item_declared settings (Run target index sender args depth) doing declared = ran_declared settings doing declared target sender args depth (method_at settings doing.state target index)
+item_declared settings (Act (effect plain) args self sender depth) doing declared =
+    acted_cases settings doing self sender args depth (Keeps settings.classes)
+    (λ code. declared)
+    (λ target signal values. declared)
+    (λ target. declared)
+    (λ target name value writing there found. declared_with_writing settings.classes doing.state declared target writing)
+    (λ target parent passed. adopted_declared settings.classes doing declared target parent)
+    (λ new allowed sender' receiver'. linked_declared settings.classes doing declared new)
+    (λ pattern. unlinked_declared settings.classes doing declared pattern)
+    (λ target passed. posted_declared settings.classes doing declared (event.Deletion target))
+    (λ target on. blocking_declared settings.classes doing declared target on)
+    plain
+item_declared settings (Act (when test held failed) args self sender depth) doing declared = chosen_declared settings doing declared (truth_evaluated doing.state self sender args test) held failed args self sender depth
+item_declared settings (Warn code object) doing declared = told_declared settings.classes doing declared (line.Warning code object)
+item_declared settings (ToDelete target depth) doing declared =
+    cond_both (lives doing target) (puts (Emit target DESTROYED [] depth ∷ Cut target depth ∷ Gone target depth ∷ []) (dying doing target)) (puts [] doing) (Keeps settings.classes)
+    (λ living. dying_declared settings.classes doing declared target)
+    (λ absent. declared)
+item_declared settings (Cut target depth) doing declared = cut_declared settings.classes doing declared target
+item_declared settings (Kin parent child depth) doing declared =
+    cond_both (lives_below doing parent child) (puts (ToDelete child depth ∷ []) doing) (puts [] doing) (Keeps settings.classes) (λ living. declared) (λ other. declared)
+item_declared settings (Gone target depth) doing declared = gone_declared settings.classes doing declared target
+item_declared settings Spin doing declared = spun_declared settings doing declared doing.state.queue.events
+item_declared settings (Reply answer) doing declared = told_declared settings.classes doing declared (line.Reply answer)
+item_declared settings ReplySpun doing declared = told_declared settings.classes doing declared (line.Reply (a.Spun (spin_of doing)))
+
+-- and after an agenda is done
+run_declared : (settings : Settings) (agenda : List Item) (doing : Doing) → IsDeclared settings.classes doing.state → IsDeclared settings.classes (run settings agenda doing).state
+run_declared settings agenda doing declared = run_keeps settings (λ items doing. IsDeclared settings.classes doing.state) (λ item agenda doing. item_declared settings item doing) agenda doing declared
+
+module _ (settings : Settings) (state : State) (declared : IsDeclared settings.classes state) where
+  done_declared : (next : Next) (answer : Answer) → Keeps settings.classes next → IsDeclared settings.classes (does_next settings next answer).state
+  done_declared next answer kept = run_declared settings (next.items ++ Reply answer ∷ []) next.doing kept
+
+  set_declared : (target : ℕ) (found : Found Writing) → IsDeclared settings.classes (sets settings state target found).state
+  set_declared target (Err code) = declared
+  set_declared target (Ok writing) = done_declared (written settings (begun settings state) target 0 writing) (a.Truth (is_declared writing)) (declared_with_writing settings.classes state declared target writing)
+
+  connected_declared : (found : Found NewConnection) → IsDeclared settings.classes (connects state found).state
+  connected_declared (Err code) = declared
+  connected_declared (Ok new) = declared
+
+  disconnected_declared : (found : Found Pattern) → IsDeclared settings.classes (disconnects state found).state
+  disconnected_declared (Err code) = declared
+  disconnected_declared (Ok pattern) = declared
+
+  invoked_declared : (target index : ℕ) (values : List Value) → Keeps settings.classes (invoked settings state target index values)
+  invoked_declared target index values =
+      let doing = begun settings state in
+      cond_both (is_signal_at (methods_of settings state target) index) (puts (Emit target index values 0 ∷ []) doing) (with_turn doing (puts (Run target index 0 values 0 ∷ []))) (Keeps settings.classes)
+      (λ signal. declared)
+      (λ slot. turned_declared settings doing declared (puts (Run target index 0 values 0 ∷ [])) (λ doing declared. declared))
+
+  invokes_declared : (target : ℕ) (args : List Data) (mode : ConnectionType) (index : Option ℕ) → IsDeclared settings.classes (invokes settings state target args mode index).state
+  invokes_declared target args mode None = declared
+  invokes_declared target args mode (Some index) =
+      cond_both (is_queued mode) (invoked_later state target index _) (does_next settings (invoked settings state target index _) (a.Truth true)) (λ (effect : Effect State Line Post). IsDeclared settings.classes effect.state)
+      (λ later. declared)
+      (λ now. done_declared (invoked settings state target index _) (a.Truth true) (invoked_declared target index _))
+
+  performed_declared : (self : List ℕ) (asked : Asked) → IsSound state → IsDeclared settings.classes (performs settings self state asked).state
+  unfolding performs
+  performed_declared self (New class parent) sound = declared_with_object settings.classes state declared parent _ sound.whole.forest.numbers_given
+  performed_declared self (Delete target) sound = done_declared (puts (ToDelete target 0 ∷ []) (begun settings state)) (a.Truth true) declared
+  performed_declared self (SetParent target parent) sound = each_reparented (Has settings.classes state) state.forest target parent declared
+  performed_declared self (Children target) sound = declared
+  performed_declared self (Find target title class) sound = declared
+  performed_declared self (Set target property value) sound = set_declared target (asked_writing state target property value)
+  performed_declared self (Get target property) sound = declared
+  performed_declared self (DynamicNames target) sound = declared
+  performed_declared self (Meta class) sound = declared
+  performed_declared self (Connect sender signal receiver method mode unique single) sound = connected_declared (asked_connection settings state sender signal receiver method mode single)
+  performed_declared self (DisconnectOne connection) sound = declared
+  performed_declared self (Disconnect sender signal receiver method) sound = disconnected_declared (asked_pattern settings state sender signal receiver method)
+  performed_declared self (Invoke target method args mode) sound = invokes_declared target args mode (asked_method settings state target method)
+  performed_declared self TakeEvents sound = run_declared settings (Spin ∷ ReplySpun ∷ []) (begun settings state) declared
+  performed_declared self (DeleteLater target) sound = declared
+  performed_declared self (Block target on) sound = each_blocked (Has settings.classes state) state.forest target on declared
+  performed_declared self Status sound = declared
+
+  -- a refused command leaves the state
+  unless_declared : (refusal : Option Code) (outcome : Effect State Line Post) → IsDeclared settings.classes outcome.state → IsDeclared settings.classes (unless refusal state outcome).state
+  unless_declared None outcome done = done
+  unless_declared (Some code) outcome done = declared
+
+command_declared : (settings : Settings) (self : List ℕ) (state : State) (asked : Asked) → IsSound state → IsDeclared settings.classes state → IsDeclared settings.classes (does settings self state asked).state
+unfolding does
+command_declared settings self state asked sound declared =
+    unless_declared settings state declared (refusal settings self state asked) (performs settings self state asked) (performed_declared settings state declared self asked sound)
+
+post_declared : (classes : List Class) (state : State) (from : List ℕ) (post : Post) → IsDeclared classes state → IsDeclared classes (arrives state from post)
+unfolding arrives
+post_declared classes state from post declared = declared
+
+pub keeps_declared : KeepsDeclared
+keeps_declared = record {
+  at_first = λ classes index default within. absurd (omega arith);
+  by_item = item_declared;
+  by_command = command_declared;
+  by_post = post_declared;
+}
