@@ -7,6 +7,7 @@ checks what the words of the command line say. Usage: ends.py PROGRAM
 
 import json
 import os
+import re
 import signal
 import subprocess
 import sys
@@ -16,6 +17,8 @@ from tempfile import TemporaryDirectory
 
 from row import Row
 
+README = Path(__file__).resolve().parent.parent / "README.md"
+VERSION = re.compile(r"^`metad` (\S+) is proved with `([^`]+)`", re.MULTILINE)
 SECONDS = 60
 NEW = b'{"class":"QObject","do":"new","session":"a"}\n'
 ONE = b'{"reply":1,"session":"a"}\n'
@@ -135,9 +138,15 @@ def words_faults(program):
 
 
 def help_fault(program):
-    """What is wrong with the help: it has to name the program, its word and its options."""
-    ran = subprocess.run([program, "--help"], capture_output=True, timeout=SECONDS)
-    lacking = [it for it in ("metad", "CLASSES", "--turns", "--help") if it not in ran.stdout.decode()]
+    """What is wrong with the help: its first line has to be that of the README, and it has to name the program's
+    word and options, each exit status and the documents."""
+    lines = subprocess.run([program, "--help"], capture_output=True, text=True, timeout=SECONDS).stdout.splitlines()
+    version = VERSION.search(README.read_text())
+    if not version or lines[:1] != [f"metad {version[1]}, proved with {version[2]}"]:
+        return f"the help begins with {lines[:1]}, and the README has {version and version.groups()}"
+    text = "\n".join(lines)
+    words = ("CLASSES", "--turns", "--help", *(f"\n  {status}  " for status in range(6)), "metad(1)", "docs/GUIDE.md")
+    lacking = [it for it in words if it not in text]
     return f"the help does not say {lacking}" if lacking else None
 
 

@@ -64,10 +64,24 @@ fn metad_command<'a>(alloc: Global) -> Result<Command<'a>, AllocError>
         .arg(turns)
 }
 
-const ABOUT: &str = "A server of live objects in isolated sessions.
+const ABOUT: &str = "metad 0.6.0, proved with rattle-kit-13b logic dac8208d650f15bf
 
-Reads commands from standard input, one JSON object a line, and writes what the
-sessions are told to standard output, one JSON object a line.";
+A server of live objects with the meta-object system of Qt 6, in isolated
+sessions. It reads commands from standard input, one JSON object a line, and
+writes what the sessions are told to standard output, one JSON object a line.";
 
-const EXAMPLE: &str = r#"Example:
-  printf '%s\n' '{"class":"QObject","do":"new","session":"a"}' | metad"#;
+const EXAMPLE: &str = r#"Exit status:
+  0  the input has ended, or help was asked for
+  1  the class file is refused
+  2  the words of the command line mean nothing
+  3  the input cannot be read
+  4  the output cannot be written
+  5  there is no memory
+
+Examples:
+  echo '{"class":"QObject","do":"new","session":"a"}' | metad
+  metad lamps.json < session     answers with the classes of a file
+  metad lamps.json < /dev/null   checks the file: status 0, or 1 and its first fault
+
+Documents: the manual page metad(1), and README.md and docs/ of the sources,
+which make install puts into share/doc/metad. docs/GUIDE.md is the way in."#;
