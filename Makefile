@@ -2,12 +2,14 @@
 # make run    answers the sample session
 # make test   proves everything from nothing, and runs every test
 # make bench  measures the program; with BEFORE=PROGRAM or LAST=PROGRAM also beside an earlier one
+# make install, make uninstall   bin/metad, its manual page, the documents and the client, below PREFIX
 
 PROGRAM = meta_main
 CRATE = crates/$(PROGRAM)
 CC ?= cc
+PREFIX ?= /usr/local
 
-.PHONY: all run test budget rows plain examples worked ends pipes trees signals limits sessions clients classes respelled chance refusals bench clean
+.PHONY: all run test budget rows plain examples worked ends pipes trees signals limits sessions clients classes respelled chance refusals first_hour bench install uninstall clean
 
 all: bin/metad
 
@@ -26,7 +28,7 @@ test: budget
 	mkdir -p bin
 	cp $(CRATE)/out/$(PROGRAM) bin/metad
 	cp crates/tree_reader/out/tree_reader bin/tree_reader
-	$(MAKE) --no-print-directory rows plain respelled chance examples worked ends pipes trees signals limits sessions clients classes refusals
+	$(MAKE) --no-print-directory rows plain respelled chance examples worked ends pipes trees signals limits sessions clients classes first_hour refusals
 
 budget:
 	python3 tools/budget.py .
@@ -76,6 +78,9 @@ sessions:
 clients:
 	python3 tools/clients.py bin/metad
 
+first_hour:
+	python3 tools/first_hour.py bin/metad
+
 refusals: bin/refuse_growth.so
 	python3 tools/outcomes.py
 	python3 tools/refusals.py bin/metad bin/refuse_growth.so tests/rows
@@ -86,6 +91,36 @@ bin/%.so: tools/%.c tools/growth.h
 
 bench: bin/metad bin/count_growth.so
 	python3 bench/bench.py bin/metad bin/count_growth.so $(if $(BEFORE),--before $(BEFORE)) $(if $(LAST),--last $(LAST))
+
+BIN = $(DESTDIR)$(PREFIX)/bin
+MAN = $(DESTDIR)$(PREFIX)/share/man/man1
+DOC = $(DESTDIR)$(PREFIX)/share/doc/metad
+SHARE = $(DESTDIR)$(PREFIX)/share/metad
+CLIENT = $(SHARE)/clients/python
+DOCUMENTS = $(wildcard docs/*.md docs/*.json)
+CLIENT_FILES = $(wildcard clients/python/*.py clients/python/*.md)
+
+# takes bin/metad as it is
+install:
+	@test -f bin/metad || { echo "bin/metad is not there yet: make builds it"; exit 1; }
+	install -d "$(BIN)" "$(MAN)" "$(DOC)/docs"
+	install bin/metad "$(BIN)/metad"
+	install -m 644 man/metad.1 "$(MAN)/metad.1"
+	install -m 644 README.md "$(DOC)/README.md"
+	install -m 644 $(DOCUMENTS) "$(DOC)/docs"
+ifneq ($(CLIENT_FILES),)
+	install -d "$(CLIENT)"
+	install -m 644 $(CLIENT_FILES) "$(CLIENT)"
+endif
+
+# takes away all that install puts there, and the folders that hold nothing else
+uninstall:
+	rm -f "$(BIN)/metad" "$(MAN)/metad.1" "$(DOC)/README.md"
+	rm -f $(patsubst %,"$(DOC)/%",$(DOCUMENTS))
+	rm -f $(patsubst %,"$(CLIENT)/%",$(notdir $(CLIENT_FILES)))
+	for it in "$(DOC)/docs" "$(DOC)" "$(CLIENT)" "$(SHARE)/clients" "$(SHARE)"; do \
+		test ! -d "$$it" || rmdir --ignore-fail-on-non-empty "$$it"; \
+	done
 
 clean:
 	rm -rf bin crates/*/out
