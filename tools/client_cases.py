@@ -15,11 +15,11 @@ import sys
 import threading
 from pathlib import Path
 
+import protocol
 from examples import examples_of
 from wanted import expect, expect_raised
 
 ROOT = Path(__file__).resolve().parent.parent
-PROTOCOL = ROOT / "docs" / "PROTOCOL.md"
 PYTHON = ROOT / "clients" / "python"
 sys.path.append(str(PYTHON))
 
@@ -29,21 +29,6 @@ PIPELINED = 1_000
 LINE_MOST = 65_536
 TEXT_MOST = 4_096
 NO_OBJECT = ("E04", "no such object")
-
-
-def table_under(heading):
-    """The rows of the first table under a heading of the protocol, each a list of its cells."""
-    text = PROTOCOL.read_text().split(f"\n## {heading}\n", 1)[1]
-    lines = re.search(r"(?:^\|.*\n)+", text, re.MULTILINE)[0].splitlines()[2:]
-    return [[cell.strip() for cell in line.strip("|").split("|")] for line in lines]
-
-
-def commands():
-    """The commands of the protocol by their words, each with the keys that it must have and those that it may have."""
-    for do, keys, *_ in table_under("Commands"):
-        keys = re.sub("as for `[A-Za-z]+`", "", keys)
-        optional = re.findall(r"\[`([A-Za-z]+)`\]", keys)
-        yield do.strip("`"), [key for key in re.findall("`([A-Za-z]+)`", keys) if key not in optional], optional
 
 
 def method_of(do):
@@ -118,11 +103,11 @@ def is_talk(row):
 
 def run_examples(program, room, way):
     """Runs the protocol's examples, each on a server of its own."""
-    methods = {do for do, _, _ in commands()}
+    methods = {do for do, *_ in protocol.commands()}
     lacking = sorted(do for do in methods if not hasattr(metad.Session, method_of(do)))
     expect("commands without a method", lacking, [])
     tried = set()
-    for row in filter(is_talk, examples_of(PROTOCOL, room)):
+    for row in filter(is_talk, examples_of(protocol.PROTOCOL, room)):
         talk = Talk(row)
         with metad.start(program, *talk.words) as server:
             way(talk, server, methods)
@@ -143,8 +128,8 @@ def keys_given(_program, _room):
     """Each key of the protocol's table is a word of the method, and written; one that is not given is not."""
     replies, written = io.BytesIO(b'{"reply":null,"session":"a"}\n' * 100), io.BytesIO()
     session = metad.Server(replies, written).session("a")
-    for do, required, optional in commands():
-        for keys in (required, required + optional):
+    for do, required, optional, _ in protocol.commands():
+        for keys in map(sorted, (required, required | optional)):
             command = {key: [1, "one"] if key == "args" else f"the {key}" for key in keys}
             written.seek(0)
             written.truncate()
@@ -154,8 +139,7 @@ def keys_given(_program, _room):
 
 
 def codes(_program, _room):
-    wanted = {code.strip("`"): meaning for code, meaning, _ in table_under("Codes")}
-    expect("the codes", metad.MEANINGS, wanted)
+    expect("the codes", metad.MEANINGS, protocol.codes())
 
 
 def refusals(program, _room):

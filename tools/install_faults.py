@@ -69,7 +69,7 @@ def faults():
     """What is wrong, each in a line."""
     with TemporaryDirectory(prefix="metad-install-") as room:
         yield from faults_of_stage(f"{room}/stage", "/usr/local", None)
-        yield from faults_of_stage(f"{room}/a stage", "/opt/metad", "share/doc/metad/notes")
+        yield from faults_of_stage(f"{room}/a stage", "/usr", "share/doc/metad/notes")
         empty = Path(room, "empty")
         empty.mkdir()
         ran = make("install", f"{room}/none", "/usr", empty)
