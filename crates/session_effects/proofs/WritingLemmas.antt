@@ -1,5 +1,5 @@
 -- What becomes of properties that are written, and what is to be sent for it.
-use Rattle.std.proofs.Common.{◌≡◌, ◌==◌, ◌<◌, ℕ, Bool, true, false, cond, List, [], ◌∷◌, Option, Some, None, Result, Ok, Err, IfOk, OnErr, OnOk, find, map, set, length, get_or, slice_get, refl, sym, ap, subst, ◌∙◌, if◌then◌else◌}
+use Rattle.std.proofs.Common.{◌≡◌, ◌==◌, ◌<◌, ℕ, Bool, true, false, cond, List, [], ◌∷◌, Option, Some, None, Result, Ok, Err, OnErr, OnOk, find, map, set, length, get_or, slice_get, refl, sym, ap, subst, ◌∙◌, if◌then◌else◌}
 use Rattle.std.specs.Prelude.{option_map, option_and_then, not}
 use Rattle.std.specs.List.{filter_map}
 use Rattle.std.specs.Option.{ok_or, option_map_or}
@@ -21,22 +21,23 @@ use Rattle.term_core.specs.declared.action.Effect.TheVariants as e
 use Rattle.term_core.specs.declared.target.Target.{Target}
 use Rattle.term_core.specs.Term.{Term}
 use Rattle.thread_model.specs.Doing.{Doing, in_state}
-use Rattle.thread_model.specs.Items.{Item, puts}
+use Rattle.thread_model.specs.Items.{Emit, Item, puts}
 use Rattle.thread_model.specs.Methods.{Found, ◌>>=◌}
+use Rattle.thread_model.specs.Settings.{Settings}
 use Rattle.thread_model.specs.State.{State}
 use Rattle.thread_model.specs.Targets.{evaluated, object_of}
 use Rattle.thread_model.proofs.ActionLemmas.{set_done, set_faulty}
-use Rattle.thread_model.specs.Writing.{Change, Declared, Dynamic, Place, Writing, acted_writing, changes, declared, dynamic_writing, notification, short, with_writing}
+use Rattle.thread_model.specs.Writing.{Change, Declared, Dynamic, Place, Writing, acted_writing, changes, declared, dynamic_writing, notification, property_at, short, told_value, with_writing}
 use Rattle.session_tables.specs.declared.tables.Tables.{Tables}
 use Rattle.session_tables.specs.Refused.{OnRefused}
 use Rattle.session_tables.specs.Tables.{IsPlaced, state_at, with_state}
 use Rattle.session_tables.proofs.TablesLemmas.{state_with}
 use Rattle.session_effects.specs.declared.caller.Caller.{Caller}
-use Rattle.session_effects.specs.declared.effects.Emission.{Emission}
 use Rattle.session_effects.specs.Actions.{Keeps, Tries}
 use Rattle.session_effects.specs.declared.slot.Slot.{Slot}
+use Rattle.session_effects.specs.declared.writing.Notice.{Notice}
 use Rattle.session_effects.specs.Setup.{settings_of}
-use Rattle.session_effects.specs.Writing.{TriesToWrite, Writes, item_of, items_of, standing}
+use Rattle.session_effects.specs.Writing.{TriesToWrite, Writes, items_of, standing}
 use Rattle.session_effects.proofs.ActionLemmas.{keeps_same, keeps_with, put_at}
 
 abbrev is_of : ℕ → Properties → Bool
@@ -79,10 +80,20 @@ changed_from (Some old) wanted e = (old, refl)
 changed_from None (Some new) e = absurd (cc)
 changed_from None None e = absurd (cc)
 
--- what tells of one change is sent, where there is such a thing
-told_one : (depth : ℕ) (told : Option Emission) (wanted : Option Item) → option_map (item_of depth) told ≡ wanted → items_of depth told ≡ filter_map (λ (change : Unit {0}). wanted) (tt ∷ [])
-told_one depth None wanted e = ap (λ wanted. filter_map (λ (change : Unit {0}). wanted) (tt ∷ [])) e
-told_one depth (Some sent) wanted e = ap (λ wanted. filter_map (λ (change : Unit {0}). wanted) (tt ∷ [])) e
+-- the notice of a property's change, where there is a signal that tells of it
+abbrev pub noticed : ℕ → ℕ → Option ℕ → Option Notice
+noticed object number signal = option_map (λ signal. record { object = object; property = number; signal = signal }) signal
+
+-- the signal that tells of changes of a property
+abbrev pub signal_of : Settings → State → ℕ → ℕ → Option ℕ
+signal_of settings state object number = option_and_then (λ property. property.notify) (property_at settings state object number)
+
+-- what tells of one change is sent, where there is such a signal
+told_one : (settings : Settings) (state : State) (depth : ℕ) (change : Change) (signal : Option ℕ) → standing state change.object change.number ≡ Some change
+    → items_of settings state depth (noticed change.object change.number signal)
+    ≡ filter_map (λ (one : Unit {0}). option_map (λ signal. Emit change.object signal (told_value settings state change signal) depth) signal) (tt ∷ [])
+told_one settings state depth change None stands = refl
+told_one settings state depth change (Some signal) stands = ap (λ (found : Option Change). Emit change.object signal (option_map_or (λ change. told_value settings state change signal) found []) depth ∷ []) stands
 
 module _ (caller : Caller) (object : ℕ) (old new : Tables) (placed : IsPlaced old caller.place) where
   abbrev before : State
@@ -109,18 +120,17 @@ module _ (caller : Caller) (object : ℕ) (old new : Tables) (placed : IsPlaced 
     writes_same same = writes_silently (Declared number value) (ap (λ (b : Bool). if b then change ∷ [] else []) same) e
 
     -- a declared property that has changed is told of
-    pub writes_change : is_change before.store object number value ≡ true → (told : Option Emission)
-        → ((depth : ℕ) → option_map (item_of depth) told ≡ option_and_then (notification (settings_of caller.setup.now) (state_at new caller.place) depth) (standing (state_at new caller.place) object number))
+    pub writes_change : is_change before.store object number value ≡ true → (told : Option Notice) → told ≡ noticed object number (signal_of (settings_of caller.setup.now) (state_at new caller.place) object number)
         → Writes caller object (Declared number value) old told new
-    writes_change is told notified = λ depth doing.
+    writes_change is told noted = λ depth doing.
+        let settings = settings_of caller.setup.now in
         let stood = changed_from (value_at before.store object number) _ is in
         let stands : standing after object number ≡ Some change = ap (option_map (λ value. record { object = object; number = number; value = value })) (value_written before.store object number stood.0 value stood.1) in
-        let wanted : option_map (item_of depth) told ≡ notification (settings_of caller.setup.now) after depth change =
-        notified depth ∙ ap (λ state. option_and_then (notification (settings_of caller.setup.now) state depth) (standing state object number)) is_after
-        ∙ ap (option_and_then (notification (settings_of caller.setup.now) after depth)) stands in
-        ap (λ (b : Bool). puts (filter_map (notification (settings_of caller.setup.now) after depth) (if b then change ∷ [] else [])) (in_state doing after)) is
-        ∙ ap (λ items. puts items (in_state doing after)) (sym (told_one depth told _ wanted))
-        ∙ ap (λ state. puts (items_of depth told) (in_state doing state)) (sym is_after)
+        let wanted : told ≡ noticed object number (signal_of settings after object number) = noted ∙ ap (λ state. noticed object number (signal_of settings state object number)) is_after in
+        ap (λ (b : Bool). puts (filter_map (notification settings after depth) (if b then change ∷ [] else [])) (in_state doing after)) is
+        ∙ ap (λ items. puts items (in_state doing after)) (sym (told_one settings after depth change (signal_of settings after object number) stands))
+        ∙ ap (λ told. puts (items_of settings after depth told) (in_state doing after)) (sym wanted)
+        ∙ ap (λ state. puts (items_of settings state depth told) (in_state doing state)) (sym is_after)
 
 -- a value that is not invalid is given to a dynamic property
 pub dynamic_valid : (state : State) (object : ℕ) (name : List ℕ) (value : Value) → (value ≡ v.Invalid → ⊥) → dynamic_writing state object name value ≡ option_map_or Err (dynamic_refusal state.store object name) (Ok (Dynamic name value))
@@ -151,11 +161,6 @@ pub refused_as : {T : Type 0} (P : Type 0) (result : Result T Fault) → OnErr r
 refused_as P (Ok value) h = tt
 refused_as P (Err (Refused code)) h = h
 refused_as P (Err Memory) h = tt
-
--- what follows of a value that was returned
-pub IfOk-map : {T E : Type 0} (P Q : T → Type 0) (result : Result T E) → ((value : T) → P value → Q value) → IfOk result P → IfOk result Q
-IfOk-map P Q (Ok value) f h = f value h
-IfOk-map P Q (Err error) f h = tt
 
 -- where a declared property stands, by what was found of it
 pub place_is : (of : ℕ × Kind) (found : Option Place) → Some of ≡ option_map (λ place. (place.number, place.kind)) found → Some (record { number = of.0; kind = of.1 }) ≡ found
@@ -190,12 +195,12 @@ set_keeps place old new state (Ok value) placed ok err = keeps_with old new plac
 set_keeps place old new state (Err error) placed ok err = keeps_same old new place err
 
 -- an action that writes comes to what is written
-pub sets_property : (caller : Caller) (slot : Slot) (of : Target) (property : List ℕ) (term : Term) (old new : Tables) (result : Result (Option Emission) Fault) (object : ℕ) (value : Value)
+pub sets_property : (caller : Caller) (slot : Slot) (of : Target) (property : List ℕ) (term : Term) (old new : Tables) (result : Result (Option Notice) Fault) (object : ℕ) (value : Value)
     → object ≡ object_of (state_at old caller.place) slot.object slot.sender of
     → is_there (state_at old caller.place).forest.rows object ≡ true
     → evaluated (state_at old caller.place) slot.object slot.sender slot.args.now term ≡ Ok value
     → TriesToWrite caller object (acted_writing (state_at old caller.place) object property value) old (λ told. told) new result
-    → Tries caller slot (e.Set of property term) old (items_of slot.depth) new result
+    → Tries caller slot (e.Set of property term) old (items_of (settings_of caller.setup.now) (state_at new caller.place) slot.depth) new result
 sets_property caller slot of property term old new (Ok told) object value is there found tried = λ doing.
     set_done (settings_of caller.setup.now) slot.object slot.sender slot.args.now slot.depth (in_state doing (state_at old caller.place)) of property term object is there tried.0
     (ap (λ (found : Found Value). found >>= acted_writing (state_at old caller.place) object property) found ∙ tried.1)

@@ -18,4 +18,4 @@ pub use effects::{Emission, change, deleted, sent, truth};
 pub use methods::{kinds_at, method_at, method_with};
 pub use setup::Setup;
 pub use slot::Slot;
-pub use writing::{set, write_declared, write_dynamic};
+pub use writing::{Notice, set, told_args, write_declared, write_dynamic};

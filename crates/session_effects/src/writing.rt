@@ -1,27 +1,37 @@
 //! Writing properties, and the signals that tell of it.
-ghost use Rattle.std.specs.Prelude.{◌≡◌, ◌∷◌, [], IfOk, None, Ok, Some, length, option_and_then, option_map, take};
+ghost use Rattle.std.specs.Prelude.{◌≡◌, IfOk, None, Ok, Some, option_and_then, option_map};
 ghost use Rattle.term_core.specs.declared.action.Effect.TheVariants as e;
 ghost use Rattle.variant_value.specs.Values.{IsShort};
 ghost use Rattle.property_store.specs.Store.{fitting};
-ghost use Rattle.thread_model.specs.Writing.{Declared, acted_writing, declared, dynamic_writing, notification, property_at, short};
+ghost use Rattle.thread_model.specs.Writing.{Declared, acted_writing, declared, dynamic_writing, property_at, short};
 ghost use Rattle.session_tables.specs.Refused.{OnRefused};
 ghost use Rattle.session_tables.specs.Tables.{IsPlaced, state_at};
 ghost use Rattle.session_effects.specs.Actions.{Keeps, Tries};
 ghost use Rattle.session_effects.specs.Setup.{settings_of};
-ghost use Rattle.session_effects.specs.Writing.{TriesToWrite, Writes, item_of, items_of, standing};
+ghost use Rattle.session_effects.specs.Writing.{TriesToWrite, Writes, items_of, notice_args};
 
 use crate::caller::Caller;
-use crate::effects::{Emission, reader};
+use crate::effects::reader;
 use crate::evaluation::{evaluated, object_of};
 use crate::methods::kinds_at;
 use crate::slot::Slot;
-use plain_types::{Items, Text};
+use plain_types::Text;
 use refusals::{Code, Fault};
 use session_tables::Tables;
-use signature_core::Kind;
-use std::alloc::{AllocError, Global};
+use std::alloc::AllocError;
 use term_core::{Expr, Target};
-use variant_value::{TEXT_BYTES, Value};
+use variant_value::{Args, TEXT_BYTES, Value};
+
+/// A signal that is to be sent since it tells that a declared property has another value (NOTIFY). What
+/// it is sent with is read of the property when it is sent.
+#[derive(Clone, Copy, Debug)]
+pub struct Notice {
+    pub object: u32,
+    /// The number of the property among those that the object's class declares.
+    pub property: usize,
+    /// The index of the signal.
+    pub signal: u32,
+}
 
 /// Does an action that writes a property, and returns the signal that is to be sent for it, where the
 /// property's value has changed and there is one that tells of it.
@@ -32,9 +42,10 @@ pub fn set(
     of: &Target,
     property: &Text,
     value: &Expr,
-) -> Result<Option<Emission>, Fault>
+) -> Result<Option<Notice>, Fault>
     requires { IsPlaced tables.old caller.now.place }
-    ensures tries { Tries caller.now slot.now (e.Set of.now property.now value.now) tables.old (items_of slot.now.depth) tables.new result }
+    ensures tries { Tries caller.now slot.now (e.Set of.now property.now value.now) tables.old
+        (items_of (settings_of caller.now.setup.now) (state_at tables.new caller.now.place) slot.now.depth) tables.new result }
     ensures refused { OnRefused result (tables.new ≡ tables.old) }
     ensures keeps { Keeps caller.now.place tables.old tables.new }
 {
@@ -53,7 +64,7 @@ fn write(
     object: u32,
     property: &Text,
     value: Value,
-) -> Result<Option<Emission>, Fault>
+) -> Result<Option<Notice>, Fault>
     requires { IsPlaced tables.old caller.now.place }
     ensures writes { TriesToWrite caller.now object (acted_writing (state_at tables.old caller.now.place) object property.now value) tables.old (λ told. told) tables.new result }
     ensures refused { OnRefused result (tables.new ≡ tables.old) }
@@ -66,7 +77,7 @@ fn write(
     let Ok(value) = value.convert(kind) else {
         return Err(Fault::Refused(Code::BadValue));
     };
-    Ok(write_declared(caller, tables, object, number, short(value)?)?)
+    Ok(write_declared(caller, tables, object, number, short(value)?))
 }
 
 /// The value, where it is no text that is too long.
@@ -83,24 +94,24 @@ fn short(value: Value) -> Result<Value, Code>
 }
 
 /// Gives a declared property a value of its kind, and returns the signal that is to be sent for it, where
-/// the value is another one now and there is a signal that tells of it.
+/// the value is another one now and there is a signal that tells of it. This takes no memory.
 pub fn write_declared(
     caller: &Caller,
     tables: &mut Tables,
     object: u32,
     number: usize,
     value: Value,
-) -> Result<Option<Emission>, AllocError>
+) -> Option<Notice>
     requires placed { IsPlaced tables.old caller.now.place }
     requires short { IsShort value }
     requires fits { fitting (state_at tables.old caller.now.place).store object number value ≡ Some value }
-    ensures writes { IfOk result (λ told. Writes caller.now object (Declared number value) tables.old told tables.new) }
+    ensures writes { Writes caller.now object (Declared number value) tables.old result tables.new }
     ensures keeps { Keeps caller.now.place tables.old tables.new }
 {
     if tables.write(caller.place, object, number, value) {
-        notification(caller, tables, object, number)
+        notice_of(caller, tables, object, number)
     } else {
-        Ok(None)
+        None
     }
 }
 
@@ -127,31 +138,18 @@ pub fn write_dynamic(
     tables.set_dynamic(caller.place, object, name, value)
 }
 
-/// The signal that tells that a declared property has changed (NOTIFY), where it has one, with the
-/// property's value where the signal takes one.
-fn notification(
-    caller: &Caller,
-    tables: &Tables,
-    object: u32,
-    number: usize,
-) -> Result<Option<Emission>, AllocError>
+/// The signal that tells that a declared property has changed, where its class names one.
+fn notice_of(caller: &Caller, tables: &Tables, object: u32, number: usize) -> Option<Notice>
     requires { IsPlaced tables.now caller.now.place }
-    ensures { IfOk result (λ told. (depth : _) → option_map (item_of depth) told
-        ≡ option_and_then (notification (settings_of caller.now.setup.now) (state_at tables.now caller.now.place) depth) (standing (state_at tables.now caller.now.place) object number)) }
+    ensures { result ≡ option_map (λ signal. record { object = object; property = number; signal = signal })
+        (option_and_then (λ property. property.notify) (property_at (settings_of caller.now.setup.now) (state_at tables.now caller.now.place) object number)) }
 {
-    let Some(value) = tables.value(caller.place, object, number) else {
-        return Ok(None);
-    };
-    let Some(signal) = notify_signal(caller, tables, object, number) else {
-        return Ok(None);
-    };
-    let kinds = kinds_at(caller, tables, object, signal);
-    let args = told_value(caller.setup.alloc, kinds, value)?;
-    Ok(Some(Emission {
+    let signal = notify_signal(caller, tables, object, number)?;
+    Some(Notice {
         object,
+        property: number,
         signal,
-        args,
-    }))
+    })
 }
 
 /// The index of the signal that tells of changes of a property.
@@ -167,14 +165,15 @@ fn notify_signal(caller: &Caller, tables: &Tables, object: u32, number: usize) -
     classes.property_row(class, number as u32)?.notify
 }
 
-/// What a signal is sent with that tells of a value: the value, where the signal has a parameter.
-fn told_value(alloc: Global, kinds: &[Kind], value: &Value) -> Result<Items<Value>, AllocError>
-    ensures { IfOk result (λ args. args ≡ take (length kinds.now) (value.now ∷ [])) }
+/// What a notice is sent with: the value that its property has, where the signal takes one.
+pub fn told_args(caller: &Caller, tables: &Tables, notice: Notice) -> Result<Args, AllocError>
+    requires { IsPlaced tables.now caller.now.place }
+    ensures { IfOk result (λ args. args ≡ notice_args (settings_of caller.now.setup.now) (state_at tables.now caller.now.place) notice) }
 {
-    let mut args = Items::new(alloc);
-    if kinds.is_empty() {
-        return Ok(args);
+    let alloc = caller.setup.alloc;
+    let kinds = kinds_at(caller, tables, notice.object, notice.signal);
+    match tables.value(caller.place, notice.object, notice.property) {
+        Some(value) if !kinds.is_empty() => Ok(Args::one(value.copy(alloc)?)),
+        _ => Ok(Args::from_vec(Vec::new(alloc))),
     }
-    args.push(value.copy(alloc)?)?;
-    Ok(args)
 }

@@ -45,7 +45,7 @@ use Rattle.thread_model.proofs.EmissionLemmas as rule
 use Rattle.thread_model.proofs.FilterLemmas.{find-passes}
 use Rattle.thread_model.proofs.LaterLemmas.{run_later}
 use Rattle.thread_model.proofs.LivingLemmas.{living_rows}
-use Rattle.thread_model.proofs.NextCallLemmas.{calls_to, emission_first, emission_next}
+use Rattle.thread_model.proofs.NextCallLemmas.{calls_to, emission_end, emission_first, emission_next}
 use Rattle.thread_model.proofs.RemainingLemmas.{remaining}
 use Rattle.thread_model.proofs.RunLemmas.{after_first, at_end, by_change, by_step, run_shrinks}
 use Rattle.thread_model.proofs.FallLemmas.{falls}
@@ -191,6 +191,25 @@ module _ (settings : Settings) (target signal : ℕ) (args : List Value) (depth 
       emission_begins shallow sound =
           sym (by_step settings (Emit target signal args depth) doing _ (rule.emit_calls settings target signal args depth doing its_row.row its_row.there (held_is false sent) shallow)
           ∙ ap (λ agenda. run settings agenda doing) (emission_first settings target signal args depth doing sound))
+
+  -- a signal that nothing is connected to comes to nothing, whether its object is there or not, blocked or not
+  pub emission_unheard : (doing : Doing) → depth < NESTED_SIGNALS → IsSound doing.state.connections → is_some (find (is_next target signal 0 doing.state.connections.last_number) doing.state.connections.rows) ≡ false
+      → run settings (Emit target signal args depth ∷ []) doing ≡ doing
+  emission_unheard doing shallow sound unheard = by_row (option_map (λ (row : Row). row.blocked) (row_of doing.state.forest.rows target)) refl
+    where
+      none : (found : Option Connection) → is_some found ≡ false → found ≡ None
+      none None e = refl
+      none (Some connection) e = absurd (cc)
+
+      sent : (blocked : Bool) → Some blocked ≡ option_map (λ (row : Row). row.blocked) (row_of doing.state.forest.rows target) → (held : Bool) → (blocked && not (signal == DESTROYED)) ≡ held → run settings (Emit target signal args depth ∷ []) doing ≡ doing
+      sent blocked has true held = emission_held_back doing blocked has held
+      sent blocked has false free =
+          sym (emission_begins doing blocked has free shallow sound)
+          ∙ emission_end settings target signal args depth doing.state.connections.last_number 0 doing (none (find (is_next target signal 0 doing.state.connections.last_number) doing.state.connections.rows) unheard)
+
+      by_row : (found : Option Bool) → option_map (λ (row : Row). row.blocked) (row_of doing.state.forest.rows target) ≡ found → run settings (Emit target signal args depth ∷ []) doing ≡ doing
+      by_row None e = emission_absent doing (sym e)
+      by_row (Some blocked) e = sent blocked (sym e) (blocked && not (signal == DESTROYED)) refl
 
   -- the next connection is called, and those behind it are left
   pub emission_goes_on : (up_to after : ℕ) (old middle new : Doing) (next : Connection) → IsSound middle.state.connections → up_to ≤ middle.state.connections.last_number

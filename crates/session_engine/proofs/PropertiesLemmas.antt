@@ -34,7 +34,7 @@ use Rattle.session_tables.specs.Refused.{OnRefused}
 use Rattle.session_tables.specs.Tables.{ChangesOnly, state_at}
 use Rattle.session_effects.specs.Actions.{Keeps}
 use Rattle.session_effects.specs.declared.caller.Caller.{Caller}
-use Rattle.session_effects.specs.declared.effects.Emission.{Emission}
+use Rattle.session_effects.specs.declared.writing.Notice.{Notice}
 use Rattle.session_effects.specs.Setup.{settings_of}
 use Rattle.session_effects.specs.Writing.{TriesToWrite, Writes, items_of}
 use Rattle.session_engine.specs.declared.telling.Telling.{Telling}
@@ -97,18 +97,18 @@ dynamic_undeclared state object name value writing e = by value e
     by (v.Text text) e = given (dynamic_refusal state.store object name) (v.Text text) e
 
 -- a property's writing that is refused, or for which memory was wanted
-pub written_fault : {T U : Type 0} (caller : Caller) (asked : Asked) (old new : Tables) (lines : T → List Line) (object : ℕ) (wanted : Found Writing) (tell : U → Option Emission) (fault : Fault) (result : Result T Fault) → IsErrAnd result (λ other. other ≡ fault)
+pub written_fault : {T U : Type 0} (caller : Caller) (asked : Asked) (old new : Tables) (lines : T → List Line) (object : ℕ) (wanted : Found Writing) (tell : U → Option Notice) (fault : Fault) (result : Result T Fault) → IsErrAnd result (λ other. other ≡ fault)
     → its_refusal caller asked old new ≡ result_err wanted → TriesToWrite caller object wanted old tell new (Err fault) → OnRefused {T = U} (Err fault) (new ≡ old) → ChangesOnly caller.place old new → Performs caller asked old new lines result
 written_fault caller asked old new lines object wanted tell (Refused code) result h is why same only = stopped caller asked old new lines code result h (is ∙ ap result_err why) same
 written_fault caller asked old new lines object wanted tell Memory result h is why same only = starved caller asked old new lines result h only
 
 -- what is written is told of, and then replied
-pub performs_written : (caller : Caller) (object : ℕ) (property : List ℕ) (json : Data) (old middle new : Tables) (before after : Telling) (writing : Writing) (replied : Bool) (tell : Option Emission)
+pub performs_written : (caller : Caller) (object : ℕ) (property : List ℕ) (json : Data) (old middle new : Tables) (before after : Telling) (writing : Writing) (replied : Bool) (tell : Option Notice)
     → is_declared writing ≡ replied
     → None ≡ absence (state_at old caller.place) object → before ≡ fresh_telling caller.setup.now.turns
     → asked_writing (state_at old caller.place) object property json ≡ Ok writing
     → Writes caller object writing old tell middle
-    → run (settings_of caller.setup.now) (items_of 0 tell) (doing_at caller.place middle before) ≡ doing_at caller.place new after
+    → run (settings_of caller.setup.now) (items_of (settings_of caller.setup.now) (state_at middle caller.place) 0 tell) (doing_at caller.place middle before) ≡ doing_at caller.place new after
     → Keeps caller.place old new
     → Performs caller (Set object property json) old new (reply_after after.lines) (Ok (a.Truth replied))
 performs_written caller object property json old middle new before after writing replied tell is there fresh asked writes does keeps =
@@ -121,6 +121,6 @@ performs_written caller object property json old middle new before after writing
     ∙ ap (λ truth. does_next settings (written settings (begun settings state) object 0 writing) (a.Truth truth)) is
     ∙ ap (λ (next : Next). does_next settings next answer) (writes 0 (begun settings state))
     ∙ replies_last settings _ answer
-    ∙ ap (λ (telling : Telling). ended (told (run settings (items_of 0 tell) (doing_at caller.place middle telling)) (line.Reply answer))) (sym fresh)
+    ∙ ap (λ (telling : Telling). ended (told (run settings (items_of settings (state_at middle caller.place) 0 tell) (doing_at caller.place middle telling)) (line.Reply answer))) (sym fresh)
     ∙ ap (λ doing. ended (told doing (line.Reply answer))) does)
     keeps

@@ -1,7 +1,8 @@
 //! An agenda by nested calls. Each function does what the item of its name does, and calls the others
 //! where that puts items in front. The calls come to an end, since each way round takes a turn, or marks
 //! an object that lives as dying; no action gives a turn back, or makes an object.
-ghost use Rattle.std.specs.Prelude.{◌≡◌, ◌∷◌, [], ◌≤◌, ◌<◌, OnOk, OnErr, Some, take};
+ghost use Rattle.std.specs.Prelude.{◌≡◌, ◌∷◌, [], ◌≤◌, ◌<◌, OnOk, OnErr, Some, find, is_some, take};
+ghost use Rattle.connection_list.specs.Rows.{IsSound, is_next};
 ghost use Rattle.term_core.specs.Act.{acts_of, effect};
 ghost use Rattle.thread_model.specs.declared.call.TheConstants.{NESTED_SIGNALS};
 ghost use Rattle.thread_model.specs.Acts as model;
@@ -13,6 +14,7 @@ ghost use Rattle.thread_model.specs.State.{with_call};
 ghost use Rattle.class_table.specs.Sound.{IsMethod};
 ghost use Rattle.session_tables.specs.Tables.{IsPlaced, state_at, with_state};
 ghost use Rattle.session_effects.specs.Actions.{Keeps, act_of};
+ghost use Rattle.session_effects.specs.Setup.{settings_of};
 ghost use Rattle.session_effects.specs.Writing.{items_of};
 ghost use Rattle.session_engine.specs.Agenda.{Does};
 ghost use Rattle.session_engine.specs.Telling.{doing_at};
@@ -24,7 +26,9 @@ use connection_list::Connection;
 use connection_types::{Callee, ConnectionType};
 use event_queue::QueuedCall;
 use refusals::Code;
-use session_effects::{Caller, Emission, Slot, change, deleted, method_at, sent, set, truth};
+use session_effects::{
+    Caller, Notice, Slot, change, deleted, method_at, sent, set, told_args, truth,
+};
 use session_tables::Tables;
 use std::alloc::AllocError;
 use term_core::{Action, Effect, Step};
@@ -73,32 +77,51 @@ pub fn emit(
     Ok(())
 }
 
-/// Sends what tells of a change, where there is such a signal.
+/// Sends what tells of a change, where there is such a signal. Where nothing is connected to it, there is
+/// nothing to do below the level where nested signals are warned of.
 #[cycle(agenda)]
 pub fn notify(
     caller: &Caller,
     tables: &mut Tables,
     telling: &mut Telling,
-    told: &Option<Emission>,
+    told: Option<Notice>,
     depth: u32,
 ) -> Result<(), AllocError>
     requires placed { IsPlaced tables.old caller.now.place }
     requires depth { depth ≤ NESTED_SIGNALS }
-    ensures does { OnOk result (Does caller.now (items_of depth told.now) (doing_at caller.now.place tables.old telling.old) tables.new telling.new) }
+    ensures does { OnOk result (Does caller.now (items_of (settings_of caller.now.setup.now) (state_at tables.old caller.now.place) depth told)
+        (doing_at caller.now.place tables.old telling.old) tables.new telling.new) }
     ensures keeps { Keeps caller.now.place tables.old tables.new }
 {
-    match told {
-        Some(sent) => emit(
-            caller,
-            tables,
-            telling,
-            sent.object,
-            sent.signal,
-            sent.args.as_slice(),
-            depth,
-        ),
-        None => Ok(()),
+    let Some(notice) = told else {
+        return Ok(());
+    };
+    if depth < NESTED_SIGNALS && !is_heard(tables, caller.place, notice) {
+        return Ok(());
     }
+    let args = told_args(caller, tables, notice)?;
+    emit(
+        caller,
+        tables,
+        telling,
+        notice.object,
+        notice.signal,
+        args.as_slice(),
+        depth,
+    )
+}
+
+/// Whether a connection stands that a notice's signal calls.
+fn is_heard(tables: &Tables, place: usize, notice: Notice) -> bool
+    requires { IsPlaced tables.now place }
+    ensures heard { let connections = (state_at tables.now place).connections in
+        result ≡ is_some (find (is_next notice.object notice.signal 0 connections.last_number) connections.rows) }
+    ensures sound { IsSound (state_at tables.now place).connections }
+{
+    let last = tables.last_connection(place);
+    tables
+        .next_connection(place, notice.object, notice.signal, 0, last)
+        .is_some()
 }
 
 /// Calls what a connection calls, which stands: later, by an event, or at once. A single-shot connection
@@ -283,7 +306,7 @@ fn effect(
             property,
             value,
         } => match set(caller, tables, slot, of, property, value) {
-            Ok(told) => notify(caller, tables, telling, &told, slot.depth),
+            Ok(told) => notify(caller, tables, telling, told, slot.depth),
             Err(fault) => telling.warn_of(fault, slot.object),
         },
         _ => match change(caller, tables, slot, plain) {

@@ -39,8 +39,8 @@ pub fn set(
         return Ok(Answer::Truth(false));
     }
     let value = Value::from_json(caller.setup.alloc, kind, value)?;
-    let told = write_declared(caller, tables, object, number, value)?;
-    notify(caller, tables, telling, &told, 0)?;
+    let told = write_declared(caller, tables, object, number, value);
+    notify(caller, tables, telling, told, 0)?;
     Ok(Answer::Truth(true))
 }
 

@@ -1,4 +1,5 @@
-use Rattle.std.proofs.Common.{◌≡◌, ◌<◌, ◌≤◌, ◌+◌, ◌*◌, ◌∷◌, [], ℕ, take, true, false, Ok, Option, Some, refl, sym, ap, subst, ◌∙◌, arith}
+use Rattle.std.proofs.Common.{◌≡◌, ◌<◌, ◌≤◌, ◌+◌, ◌*◌, ◌∷◌, [], ℕ, find, is_some, take, true, false, Ok, Option, Some, refl, sym, ap, subst, ◌∙◌, arith}
+use Rattle.connection_list.specs.Rows.{is_next}
 use Rattle.term_core.specs.Act.{acts_of, count, counts, effect, when}
 use Rattle.term_core.specs.Steps.{act_at}
 use Rattle.term_core.proofs.Counts.{count_within}
@@ -12,12 +13,13 @@ use Rattle.thread_model.proofs.NextCallLemmas.{emission_end}
 use Rattle.thread_model.proofs.RunLemmas.{at_end, by_change}
 use Rattle.session_tables.specs.Tables.{state_at}
 use Rattle.session_effects.specs.declared.effects.Emission.{Emission}
+use Rattle.session_effects.specs.declared.writing.Notice.{Notice}
 use Rattle.session_effects.specs.Actions.{act_of}
 use Rattle.session_effects.specs.Setup.{settings_of}
-use Rattle.session_effects.specs.Writing.{items_of}
+use Rattle.session_effects.specs.Writing.{items_of, notice_args}
 use Rattle.session_engine.specs.Telling.{doing_at}
 use Rattle.session_effects.proofs.ActionLemmas.{keeps_same, keeps_twice, keeps_with, placed_kept}
-use Rattle.session_engine.proofs.AgendaLemmas.{OnOk-map, acts_end, acts_go_on, call_absent, call_functor, call_queued, call_signal, call_slot, call_spent, effect_done, effect_refused, effect_warned, emission_absent, emission_begins, emission_deep, emission_goes_on, emission_held_back, failed_done, found_stands, held_done, is_held, is_let_through, keeps_posted, last_stays, left_at, left_falls, left_shot, left_stepped, left_to_do, next_smaller, test_warned, told_is, warn_done}
+use Rattle.session_engine.proofs.AgendaLemmas.{OnOk-map, acts_end, acts_go_on, call_absent, call_functor, call_queued, call_signal, call_slot, call_spent, effect_done, effect_refused, effect_warned, emission_absent, emission_begins, emission_deep, emission_goes_on, emission_held_back, emission_unheard, failed_done, found_stands, held_done, is_held, is_let_through, keeps_posted, last_stays, left_at, left_falls, left_shot, left_stepped, left_to_do, next_smaller, test_warned, told_is, warn_done}
 use Rattle.thread_model.specs.Agenda.{lives, lives_below}
 use Rattle.session_engine.proofs.DeletionLemmas.{cut_first, cut_last, cut_next, delete_done, delete_none, kin_none, kin_some, left_forgotten, left_marked, left_untied}
 use Rattle.session_engine.proofs.+agenda.Goals as goal
@@ -182,7 +184,7 @@ agenda::effect-returns-in-Ok-set t c =
     let slot = c.args.slot.now in
     record {
       does = rw c.in-Set.is (OnOk-map c.notify.result
-          (effect_done c.args.caller.now slot (e.Set c.in-Set.of c.in-Set.property c.in-Set.value) c.args.tables.now (items_of slot.depth c.in-Ok-set.told) c.set.new.tables c.notify.new.tables c.args.telling.now c.notify.new.telling (c.in-Ok-set.ensures.tries (doing_at place c.args.tables.now c.args.telling.now)))
+          (effect_done c.args.caller.now slot (e.Set c.in-Set.of c.in-Set.property c.in-Set.value) c.args.tables.now (items_of settings (state_at c.set.new.tables place) slot.depth c.in-Ok-set.told) c.set.new.tables c.notify.new.tables c.args.telling.now c.notify.new.telling (c.in-Ok-set.ensures.tries (doing_at place c.args.tables.now c.args.telling.now)))
           c.notify.ensures.does);
       keeps = keeps_twice _ _ _ _ c.in-Ok-set.ensures.keeps c.notify.ensures.keeps;
     }
@@ -192,7 +194,7 @@ agenda::effect-returns-in-Err-set t c =
     let slot = c.args.slot.now in
     record {
       does = rw c.in-Set.is (OnOk-map c.warn_of-in-Err-set.result
-          (effect_refused {T = Option Emission} c.args.caller.now slot (e.Set c.in-Set.of c.in-Set.property c.in-Set.value) c.args.tables.now (items_of slot.depth) c.set.new.tables c.args.telling.now c.warn_of-in-Err-set.new.self c.in-Err-set.fault c.in-Err-set.ensures.tries c.in-Err-set.ensures.refused)
+          (effect_refused {T = Option Notice} c.args.caller.now slot (e.Set c.in-Set.of c.in-Set.property c.in-Set.value) c.args.tables.now (items_of (settings_of c.args.caller.now.setup.now) (state_at c.set.new.tables c.args.caller.now.place) slot.depth) c.set.new.tables c.args.telling.now c.warn_of-in-Err-set.new.self c.in-Err-set.fault c.in-Err-set.ensures.tries c.in-Err-set.ensures.refused)
           c.warn_of-in-Err-set.ensures);
       keeps = c.in-Err-set.ensures.keeps;
     }
@@ -284,9 +286,17 @@ agenda::emit-returns-clause-does t c =
     let place = c.args.caller.now.place in
     sym c.calls.invariant.runs ∙ emission_end (settings_of c.args.caller.now.setup.now) c.args.target c.args.signal c.args.args.now c.args.depth c.last_connection-up_to.result c.calls.after (doing_at place c.calls.tables c.calls.telling) (sym c.in_default-next_connection.ensures.next)
 
-pub agenda::notify-returns-in-None-clause-does : goal.agenda::notify-returns-in-None-clause-does
-agenda::notify-returns-in-None-clause-does t c =
-    rw c.in-None.is (at_end (settings_of c.args.caller.now.setup.now) (doing_at c.args.caller.now.place c.args.tables.now c.args.telling.now))
+pub agenda::notify-returns-in_default-clause-does : goal.agenda::notify-returns-in_default-clause-does
+agenda::notify-returns-in_default-clause-does t c =
+    rw c.in_default.is (at_end (settings_of c.args.caller.now.setup.now) (doing_at c.args.caller.now.place c.args.tables.now c.args.telling.now))
+
+pub agenda::notify-returns-then-not-is_heard-clause-does : goal.agenda::notify-returns-then-not-is_heard-clause-does
+agenda::notify-returns-then-not-is_heard-clause-does t c =
+    let settings = settings_of c.args.caller.now.setup.now in
+    let doing = doing_at c.args.caller.now.place c.args.tables.now c.args.telling.now in
+    let notice = c.in-Some.notice in
+    let unheard : is_some (find (is_next notice.object notice.signal 0 doing.state.connections.last_number) doing.state.connections.rows) ≡ false = grind arith in
+    rw c.in-Some.is (emission_unheard settings notice.object notice.signal (notice_args settings doing.state notice) c.args.depth doing (omega arith) c.is_heard.ensures.sound unheard)
 
 pub agenda::run_slot-returns-clause-does : goal.agenda::run_slot-returns-clause-does
 agenda::run_slot-returns-clause-does t c =

@@ -62,15 +62,15 @@ returns-in_err-value-2 c =
     (λ code. refl) c.in_err-value-2.ensures.exact
 
 pub returns-in_err-notify : goal.returns-in_err-notify
-returns-in_err-notify c = starved _ _ _ _ _ _ c.from_residual-in_err-notify.ensures.1 (keeps_twice _ _ _ _ c.in_ok-told.ensures.keeps c.in_err-notify.ensures.keeps).only
+returns-in_err-notify c = starved _ _ _ _ _ _ c.from_residual-in_err-notify.ensures.1 (keeps_twice _ _ _ _ c.write_declared-told.ensures.keeps c.in_err-notify.ensures.keeps).only
 
 -- and a value is written, and told of where it is another one
 pub returns : goal.returns
 returns c =
     let state = state_at c.args.tables.now c.args.caller.now.place in
-    performs_written c.args.caller.now c.args.object c.args.property.now (view c.args.value.now) c.args.tables.now c.write_declared.new.tables c.notify.new.tables c.args.telling.now c.notify.new.telling
-    (Declared c.in-Some.number c.in_ok-value-2.value) true c.in_ok-told.told refl
+    performs_written c.args.caller.now c.args.object c.args.property.now (view c.args.value.now) c.args.tables.now c.write_declared-told.new.tables c.notify.new.tables c.args.telling.now c.notify.new.telling
+    (Declared c.in-Some.number c.in_ok-value-2.value) true c.write_declared-told.result refl
     c.in_ok-check_object.ensures c.requires.fresh
     (asked_value state c.args.object c.args.property.now (view c.args.value.now) _ (place_is (c.in-Some.number, c.in-Some.kind) _ (rw c.as_str.ensures at c.in-Some.ensures)) (sym c.if-is_null.ensures)
     ∙ ap (λ found. found >>= λ value. Ok (Declared c.in-Some.number value)) c.in_ok-value-2.ensures.exact)
-    c.in_ok-told.ensures.writes c.in_ok-notify.ensures.does (keeps_twice _ _ _ _ c.in_ok-told.ensures.keeps c.in_ok-notify.ensures.keeps)
+    c.write_declared-told.ensures.writes c.in_ok-notify.ensures.does (keeps_twice _ _ _ _ c.write_declared-told.ensures.keeps c.in_ok-notify.ensures.keeps)
