@@ -6,7 +6,7 @@ use Rattle.std.proofs.lemmas.Bool.{cases_Bool, eq-eqb}
 use Rattle.std.proofs.lemmas.List.{get_or-map, length-map, map-set}
 use Rattle.std.proofs.lemmas.List.Elements.{All-append, All-filter, All-map, All-set}
 use Rattle.places.specs.Table.{IsPlace, Table, with_place}
-use Rattle.places.proofs.TableLemmas.{with_same, with_there, with_twice}
+use Rattle.places.proofs.TableLemmas.{with_same}
 use Rattle.shared_rows.specs.Rows.{Keyed, inserted, key_of, row_under, rows_at, with_row, without}
 use Rattle.shared_rows.specs.Rows as table
 use Rattle.property_store.specs.declared.field.Field.{Field}
@@ -62,42 +62,6 @@ module _ (layouts : List (List Field)) where
   pub kept_with : (rows : Table (List (Keyed Row))) → AreKept layouts rows → (place : ℕ) (new : Table (List (Keyed Row))) (list : List (Keyed Row)) → new ≡ with_place rows place list → AreRows layouts list → AreKept layouts new
   kept_with rows kept place new list e sound = subst (AreKept layouts) (sym e) (All-set (AreRows layouts) rows.places place list sound kept)
 
--- a row that is taken out, and put back
-pub row_put : (rows : List (Keyed Row)) (key : ℕ) (old row : Row) → row_under rows key ≡ Some old → row_under (with_row rows key row) key ≡ Some row
-row_put [] key old row under = absurd (cc)
-row_put (first ∷ rows) key old row under = ⊎_elim
-    (λ (here : (first.key == key) ≡ true). let itself : (key == key) ≡ true = eq-eqb key key refl in rw (here, itself) refl)
-    (λ (other : (first.key == key) ≡ false). let rest : row_under rows key ≡ Some old = rw other at under in rw (other, other) (row_put rows key old row rest))
-    (cases_Bool (first.key == key))
-
-put_twice : (rows : List (Keyed Row)) (key : ℕ) (first row : Row) → with_row (with_row rows key first) key row ≡ with_row rows key row
-put_twice rows key first row =
-    map_over_map (λ (keyed : Keyed Row). cond (keyed.key == key) (record { key = key; row = row }) keyed) (λ (keyed : Keyed Row). cond (keyed.key == key) (record { key = key; row = first }) keyed) rows
-    ∙ map_at (λ (keyed : Keyed Row). put row (put first keyed)) (put row) rows (λ k d within. same (get_or rows k d))
-  where
-    put : Row → Keyed Row → Keyed Row
-    put row keyed = cond (keyed.key == key) (record { key = key; row = row }) keyed
-
-    same : (keyed : Keyed Row) → put row (put first keyed) ≡ put row keyed
-    same keyed = ⊎_elim
-        (λ (here : (keyed.key == key) ≡ true). let itself : (key == key) ≡ true = eq-eqb key key refl in rw (here, itself) refl)
-        (λ (other : (keyed.key == key) ≡ false). rw (other, other) refl)
-        (cases_Bool (keyed.key == key))
-
-module _ (rows middle : Table (List (Keyed Row))) (place key : ℕ) (is_place : IsPlace rows place) (empty : Row) (taken : middle ≡ with_place rows place (with_row (rows_at rows place) key empty)) where
-  middle_rows : rows_at middle place ≡ with_row (rows_at rows place) key empty
-  middle_rows = ap (λ t. rows_at t place) taken ∙ with_there [] rows place (with_row (rows_at rows place) key empty) is_place
-
-  pub stands_between : (old row : Row) → row_under (rows_at rows place) key ≡ Some old → row.object ≡ empty.object → option_map number (row_under (rows_at middle place) key) ≡ Some row.object
-  stands_between old row under same = ap (λ list. option_map number (row_under list key)) middle_rows ∙ (ap (option_map number) (row_put (rows_at rows place) key old empty under) ∙ ap Some (sym same))
-
-  pub put_back : (new : Table (List (Keyed Row))) (row : Row) → new ≡ with_place middle place (with_row (rows_at middle place) key row) → new ≡ with_place rows place (with_row (rows_at rows place) key row)
-  put_back new row e =
-      e ∙ (ap (λ list. with_place middle place (with_row list key row)) middle_rows
-      ∙ (ap (with_place middle place) (put_twice (rows_at rows place) key empty row)
-      ∙ (ap (λ t. with_place t place (with_row (rows_at rows place) key row)) taken
-      ∙ with_twice rows place (with_row (rows_at rows place) key empty) (with_row (rows_at rows place) key row))))
-
 -- a row that stands under a key is one of the rows
 pub under_sound : (layouts : List (List Field)) (rows : List (Keyed Row)) → AreRows layouts rows → (key : ℕ) (row : Row) → row_under rows key ≡ Some row → AreSound (shown layouts row)
 under_sound layouts rows sound key row under =
@@ -138,49 +102,40 @@ module _ (layouts : List (List Field)) (rows : Table (List (Keyed Row))) (seen :
         let there = store_there layouts rows seen view_is place is_place in
         unchanged_store seen place (changed change n (store_at seen place)) (ap (changed change n) there ∙ (absent_unchanged layouts (rows_at rows place) n none change ∙ sym there))
 
--- a row that is taken out
-pub record IsTaken (layouts : List (List Field)) (rows : Table (List (Keyed Row))) (seen : Shelves) (place key n : ℕ) (old : Row) (middle : Table (List (Keyed Row))) : Type 0 where
+-- a row that is changed where it stands
+pub record IsUnder (layouts : List (List Field)) (rows : Table (List (Keyed Row))) (seen : Shelves) (place key n : ℕ) (old : Row) : Type 0 where
   pub kept : AreKept layouts rows
   pub view_is : shelves_of layouts rows ≡ seen
   pub is_place : IsPlace seen.table place
   pub sound : table.IsSound number (rows_at rows place)
   pub found : key_of number (rows_at rows place) n ≡ Some key
   pub under : row_under (rows_at rows place) key ≡ Some old
-  pub empty : Row
-  pub numbered : empty.object ≡ n
-  pub taken : middle ≡ with_place rows place (with_row (rows_at rows place) key empty)
 
-module _ (layouts : List (List Field)) (rows : Table (List (Keyed Row))) (seen : Shelves) (place key n : ℕ) (old : Row) (middle : Table (List (Keyed Row))) (t : IsTaken layouts rows seen place key n old middle) where
+module _ (layouts : List (List Field)) (rows : Table (List (Keyed Row))) (seen : Shelves) (place key n : ℕ) (old : Row) (u : IsUnder layouts rows seen place key n old) where
   open_rows : IsPlace rows place
-  open_rows = rows_open layouts rows seen t.view_is place t.is_place
+  open_rows = rows_open layouts rows seen u.view_is place u.is_place
 
   is_row : IsRowOf (rows_at rows place) key n old
-  is_row = row_stands (rows_at rows place) t.sound key n old t.found t.under
+  is_row = row_stands (rows_at rows place) u.sound key n old u.found u.under
 
   pub old_there : properties_of (store_at seen place) n ≡ Some (shown layouts old)
-  old_there = ap (λ s. properties_of s n) (store_there layouts rows seen t.view_is place t.is_place) ∙ there layouts (rows_at rows place) key n old is_row
+  old_there = ap (λ s. properties_of s n) (store_there layouts rows seen u.view_is place u.is_place) ∙ there layouts (rows_at rows place) key n old is_row
 
   pub old_sound : AreSound (shown layouts old)
-  old_sound = under_sound layouts (rows_at rows place) (t.kept place [] open_rows) key old t.under
+  old_sound = under_sound layouts (rows_at rows place) (u.kept place [] open_rows) key old u.under
 
-  pub goes_back : (row : Row) → row.object ≡ old.object → option_map number (row_under (rows_at middle place) key) ≡ Some row.object
-  goes_back row same = stands_between rows middle place key open_rows t.empty t.taken old row t.under (same ∙ (is_row.numbered ∙ sym t.numbered))
+  module _ (new : Table (List (Keyed Row))) (row : Row) (is : new ≡ with_place rows place (with_row (rows_at rows place) key row)) where
+    pub kept_under : AreSound (shown layouts row) → AreKept layouts new
+    kept_under sound = kept_with layouts rows u.kept place new (with_row (rows_at rows place) key row) is (with_row_sound layouts (rows_at rows place) (u.kept place [] open_rows) key row sound)
 
-  module _ (new : Table (List (Keyed Row))) (row : Row) (back : new ≡ with_place middle place (with_row (rows_at middle place) key row)) where
-    is_back : new ≡ with_place rows place (with_row (rows_at rows place) key row)
-    is_back = put_back rows middle place key open_rows t.empty t.taken new row back
-
-    pub kept_back : AreSound (shown layouts row) → AreKept layouts new
-    kept_back sound = kept_with layouts rows t.kept place new (with_row (rows_at rows place) key row) is_back (with_row_sound layouts (rows_at rows place) (t.kept place [] open_rows) key row sound)
-
-    pub view_back : (change : Properties → Properties) → shown layouts row ≡ change (shown layouts old) → shelves_of layouts new ≡ with_store seen place (changed change n (store_at seen place))
-    view_back change e =
-        after layouts rows seen t.view_is place new (with_row (rows_at rows place) key row) (changed change n (store_at seen place)) is_back
-        (changed_shown layouts (rows_at rows place) key n old is_row row change e ∙ ap (changed change n) (sym (store_there layouts rows seen t.view_is place t.is_place)))
+    pub view_under : (change : Properties → Properties) → shown layouts row ≡ change (shown layouts old) → shelves_of layouts new ≡ with_store seen place (changed change n (store_at seen place))
+    view_under change e =
+        after layouts rows seen u.view_is place new (with_row (rows_at rows place) key row) (changed change n (store_at seen place)) is
+        (changed_shown layouts (rows_at rows place) key n old is_row row change e ∙ ap (changed change n) (sym (store_there layouts rows seen u.view_is place u.is_place)))
 
     pub view_same : shown layouts row ≡ shown layouts old → shelves_of layouts new ≡ seen
     view_same e =
-        view_back (λ of. of) e
+        view_under (λ of. of) e
         ∙ sym (unchanged_store seen place (changed (λ of. of) n (store_at seen place)) (map_same (λ (of : Properties). cond (of.object == n) of of) (store_at seen place) (λ k d within. either ((get_or (store_at seen place) k d).object == n) (get_or (store_at seen place) k d))))
       where
         either : (b : Bool) (of : Properties) → cond b of of ≡ of

@@ -67,6 +67,10 @@ next_object store after = option_map (λ of. of.object) (find (λ of. nat_lt aft
 abbrev pub field_number : List ℕ → List Field → Option ℕ
 field_number name fields = position (λ field. bytes_eq field.name name) fields
 
+-- the declared property of a name: its number, and its kind
+abbrev pub declared_in : List ℕ → List Field → Option (ℕ × Kind)
+declared_in name fields = option_and_then (λ number. option_map (λ field. (number, field.kind)) (slice_get fields number)) (field_number name fields)
+
 -- a declared property of an object, and its value
 abbrev pub field_at : Store → ℕ → ℕ → Option Field
 field_at store object number = option_and_then (λ of. slice_get of.fields number) (properties_of store object)

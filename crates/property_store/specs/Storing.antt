@@ -1,11 +1,16 @@
--- A value that is stored among the values of one object. No public clause cites this module.
-use Rattle.std.specs.Prelude.{ℕ, Bool, false, not, is_some, if◌then◌else◌, List, Option, Some, None, option_and_then, slice_get, slice_set}
+-- What is written to the row of one object. No public clause cites this module.
+use Rattle.std.specs.Prelude.{◌≡◌, ℕ, Bool, false, not, is_some, if◌then◌else◌, IfOk, OnErr, OnOk, List, Option, Some, None, Result, option_and_then, slice_get, slice_set}
 use Rattle.std.specs.Option.{option_map_or}
+use Rattle.std.specs.Result.{result_err}
+use Rattle.refusals.specs.Answers.{RefusedBy}
 use Rattle.refusals.specs.declared.code.Code.{Code}
 use Rattle.refusals.specs.declared.code.Code.TheVariants.{BadValue}
+use Rattle.refusals.specs.declared.fault.Fault.{Fault}
 use Rattle.variant_value.specs.declared.value.Value.{Value}
 use Rattle.variant_value.specs.Values.{converted, is_same}
 use Rattle.property_store.specs.declared.field.Field.{Field}
+use Rattle.property_store.specs.declared.row.Row.{Row}
+use Rattle.property_store.specs.Store.{refusal_of_name, with_name, without_name}
 
 -- the value as one of the property's kind
 abbrev pub fit_in : List Field → ℕ → Value → Option Value
@@ -20,3 +25,21 @@ change_in fields values number value =
 
 abbrev pub stored_in : List Field → ℕ → Value → List Value → List Value
 stored_in fields number value values = option_map_or (λ fit. slice_set values number fit) (fit_in fields number value) values
+
+-- a value was stored among those of a row, or is refused as it is, and all else stays
+pub record IsStored (fields : List Field) (number : ℕ) (value : Value) (old new : Row) (result : Result Bool Code) : Type 0 where
+  pub refused : result_err result ≡ refusal_in fields number value
+  pub answer : IfOk result (λ answer. answer ≡ change_in fields old.values number value)
+  pub stored : new ≡ record old { values = stored_in fields number value old.values }
+
+-- a value was given to the dynamic property of a name, or is refused as it is, and all else stays
+pub record IsSet (name : List ℕ) (value : Value) (old new : Row) (result : Result (Unit {0}) Fault) : Type 0 where
+  pub refused : RefusedBy (refusal_of_name name old.dynamic.items) result
+  pub ok : OnOk result (new.dynamic.items ≡ with_name name value old.dynamic.items)
+  pub err : OnErr result (new.dynamic.items ≡ old.dynamic.items)
+  pub rest : new ≡ record old { dynamic = new.dynamic }
+
+-- the dynamic property of a name was taken out, and all else stays
+pub record IsRemoved (name : List ℕ) (old new : Row) : Type 0 where
+  pub removed : new.dynamic.items ≡ without_name name old.dynamic.items
+  pub rest : new ≡ record old { dynamic = new.dynamic }

@@ -3,7 +3,7 @@ ghost use Rattle.std.specs.Prelude.{◌≡◌, ◌<◌, IfOk, IfSome, false, len
 ghost use Rattle.std.specs.Option.{option_map, option_map_or};
 ghost use Rattle.variant_value.specs.Values.{is_same};
 ghost use Rattle.std.specs.Result.{result_err};
-ghost use Rattle.property_store.specs.Store.{default_of, field_number, fields_in};
+ghost use Rattle.property_store.specs.Store.{declared_in, default_of, field_number, fields_in};
 ghost use Rattle.property_store.specs.Storing.{change_in, refusal_in, stored_in};
 
 use plain_types::{Items, Text};
@@ -37,6 +37,15 @@ pub(crate) fn field_number(fields: &[Field], name: &str) -> Option<usize>
     ensures within { IfSome result (λ number. number < length fields.now) }
 {
     fields.iter().position(|field| field.name.as_str() == name)
+}
+
+/// The number and the kind of the property of this name.
+pub(crate) fn declared_in(fields: &[Field], name: &str) -> Option<(usize, Kind)>
+    ensures { result ≡ declared_in name.now fields.now }
+{
+    let number = field_number(fields, name)?;
+    let field = fields.get(number)?;
+    Some((number, field.kind))
 }
 
 /// What each property of a new object is.

@@ -1,14 +1,18 @@
 //! The properties of one object.
-ghost use Rattle.std.specs.Prelude.{◌≡◌};
+ghost use Rattle.std.specs.Prelude.{◌≡◌, length};
 ghost use Rattle.std.specs.Option.{option_map};
 ghost use Rattle.places.specs.Table.{IsPlace};
 ghost use Rattle.shared_rows.specs.Rows.{rows_at};
 ghost use Rattle.property_store.specs.Inside.{IsCountUpTo, next_number, row_of};
+ghost use Rattle.property_store.specs.Store.{AreDistinct, fields_in};
+ghost use Rattle.property_store.specs.Storing.{IsRemoved, IsSet, IsStored};
 
-use crate::dynamic::Named;
+use crate::dynamic::{self, Named};
+use crate::field::{Field, fields_in, store};
+use plain_types::{Items, Text};
+use refusals::{Code, Fault};
 use shared_rows::{Numbered, SharedRows};
-use std::alloc::Global;
-use variant_value::Args;
+use variant_value::{Args, Value};
 
 /// An object with its properties.
 #[derive(Debug, Drop)]
@@ -23,16 +27,34 @@ pub(crate) struct Row {
 }
 
 impl Row {
-    /// What stands for an object while its row is changed; this takes no memory.
-    pub(crate) fn empty(alloc: Global, object: u32) -> Row
-        ensures { result.object ≡ object }
+    /// Stores a value as one of a property's kind, and returns whether it is another than the one that
+    /// stood.
+    pub(crate) fn write(
+        &mut self,
+        layouts: &Items<Items<Field>>,
+        number: usize,
+        value: Value,
+    ) -> Result<bool, Code>
+        requires { length self.old.values ≡ length (fields_in layouts.now self.old.class) }
+        ensures { IsStored (fields_in layouts.now self.old.class) number value self.old self.new result }
     {
-        Row {
-            object,
-            class: 0,
-            values: Args::from_vec(Vec::new(alloc)),
-            dynamic: Vec::new(alloc),
-        }
+        let fields = fields_in(layouts, self.class);
+        store(fields, &mut self.values, number, value)
+    }
+
+    /// Gives the dynamic property of this name a value.
+    pub(crate) fn set_dynamic(&mut self, name: Text, value: Value) -> Result<(), Fault>
+        ensures { IsSet name value self.old self.new result }
+    {
+        dynamic::set(&mut self.dynamic, name, value)
+    }
+
+    /// Takes out the dynamic property of this name.
+    pub(crate) fn remove_dynamic(&mut self, name: &str)
+        requires { AreDistinct self.old.dynamic.items }
+        ensures { IsRemoved name.now self.old self.new }
+    {
+        dynamic::remove(&mut self.dynamic, name);
     }
 }
 

@@ -5,15 +5,17 @@ ghost use Rattle.std.specs.Result.{result_err};
 ghost use Rattle.places.specs.Table.{IsPlace, opened};
 ghost use Rattle.refusals.specs.Answers.{RefusedBy};
 ghost use Rattle.variant_value.specs.Values.{IsOfKind, IsShort};
-ghost use Rattle.property_store.specs.Store.{IsSound, added, changed, dynamic_names, dynamic_refusal, field_at, field_number, is_change, named_value, next_object, properties_of, value_at, value_named, with_dynamic, without, without_dynamic, write_refusal, written};
+ghost use Rattle.property_store.specs.Store.{AreDistinct, IsSound, added, changed, declared_in, dynamic_names, dynamic_refusal, field_at, fields_in, is_change, named_value, next_object, properties_of, value_at, value_named, with_dynamic, without, without_dynamic, write_refusal, written};
+ghost use Rattle.property_store.specs.Storing.{IsRemoved, IsSet, IsStored};
 ghost use Rattle.property_store.specs.Table.{fields_of, store_at, with_store};
 
 use crate::dynamic;
-use crate::field::{Field, defaults, field_number, fields_in, store, value_at};
+use crate::field::{Field, declared_in, defaults, field_number, fields_in, value_at};
 use crate::row::{Row, first_above, row_of};
 use plain_types::{Items, Text};
 use refusals::{Code, Fault};
 use shared_rows::SharedRows;
+use signature_core::Kind;
 use std::alloc::{AllocError, Global};
 use std::marker::Model;
 use variant_value::Value;
@@ -116,12 +118,13 @@ impl Stores {
         first_above(&self.rows, place, after)
     }
 
-    /// The number of the declared property of this name.
-    pub fn number_of(&self, place: usize, object: u32, name: &str) -> Option<usize>
+    /// The number and the kind of the declared property of this name.
+    pub fn declared(&self, place: usize, object: u32, name: &str) -> Option<(usize, Kind)>
         requires { IsPlace self.now.table place }
-        ensures { result ≡ option_and_then (λ of. field_number name.now of.fields) (properties_of (store_at self.now place) object) }
+        ensures { result ≡ option_and_then (λ of. declared_in name.now of.fields) (properties_of (store_at self.now place) object) }
     {
-        field_number(self.fields(place, object)?, name)
+        let row = row_of(&self.rows, place, object)?;
+        declared_in(fields_in(&self.layouts, row.class), name)
     }
 
     /// The value of the declared property of this number.
@@ -153,13 +156,12 @@ impl Stores {
         let Some(key) = self.rows.find(place, object as u64) else {
             return Ok(false);
         };
-        let mut row = self
-            .rows
-            .replace(place, key, Row::empty(self.alloc, object));
-        let fields = fields_in(&self.layouts, row.class);
-        let done = store(fields, &mut row.values, number, value);
-        self.rows.replace(place, key, row);
-        done
+        let layouts = &self.layouts;
+        let write = |row: &mut Row| -> Result<bool, Code>
+            requires { length row.now.values ≡ length (fields_in layouts.now row.now.class) }
+            ensures { IsStored (fields_in layouts.entry.now row.entry.now.class) number value row.entry.now row.exit.now result }
+        { row.write(layouts, number, value) };
+        self.rows.update(place, key, write)
     }
 
     /// A copy of the value of the property of this name, which is declared or else dynamic, and
@@ -192,12 +194,10 @@ impl Stores {
         let Some(key) = self.rows.find(place, object as u64) else {
             return Ok(());
         };
-        let mut row = self
-            .rows
-            .replace(place, key, Row::empty(self.alloc, object));
-        let done = dynamic::set(&mut row.dynamic, name, value);
-        self.rows.replace(place, key, row);
-        done
+        let set = |row: &mut Row| -> Result<(), Fault>
+            ensures { IsSet name value row.entry.now row.exit.now result }
+        { row.set_dynamic(name, value) };
+        self.rows.update(place, key, set)
     }
 
     /// Takes out the dynamic property of this name.
@@ -208,11 +208,11 @@ impl Stores {
         let Some(key) = self.rows.find(place, object as u64) else {
             return;
         };
-        let mut row = self
-            .rows
-            .replace(place, key, Row::empty(self.alloc, object));
-        dynamic::remove(&mut row.dynamic, name);
-        self.rows.replace(place, key, row);
+        let remove = |row: &mut Row|
+            requires { AreDistinct row.now.dynamic.items }
+            ensures { IsRemoved name.entry.now row.entry.now row.exit.now }
+        { row.remove_dynamic(name) };
+        self.rows.update(place, key, remove);
     }
 
     /// Copies of the names of an object's dynamic properties, that first set first.

@@ -1,2 +1,3 @@
 pub mod TablesLemmas
 pub mod StoredLemmas
+pub mod PropertyLemmas

@@ -19,9 +19,7 @@ impl Tables {
         requires { IsPlaced self.now place }
         ensures { result ≡ option_map (λ of. (of.number, of.kind)) (declared (state_at self.now place) object name.now) }
     {
-        let number = self.stores.number_of(place, object, name)?;
-        let field = self.stores.fields(place, object)?.get(number)?;
-        Some((number, field.kind))
+        self.stores.declared(place, object, name)
     }
 
     /// The value of the property of this name, declared or dynamic.

@@ -449,3 +449,11 @@ module _ {R N A : Type 0} {number : R → ℕ} {value : N → ℕ} {slots : List
     where
       slot_within : (slots : List (Option (Slot R))) (key : ℕ) (slot : Slot R) → slot_at slots key ≡ Some slot → key < length slots
       slot_within slots key slot stood = grind (arith, get_or_past)
+
+  -- a row is changed where it stands, and keeps its number
+  pub updated : {table : Table (List (Keyed R))} {place : ℕ} {index : VecDeque (Entry N) A} → IsSeen number value slots indexes table place index → (room : ℕ) → table_of slots indexes room ≡ table → (key : ℕ) (slot : Slot R) (row : R)
+      → IsSome (row_under (rows_at table place) key) → slot_at slots key ≡ Some slot → number row ≡ number slot.row
+      → IsKept number value (set slots key (Some (record { place = slot.place; row = row }))) indexes × (table_of (set slots key (Some (record { place = slot.place; row = row }))) indexes room ≡ with_place table place (with_row (rows_at table place) key row))
+  updated {table = table} {place = place} seen room view_is key slot row some stands same =
+      let under = slot_under seen key slot some stands in
+      rw under.0 (replaced seen room view_is key row (ap (option_map number) under.1 ∙ ap Some (sym same)))

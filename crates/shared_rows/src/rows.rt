@@ -1,5 +1,7 @@
 //! The rows of all places.
 ghost use Rattle.std.specs.Prelude.{◌≡◌, ◌≢◌, ◌^◌, ◌<◌, ◌≤◌, [], All, IfOk, IfSome, IsSome, None, OnOk, OnErr, Some, length, slice_index_or};
+ghost use Rattle.std.specs.Borrow.{MutBor};
+ghost use Rattle.std.specs.Fn.{FnOnceReturnsAtMut};
 ghost use Rattle.std.specs.Option.{option_map};
 ghost use Rattle.places.specs.Table.{IsPlace, opened, with_place};
 ghost use Rattle.shared_rows.specs.Rows.{IsSound, added, inserted, key_of, row_under, rows_at, with_row, without, IsAtPosition};
@@ -180,6 +182,21 @@ impl<R: Numbered> SharedRows<R> {
     {
         let slot = Slot { place, row };
         mem::replace(&mut self.slab[key], slot).row
+    }
+
+    /// Changes the row under a key where it stands, by a call that leaves it its number, and returns what
+    /// the call does.
+    pub fn update<T, F: FnOnce(&mut R) -> T>(&mut self, place: usize, key: usize, change: F) -> T
+        requires place { IsPlace self.old place }
+        requires stands { IsSome (row_under (rows_at self.old place) key) }
+        requires callable { (row : MutBor R) → row_under (rows_at self.old place) key ≡ Some row.now → F.pre change row }
+        requires number { (row changed : R) (returned : T) → row_under (rows_at self.old place) key ≡ Some row
+            → FnOnceReturnsAtMut F.FnOnce change row returned changed → R.number changed ≡ R.number row }
+        ensures { (row changed : R) × (row_under (rows_at self.old place) key ≡ Some row) × FnOnceReturnsAtMut F.FnOnce change row result changed
+            × (self.new ≡ with_place self.old place (with_row (rows_at self.old place) key changed)) }
+    {
+        let slot = &mut self.slab[key];
+        change(&mut slot.row)
     }
 
     /// Takes out the row under a key.

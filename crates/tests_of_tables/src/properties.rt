@@ -16,6 +16,7 @@ enum Asked {
     Write(usize, i64),
     ValueAt(usize),
     Read(&'static str),
+    /// The number of the declared property of a name, or 9 where there is none.
     NumberOf(&'static str),
     /// How many declared properties it has.
     Fields,
@@ -57,7 +58,10 @@ impl Bench {
             Write(number, value) => Ok(self.write(place, number, value)),
             ValueAt(number) => Ok(told(self.table.value(place, 3, number))),
             Read(name) => Ok(told(Some(&self.table.read(place, 3, name)?))),
-            NumberOf(name) => Ok(self.table.number_of(place, 3, name).unwrap_or(9) as u64),
+            NumberOf(name) => {
+                let found = self.table.declared(place, 3, name);
+                Ok(found.map_or(9, |(number, _)| number) as u64)
+            }
             Fields => Ok(self.table.fields(place, 3).map_or(9, |fields| fields.len()) as u64),
             SetDynamic(name, value) => self.set_dynamic(place, name, value),
             RemoveDynamic(name) => {
