@@ -27,7 +27,6 @@ test: budget
 	rt ci
 	mkdir -p bin
 	cp $(CRATE)/out/$(PROGRAM) bin/metad
-	cp crates/tree_reader/out/tree_reader bin/tree_reader
 	$(MAKE) --no-print-directory rows plain respelled chance examples worked ends pipes trees signals limits sessions clients classes first_hour refusals
 
 budget:
@@ -44,9 +43,8 @@ plain:
 respelled:
 	python3 tools/respelled.py bin/metad tests/rows
 
-# takes bin/tree_reader as it is too
 chance:
-	python3 tools/chance.py bin/metad bin/tree_reader
+	python3 tools/chance.py bin/metad
 
 examples:
 	python3 tools/examples.py bin/metad README.md docs/GUIDE.md docs/PROTOCOL.md

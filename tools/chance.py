@@ -1,12 +1,12 @@
 #!/usr/bin/env python3
-"""Gives the built program lines made by chance, and compares what it writes, byte for byte, with what a second
-program writes that reads each line as a tree, by `serde_json` alone.
+"""Gives the built program lines made by chance, and compares what it writes, byte for byte, with what the plain
+program writes.
 
 The lines are commands of a few sessions with their keys in any order, some twice, some missing, some of
 others; with white space, escapes, numbers and texts in and out of form, lists and objects in one another, also
 about as deep as JSON is read; some with bytes changed, left out, put in or repeated; and some as long as a line
 may be, or one byte longer. Other sessions follow, so that many commands find the objects that they name.
-Usage: chance.py PROGRAM TREE_READER [SEED]
+Usage: chance.py PROGRAM [SEED]
 """
 
 import random
@@ -14,6 +14,7 @@ import subprocess
 import sys
 from pathlib import Path
 
+from plain_lines import answer, server_with
 from row import SECONDS, difference
 
 LINES = 200_000
@@ -22,6 +23,7 @@ LONG = 100
 DEPTH = 127
 LINES_OF_SESSIONS = 1_200
 OBJECTS = 16
+SHOWN = 200
 
 SESSIONS = ("a", "b", "\\u0063")
 CLASSES = (*('"Probe"',) * 12, *('"Cell"',) * 4, '"QObj\\u0065ct"', '"QObject"', '"Nope"', '"a b"', '""')
@@ -214,20 +216,30 @@ def lines_of(chance):
     ]
 
 
+def first_difference(lines, answers, wrote):
+    """The first line that is not answered as is wanted, and where its answer differs, or None."""
+    at = 0
+    for number, (line, wanted) in enumerate(zip(lines, answers), 1):
+        if not wrote.startswith(wanted, at):
+            got = wrote[at:].splitlines(keepends=True)[: len(wanted.splitlines())]
+            return f"line {number} is {line[:SHOWN]!r}; of its answer {difference(b''.join(got), wanted)}"
+        at += len(wanted)
+    return f"behind all answers stands {wrote[at:][:SHOWN]!r}" if wrote[at:] else None
+
+
 def main():
-    program, reader = (str(Path(it).resolve()) for it in sys.argv[1:3])
-    seed = sys.argv[3] if len(sys.argv) > 3 else "1"
-    lines = lines_of(Chance(seed))
-    given = b"\n".join(lines)
-    words = ["--turns", str(TURNS)]
-    wrote, wanted = (subprocess.run([it, *words], input=given, capture_output=True, timeout=SECONDS) for it in (program, reader))
-    replies, calls = wanted.stdout.count(b'{"reply":'), wanted.stdout.count(b'"call":')
-    if wanted.returncode or replies < LINES // 10 or calls < LINES // 200:
-        print(f"lines by chance, seed {seed}: the second program ended with {wanted.returncode}, after {replies:,} replies and {calls:,} calls")
+    program = str(Path(sys.argv[1]).resolve())
+    seed = sys.argv[2] if len(sys.argv) > 2 else "1"
+    lines, server = lines_of(Chance(seed)), server_with(turns=TURNS)
+    answers = [answer(server, line) for line in lines]
+    replies, calls = (sum(it.count(word) for it in answers) for word in (b'{"reply":', b'"call":'))
+    if replies < LINES // 10 or calls < LINES // 200:
+        print(f"lines by chance, seed {seed}: no more than {replies:,} replies and {calls:,} calls")
         return 1
-    if (wrote.returncode, wrote.stdout) != (0, wanted.stdout):
-        fault = difference(wrote.stdout, wanted.stdout) or f"status {wrote.returncode}, and not 0"
-        print(f"lines by chance, seed {seed}: of the output {fault}")
+    ran = subprocess.run([program, "--turns", str(TURNS)], input=b"\n".join(lines), capture_output=True, timeout=SECONDS)
+    fault = f"status {ran.returncode}, and not 0" if ran.returncode else first_difference(lines, answers, ran.stdout)
+    if fault:
+        print(f"lines by chance, seed {seed}: {fault}")
         return 1
     print(f"lines by chance: {LINES:,} answered alike, {replies:,} of them by replies, and {calls:,} calls")
     return 0

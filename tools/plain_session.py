@@ -149,6 +149,18 @@ class Classes:
     def properties(self, name):
         return [one for it in reversed(list(self.chain(name))) for one in self.own_properties[it]]
 
+    def described(self, name):
+        """What there is in a class."""
+        methods, properties = self.methods(name), self.properties(name)
+        return {
+            "class": name,
+            "methodOffset": len(methods) - len(self.own_methods[name]),
+            "methods": [it.text for it in methods],
+            "properties": [it.name for it in properties],
+            "propertyOffset": len(properties) - len(self.own_properties[name]),
+            "super": self.above[name],
+        }
+
 
 @dataclass
 class Row:
@@ -665,6 +677,10 @@ class Session:
         there = {"connections": len(self.connections), "lost": self.lost, "objects": len(self.rows), "queued": len(self.queue)}
         return dict.fromkeys(("bindings", "group", "joins", "mismatched", "publications"), 0) | there
 
+    def command_meta(self, command):
+        name = command["class"]
+        return self.classes.described(name) if name in self.classes else refuse("E03")
+
 
 ACTIONS = {
     "when": Session.act_when,
@@ -694,6 +710,7 @@ COMMANDS = {
     "block": Session.command_block,
     "spin": Session.command_spin,
     "status": Session.command_status,
+    "meta": Session.command_meta,
 }
 
 

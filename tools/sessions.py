@@ -14,8 +14,9 @@ import sys
 import tempfile
 from pathlib import Path
 
+from plain_lines import text_of
 from plain_session import Classes, Server, lines_of
-from signals import Chance, text_of
+from signals import Chance
 
 SESSIONS = 100
 OBJECTS = 40

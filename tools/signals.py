@@ -10,13 +10,13 @@ name objects, methods and properties that are there. Connections of each type ar
 and events are taken now and then.
 """
 
-import json
 import random
 import subprocess
 import sys
 import tempfile
 from pathlib import Path
 
+from plain_lines import text_of
 from plain_session import Classes, Server
 
 SESSIONS = 500
@@ -41,10 +41,6 @@ COMMANDS_MADE = {
     **{"set": 12, "get": 4, "dynamicNames": 1, "deleteLater": 1, "block": 1, "spin": 6, "status": 1},
 }
 NUMBERS = (0, 1, -1, 7, 2**31 - 1, 2**31, 2**63)
-
-
-def text_of(value):
-    return json.dumps(value, separators=(",", ":"), sort_keys=True, ensure_ascii=False)
 
 
 def kind_of(name):
