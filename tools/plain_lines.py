@@ -1,7 +1,8 @@
 """The lines of the plain program, byte for byte: what a line of input asks of it, and the text of what it answers.
 
-The keys of the commands are those of the table in docs/PROTOCOL.md. A line is read by Python's `json`, which takes
-some texts that are no JSON; those are refused here.
+The keys of the commands are those of the table in docs/PROTOCOL.md. A line is read by Python's `json`. What that takes
+and `serde_json` does not is refused here: NaN and infinities, numbers beyond all floats, surrogates that stand alone,
+and what is nested too deep.
 """
 
 import json
@@ -26,10 +27,6 @@ DEMONSTRATION = Path(__file__).resolve().parent.parent / "tests/rows/class_file_
 TEXT_OR_BRACKET = re.compile(r'"(?:[^"\\]|\\.)*"|[][{}]')
 SURROGATE = re.compile(r"\\(?:u[dD][89abAB]..\\u[dD][c-fC-F]|(u[dD][89a-fA-F])|.)")  # one alone is the group
 
-FORMS = defaultdict(list)  # by the word, the keys that have to be there and those that may
-for its_word, needed, further, _ in protocol.commands():
-    FORMS[its_word].append((needed, further))
-
 
 # JSON.
 
@@ -45,8 +42,9 @@ def real_number(digits):
 
 def whole_number(digits):
     """A number without a point and an exponent, which is no whole one where it is -0 or has more than 64 bits."""
-    number = int(digits) if len(digits) <= DIGITS and digits != "-0" else None
-    return number if number is not None and NUMBERS[0] <= number <= NUMBERS[1] else real_number(digits)
+    if digits != "-0" and len(digits) <= DIGITS and NUMBERS[0] <= int(digits) <= NUMBERS[1]:
+        return int(digits)
+    return real_number(digits)
 
 
 DECODER = json.JSONDecoder(parse_int=whole_number, parse_float=real_number, parse_constant=refuse)
@@ -100,6 +98,17 @@ HOLDS = {
     "args": lambda value: isinstance(value, list),
     "value": lambda value: True,
 }
+
+
+def all_forms():
+    """The forms of each command by its word: the keys that have to be there, and those that may."""
+    forms = defaultdict(list)
+    for word, needed, further, _ in protocol.commands():
+        forms[word].append((needed, further))
+    return forms
+
+
+FORMS = all_forms()
 
 
 def may_hold(word, key, value):
