@@ -2,7 +2,7 @@
 # make run    answers the sample session
 # make test   proves everything from nothing, and runs every test
 # make bench  measures the program; with BEFORE=PROGRAM or LAST=PROGRAM also beside an earlier one
-# make install, make uninstall   bin/metad, its manual page, the documents and the client, below PREFIX
+# make install, make uninstall   bin/metad, its manual page, the documents, the client, the examples and explain, below PREFIX
 
 PROGRAM = meta_main
 CRATE = crates/$(PROGRAM)
@@ -94,29 +94,28 @@ BIN = $(DESTDIR)$(PREFIX)/bin
 MAN = $(DESTDIR)$(PREFIX)/share/man/man1
 DOC = $(DESTDIR)$(PREFIX)/share/doc/metad
 SHARE = $(DESTDIR)$(PREFIX)/share/metad
-CLIENT = $(SHARE)/clients/python
-DOCUMENTS = $(wildcard docs/*.md docs/*.json)
-CLIENT_FILES = $(wildcard clients/python/*.py clients/python/*.md)
+# the documents and what they lead to, which stands below DOC as it stands here
+DOCUMENTS = README.md $(wildcard docs/*.md docs/*.json clients/python/*.md clients/python/*.py examples/*/*)
+FOLDERS = $(filter-out ./,$(sort $(dir $(DOCUMENTS)))) clients examples
+EXPLAINING = $(wildcard tools/explaining/*.py)
 
 # takes bin/metad as it is
 install:
 	@test -f bin/metad || { echo "bin/metad is not there yet: make builds it"; exit 1; }
-	install -d "$(BIN)" "$(MAN)" "$(DOC)/docs"
+	install -d "$(BIN)" "$(MAN)" "$(DOC)" "$(SHARE)/explaining"
 	install bin/metad "$(BIN)/metad"
 	install -m 644 man/metad.1 "$(MAN)/metad.1"
-	install -m 644 README.md "$(DOC)/README.md"
-	install -m 644 $(DOCUMENTS) "$(DOC)/docs"
-ifneq ($(CLIENT_FILES),)
-	install -d "$(CLIENT)"
-	install -m 644 $(CLIENT_FILES) "$(CLIENT)"
-endif
+	for it in $(DOCUMENTS); do install -D -m 644 "$$it" "$(DOC)/$$it" || exit; done
+	install tools/explain "$(SHARE)/explain"
+	install -m 644 $(EXPLAINING) "$(SHARE)/explaining"
+	ln -sf ../share/metad/explain "$(BIN)/metad-explain"
 
-# takes away all that install puts there, and the folders that hold nothing else
+# takes away all that install puts there, what Python has left beside it, and the folders that hold nothing else
 uninstall:
-	rm -f "$(BIN)/metad" "$(MAN)/metad.1" "$(DOC)/README.md"
-	rm -f $(patsubst %,"$(DOC)/%",$(DOCUMENTS))
-	rm -f $(patsubst %,"$(CLIENT)/%",$(notdir $(CLIENT_FILES)))
-	for it in "$(DOC)/docs" "$(DOC)" "$(CLIENT)" "$(SHARE)/clients" "$(SHARE)"; do \
+	rm -f "$(BIN)/metad" "$(BIN)/metad-explain" "$(MAN)/metad.1" "$(SHARE)/explain"
+	rm -f $(patsubst %,"$(DOC)/%",$(DOCUMENTS)) $(patsubst tools/%,"$(SHARE)/%",$(EXPLAINING))
+	rm -rf "$(DOC)/clients/python/__pycache__" "$(SHARE)/explaining/__pycache__"
+	for it in $(patsubst %,"$(DOC)/%",$(FOLDERS)) "$(DOC)" "$(SHARE)/explaining" "$(SHARE)"; do \
 		test ! -d "$$it" || rmdir --ignore-fail-on-non-empty "$$it"; \
 	done
 

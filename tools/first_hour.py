@@ -1,6 +1,6 @@
 #!/usr/bin/env python3
-"""Tests what a newcomer meets in the first hour: the manual page, `make install`, and the schema of class files,
-beside the built program and docs/PROTOCOL.md.
+"""Tests what a newcomer meets in the first hour: tools/explain, the manual page, `make install`, and the schema of
+class files, beside the built program and docs/PROTOCOL.md.
 
 Usage: first_hour.py PROGRAM
 """
@@ -8,6 +8,7 @@ Usage: first_hour.py PROGRAM
 import sys
 from pathlib import Path
 
+import explain_faults
 import install_faults
 import manual_faults
 import schema_faults
@@ -19,6 +20,7 @@ def main():
     program = str(Path(sys.argv[1]).resolve())
     sys.setrecursionlimit(NESTED)
     parts = {
+        "explain": explain_faults.faults(program),
         "manual page": manual_faults.faults(program),
         "install": install_faults.faults(),
         "schema": schema_faults.faults(program),

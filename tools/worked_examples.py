@@ -7,8 +7,8 @@ and `part NAME` is a part of that example: lines of its class file, or input lin
 what it is answered.
 
 A recipe is a block `console` of the guide. Its lines with `$ ` in front are done in order by one shell, in an
-empty folder where `bin/metad` is the program and `examples` the worked examples; its other lines are all that
-is written meanwhile, errors too. A recipe that names a program that is not on the path is passed over.
+empty folder where `bin/metad` is the program, `tools/explain` says what lines mean, and `examples` are the worked
+examples; its other lines are all that is written meanwhile, errors too. A recipe that names a program that is not on the path is passed over.
 Usage: worked_examples.py PROGRAM EXAMPLES GUIDE
 """
 
@@ -24,10 +24,11 @@ from tempfile import TemporaryDirectory
 
 from row import SECONDS, Row, difference
 
+EXPLAIN = Path(__file__).resolve().parent / "explain"
 BLOCK = re.compile(r"^```(part \w+|console)\n((?:(?!```).*\n)*)```$", re.MULTILINE)
 GIVEN, COMMAND = "> ", "$ "
 LAST = ('{"reply":', '{"error":')
-MAY_LACK = ("jq",)
+MAY_LACK = ("jq", "socat")
 KINDS = ("example", "part", "recipe")
 
 
@@ -94,8 +95,9 @@ def lacking(block):
 
 def room_for(folder, program, examples):
     """Lays out a folder as a recipe finds it."""
-    (folder / "bin").mkdir()
-    (folder / "bin" / "metad").symlink_to(program)
+    for path, end in {"bin/metad": program, "tools/explain": EXPLAIN}.items():
+        (folder / path).parent.mkdir()
+        (folder / path).symlink_to(end)
     (folder / "examples").symlink_to(examples)
 
 

@@ -1,0 +1,148 @@
+"""The commands of metad: what each holds at its keys, what it replies, and in which words it is refused."""
+
+from __future__ import annotations
+
+from dataclasses import dataclass, field
+from typing import Callable
+
+from . import replies as said
+from .held import are, has, is_any, is_list, is_number, is_text, is_true, is_truth, is_whole, json_object, or_null
+from .words import misfit
+
+
+@dataclass(frozen=True)
+class Form:
+    """A command: what it holds at its keys, what it replies, and what that means."""
+
+    said: Callable
+    reply: Callable
+    keys: dict = field(default_factory=dict)
+    optional: dict = field(default_factory=dict)
+    refused: dict = field(default_factory=dict)  # a code in the words of this command
+
+    def is_of(self, asked: dict) -> bool:
+        held = {key: holds for key, holds in self.optional.items() if key in asked}
+        return has(**self.keys, **held)(asked)
+
+
+NO_CLASS = {"E03": "there is no class {class}"}
+NO_SIGNATURE = {"E06": "the text of a signal or a method is no signature"}
+NO_METHOD = {"E05": "the sender has no such signal, or the receiver no such method"}
+ONE_OBJECT = {"object": is_number}
+ONE_PROPERTY = {"object": is_number, "property": is_text}
+COUNTS = {"lost": is_whole, "mismatched": is_whole}
+IS_SPIN = has(events=is_whole, left=is_whole, **COUNTS)
+IS_STATUS = has(objects=is_whole, connections=is_whole, queued=is_whole, **COUNTS)
+IS_META = has(**{
+    "class": is_text, "super": or_null(is_text), "methods": are(is_text), "methodOffset": is_whole,
+    "properties": are(is_text), "propertyOffset": is_whole,
+})
+
+OBJECT_FORMS = {
+    "new": [Form(said.said_of_new, is_number, {"class": is_text}, {"parent": is_number}, {
+        **NO_CLASS,
+        "E04": "there is no object {parent}, which was to be the parent",
+        "E14": "the session has as many objects as it may, or the parent stands on the last level",
+        "E19": "the numbers of the session's objects are used up",
+    })],
+    "delete": [Form(said.said_of_delete, is_true, ONE_OBJECT)],
+    "deleteLater": [Form(said.said_of_delete_later, is_true, ONE_OBJECT, {}, {
+        "E14": "the session has as many events as it may",
+    })],
+    "setParent": [Form(said.said_of_set_parent, is_true, {**ONE_OBJECT, "parent": or_null(is_number)}, {}, {
+        "E12": "object {parent} is object {object} or below it, and cannot be its parent",
+        "E14": "something would stand below the last level",
+        "E19": "the moves of the session are used up",
+    })],
+    "children": [Form(said.said_of_children, are(is_number), {}, ONE_OBJECT)],
+    "find": [Form(said.said_of_find, or_null(is_number), ONE_OBJECT, {"name": is_text, "class": is_text}, NO_CLASS)],
+}
+PROPERTY_FORMS = {
+    "set": [Form(said.said_of_set, is_truth, {**ONE_PROPERTY, "value": is_any}, {}, {
+        "E14": "the text is too long, or the object has as many dynamic properties as it may",
+        "E22": "the value is not of the property's type, or of no type at all",
+    })],
+    "get": [Form(said.said_of_get, is_any, ONE_PROPERTY)],
+    "dynamicNames": [Form(said.said_of_dynamic_names, are(is_text), ONE_OBJECT)],
+}
+CONNECTION_FORMS = {
+    "connect": [Form(
+        said.said_of_connect,
+        is_number,
+        {"sender": is_number, "signal": is_text, "receiver": is_number, "method": is_text},
+        {"type": is_text, "unique": is_truth, "single": is_truth},
+        {
+            **NO_SIGNATURE,
+            **NO_METHOD,
+            "E14": "the session has as many connections as it may",
+            "E19": "the numbers of the session's connections are used up",
+        },
+    )],
+    "disconnect": [
+        Form(said.said_of_disconnect, is_truth, {"connection": is_number}),
+        Form(
+            said.said_of_disconnect,
+            is_whole,
+            {"sender": is_number},
+            {"signal": is_text, "receiver": is_number, "method": is_text},
+            {**NO_SIGNATURE, **NO_METHOD},
+        ),
+    ],
+    "invoke": [Form(
+        said.said_of_invoke,
+        is_truth,
+        {**ONE_OBJECT, "method": is_text, "args": is_list},
+        {"type": is_text},
+        {
+            "E06": "the text of the method is no signature",
+            "E14": "a text is too long, or the session has as many events as it may",
+            "E22": "the arguments are not as many as the method has, or one is no value of its parameter's type",
+        },
+    )],
+    "block": [Form(said.said_of_block, is_truth, {**ONE_OBJECT, "on": is_truth})],
+}
+FORMS = {
+    **OBJECT_FORMS,
+    **PROPERTY_FORMS,
+    **CONNECTION_FORMS,
+    "spin": [Form(said.said_of_spin, IS_SPIN)],
+    "status": [Form(said.said_of_status, IS_STATUS)],
+    "meta": [Form(said.said_of_meta, IS_META, {"class": is_text}, {}, NO_CLASS)],
+}
+
+
+@dataclass
+class Command:
+    """A line of the input, and what it asks where it is a JSON object."""
+
+    number: int
+    raw: bytes
+    asked: dict
+
+    @property
+    def session(self):
+        return self.asked.get("session")
+
+    @property
+    def word(self) -> str:
+        word = self.asked.get("do")
+        return word if is_text(word) else ""
+
+    def form(self) -> Form | None:
+        """The form of it, or None where its word is not known here."""
+        if self.word not in FORMS:
+            return None
+        fitting = [form for form in FORMS[self.word] if form.is_of(self.asked)]
+        return fitting[0] if fitting else misfit()
+
+    def objects(self) -> list[int]:
+        """The numbers of the objects that it names, each once."""
+        named = [self.asked.get(key) for key in ("object", "parent", "sender", "receiver")]
+        return sorted(set(filter(is_number, named)))
+
+
+def commands_in(file):
+    """The commands of an input: all lines but blank ones."""
+    for number, raw in enumerate(file, 1):
+        if raw.strip(b" \t\r\n"):
+            yield Command(number, raw, json_object(raw) or {})

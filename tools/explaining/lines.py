@@ -1,0 +1,123 @@
+"""The lines that metad writes, and what each of them means."""
+
+from __future__ import annotations
+
+from dataclasses import dataclass
+
+from . import replies
+from .commands import IS_META, IS_SPIN, IS_STATUS, Command
+from .held import has, is_any, is_list, is_number, is_text, is_whole, json_object
+from .words import LINE_CODES, Misfit, arguments, coded, listed, misfit, plain, shown
+
+NO_SESSION = "-"  # what a line names where its command names no session
+NO_TURNS = "E23"  # the one warning that names no object
+SAID = ((IS_SPIN, replies.said_of_spin), (IS_STATUS, replies.said_of_status), (IS_META, replies.said_of_meta))
+
+
+@dataclass(frozen=True)
+class Line:
+    """What the program writes: a reply, an error, a call or a warning."""
+
+    session: str
+
+    ends = False  # whether its command ends with it
+
+
+@dataclass(frozen=True)
+class Reply(Line):
+    reply: object
+
+    ends = True
+
+    def said(self) -> str:
+        for holds, said in SAID:
+            if holds(self.reply):
+                return said({}, self.reply)
+        if is_list(self.reply):
+            return f"done, and the reply is a list: {listed(map(shown, self.reply)) or 'nothing'}"
+        return f"done, and the reply is {'null, for nothing' if self.reply is None else shown(self.reply)}"
+
+    def said_to(self, command: Command) -> str:
+        form = command.form()
+        if form is None:
+            return f"{plain(command.word)} is {self.said()}" if command.word else misfit()
+        return form.said(command.asked, self.reply) if form.reply(self.reply) else misfit()
+
+
+@dataclass(frozen=True)
+class Error(Line):
+    error: str
+
+    ends = True
+
+    def said(self) -> str:
+        if self.error == "E21" and self.session == NO_SESSION:
+            return coded(self.error, "there was no memory to read the line")
+        return coded(self.error)
+
+    def said_to(self, command: Command) -> str:
+        if self.error in LINE_CODES:
+            return self.said()
+        form, meaning = command.form(), None
+        if form and self.error in form.refused:
+            meaning = form.refused[self.error].format_map(Asked(command.asked))
+        elif form and self.error == "E04":
+            meaning = f"there is no object {' or no object '.join(map(str, command.objects() or misfit()))}"
+        return f"{plain(command.word)} is refused, {coded(self.error, meaning)}"
+
+
+class Asked(dict):
+    """What a command holds, for sentences about it."""
+
+    def __getitem__(self, key):
+        held = super().__getitem__(key)
+        return plain(held) if is_text(held) else held
+
+    def __missing__(self, key):
+        raise Misfit
+
+
+@dataclass(frozen=True)
+class Call(Line):
+    call: str
+    object: int
+    sender: int
+    args: list
+
+    def said(self) -> str:
+        by = f"object {self.sender}" if self.sender else "a command"
+        return f"object {self.object}: slot {plain(self.call)} called by {by}, {arguments(self.args)}"
+
+
+@dataclass(frozen=True)
+class Warned(Line):
+    """A warning: of an object whose slot was refused an action, or that no turn is left."""
+
+    warning: str
+    object: int = 0
+
+    def said(self) -> str:
+        if self.warning == NO_TURNS:
+            return f"{coded(self.warning)}, so what is still to be called is not called, and events stay where they are"
+        if self.warning == "E14":
+            nested = "or its signal is nested too deep and calls nothing"
+            return f"object {self.object}: an action of its slot is refused, {coded(self.warning)}, {nested}"
+        return f"object {self.object}: an action of its slot is refused, {coded(self.warning)}"
+
+
+LINES = [
+    (Reply, {"reply": is_any, "session": is_text}),
+    (Error, {"error": is_text, "session": is_text}),
+    (Call, {"args": is_list, "call": is_text, "object": is_number, "sender": is_whole, "session": is_text}),
+    (Warned, {"object": is_number, "session": is_text, "warning": lambda code: is_text(code) and code != NO_TURNS}),
+    (Warned, {"session": is_text, "warning": lambda code: code == NO_TURNS}),
+]
+
+
+def line_of(raw: bytes) -> Line | None:
+    """The line that some bytes are, or None."""
+    held = json_object(raw)
+    for kind, keys in LINES:
+        if held is not None and held.keys() == keys.keys() and has(**keys)(held):
+            return kind(**held)
+    return None

@@ -1,0 +1,156 @@
+"""What is known of the objects of a session, between commands."""
+
+from __future__ import annotations
+
+from .words import Misfit
+
+ROOT = 0  # stands for the parent of a root; no object has this number
+
+
+class Objects:
+    """What is known of the objects of a session, between commands.
+
+    A known parent is the parent that the object has if it stands; of an object in `whole` all children
+    that stand are known, in their order.
+    """
+
+    def __init__(self):
+        self.classes: dict[int, str] = {}
+        self.names: dict[int, str] = {}
+        self.parents: dict[int, int] = {}
+        self.below: dict[int, list[int]] = {ROOT: []}
+        self.whole = {ROOT}
+        self.sure: set[int] = set()  # those that stand for certain
+        self.gone: set[int] = set()
+        self.posted: set[int] = set()  # those whose deletion waits, or that are gone already
+        self.may_wait = False  # whether deletions of any others may wait
+        self.failed = False
+        self.has_earlier = False  # whether there were objects before the transcript began
+
+    # ---- where they stand ----
+
+    def put(self, number, parent):
+        """An object, if it stands, is a child of this one, its newest where it was not before."""
+        if self.parents.get(number) == parent:
+            return
+        if number in self.tree_above(parent):
+            raise Misfit
+        self.take(number)
+        self.parents[number] = parent
+        self.below.setdefault(parent, []).append(number)
+
+    def take(self, number):
+        if number in self.parents:
+            self.below[self.parents.pop(number)].remove(number)
+
+    def tree_above(self, number):
+        """An object and those that are known to stand above it."""
+        above = [number]
+        while above[-1] in self.parents:
+            above.append(self.parents[above[-1]])
+        return above
+
+    def tree_below(self, number):
+        """An object and those that are known to be below it."""
+        found = [number]
+        for it in found:
+            found += self.below.get(it, [])
+        return found
+
+    def all(self):
+        """The objects that may stand, by number."""
+        return sorted(self.classes.keys() - self.gone)
+
+    def adrift(self):
+        """The objects that may stand, it is not known where."""
+        return [it for it in self.all() if it not in self.parents]
+
+    # ---- whether they stand ----
+
+    def meet(self, numbers):
+        """These objects are named, and so were made before."""
+        self.has_earlier = self.has_earlier or not self.classes.keys() >= set(numbers)
+
+    def stand(self, numbers):
+        self.meet(numbers)
+        for number in numbers:
+            above = [it for it in self.tree_above(number) if it != ROOT]
+            if self.gone.intersection(above):
+                raise Misfit
+            self.sure.update(above)
+
+    def make(self, number, class_name, parent):
+        self.has_earlier = self.has_earlier or number != len(self.classes) + 1
+        self.classes[number], self.names[number] = class_name, ""
+        self.put(number, parent)
+        self.whole.add(number)
+        self.stand([number])
+
+    def remove(self, number):
+        """An object is gone, and what is known to have been below it."""
+        for it in self.tree_below(number):
+            self.gone.add(it)
+            self.sure.discard(it)
+            self.whole.discard(it)
+        self.take(number)
+
+    def delete(self, number):
+        """An object was deleted, with all below it, and nothing else was done."""
+        self.remove(number)
+        self.doubt(self.adrift())
+
+    def doubt(self, numbers):
+        """It is not known any more that these stand, and what is below them."""
+        for number in numbers:
+            self.sure.difference_update(self.tree_below(number))
+
+    # ---- what is told of them ----
+
+    def shake(self):
+        """Slots may have moved, named and deleted any object, and asked for deletions."""
+        self.parents, self.below, self.names = {}, {}, {}
+        self.whole, self.sure, self.may_wait = set(), set(), True
+
+    def list_below(self, parent, numbers):
+        """The children of an object, or the roots, are exactly these."""
+        for number in set(self.below.get(parent, [])).difference(numbers):
+            self.remove(number)
+        for number in numbers:
+            self.put(number, parent)
+            self.stand([number])
+        self.below[parent] = list(numbers)
+        self.whole.add(parent)
+        if self.whole.issuperset(self.tree_below(ROOT)):
+            for number in self.adrift():
+                self.remove(number)
+
+    def spin(self, left):
+        """Events were taken, until so many were left."""
+        if self.may_wait:
+            self.sure.clear()
+        if left:
+            self.doubt([*self.posted, *(self.adrift() if self.posted else ())])
+            return
+        for number in self.posted - self.gone:
+            self.delete(number)
+        self.forget_events()
+
+    def forget_events(self):
+        self.posted, self.may_wait = set(), False
+
+    def count(self, objects, queued):
+        """So many objects stand, and so many events wait."""
+        if queued == 0:
+            self.forget_events()
+        if objects == len(self.sure):
+            for number in [it for it in self.all() if it not in self.sure]:
+                self.remove(number)
+        elif objects == len(self.all()):
+            self.stand(self.all())
+        self.has_earlier = self.has_earlier or objects > len(self.all())
+
+    def fail(self, is_certain):
+        """All is gone. Without objects before, it may be that the session was not entered, and has not failed."""
+        self.failed = is_certain or bool(self.classes)
+        for number in self.all():
+            self.remove(number)

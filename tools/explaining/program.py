@@ -1,0 +1,122 @@
+"""What the words of the command line ask for, and how a run ends."""
+
+from __future__ import annotations
+
+import argparse
+import os
+import sys
+
+from .commands import commands_in
+from .telling import Telling
+
+NAME = os.path.basename(sys.argv[0])
+
+HELP = """\
+Each line is shown as it is, and below it what it means. With --commands each command is shown before
+the lines that it leads to, and they are explained by it.
+
+What --tree knows. The commands say which objects are made, moved and deleted, and the replies whether
+that was done; a reply of `children` says what stands below an object then. But a slot that is called
+may move and delete objects, and no line says so: behind a command that calls a slot, as a `set` does
+whose change a slot is told of, it is not known where the objects stand, nor whether they stand, until
+later replies tell it. Only `deleteLater()`, which every object has, is known to do nothing before the
+next `spin`. So the tree of a session whose slots were called is whole again after a `children` for the
+roots and one for each object.
+Objects are drawn in the order of `children`, each with its class and its name where these are known.
+A `?` behind an object says that it may be gone, a `...` that there may be more below it.
+
+Exit status: 0 at the end of the input, 1 where something cannot be read or written, or the commands
+are not those of the input, 2 after a mistake in the command line."""
+
+
+class Stop(Exception):
+    """The end of a run that cannot go on: what is to be said on standard error."""
+
+
+def words():
+    """The words of the command line; the text of the help where they ask for it."""
+    parser = argparse.ArgumentParser(
+        prog=NAME,
+        description="Says in plain words what each line means that metad writes, read from standard input.",
+        epilog=HELP,
+        formatter_class=argparse.RawDescriptionHelpFormatter,
+        allow_abbrev=False,
+        add_help=False,
+    )
+    parser.add_argument("-h", "--help", action="store_true", help="show this help and exit")
+    parser.add_argument("--commands", metavar="FILE", help="the input that the lines answer, as it was given to metad")
+    drawn = "draw at the end what is known of the objects of each session; needs --commands"
+    parser.add_argument("--tree", action="store_true", help=drawn)
+    given = parser.parse_args()
+    if given.tree and given.commands is None:
+        parser.error("--tree needs --commands, since replies alone do not say which objects were made")
+    given.help = parser.format_help().rstrip("\n") if given.help else None
+    return given
+
+
+def lines_of(file, name):
+    """The lines of a file, as they come."""
+    try:
+        yield from iter(file.readline, b"")
+    except OSError as error:
+        raise Stop(f"{name} cannot be read: {error.strerror}") from None
+
+
+def opened(path):
+    try:
+        return open(path, "rb")
+    except (OSError, ValueError) as error:
+        raise Stop(f"{path} cannot be opened: {getattr(error, 'strerror', None) or error}") from None
+
+
+def writer(stream):
+    """What writes a line, of bytes as they are or of words, and holds nothing back."""
+
+    def say(line):
+        stream.write((line if isinstance(line, bytes) else line.encode("utf-8", "backslashreplace")) + b"\n")
+        stream.flush()
+
+    return say
+
+
+def told(given) -> int:
+    """Tells the whole of standard input, or shows the help; answers the exit status."""
+    if sys.stdin is None or sys.stdout is None:
+        raise Stop("standard input and standard output have to be open")
+    say = writer(sys.stdout.buffer)
+    if given.help:
+        say(given.help)
+        return 0
+    telling = Telling(say)
+    if given.commands is not None:
+        telling.commands = commands_in(lines_of(opened(given.commands), given.commands))
+    for raw in lines_of(sys.stdin.buffer, "standard input"):
+        telling.tell(raw)
+    telling.end()
+    if given.tree:
+        telling.draw()
+    return 1 if telling.misfits else 0
+
+
+def leave_output():
+    """Nothing more is written, at the end of Python neither."""
+    if sys.stdout is not None:
+        os.dup2(os.open(os.devnull, os.O_WRONLY), sys.stdout.fileno())
+
+
+def main() -> int:
+    try:
+        return told(words())
+    except Stop as stop:
+        message = str(stop)
+    except BrokenPipeError:
+        leave_output()
+        return 0
+    except OSError as error:
+        leave_output()
+        message = f"standard output cannot be written: {error.strerror}"
+    except KeyboardInterrupt:
+        return 130
+    if sys.stderr is not None:
+        print(f"{NAME}: {message}", file=sys.stderr)
+    return 1

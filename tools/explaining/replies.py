@@ -1,0 +1,141 @@
+"""What the replies to commands mean: each function is given what a command asked and what it was replied."""
+
+from .words import arguments, counted, listed, misfit, plain, shown
+
+OBJECT_NAME = "objectName"  # the property that every class declares
+
+
+def said_of_new(asked, reply):
+    place = f"below {asked['parent']}" if "parent" in asked else "a root"
+    return f"object {reply} is made, of class {plain(asked['class'])}, {place}"
+
+
+def said_of_delete(asked, reply):
+    return f"object {asked['object']} is deleted, with all that was still below it"
+
+
+def said_of_delete_later(asked, reply):
+    return f"the deletion of object {asked['object']} waits as an event"
+
+
+def said_of_set_parent(asked, reply):
+    parent = asked["parent"]
+    return f"object {asked['object']} is {'a root' if parent is None else f'below {parent}'}"
+
+
+def said_of_children(asked, reply):
+    if "object" not in asked:
+        roots = "roots are" if len(reply) > 1 else "root is"
+        return f"the {roots} {listed(reply)}" if reply else "there is no object"
+    if not reply:
+        return f"object {asked['object']} has no children"
+    return f"object {asked['object']} has the {'children' if len(reply) > 1 else 'child'} {listed(reply)}"
+
+
+def said_of_find(asked, reply):
+    sought = [f"named {shown(asked['name'])}"] if "name" in asked else []
+    sought += [f"of class {plain(asked['class'])}"] if "class" in asked else []
+    which = "".join(f" {it}" for it in sought)
+    if reply is None:
+        return f"there is no object{which} below object {asked['object']}"
+    return f"object {reply} is the first{which} below object {asked['object']}"
+
+
+# ---- properties ----
+
+
+def said_of_set(asked, reply):
+    """True says that the class declares the property, false that it does not or that nothing was to be written."""
+    name, value = f"{plain(asked['property'])} of object {asked['object']}", asked["value"]
+    if value is None:
+        return misfit() if reply else said_of_null(asked["property"], name)
+    if reply:
+        return f"{name} was set to {shown(value)}"
+    return misfit() if asked["property"] == OBJECT_NAME else f"the dynamic property {name} was set to {shown(value)}"
+
+
+def said_of_null(declared, name):
+    if declared == OBJECT_NAME:
+        return f"{name} is left as it is, since null is no value"
+    return f"null leaves {name} as it is where the class declares it, and else takes it away"
+
+
+def said_of_get(asked, reply):
+    if reply is None:
+        return f"object {asked['object']} has no property {plain(asked['property'])}"
+    return f"{plain(asked['property'])} of object {asked['object']} is {shown(reply)}"
+
+
+def said_of_dynamic_names(asked, reply):
+    target, names = f"object {asked['object']}", listed(map(plain, reply))
+    if len(reply) > 1:
+        return f"the dynamic properties of {target} are {names}, that first set first"
+    return f"{target} has the dynamic property {names}" if reply else f"{target} has no dynamic property"
+
+
+# ---- signals, slots and events ----
+
+
+def said_of_connect(asked, reply):
+    does = "posts a call of" if asked.get("type") == "queued" else "calls"
+    called = f"{plain(asked['method'])} of object {asked['receiver']}"
+    signal = f"{plain(asked['signal'])} of object {asked['sender']}"
+    return f"connection {reply} is made: {signal} {does} {called}{', once' if asked.get('single') else ''}"
+
+
+def said_of_disconnect(asked, reply):
+    if "connection" in asked:
+        return f"connection {asked['connection']} {'is broken' if reply else 'does not stand'}"
+    signal = f"{plain(asked['signal'])} of " if "signal" in asked else ""
+    method = f"{plain(asked['method'])} of " if "method" in asked else ""
+    end = f" to {method}object {asked['receiver']}" if "receiver" in asked else ""
+    broken = f"{counted(reply, 'connection')} {'are' if reply > 1 else 'is'} broken"
+    return f"{broken}, from {signal}object {asked['sender']}{end}"
+
+
+def said_of_invoke(asked, reply):
+    method, target = plain(asked["method"]), f"object {asked['object']}"
+    if not reply:
+        return f"{target} has no method {method}, and nothing is done"
+    if asked.get("type") == "queued":
+        return f"{method} of {target} waits as an event, {arguments(asked['args'])}"
+    return f"{method} of {target} was called or sent, {arguments(asked['args'])}"
+
+
+def said_of_block(asked, reply):
+    now = "are blocked now" if asked["on"] else "are let through now"
+    return f"the signals of object {asked['object']} {now}; before, they were {'' if reply else 'not '}blocked"
+
+
+def lost_of(reply):
+    """What is counted from the first command of the session on."""
+    lost, mismatched = counted(reply["lost"], "call"), counted(reply["mismatched"], "post")
+    return f"since the session began {lost} lost, {mismatched} mismatched"
+
+
+def said_of_spin(asked, reply):
+    return f"{counted(reply['events'], 'event')} taken, {reply['left'] or 'none'} left; {lost_of(reply)}"
+
+
+def said_of_status(asked, reply):
+    said = f"the session has {counted(reply['objects'], 'object')} and {counted(reply['connections'], 'connection')}"
+    told = {"objects", "connections", "queued", "lost", "mismatched"}
+    further = [f"{plain(key)} {shown(value)}" for key, value in reply.items() if key not in told and value != 0]
+    further = f"; {listed(further)}" if further else ""
+    return f"{said}, and {counted(reply['queued'], 'event')} in its queue; {lost_of(reply)}{further}"
+
+
+# ---- classes ----
+
+
+def members_of(names, offset, word, many):
+    """The methods or properties of a class: how many there are, and which are its own."""
+    said, own = f"{len(names) or 'no'} {word if len(names) == 1 else many}", names[offset:]
+    return f"{said}, its own: {', '.join(map(plain, own))}" if own else f"{said}, none its own"
+
+
+def said_of_meta(asked, reply):
+    above = "the class of all classes" if reply["super"] is None else f"below {plain(reply['super'])}"
+    methods = members_of(reply["methods"], reply["methodOffset"], "method", "methods")
+    properties = members_of(reply["properties"], reply["propertyOffset"], "property", "properties")
+    return f"class {plain(reply['class'])}, {above}; {methods}; {properties}"

@@ -1,0 +1,90 @@
+"""How a transcript is told, line by line, beside the commands that it answers."""
+
+from __future__ import annotations
+
+from dataclasses import dataclass, field
+from typing import Callable, Iterator
+
+from .commands import Command
+from .drawing import MARKS
+from .knowledge import Knowledge
+from .lines import NO_SESSION, Error, Line, line_of
+from .words import Misfit, counted, plain
+
+
+@dataclass
+class Telling:
+    """A transcript that is told, and the commands that it answers."""
+
+    say: Callable
+    commands: Iterator[Command] | None = None
+    command: Command | None = None
+    knowledge: Knowledge = field(default_factory=Knowledge)
+    misfits: bool = False
+
+    def tell(self, raw: bytes):
+        """Says a line and what it means."""
+        line = line_of(raw)
+        if line is not None and self.commands and self.command is None:
+            self.begin()
+        self.say(raw.rstrip(b"\n"))
+        if line is None:
+            return self.mean("not a line of metad")
+        name = "no session" if line.session == NO_SESSION else f"session {plain(line.session)}"
+        try:
+            said = self.paired(line) if self.command else line.said()
+        except Misfit:
+            return self.give_up(f"{name}: {line.said()}")
+        self.mean(f"{name}: {said}")
+
+    def mean(self, words: str):
+        self.say(f"    {words}")
+
+    def begin(self):
+        self.command = next(self.commands, None)
+        if self.command:
+            self.say(b"> " + self.command.raw.rstrip(b"\n"))
+        else:
+            self.give_up()
+
+    def give_up(self, said: str | None = None):
+        """Goes on without commands, as they are not those of the transcript."""
+        if said:
+            self.mean(said)
+            number = self.command.number
+            self.mean(f"this does not answer line {number} of the commands, which are left aside from here on")
+        else:
+            self.mean("there is no command left that the next line could answer")
+        self.commands, self.command, self.misfits = None, None, True
+
+    def paired(self, line: Line) -> str:
+        """What a line means where it belongs to the command, which it may end."""
+        command = self.command
+        if line.session != command.session and not (line.session == NO_SESSION and isinstance(line, Error)):
+            raise Misfit
+        if not line.ends:
+            self.knowledge.hear(line)
+            return line.said()
+        said = line.said_to(command)
+        self.knowledge.end(command, line)
+        self.command = None
+        return said
+
+    def end(self):
+        """What is left without an answer."""
+        if self.commands is None:
+            return
+        first = self.command or next(self.commands, None)
+        if first:
+            further = sum(1 for _ in self.commands)
+            behind = f", and behind it {counted(further, 'line')} without one" if further else ""
+            self.mean(f"line {first.number} of the commands has no answer{behind}")
+
+    def draw(self):
+        """Says what is known of the objects of each session, and what the marks there mean."""
+        if self.misfits:
+            return self.say("no tree: the commands are not those of this transcript")
+        lines = list(self.knowledge.drawn())
+        ends = {word for line in lines for word in line.rsplit(" ", 2)[1:]}
+        for line in (*lines, *(f"{mark}: {meaning}" for mark, meaning in MARKS.items() if mark in ends)):
+            self.say(line)

@@ -1,0 +1,64 @@
+"""How sentences about lines are put together, and what the codes mean."""
+
+import json
+
+CODES = {
+    "E01": "the line is no JSON, no UTF-8, or too long",
+    "E02": "the line is JSON but no command: a key or a word is missing, unknown or not what it may be",
+    "E03": "there is no such class",
+    "E04": "there is no such object",
+    "E05": "the object has no such signal or method",
+    "E06": "the text is no signature",
+    "E07": "the parameters of the signal and of the method do not fit",
+    "E08": "the same signal and method are connected already",
+    "E11": "the object has no such property",
+    "E12": "the parent would be the object itself or below it",
+    "E13": "the object is being deleted",
+    "E14": "a limit is met",
+    "E19": "the numbers are used up",
+    "E20": "the session has failed for want of memory, and answers nothing else any more",
+    "E21": "there was no memory for it; all that the session held is gone",
+    "E22": "a value is of a wrong kind or form",
+    "E23": "the turns are used up",
+}
+LINE_CODES = ("E01", "E02", "E20", "E21")  # which say nothing of the objects that a command names
+
+
+class Misfit(Exception):
+    """A line that is no answer to the command that it stands for."""
+
+
+def misfit():
+    raise Misfit
+
+
+def shown(value) -> str:
+    """A value as JSON."""
+    return json.dumps(value, ensure_ascii=False)
+
+
+def plain(text: str) -> str:
+    """A text as it is, or as JSON where something in it cannot be seen."""
+    return text if text.isprintable() else shown(text)
+
+
+def listed(words) -> str:
+    """Words as a sentence has them: `1, 2 and 3`."""
+    words = [str(it) for it in words]
+    return f"{', '.join(words[:-1])} and {words[-1]}" if len(words) > 1 else "".join(words)
+
+
+def counted(number: int, word: str) -> str:
+    """How many there are: `no event`, `1 event`, `2 events`."""
+    return f"{number or 'no'} {word}{'s' if number > 1 else ''}"
+
+
+def arguments(values: list) -> str:
+    if not values:
+        return "no arguments"
+    return f"{'arguments' if len(values) > 1 else 'argument'} {listed(map(shown, values))}"
+
+
+def coded(code: str, meaning: str | None = None) -> str:
+    """A code with what it means."""
+    return f"{plain(code)}: {meaning or CODES.get(code, 'a code that is not known here')}"
