@@ -5,7 +5,8 @@ program writes.
 The lines are commands of a few sessions with their keys in any order, some twice, some missing, some of
 others; with white space, escapes, numbers and texts in and out of form, lists and objects in one another, also
 about as deep as JSON is read; some with bytes changed, left out, put in or repeated; and some as long as a line
-may be, or one byte longer. Other sessions follow, so that many commands find the objects that they name.
+may be, or one byte longer, and of these some that are blank. Other sessions follow, so that many commands find the
+objects that they name.
 Usage: chance.py PROGRAM [SEED]
 """
 
@@ -64,6 +65,7 @@ TEXTS = (
 )
 LITERALS = ("null", "true", "false", "nul", "True", "truee", "NaN", "Infinity")
 SPACES = ("", " ", "\t", "  ", "\r")
+BLANK = b" \t\r"
 PIECES = b'{}[]:,"\\0123456789.-+eEntf '
 BYTES = (0x00, 0x1F, 0x80, 0xC3, 0xED, 0xF0, 0xFF)
 
@@ -199,7 +201,9 @@ class Chance(random.Random):
         return self.changed(line) if self.is_so(0.25) else line
 
     def long_line(self, size):
-        """A line of so many bytes, filled up with spaces or with a text."""
+        """A line of so many bytes, filled up with spaces or with a text, or blank."""
+        if self.is_so(0.2):
+            return bytes(self.choices(BLANK, k=size))
         line = self.line()
         if self.is_so(0.5):
             return line.ljust(size)
