@@ -12,7 +12,7 @@ reply or its error. A refused growth may
   others as in the row, also the session's lines that are no commands;
 - lose a line that was being read: it is answered by E21 for the session `-`, and all others as if it
   had not been there;
-- keep a session from being entered, where it had no line before: the command is answered by E21 for
+- keep a session from being entered, where it had no command before: the command is answered by E21 for
   its session, and all others as if it had not been there;
 - end the program with status 5 and a prefix of the row's answer, which is none while it starts.
 
@@ -59,11 +59,15 @@ def session_of(answer):
     return json.loads(answer.splitlines()[-1])["session"]
 
 
+def is_command_of(session, answer):
+    """Whether a session has given a command that is answered so. What is no command is answered by E02."""
+    return session_of(answer) == session and answer != line("E02", session)
+
+
 def with_failed_session(answers, at):
     """The row's answers, where the session of one of them has failed there. What is no command stays E02."""
     session = session_of(answers[at])
-    is_command = lambda it: session_of(it) == session and it != line("E02", session)
-    later = [line("E20", session) if is_command(it) else it for it in answers[at + 1 :]]
+    later = [line("E20", session) if is_command_of(session, it) else it for it in answers[at + 1 :]]
     return answers[:at] + [line("E21", session)] + later
 
 
@@ -129,7 +133,7 @@ class Trial:
         if answers == with_failed_session(self.answers, at):
             return "session failed"
         session = session_of(self.answers[at])
-        is_first = all(session_of(it) != session for it in self.answers[:at])
+        is_first = not any(is_command_of(session, it) for it in self.answers[:at])
         if is_first and answers[at] == line("E21", session) and others == self.answers_without(at):
             return "session not entered"
         return None
