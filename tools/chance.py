@@ -27,19 +27,20 @@ OBJECTS = 16
 SHOWN = 200
 
 SESSIONS = ("a", "b", "\\u0063")
-CLASSES = (*('"Probe"',) * 12, *('"Cell"',) * 4, '"QObj\\u0065ct"', '"QObject"', '"Nope"', '"a b"', '""')
+CLASSES = (*('"Probe"',) * 12, *('"Cell"',) * 6, '"QObj\\u0065ct"', '"QObject"', '"Nope"', '"a b"', '""')
 WORDS = (
     *(*("new",) * 4, *("setParent", "children", "find", "set", "get") * 2, "delete", "meta", "jump", "n\\u0065w"),
-    *(*("connect", "invoke") * 5, "disconnect", "disconnect", "c\\u006fnnect"),
+    *(*("connect",) * 6, *("invoke",) * 8, "disconnect", "disconnect", "c\\u006fnnect"),
+    *("connectFunctor", "connectFunctor", "connectFunctor", "connect\\u0046unctor"),
     *("set", "set", "get", "dynamicNames", "dynamicNam\\u0065s"),
     *("spin", "spin", "deleteLater", "block", "status", "sp\\u0069n", "delete\\u004cater"),
 )
 KEYS = (
     *("do", "session", "object", "property", "value", "class", "parent", "name", "x", "d\\u006f", "obj\\u0065ct", "Do", ""),
     *("sender", "signal", "receiver", "method", "type", "unique", "single", "connection", "args", "on"),
-    *("s\\u0065nder", "typ\\u0065", "\\u006fn"),
+    *("context", "functor", "s\\u0065nder", "typ\\u0065", "\\u006fn", "f\\u0075nctor"),
 )
-SIGNALS = (*("ping()",) * 16, *("xChanged(int)",) * 2, "p\\u0069ng()", "ping\\u0028void\\u0029", " ping(\\t)", "destroyed()", "objectNameChanged(QString)", "note()", "ping")
+SIGNALS = (*("ping()",) * 16, *("xChanged(int)",) * 4, "p\\u0069ng()", "ping\\u0028void\\u0029", " ping(\\t)", "destroyed()", "objectNameChanged(QString)", "note()", "ping")
 PROPERTIES = (
     *("objectName",) * 4, *("x", "tag") * 3, *("y", "flag", "big", "obj\\u0065ctName", "t\\u0061g", "\\u0078", "X", "_"),
     *("n" * 64, "n" * 65, "", "a b", "1a", "x ", "ä", "\\u0000"),
@@ -49,6 +50,7 @@ SLOTS = (
     *("setX(int)", "setX(int)", "seen(int)"),
     *("not\\u0065()", "note ( void ) ", "nothing()", "note(int)", ""),
 )
+FUNCTORS = (*('"clamp"',) * 16, '"cl\\u0061mp"', '"\\u0063lamp"', '"clam"', '"Clamp"', '"clamp(int)"', '""', "0")
 TYPES = (*('"auto"', '"direct"', '"queued"') * 4, '"dir\\u0065ct"', '"Queued"', '"blocking"', "0")
 TRUTHS = ("true", "false")
 CONNECTIONS = 40
@@ -99,6 +101,10 @@ class Chance(random.Random):
             return "[" + ",".join(self.value(depth + 1) for _ in range(self.randrange(4))) + self.choice(("", "", ",")) + "]"
         return "{" + ",".join(f"{self.text()}:{self.value(depth + 1)}" for _ in range(self.randrange(4))) + "}"
 
+    def number(self):
+        """A number, by half a plain one."""
+        return self.choice(NUMBERS[:5] if self.is_so(0.5) else NUMBERS)
+
     def object(self):
         """The number of an object, of the first ones most times."""
         return str(min(self.randint(1, OBJECTS) for _ in "abc"))
@@ -111,9 +117,17 @@ class Chance(random.Random):
         return f'"{self.choice(PROPERTIES)}"'
 
     def connection(self):
-        members = [("sender", self.object()), ("signal", self.method(1)), ("receiver", self.object()), ("method", self.method(0.2))]
+        ends = [("sender", self.object()), ("signal", self.method(1)), ("receiver", self.object()), ("method", self.method(0.2))]
+        return ends + self.ways()
+
+    def functor_connection(self):
+        signal = '"xChanged(int)"' if self.is_so(0.8) else self.method(1)
+        return [("sender", self.object()), ("signal", signal), ("context", self.object()), ("functor", self.choice(FUNCTORS)), *self.ways()]
+
+    def ways(self):
+        """How a connection is to be made."""
         further = (("type", TYPES), ("unique", TRUTHS), ("single", TRUTHS))
-        return members + [(key, self.choice(of)) for key, of in further if self.is_so(0.25)]
+        return [(key, self.choice(of)) for key, of in further if self.is_so(0.25)]
 
     def disconnection(self):
         if self.is_so(0.4):
@@ -125,7 +139,7 @@ class Chance(random.Random):
         """The arguments of a call of this method: most times as many as it takes."""
         if self.is_so(0.2):
             return [self.value() for _ in range(self.randrange(3))]
-        return [] if "(int)" not in method else [self.choice(NUMBERS) if self.is_so(0.8) else self.value()]
+        return [] if "(int)" not in method else [self.number() if self.is_so(0.8) else self.value()]
 
     def invocation(self):
         method = self.method(0.7)
@@ -138,13 +152,17 @@ class Chance(random.Random):
     def members_of(self, word):
         """The members of a command in form, but for its word and its session."""
         if word == "set":
-            return [("object", self.object()), ("property", self.property_name()), ("value", self.value())]
+            name = self.property_name()
+            value = self.number() if name == '"x"' and self.is_so(0.7) else self.value()
+            return [("object", self.object()), ("property", name), ("value", value)]
         if word == "get":
             return [("object", self.object()), ("property", self.property_name())]
         if word == "setParent":
             return [("object", self.object()), ("parent", self.choice((self.object(), "null")))]
         if word in ("connect", "c\\u006fnnect"):
             return self.connection()
+        if word in ("connectFunctor", "connect\\u0046unctor"):
+            return self.functor_connection()
         if word == "disconnect":
             return self.disconnection()
         if word == "invoke":
@@ -236,16 +254,17 @@ def main():
     seed = sys.argv[2] if len(sys.argv) > 2 else "1"
     lines, server = lines_of(Chance(seed)), server_with(turns=TURNS)
     answers = [answer(server, line) for line in lines]
-    replies, calls = (sum(it.count(word) for it in answers) for word in (b'{"reply":', b'"call":'))
-    if replies < LINES // 10 or calls < LINES // 200:
-        print(f"lines by chance, seed {seed}: no more than {replies:,} replies and {calls:,} calls")
+    counted = (b'{"reply":', b'"call":', b'"call":"clamp"')
+    replies, calls, functors = (sum(it.count(word) for it in answers) for word in counted)
+    if replies < LINES // 10 or calls < LINES // 200 or functors < LINES // 40_000:
+        print(f"lines by chance, seed {seed}: no more than {replies:,} replies and {calls:,} calls, {functors:,} of functors")
         return 1
     ran = subprocess.run([program, "--turns", str(TURNS)], input=b"\n".join(lines), capture_output=True, timeout=SECONDS)
     fault = f"status {ran.returncode}, and not 0" if ran.returncode else first_difference(lines, answers, ran.stdout)
     if fault:
         print(f"lines by chance, seed {seed}: {fault}")
         return 1
-    print(f"lines by chance: {LINES:,} answered alike, {replies:,} of them by replies, and {calls:,} calls")
+    print(f"lines by chance: {LINES:,} answered alike, {replies:,} of them by replies, and {calls:,} calls, {functors:,} of functors")
     return 0
 
 

@@ -22,7 +22,7 @@ TURNS = 10_000
 LEVELS = 64
 TEXT_BYTES = 4_096
 DYNAMIC_PROPERTIES = 64
-E07, E08, E14, E22 = ({"error": code} for code in ("E07", "E08", "E14", "E22"))
+E07, E08, E09, E10, E14, E22 = ({"error": code} for code in ("E07", "E08", "E09", "E10", "E14", "E22"))
 SPIN, STATUS, CHILDREN = ({"do": word} for word in ("spin", "status", "children"))
 
 
@@ -59,6 +59,10 @@ def new(parent=None):
 
 def connect(sender, signal, receiver, method, **more):
     return {"do": "connect", "sender": sender, "signal": signal, "receiver": receiver, "method": method, **more}
+
+
+def clamp(sender, signal, context, functor="clamp", **more):
+    return {"do": "connectFunctor", "sender": sender, "signal": signal, "context": context, "functor": functor, **more}
 
 
 def invoke(number, method, *args, **more):
@@ -133,6 +137,53 @@ def connections(turns):
     yield invoke(1, "down()"), *[call("note()", 2, 1)] * min(turns, CONNECTIONS), *spent, reply(True)
     yield {"do": "disconnect", "sender": 1, "receiver": 2}, reply(CONNECTIONS)
     yield invoke(1, "down()"), reply(True)
+
+
+def functors(turns):
+    """As many connections of a functor as there may be, called by one command with so many turns, and gone with their context."""
+    spent = [] if turns >= CONNECTIONS else [warning("E23")]
+    yield new(), reply(1)
+    yield new(), reply(2)
+    yield from ((clamp(1, "xChanged(int)", 2), reply(number)) for number in range(1, CONNECTIONS + 1))
+    yield clamp(1, "xChanged(int)", 2), E14
+    yield clamp(1, "xChanged(int)", 2, unique=True), E09
+    yield clamp(1, "down()", 2, unique=True), E07
+    yield clamp(1, "down()", 2, "clam"), E10
+    yield connect(1, "down()", 2, "note()"), E14
+    yield {"do": "disconnect", "sender": 1, "receiver": 2, "method": "keep(int)"}, reply(0)
+    yield set_to(1, "x", 250), *[call("clamp", 2, 1, 250)] * min(turns, CONNECTIONS), *spent, reply(True)
+    yield get(2, "x"), reply(100)
+    yield {"do": "disconnect", "connection": 1}, reply(True)
+    yield clamp(1, "xChanged(int)", 2, single=True), reply(CONNECTIONS + 1)
+    yield clamp(1, "xChanged(int)", 2), E14
+    yield delete(2), reply(True)
+    yield STATUS, counted(objects=1)
+    yield set_to(1, "x", 5), reply(True)
+
+
+def lost_functors():
+    """Calls of a functor that meet as many events as there may be."""
+    yield from ((new(), reply(number)) for number in (1, 2))
+    yield clamp(1, "xChanged(int)", 2, type="queued"), reply(1)
+    yield from ((set_to(1, "x", at % 2 * 200 + 1), reply(True)) for at in range(1, EVENTS))
+    yield invoke(2, "note()", type="queued"), reply(True)
+    yield STATUS, counted(connections=1, objects=2, queued=EVENTS)
+    yield clamp(1, "xChanged(int)", 1, type="queued", single=True), reply(2)
+    yield set_to(1, "x", 7), reply(True)
+    yield STATUS, counted(connections=1, lost=2, objects=2, queued=EVENTS)
+    yield set_to(1, "x", 8), reply(True)
+    yield SPIN, *(call("clamp", 2, 1, at % 2 * 200 + 1) for at in range(1, EVENTS)), call("note()", 2, 0), spun(EVENTS, 0, 3)
+    yield get(2, "x"), reply(100)
+
+
+def chain_of_functors(count):
+    """Objects of which each sets the next one's property by a functor, as far as signals may be nested."""
+    yield from ((new(), reply(number)) for number in range(1, count + 1))
+    yield from ((clamp(number, "xChanged(int)", number + 1), reply(number)) for number in range(1, count))
+    calls = [call("clamp", number + 1, number, 100) for number in range(2, LEVELS + 1)]
+    yield set_to(1, "x", 101), call("clamp", 2, 1, 101), *calls, warning("E14", LEVELS + 1), reply(True)
+    yield get(LEVELS + 1, "x"), reply(100)
+    yield get(LEVELS + 2, "x"), reply(0)
 
 
 def texts():
@@ -280,6 +331,10 @@ def wide_rows():
     for turns in (None, CONNECTIONS - 1, CONNECTIONS, 20_000):
         words = ("--turns", str(turns)) if turns else ()
         yield row_of(f"{CONNECTIONS} connections, turns {turns or 'by default'}", connections(turns or TURNS), *words)
+    for turns in (None, CONNECTIONS):
+        words = ("--turns", str(turns)) if turns else ()
+        yield row_of(f"{CONNECTIONS} connections of a functor, turns {turns or 'by default'}", functors(turns or TURNS), *words)
+    yield row_of(f"calls of a functor that meet {EVENTS} events", lost_functors(), "--turns", str(EVENTS))
     yield row_of(f"texts of {TEXT_BYTES} bytes", texts())
     yield row_of(f"{LEVELS * LEVELS} objects, and names of {TEXT_BYTES} bytes", objects())
     yield row_of(f"{EVENTS} deletions of one object", deletions())
@@ -293,6 +348,7 @@ def deep_rows():
     yield row_of("trees deleted in nested signals behind choices", falls("fallDeep()"))
     yield row_of("trees deleted in nested changes", changes("sink(int)"))
     yield row_of("trees deleted in nested changes behind choices", changes("sinkDeep(int)"))
+    yield row_of("functors in a chain", chain_of_functors(LEVELS * LEVELS))
     yield row_of("objects whose ends delete the next one", chain("drop()"))
     yield row_of("objects whose ends delete the next one behind choices", chain("dropDeep()"))
     yield row_of("trees whose ends delete the next one", ends("drop()", False))

@@ -90,9 +90,9 @@ def is_truth(value):
 
 
 HOLDS = {
-    **dict.fromkeys(("class", "property"), is_name),
+    **dict.fromkeys(("class", "property", "functor"), is_name),
     **dict.fromkeys(("name", "signal", "method"), is_text),
-    **dict.fromkeys(("object", "parent", "sender", "receiver", "connection"), is_known_by),
+    **dict.fromkeys(("object", "parent", "sender", "receiver", "context", "connection"), is_known_by),
     **dict.fromkeys(("unique", "single", "on"), is_truth),
     "type": lambda value: value in TYPES,
     "args": lambda value: isinstance(value, list),

@@ -96,6 +96,27 @@ def method_of(text, is_signal, body=()):
 
 
 @dataclass
+class Functor:
+    """What a signal may be connected to beside methods: its body is done with its context object as `self`."""
+
+    text: str
+    kinds: list
+    body: list
+    is_signal: bool = False
+
+
+def clamped(low, high):
+    """A body that sets `x` to its argument, but not below the one bound and not above the other."""
+    low, high, given = {"const": low}, {"const": high}, {"arg": 0}
+    at_low, at_high, as_given = ([{"set": "x", "to": value}] for value in (low, high, given))
+    unless_low = [{"when": {"<": [high, given]}, "then": at_high, "else": as_given}]
+    return [{"when": {"<": [given, low]}, "then": at_low, "else": unless_low}]
+
+
+FUNCTORS = {it.text: it for it in (Functor("clamp", ["int"], clamped(0, 100)),)}
+
+
+@dataclass
 class Property:
     """A declared property; `notify` is the normal form of the signal that tells of its changes, where there is one."""
 
@@ -178,31 +199,33 @@ class Row:
 
 @dataclass(eq=False)
 class Connection:
+    """What it calls is the index of a method of the receiver, or the name of a functor, whose context this is."""
+
     number: int
     sender: int
     signal: int
     receiver: int
-    method: int
+    callee: int | str
     queued: bool
     single: bool
 
     def ends(self):
-        return self.sender, self.signal, self.receiver, self.method
+        return self.sender, self.signal, self.receiver, self.callee
 
 
 @dataclass
 class Event:
-    """What waits in the queue for an object: a call of its method, or where there is none its deletion."""
+    """What waits in the queue for an object: a call of its method or of a functor, or where there is none its deletion."""
 
     number: int
-    method: int | None = None
+    callee: int | str | None = None
     sender: int = 0
     args: list = field(default_factory=list)
 
 
 @dataclass
 class Frame:
-    """A slot that is run: its object, who sent the signal, its arguments, and how deep what it sends is."""
+    """A slot or functor that is run: its object, who sent the signal, its arguments, and how deep what it sends is."""
 
     self_number: int
     sender: int
@@ -356,12 +379,18 @@ class Session:
         index = self.index(number, text)
         return index if self.methods(number)[index].is_signal else refuse("E05")
 
-    def connect(self, sender, signal, receiver, method, asked):
+    def called(self, number, callee):
+        """The method of an object that has this index, or the functor of this name."""
+        return FUNCTORS[callee] if callee in FUNCTORS else self.methods(number)[callee]
+
+    def connect(self, sender, signal, receiver, callee, asked):
         """Connects two ends that are there, in the way that is asked for, and answers the number."""
-        sent, called = self.methods(sender)[signal].kinds, self.methods(receiver)[method].kinds
-        if sent[: len(called)] != called:
+        sent, taken = self.methods(sender)[signal].kinds, self.called(receiver, callee).kinds
+        if sent[: len(taken)] != taken:
             refuse("E07")
-        ends = sender, signal, receiver, method
+        if asked.get("unique") and callee in FUNCTORS:
+            refuse("E09")
+        ends = sender, signal, receiver, callee
         if asked.get("unique") and any(row.ends() == ends for row in self.connections):
             refuse("E08")
         if len(self.connections) >= CONNECTIONS:
@@ -378,12 +407,14 @@ class Session:
         return before - len(self.connections)
 
     def disconnect_pattern(self, sender, signal, receiver, method):
-        """Breaks the connections of a sender that match where a signal, a receiver and a method are given."""
+        """Breaks the connections of a sender that match where a signal, a receiver and a method are given.
+
+        The receiver of a functor's connection is its context, and no method is the functor."""
         return self.disconnect(
             lambda row: row.sender == sender
             and signal in (None, row.signal)
             and receiver in (None, row.receiver)
-            and method in (None, row.method)
+            and method in (None, row.callee)
         )
 
     # Events.
@@ -400,13 +431,13 @@ class Session:
 
     def delivered(self, event):
         """What an event comes to."""
-        if event.method is None:
+        if event.callee is None:
             return [("delete", event.number, 0)]
-        if self.methods(event.number)[event.method].is_signal:
-            return [("emit", event.number, event.method, event.args, 0)]
-        return [("slot", event.number, event.method, event.sender, event.args, 0)]
+        if self.called(event.number, event.callee).is_signal:
+            return [("emit", event.number, event.callee, event.args, 0)]
+        return [("run", event.number, event.callee, event.sender, event.args, 0)]
 
-    # What a slot names and computes.
+    # What a slot or functor names and computes.
 
     def target(self, frame, target):
         """The number of the object that a target is; 0 where there is none."""
@@ -486,21 +517,22 @@ class Session:
             return None
         if connection.single:
             self.connections.remove(connection)
-        method = self.methods(connection.receiver)[connection.method]
-        given = args[: len(method.kinds)]
+        called = self.called(connection.receiver, connection.callee)
+        given = args[: len(called.kinds)]
         if connection.queued:
-            self.lost += not self.post(Event(connection.receiver, connection.method, connection.sender, given))
+            self.lost += not self.post(Event(connection.receiver, connection.callee, connection.sender, given))
             return None
-        if method.is_signal:
-            return [("emit", connection.receiver, connection.method, given, depth + 1)]
-        return [("slot", connection.receiver, connection.method, connection.sender, given, depth)]
+        if called.is_signal:
+            return [("emit", connection.receiver, connection.callee, given, depth + 1)]
+        return [("run", connection.receiver, connection.callee, connection.sender, given, depth)]
 
-    def do_slot(self, number, index, sender, args, depth):
+    def do_run(self, number, callee, sender, args, depth):
+        """Runs a slot of an object, or a functor for it."""
         if self.row(number) is None:
             return None
-        method = self.methods(number)[index]
-        self.lines.append({"args": args, "call": method.text, "object": number, "sender": sender})
-        return self.acts(method.body, Frame(number, sender, args, depth + 1))
+        called = self.called(number, callee)
+        self.lines.append({"args": args, "call": called.text, "object": number, "sender": sender})
+        return self.acts(called.body, Frame(number, sender, args, depth + 1))
 
     def acts(self, body, frame):
         return [("act", action, frame) for action in body]
@@ -539,7 +571,7 @@ class Session:
         self.taken += 1
         return [*self.delivered(self.queue.pop(0)), ("spin",)]
 
-    # Actions of a slot.
+    # Actions of a slot or functor.
 
     def act_when(self, action, frame):
         test = self.value(frame, action["when"])
@@ -630,6 +662,13 @@ class Session:
         method = self.index(receiver, command["method"])
         return self.connect(sender, signal, receiver, method, command)
 
+    def command_connect_functor(self, command):
+        sender, context, functor = command["sender"], command["context"], command["functor"]
+        self.known(sender)
+        self.known(context)
+        signal = self.signal(sender, command["signal"])
+        return self.connect(sender, signal, context, functor if functor in FUNCTORS else refuse("E10"), command)
+
     def command_disconnect(self, command):
         if "connection" in command:
             return self.disconnect(lambda row: row.number == command["connection"]) == 1
@@ -658,7 +697,7 @@ class Session:
         if method.is_signal:
             self.run([("emit", number, index, args, 0)])
         elif self.takes_turn():
-            self.run([("slot", number, index, 0, args, 0)])
+            self.run([("run", number, index, 0, args, 0)])
         return True
 
     def command_delete_later(self, command):
@@ -704,6 +743,7 @@ COMMANDS = {
     "get": Session.command_get,
     "dynamicNames": Session.command_dynamic_names,
     "connect": Session.command_connect,
+    "connectFunctor": Session.command_connect_functor,
     "disconnect": Session.command_disconnect,
     "invoke": Session.command_invoke,
     "deleteLater": Session.command_delete_later,

@@ -61,9 +61,14 @@ def life_of(session):
         ends = {"sender": 1, "signal": "rang(int)", "receiver": ear, "method": "hear(int)"}
         return {"do": "connect", **ends, "type": chance.choice(("auto", "queued"))}
 
+    def clamp(ear):
+        ends = {"sender": 1, "signal": "rang(int)", "context": ear, "functor": "clamp"}
+        return {"do": "connectFunctor", **ends, "type": chance.choice(("auto", "queued"))}
+
     yield {"do": "new", "class": "Bell"}
     yield from ({"do": "new", "class": "Ear", "parent": chance.randrange(1, ear)} for ear in ears)
     yield from map(connect, ears)
+    yield from map(clamp, chance.sample(ears, 5))
     yield from (set_to(ear, "objectName", f"{session} {ear}") for ear in chance.sample(ears, 9))
     yield from (set_to(ear, chance.choice(("tag", "note")), f"{ear} {session}") for ear in chance.sample(ears, 9))
     yield ring()
@@ -90,7 +95,7 @@ def life_of(session):
     yield ring()
     yield set_to(1, "pitch", session)
     yield from ({"do": "dynamicNames", "object": number} for number in range(1, OBJECTS + 2))
-    yield from (get(number, name) for number in range(1, OBJECTS + 2) for name in ("heard", "last", "tag"))
+    yield from (get(number, name) for number in range(1, OBJECTS + 2) for name in ("heard", "last", "tag", "x"))
     yield {"do": "invoke", "object": 1, "method": "fall()", "args": []}
     yield {"do": "spin"}
     yield from (get(number, "objectName") for number in range(1, OBJECTS + 2))

@@ -33,11 +33,12 @@ END = "destroyed()"
 NAME_CHANGED = "objectNameChanged(QString)"
 SLOTS = ("fire()", "move(int)", "name(QString)", "tell(int,QString)", "clear()", "follow()")
 NAME = "objectName"
-PROPERTIES = {"level": "int", "label": "QString", "lit": "bool", "step": "int", "count": "uint", "total": "qlonglong", "size": "qulonglong"}
+PROPERTIES = {"x": "int", "level": "int", "label": "QString", "lit": "bool", "step": "int", "count": "uint", "total": "qlonglong", "size": "qulonglong"}
+TOLD_NUMBERS = ("moved(int)", "told(int,QString)")  # which fit the functor
 UNDECLARED = ("tag", "note", "nothing")
 TEXTS = ("x", "y", "z", "ä", "")
 COMMANDS_MADE = {
-    **{"new": 7, "connect": 16, "disconnect": 2, "invoke": 20, "delete": 1, "setParent": 2, "children": 1},
+    **{"new": 7, "connect": 16, "connectFunctor": 6, "disconnect": 2, "invoke": 20, "delete": 1, "setParent": 2, "children": 1},
     **{"set": 12, "get": 4, "dynamicNames": 1, "deleteLater": 1, "block": 1, "spin": 6, "status": 1},
 }
 NUMBERS = (0, 1, -1, 7, 2**31 - 1, 2**31, 2**63)
@@ -66,6 +67,10 @@ class Chance(random.Random):
     def signal(self, share=0.1):
         """A signal, by this share one of `QObject`, which most times is the one that tells of an object's end."""
         return self.choice((END, END, NAME_CHANGED)) if self.is_so(share) else self.choice(SIGNALS)
+
+    def first_connection(self):
+        """What the first connections of a session are made by."""
+        return "connectFunctor" if self.is_so(0.25) else "connect"
 
     def type(self, share):
         """The type of a connection or an invocation, which is named by this share."""
@@ -164,9 +169,9 @@ class Chance(random.Random):
     def classes(self):
         """Three classes, of which the second is below the first."""
         names = self.sample(list(PROPERTIES), len(PROPERTIES))
-        yield self.declared_class("Lamp", "QObject", SIGNALS, SLOTS, names[:4])
-        yield self.declared_class("Torch", "Lamp", (), (), names[4:6])
-        yield self.declared_class("Switch", "QObject", SIGNALS, SLOTS, names[2:5])
+        yield self.declared_class("Lamp", "QObject", SIGNALS, SLOTS, names[:5])
+        yield self.declared_class("Torch", "Lamp", (), (), names[5:7])
+        yield self.declared_class("Switch", "QObject", SIGNALS, SLOTS, names[2:6])
 
     # Commands.
 
@@ -205,6 +210,8 @@ class Chance(random.Random):
             made_of = self.connection(self.signal(0.25))
             kept = {key: made_of[key] for key in ("method", "unique", "single", "type") if key in made_of}
             return {"do": kind, "sender": one, "signal": made_of["connect"], "receiver": other, **kept}
+        if kind == "connectFunctor":
+            return self.functor_command(one, other)
         if kind == "disconnect":
             return self.disconnect_command(one, other)
         if kind == "invoke":
@@ -228,6 +235,13 @@ class Chance(random.Random):
             return None if self.is_so(0.3) else self.value(self.choice(("int", "QString", "bool")))
         return self.value(kind_of(name))
 
+    def functor_command(self, one, other):
+        """A connection to the functor, most times of a signal that fits it."""
+        signal = self.choice(TOLD_NUMBERS) if self.is_so(0.9) else self.signal(0.25)
+        flags = {key: True for key, share in (("unique", 0.05), ("single", 0.25)) if self.is_so(share)}
+        ends = {"sender": one, "signal": signal, "context": other, "functor": "clamp" if self.is_so(0.95) else "clam"}
+        return {"do": "connectFunctor", **ends, **flags, **self.type(0.4)}
+
     def disconnect_command(self, one, other):
         if self.is_so(0.4):
             return {"do": "disconnect", "connection": self.randint(1, 20)}
@@ -248,7 +262,7 @@ def life_of(chance, server):
         if at < LAMPS:
             command = {"do": "new", "class": "Lamp"}
         elif at < LAMPS + CONNECTIONS:
-            command = chance.command_of("connect", chance.randint(1, LAMPS), chance.randint(1, LAMPS))
+            command = chance.command_of(chance.first_connection(), chance.randint(1, LAMPS), chance.randint(1, LAMPS))
         else:
             command = chance.command(server.session("a"))
         commands.append({**command, "session": "a"})
@@ -258,6 +272,11 @@ def life_of(chance, server):
 
 def calls_in(lines):
     return sum("call" in line for line in lines)
+
+
+def functors_in(lines):
+    """How many of the calls are those of functors, whose names are no signatures."""
+    return sum("call" in line and "(" not in line["call"] for line in lines)
 
 
 def events_in(lines):
@@ -274,7 +293,7 @@ def changes_in(commands, answers):
 def main():
     program = str(Path(sys.argv[1]).resolve())
     first = int(sys.argv[2]) if len(sys.argv) > 2 else 1
-    failed, calls, events, changes = 0, 0, 0, 0
+    failed, calls, functors, events, changes = 0, 0, 0, 0, 0
     with tempfile.TemporaryDirectory(prefix="metad-signals-") as room:
         for seed in range(first, first + SESSIONS):
             chance = Chance(seed)
@@ -286,12 +305,15 @@ def main():
             given = "".join(text_of(command) + "\n" for command in commands)
             ran = subprocess.run([program, str(path), "--turns", str(turns)], input=given.encode(), capture_output=True, check=True)
             calls, events = calls + calls_in(wanted), events + events_in(wanted)
-            changes += changes_in(commands, answers)
+            functors, changes = functors + functors_in(wanted), changes + changes_in(commands, answers)
             if ran.stdout.decode().splitlines() != list(map(text_of, wanted)):
                 failed += 1
                 print(f"by chance, {seed}: not what the plain program answers")
-    print(f"signals: {SESSIONS - failed} passed, {failed} failed; {calls:,} calls, {events:,} events, {changes:,} calls that told of changes")
-    return 0 if not failed and calls and events and changes else 1
+    print(
+        f"signals: {SESSIONS - failed} passed, {failed} failed; {calls:,} calls, {functors:,} of them of functors, "
+        f"{events:,} events, {changes:,} calls that told of changes"
+    )
+    return 0 if not failed and functors and events and changes else 1
 
 
 if __name__ == "__main__":

@@ -13,7 +13,7 @@ a `Session` is a command of the protocol: it returns the value of the reply, or 
 the commands mean, and every code and limit, stands in docs/PROTOCOL.md. Nothing is checked here that the server
 checks: a name that is none, a number out of range and a line that is too long are refused by the server.
 
-Calls of slots, and warnings, are told to the callbacks of their session before the call of the command returns.
+Calls of slots and functors, and warnings, are told to the callbacks of their session before the call of the command returns.
 
 Commands can be sent without waiting: `Session.send` returns a `Pending`, and its `result` waits. Replies come in the
 order of the commands, over the whole server.
@@ -51,6 +51,8 @@ MEANINGS = {
     "E06": "no signature",
     "E07": "signal and method do not fit",
     "E08": "connected already",
+    "E09": "unique with a functor",
+    "E10": "no such functor",
     "E11": "no such property",
     "E12": "a cycle of parents",
     "E13": "the object is dying",
@@ -109,14 +111,14 @@ class StrangeLine(MetadError):
 
 @dataclass(frozen=True)
 class Call:
-    """A slot of an object was called."""
+    """A slot of an object was called, or a functor for it."""
 
     object: int
-    """The number of the object that the slot belongs to."""
+    """The number of the object that the slot belongs to, or that is the functor's context."""
     method: str
-    """The signature of the slot."""
+    """The signature of the slot, or the name of the functor."""
     args: List[Value]
-    """What the slot was called with."""
+    """What it was called with."""
     sender: int
     """The number of the object whose signal called it; 0 where a command called the slot."""
 
@@ -221,7 +223,7 @@ class Session:
         self.name = name
         """The name that the commands of this session are given by."""
         self.on_call: Optional[OnCall] = None
-        """Told of the calls of the session's slots; may be set at any time."""
+        """Told of the calls of the session's slots and functors; may be set at any time."""
         self.on_warning: Optional[OnWarning] = None
         """Told of the session's warnings; may be set at any time."""
         self._server = server
@@ -288,6 +290,21 @@ class Session:
         """Connects a signal to a slot or to another signal; returns the connection's number."""
         ends = {"sender": sender, "signal": signal, "receiver": receiver, "method": method}
         return cast(int, self.command("connect", **ends, **_given(type=type, unique=unique, single=single)))
+
+    def connect_functor(
+        self,
+        sender: int,
+        signal: str,
+        context: int,
+        functor: str,
+        *,
+        type: Optional[str] = None,
+        unique: Optional[bool] = None,
+        single: Optional[bool] = None,
+    ) -> int:
+        """Connects a signal to a functor of the server, for a context object; returns the connection's number."""
+        ends = {"sender": sender, "signal": signal, "context": context, "functor": functor}
+        return cast(int, self.command("connectFunctor", **ends, **_given(type=type, unique=unique, single=single)))
 
     @overload
     def disconnect(self, connection: int) -> bool: ...

@@ -65,17 +65,30 @@ PROPERTY_FORMS = {
     "get": [Form(said.said_of_get, is_any, ONE_PROPERTY)],
     "dynamicNames": [Form(said.said_of_dynamic_names, are(is_text), ONE_OBJECT)],
 }
+WAYS = {"type": is_text, "unique": is_truth, "single": is_truth}
+NO_MORE_CONNECTIONS = {
+    "E14": "the session has as many connections as it may",
+    "E19": "the numbers of the session's connections are used up",
+}
 CONNECTION_FORMS = {
     "connect": [Form(
         said.said_of_connect,
         is_number,
         {"sender": is_number, "signal": is_text, "receiver": is_number, "method": is_text},
-        {"type": is_text, "unique": is_truth, "single": is_truth},
+        WAYS,
+        {**NO_SIGNATURE, **NO_METHOD, **NO_MORE_CONNECTIONS},
+    )],
+    "connectFunctor": [Form(
+        said.said_of_connect_functor,
+        is_number,
+        {"sender": is_number, "signal": is_text, "context": is_number, "functor": is_text},
+        WAYS,
         {
-            **NO_SIGNATURE,
-            **NO_METHOD,
-            "E14": "the session has as many connections as it may",
-            "E19": "the numbers of the session's connections are used up",
+            "E05": "object {sender} has no signal {signal}",
+            "E06": "the text of the signal is no signature",
+            "E07": "the parameters of the signal {signal} and of the functor {functor} do not fit",
+            "E10": "there is no functor {functor}",
+            **NO_MORE_CONNECTIONS,
         },
     )],
     "disconnect": [
@@ -137,7 +150,7 @@ class Command:
 
     def objects(self) -> list[int]:
         """The numbers of the objects that it names, each once."""
-        named = [self.asked.get(key) for key in ("object", "parent", "sender", "receiver")]
+        named = [self.asked.get(key) for key in ("object", "parent", "sender", "receiver", "context")]
         return sorted(set(filter(is_number, named)))
 
 

@@ -86,12 +86,13 @@ class Call(Line):
 
     def said(self) -> str:
         by = f"object {self.sender}" if self.sender else "a command"
-        return f"object {self.object}: slot {plain(self.call)} called by {by}, {arguments(self.args)}"
+        called = "slot" if "(" in self.call else "functor"
+        return f"object {self.object}: {called} {plain(self.call)} called by {by}, {arguments(self.args)}"
 
 
 @dataclass(frozen=True)
 class Warned(Line):
-    """A warning: of an object whose slot was refused an action, or that no turn is left."""
+    """A warning: of an object whose slot or functor was refused an action, or that no turn is left."""
 
     warning: str
     object: int = 0
@@ -99,10 +100,11 @@ class Warned(Line):
     def said(self) -> str:
         if self.warning == NO_TURNS:
             return f"{coded(self.warning)}, so what is still to be called is not called, and events stay where they are"
+        refused = f"object {self.object}: an action of its slot or functor is refused, {coded(self.warning)}"
         if self.warning == "E14":
             nested = "or its signal is nested too deep and calls nothing"
-            return f"object {self.object}: an action of its slot is refused, {coded(self.warning)}, {nested}"
-        return f"object {self.object}: an action of its slot is refused, {coded(self.warning)}"
+            return f"{refused}, {nested}"
+        return refused
 
 
 LINES = [

@@ -16,8 +16,8 @@ Each line is shown as it is, and below it what it means. With --commands each co
 the lines that it leads to, and they are explained by it.
 
 What --tree knows. The commands say which objects are made, moved and deleted, and the replies whether
-that was done; a reply of `children` says what stands below an object then. But a slot that is called
-may move and delete objects, and no line says so: behind a command that calls a slot, as a `set` does
+that was done; a reply of `children` says what stands below an object then. But a slot or a functor that is
+called may move and delete objects, and no line says so: behind a command that calls one, as a `set` does
 whose change a slot is told of, it is not known where the objects stand, nor whether they stand, until
 later replies tell it. Only `deleteLater()`, which every object has, is known to do nothing before the
 next `spin`. So the tree of a session whose slots were called is whole again after a `children` for the

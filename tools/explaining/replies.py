@@ -77,8 +77,16 @@ def said_of_dynamic_names(asked, reply):
 
 
 def said_of_connect(asked, reply):
+    return connected_to(f"{plain(asked['method'])} of object {asked['receiver']}", asked, reply)
+
+
+def said_of_connect_functor(asked, reply):
+    return connected_to(f"the functor {plain(asked['functor'])} for object {asked['context']}", asked, reply)
+
+
+def connected_to(called, asked, reply):
+    """The connection of a signal to what it calls."""
     does = "posts a call of" if asked.get("type") == "queued" else "calls"
-    called = f"{plain(asked['method'])} of object {asked['receiver']}"
     signal = f"{plain(asked['signal'])} of object {asked['sender']}"
     return f"connection {reply} is made: {signal} {does} {called}{', once' if asked.get('single') else ''}"
 

@@ -11,6 +11,8 @@ CODES = {
     "E06": "the text is no signature",
     "E07": "the parameters of the signal and of the method do not fit",
     "E08": "the same signal and method are connected already",
+    "E09": "a connection to a functor cannot be unique",
+    "E10": "there is no such functor",
     "E11": "the object has no such property",
     "E12": "the parent would be the object itself or below it",
     "E13": "the object is being deleted",

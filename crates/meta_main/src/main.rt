@@ -2,11 +2,20 @@
 //! JSON object a line, and writes what the sessions are told to standard output.
 #![tactic(auto)]
 
+ghost use Rattle.std.specs.Prelude.{◌≡◌, ◌∷◌, [], IfOk};
+ghost use Rattle.signature_core.specs.declared.kind.Kind.TheVariants.{Int};
+ghost use Rattle.stored_slots.specs.Functors.{AreArguments};
+ghost use Rattle.term_evaluation.specs.Unfolding.{unfolded_body};
+ghost use Rattle.program_start.specs.Clamp.{clamp_body};
+
 mod status;
 
-use program_start::{Beginning, start};
+use program_start::{Beginning, clamped, start, with_clamp};
 use server_world::Server;
+use std::alloc::{AllocError, Global};
 use std::process::ExitCode;
+use term_core::{Action, Expr, Node};
+use variant_value::Value;
 use wire_lines::{Counted, RunFault, Summary, run};
 
 fn main(rt: HostRuntime) -> ExitCode {
@@ -20,10 +29,27 @@ fn main(rt: HostRuntime) -> ExitCode {
     }
 }
 
-/// Answers standard input on standard output, to its end, with these classes and turns.
+/// Answers standard input on standard output, to its end, with these classes and turns, and with the functor
+/// `clamp`, whose closure captures the bounds that it keeps a number between.
 fn serve(rt: &HostRuntime, beginning: Beginning) -> Result<Summary, RunFault> {
     let Beginning { classes, turns } = beginning;
-    let Ok(mut server) = Server::new(rt.alloc(), classes, turns) else {
+    let (least, most) = (0, 100);
+    let Ok(clamp) = Box::new(
+        rt.alloc(),
+        move |alloc: Global, args: &[Value]| -> Result<Vec<Action>, AllocError>
+            requires { AreArguments (Int ∷ []) args.now }
+            ensures { IfOk result (λ actions. actions.items ≡ unfolded_body args.now (clamp_body least most)) }
+        {
+            let node = Node::Const(args[0].copy(alloc)?);
+            clamped(alloc, least, most, &Expr { node })
+        },
+    ) else {
+        return Err(RunFault::Memory);
+    };
+    let Ok(functors) = with_clamp(rt.alloc(), least, most, clamp) else {
+        return Err(RunFault::Memory);
+    };
+    let Ok(mut server) = Server::new(rt.alloc(), classes, functors, turns) else {
         return Err(RunFault::Memory);
     };
     let mut reader = Counted::new(rt.stdin());

@@ -1,3 +1,4 @@
+pub mod Clamp
 pub mod ClassBytes
 pub mod Ending
 pub mod Start

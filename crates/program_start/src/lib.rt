@@ -1,7 +1,9 @@
-//! The start of `metad`: what its command line asks for, and the classes and turns that it runs with.
+//! The start of `metad`: what its command line asks for, the classes and turns that it runs with, and its
+//! functor.
 #![tactic(auto)]
 
 mod beginning;
+mod clamp;
 mod class_file;
 mod class_files;
 mod demonstration;
@@ -9,6 +11,7 @@ mod ending;
 mod starting;
 
 pub use beginning::Beginning;
+pub use clamp::{clamp_body, clamped, with_clamp};
 pub use class_file::{
     ClassFileError, MOST_BYTES, classes_at, classes_in, classes_of, read_at_most,
 };

@@ -24,10 +24,9 @@ use Rattle.thread_model.proofs.Lawful.{lawful}
 use Rattle.session_engine.specs.Sessions.{IsStep}
 use Rattle.server_world.specs.declared.report.Entry.{Entry}
 use Rattle.server_world.specs.declared.report.Entry.TheVariants.{Lines, OutOfMemory}
-use Rattle.server_world.specs.declared.server.Server.{Server}
 use Rattle.server_world.specs.Names.{with_name, with_names}
 use Rattle.server_world.specs.Runs.{IsAsAlone, IsAsWith, IsIsolated, IsShort, IsWorldRun, entry_lines, is_out_of_memory, tags}
-use Rattle.server_world.specs.Server.{IsLost, SomeFails, failed, names, seen, settings, states, was_refused}
+use Rattle.server_world.specs.Server.{Server, IsLost, SomeFails, failed, names, seen, settings, states, was_refused}
 use Rattle.server_world.proofs.ServerLemmas.{failed_stays, knows_all}
 
 -- what was found after was found before

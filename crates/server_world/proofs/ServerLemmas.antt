@@ -14,13 +14,12 @@ use Rattle.thread_model.specs.State.{empty}
 use Rattle.thread_model.specs.Thread.{Settings, joins_name}
 use Rattle.session_tables.specs.Session.{Session, fresh}
 use Rattle.session_tables.specs.Tables.{session_at}
-use Rattle.session_engine.specs.Engine as engine
-use Rattle.session_engine.specs.Engine.{Contents, place}
+use Rattle.session_engine.specs.Core as engine
+use Rattle.session_engine.specs.Core.{Contents, place}
 use Rattle.session_engine.specs.Sessions.{AreSound, AreWell, IsStep}
 use Rattle.session_engine.proofs.EngineLemmas.{position-any, position-None}
-use Rattle.server_world.specs.declared.server.Server.{Server}
 use Rattle.server_world.specs.Names.{with_name}
-use Rattle.server_world.specs.Server.{IsLost, StaysOut, failed, seen, was_refused}
+use Rattle.server_world.specs.Server.{Server, IsLost, StaysOut, failed, seen, was_refused}
 
 pub refused_in_engine : (server : Server) → IsTrue (engine.was_refused server.engine) → IsTrue (was_refused server)
 unfolding was_refused

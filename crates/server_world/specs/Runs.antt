@@ -14,9 +14,8 @@ use Rattle.thread_model.specs.Machine.{machine}
 use Rattle.thread_model.specs.declared.line.Line.{Line}
 use Rattle.session_engine.specs.Sessions.{AreSound}
 use Rattle.server_world.specs.declared.report.Entry.{Entry}
-use Rattle.server_world.specs.declared.server.Server.{Server}
 use Rattle.server_world.specs.Names.{with_names}
-use Rattle.server_world.specs.Server.{KnowsItsSessions, SomeFails, names, seen, settings, states, was_refused}
+use Rattle.server_world.specs.Server.{Server, KnowsItsSessions, SomeFails, names, seen, settings, states, was_refused}
 use Rattle.server_world.specs.declared.report.Entry.TheVariants.{Lines, OutOfMemory}
 
 -- the commands of a list, as definitions see them

@@ -5,11 +5,21 @@ use Rattle.thread_model.specs.State.{State}
 use Rattle.thread_model.specs.Thread.{Settings}
 use Rattle.thread_model.specs.Machine.{machine}
 use Rattle.session_tables.specs.Session.{Session, gone}
-use Rattle.server_world.specs.declared.server.Server.{Server}
-use Rattle.session_engine.specs.Engine as engine
-use Rattle.session_engine.specs.Engine.{Contents, place}
+use Rattle.server_world.specs.declared.server.Server as code
+use Rattle.session_engine.specs.Core as engine
+use Rattle.session_engine.specs.Core.{Contents, place}
+use Rattle.session_engine.specs.Engine.{held}
 use Rattle.session_engine.specs.Sessions.{Sessions}
 use Rattle.server_world.specs.Names.{with_name}
+
+-- a server without what answers the calls of its functors
+pub record Server : Type 0 where
+  pub engine : Contents
+  -- memory was wanted outside the engine and not found
+  pub memory_refused : Bool
+
+abbrev pub seen_as : {x : _} {f : _} {g : _} → code.Server x f g → Server
+seen_as server = record { engine = held server.engine; memory_refused = server.memory_refused }
 
 -- what is fixed for the whole life of the server
 abbrev pub settings : Server → Settings

@@ -3,11 +3,13 @@ ghost use Rattle.std.specs.Prelude.{◌≡◌, ◌⊎◌, ◌≤◌, ◌<◌, []
 ghost use Rattle.std.specs.Result.{result_ok};
 ghost use Rattle.thread_model.specs.Asked.{asked};
 ghost use Rattle.thread_model.specs.State.{empty};
-ghost use Rattle.session_engine.specs.Engine as engine;
-ghost use Rattle.session_engine.specs.Engine.{place};
+ghost use Rattle.stored_slots.specs.Table.{functors_of};
+ghost use Rattle.session_engine.specs.Core as engine;
+ghost use Rattle.session_engine.specs.Core.{place};
+ghost use Rattle.session_engine.specs.Engine.{held};
 ghost use Rattle.session_engine.specs.Sessions.{AreSound, AreWell, IsStep};
 ghost use Rattle.server_world.specs.Names.{with_name};
-ghost use Rattle.server_world.specs.Server.{IsLost, IsNew, KnowsAtMost, OnlyRefused, StaysOut, failed, names, seen, settings, states, was_refused};
+ghost use Rattle.server_world.specs.Server.{IsLost, IsNew, KnowsAtMost, OnlyRefused, StaysOut, failed, names, seen, seen_as, settings, states, was_refused};
 ghost use Rattle.server_world.specs.Runs.{IsBlamed, IsIsolated, IsLater, IsWorldRun, entry_lines, tags};
 
 use crate::report::{Entry, Report};
@@ -15,6 +17,7 @@ use class_table::ClassTable;
 use plain_types::{Items, Text};
 use session_engine::Engine;
 use std::alloc::{AllocError, Global};
+use stored_slots::Functors;
 use thread_model::{Line, Tagged};
 
 /// A server of sessions, each with a name. A session is there from its first command on.
@@ -27,18 +30,24 @@ pub struct Server {
 }
 
 impl Server {
-    /// A server with no session. Its objects may have the classes of the table, and each command has
-    /// so many turns for the calls that it causes.
+    /// A server with no session. Its objects may have the classes of the table, its signals may be
+    /// connected to the functors, and each command has so many turns for the calls that it causes.
     #[tactic(auto, unfolding(crate::specs::Server::was_refused))]
-    pub fn new(alloc: Global, classes: ClassTable, turns: u32) -> Result<Server, AllocError>
-        ensures states { IfOk result (λ server. (name : List ℕ) → states server name ≡ empty) }
-        ensures failed { IfOk result (λ server. (name : List ℕ) → IsFalse (failed server name)) }
-        ensures settings { IfOk result (λ server. settings server ≡ record { turns = turns; classes = classes }) }
-        ensures new { IfOk result IsNew }
+    pub fn new(
+        alloc: Global,
+        classes: ClassTable,
+        functors: Functors,
+        turns: u32,
+    ) -> Result<Server, AllocError>
+        ensures states { IfOk result (λ server. (name : List ℕ) → states (seen_as server) name ≡ empty) }
+        ensures failed { IfOk result (λ server. (name : List ℕ) → IsFalse (failed (seen_as server) name)) }
+        ensures settings { IfOk result (λ server. settings (seen_as server) ≡ record { turns = turns; classes = classes; functors = functors_of functors }) }
+        ensures new { IfOk result (λ server. IsNew (seen_as server)) }
     {
+        let rows = functors.rows()?;
         Ok(Server {
             alloc,
-            engine: Engine::new(alloc, classes, turns)?,
+            engine: Engine::new(alloc, classes, functors, rows, turns)?,
             memory_refused: false,
         })
     }
@@ -46,10 +55,10 @@ impl Server {
     /// Does one command. A refusal is told by one line; where memory is wanted and not found, the
     /// command's session has failed, or is not there if this was its first command.
     pub fn step(&mut self, given: &Tagged) -> Result<Items<Line>, AllocError>
-        ensures step { IsStep (seen self.old) (seen self.new) given.now.session (asked given.now.command) (result_ok result) }
-        ensures known { KnowsAtMost self.old self.new given.now.session }
-        ensures there { OnOk result (names self.new ≡ with_name (names self.old) given.now.session) }
-        ensures lost { OnErr result (IsLost self.old self.new given.now.session) }
+        ensures step { IsStep (seen (seen_as self.old)) (seen (seen_as self.new)) given.now.session (asked given.now.command) (result_ok result) }
+        ensures known { KnowsAtMost (seen_as self.old) (seen_as self.new) given.now.session }
+        ensures there { OnOk result (names (seen_as self.new) ≡ with_name (names (seen_as self.old)) given.now.session) }
+        ensures lost { OnErr result (IsLost (seen_as self.old) (seen_as self.new) given.now.session) }
     {
         let place = enter(&mut self.engine, &given.session)?;
         self.engine.told(place, &given.command)
@@ -59,16 +68,16 @@ impl Server {
     ///
     /// Room for the whole report is made first; where it is not found, no command is done.
     pub fn run(&mut self, list: &[Tagged]) -> Report
-        ensures refused { result.memory_refused ≡ was_refused self.new }
+        ensures refused { result.memory_refused ≡ was_refused (seen_as self.new) }
         // The lines and the states are those of all sessions side by side,
-        ensures world { IsFalse result.memory_refused → IsWorldRun self.old self.new (tags list.now) result.lines }
+        ensures world { IsFalse result.memory_refused → IsWorldRun (seen_as self.old) (seen_as self.new) (tags list.now) result.lines }
         // so each session is told what it would be told by itself.
-        ensures isolated { IsFalse result.memory_refused → (s : List ℕ) → IsIsolated self.old self.new (tags list.now) result.lines s }
+        ensures isolated { IsFalse result.memory_refused → (s : List ℕ) → IsIsolated (seen_as self.old) (seen_as self.new) (tags list.now) result.lines s }
         ensures size { (length result.lines ≡ length list.now)
-            ⊎ ((result.lines ≡ []) × OnlyRefused self.old self.new) }
-        ensures blame { IsFalse (was_refused self.old) → IsTrue result.memory_refused
-            → IsBlamed self.old self.new result.lines (length list.now) }
-        ensures later { IsLater self.old self.new }
+            ⊎ ((result.lines ≡ []) × OnlyRefused (seen_as self.old) (seen_as self.new)) }
+        ensures blame { IsFalse (was_refused (seen_as self.old)) → IsTrue result.memory_refused
+            → IsBlamed (seen_as self.old) (seen_as self.new) result.lines (length list.now) }
+        ensures later { IsLater (seen_as self.old) (seen_as self.new) }
     {
         let Ok(mut entries) = Vec::with_capacity(self.alloc, list.len()) else {
             self.note_memory_refused();
@@ -89,9 +98,9 @@ impl Server {
     }
 
     fn entry(&mut self, given: &Tagged) -> Entry
-        ensures step { IsStep (seen self.old) (seen self.new) given.now.session (asked given.now.command) (entry_lines result) }
-        ensures there { OnSome (entry_lines result) (names self.new ≡ with_name (names self.old) given.now.session) }
-        ensures lost { IfNone (entry_lines result) (IsLost self.old self.new given.now.session) }
+        ensures step { IsStep (seen (seen_as self.old)) (seen (seen_as self.new)) given.now.session (asked given.now.command) (entry_lines result) }
+        ensures there { OnSome (entry_lines result) (names (seen_as self.new) ≡ with_name (names (seen_as self.old)) given.now.session) }
+        ensures lost { IfNone (entry_lines result) (IsLost (seen_as self.old) (seen_as self.new) given.now.session) }
     {
         match self.step(given) {
             Ok(lines) => Entry::Lines(lines),
@@ -102,7 +111,7 @@ impl Server {
     /// Whether memory was wanted and not found in any call of this server so far, or was noted so.
     #[tactic(auto, unfolding(crate::specs::Server::was_refused))]
     pub fn memory_refused(&self) -> bool
-        ensures { result ≡ was_refused self.now }
+        ensures { result ≡ was_refused (seen_as self.now) }
     {
         self.engine.memory_refused() || self.memory_refused
     }
@@ -111,8 +120,8 @@ impl Server {
     /// and writes lines notes it here, so that `memory_refused` speaks of the whole program.
     #[tactic(auto, unfolding(crate::specs::Server::was_refused))]
     pub fn note_memory_refused(&mut self)
-        ensures refused { OnlyRefused self.old self.new }
-        ensures settings { settings self.new ≡ settings self.old }
+        ensures refused { OnlyRefused (seen_as self.old) (seen_as self.new) }
+        ensures settings { settings (seen_as self.new) ≡ settings (seen_as self.old) }
     {
         self.memory_refused = true;
     }
@@ -120,12 +129,12 @@ impl Server {
 
 /// The place of a session, which is opened where it is not there.
 fn enter(sessions: &mut Engine, name: &Text) -> Result<usize, AllocError>
-    ensures place { IfOk result (λ at. place sessions.new name.now ≡ Some at) }
-    ensures there { OnOk result (engine.names sessions.new ≡ with_name (engine.names sessions.old) name.now) }
-    ensures seen { OnOk result (engine.seen sessions.new ≡ engine.seen sessions.old) }
-    ensures out { OnErr result (StaysOut sessions.old sessions.new name.now) }
-    ensures well { AreWell (engine.seen sessions.old) }
-    ensures sound { AreSound (engine.seen sessions.old) }
+    ensures place { IfOk result (λ at. place (held sessions.new) name.now ≡ Some at) }
+    ensures there { OnOk result (engine.names (held sessions.new) ≡ with_name (engine.names (held sessions.old)) name.now) }
+    ensures seen { OnOk result (engine.seen (held sessions.new) ≡ engine.seen (held sessions.old)) }
+    ensures out { OnErr result (StaysOut (held sessions.old) (held sessions.new) name.now) }
+    ensures well { AreWell (engine.seen (held sessions.old)) }
+    ensures sound { AreSound (engine.seen (held sessions.old)) }
 {
     sessions.sound();
     match sessions.find(name) {

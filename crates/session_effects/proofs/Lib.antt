@@ -1,3 +1,4 @@
 pub mod ActionLemmas
 pub mod FoundLemmas
 pub mod WritingLemmas
+pub mod FunctorLemmas

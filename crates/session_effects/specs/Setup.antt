@@ -3,4 +3,4 @@ use Rattle.thread_model.specs.Thread.{Settings}
 use Rattle.session_effects.specs.declared.setup.Setup.{Setup}
 
 abbrev pub settings_of : Setup → Settings
-settings_of setup = record { turns = setup.turns; classes = setup.classes }
+settings_of setup = record { turns = setup.turns; classes = setup.classes; functors = setup.functors }

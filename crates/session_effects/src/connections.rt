@@ -8,12 +8,13 @@ ghost use Rattle.connection_types.specs.declared.callee.Callee.TheVariants.{Meth
 ghost use Rattle.thread_model.specs.Connecting.{fits_at, receiver_with};
 ghost use Rattle.thread_model.specs.Methods.{method_named, method_with, signal_named, signal_with};
 ghost use Rattle.thread_model.specs.Acts as acts;
-ghost use Rattle.thread_model.specs.Signals.{asked_connection, asked_pattern};
+ghost use Rattle.thread_model.specs.Signals.{asked_connection, asked_functor_connection, asked_pattern};
 ghost use Rattle.session_tables.specs.Tables.{IsPlaced, state_at};
 ghost use Rattle.session_effects.specs.Methods.{its_methods};
 ghost use Rattle.session_effects.specs.Setup.{settings_of};
 
 use crate::caller::Caller;
+use crate::functors::{functor_named, params_at};
 use crate::methods::{kinds_at, method_named, method_with, signal_named, signal_with};
 use connection_list::{NewConnection, Pattern, Receiver};
 use connection_types::{Callee, ConnectionType};
@@ -48,6 +49,38 @@ pub fn asked_connection(
     let method = method_named(caller, tables, receiver, method)?;
     check_fits(caller, tables, sender, signal, receiver, method)?;
     Ok(joined(sender, signal, receiver, method, options))
+}
+
+/// The connection to a functor that a command asks for.
+pub fn asked_functor_connection(
+    caller: &Caller,
+    tables: &Tables,
+    sender: u32,
+    signal: &Text,
+    context: u32,
+    functor: &Text,
+    options: Options,
+) -> Result<NewConnection, Fault>
+    requires { IsPlaced tables.now caller.now.place }
+    ensures { Answers result (asked_functor_connection (settings_of caller.now.setup.now) (state_at tables.now caller.now.place)
+        sender signal.now context functor.now options.mode options.single) }
+{
+    let signal = signal_named(caller, tables, sender, signal)?;
+    let functor = functor_named(caller, functor)?;
+    if !fits(
+        kinds_at(caller, tables, sender, signal),
+        params_at(caller, functor),
+    ) {
+        return Err(Fault::Refused(Code::DoesNotFit));
+    }
+    Ok(NewConnection {
+        sender,
+        signal,
+        receiver: context,
+        callee: Callee::Functor(functor),
+        mode: options.mode,
+        single: options.single,
+    })
 }
 
 /// The connection that an action asks for.

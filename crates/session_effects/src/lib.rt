@@ -7,14 +7,16 @@ mod caller;
 mod connections;
 mod effects;
 mod evaluation;
+mod functors;
 mod methods;
 mod setup;
 mod slot;
 mod writing;
 
 pub use caller::Caller;
-pub use connections::{Options, asked_connection, asked_pattern};
+pub use connections::{Options, asked_connection, asked_functor_connection, asked_pattern};
 pub use effects::{Emission, change, deleted, sent, truth};
+pub use functors::{are_arguments, functor_at};
 pub use methods::{kinds_at, method_at, method_with};
 pub use setup::Setup;
 pub use slot::Slot;

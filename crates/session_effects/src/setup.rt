@@ -1,13 +1,15 @@
 //! What is fixed for the whole life of an engine.
-ghost use Rattle.std.specs.Prelude.{◌≡◌, IfOk, option_map};
+ghost use Rattle.std.specs.Prelude.{◌≡◌, ◌≤◌, IfOk, length, option_map};
+ghost use Rattle.stored_slots.specs.declared.limit.TheConstants.{FUNCTORS};
 ghost use Rattle.std.specs.Result.{result_err};
 ghost use Rattle.thread_model.specs.Classes.{class_index};
 ghost use Rattle.thread_model.specs.Refusing.{class_refusal, named_class_refusal};
 
 use class_table::ClassTable;
-use plain_types::Text;
+use plain_types::{Items, Text};
 use refusals::Code;
 use std::alloc::Global;
+use stored_slots::Functor;
 
 /// What is fixed for the whole life of an engine, and the same for all of its sessions.
 #[derive(Drop)]
@@ -15,8 +17,12 @@ pub struct Setup {
     pub alloc: Global,
     /// The classes that objects may have.
     pub classes: ClassTable,
+    /// The functors that signals may be connected to. What answers their calls is not here: it is lent to
+    /// who calls them.
+    pub functors: Items<Functor>,
     /// How many turns each command has for the calls that it causes.
     pub turns: u32,
+    ghost few: { length functors ≤ FUNCTORS },
 }
 
 impl Setup {

@@ -25,11 +25,11 @@ use Rattle.session_tables.specs.Session.{Session, gone}
 use Rattle.session_tables.specs.Tables.{ChangesOnly, failed_at, session_at, state_at, with_session, with_state}
 use Rattle.session_tables.proofs.TablesLemmas.{changes_same, changes_state, with_session_after, with_state_same, with_state_session}
 use Rattle.session_effects.specs.declared.caller.Caller.{Caller}
-use Rattle.session_engine.specs.declared.telling.Telling.{Telling}
+use Rattle.nested_calls.specs.declared.telling.Telling.{Telling}
 use Rattle.session_engine.specs.Commands.{Obeys, Performs, reply_after, reply_lines}
 use Rattle.session_effects.specs.Actions.{Keeps}
-use Rattle.session_engine.specs.Telling.{doing_at, fresh_telling}
-use Rattle.session_engine.specs.Engine.{Contents, IsWhole, contents, place, seen, sessions, states}
+use Rattle.nested_calls.specs.Telling.{doing_at, fresh_telling}
+use Rattle.session_engine.specs.Core.{Contents, IsWhole, contents, place, seen, sessions, states}
 use Rattle.session_engine.specs.Returning.{Returns, told, wants_memory}
 use Rattle.session_engine.specs.Sessions.{IsStep, session_after, session_refusal}
 use Rattle.session_effects.specs.Setup.{settings_of}

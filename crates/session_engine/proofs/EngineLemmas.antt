@@ -21,9 +21,9 @@ use Rattle.thread_model.proofs.DeclaredLemmas.{keeps_declared}
 use Rattle.thread_model.proofs.LawLemmas.{keeps_sound}
 use Rattle.session_tables.specs.declared.tables.Tables.{Tables}
 use Rattle.session_tables.specs.Session.{Session, fresh, gone}
-use Rattle.session_tables.specs.Tables.{AreEven, AreLaid, AreSame, IsPlaced, session_at}
+use Rattle.session_tables.specs.Tables.{AreEven, AreSame, IsPlaced, session_at}
 use Rattle.session_tables.proofs.TablesLemmas.{even_opened, even_same, even_with, placed_by, session_each, session_elsewhere, session_opened, session_past, session_same, session_there}
-use Rattle.session_engine.specs.Engine.{Contents, IsKept, IsWhole, given_up, opened, place, refused_growth, seen, sessions, with_session_at}
+use Rattle.session_engine.specs.Core.{Contents, IsKept, IsWhole, given_up, opened, place, refused_growth, seen, sessions, with_session_at}
 use Rattle.session_engine.specs.Sessions.{AreSound}
 
 -- where nothing has a place, nothing passes

@@ -36,9 +36,9 @@ use Rattle.session_effects.specs.declared.caller.Caller.{Caller}
 use Rattle.session_effects.specs.Actions.{Keeps}
 use Rattle.session_effects.specs.Setup.{settings_of}
 use Rattle.session_engine.specs.Commands.{Performs, reply_after}
-use Rattle.session_engine.specs.declared.telling.Telling.{Telling}
-use Rattle.session_engine.specs.Telling.{doing_at, fresh_telling, spent}
-use Rattle.session_engine.proofs.AgendaLemmas.{spent_is}
+use Rattle.nested_calls.specs.declared.telling.Telling.{Telling}
+use Rattle.nested_calls.specs.Telling.{doing_at, fresh_telling, spent}
+use Rattle.nested_calls.proofs.AgendaLemmas.{spent_is}
 use Rattle.session_engine.proofs.CommandsLemmas.{replied_last}
 
 -- the first of some events
@@ -111,9 +111,9 @@ module _ (settings : Settings) (place : ℕ) (tables : Tables) (telling : Tellin
   by_callee : (called : Callee) → call.callee ≡ called → its_items ≡ call_items settings (state_at tables place) call called
   by_callee called is = ap (call_items settings (state_at tables place) call) is
 
-  -- a functor does nothing
-  pub calls_functor : (index : ℕ) → call.callee ≡ callee.Functor index → run settings its_items its_doing ≡ its_doing
-  calls_functor index is = ap (λ (items : List Item). run settings items its_doing) (by_callee (callee.Functor index) is) ∙ at_end settings its_doing
+  -- a functor is run
+  pub calls_functor : (index : ℕ) → call.callee ≡ callee.Functor index → (done : Doing) → run settings (call_items settings (state_at tables place) call (callee.Functor index)) its_doing ≡ done → run settings its_items its_doing ≡ done
+  calls_functor index is done does = ap (λ (items : List Item). run settings items its_doing) (by_callee (callee.Functor index) is) ∙ does
 
   module _ (index : ℕ) (is : call.callee ≡ callee.Method index) where
     by_method : (found : Option Method) → found ≡ method_at settings (state_at tables place) call.object index → its_items ≡ option_map_or (method_items call.object index call.sender call.args 0 0) found []

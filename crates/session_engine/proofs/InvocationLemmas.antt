@@ -40,12 +40,12 @@ use Rattle.thread_model.proofs.ThreadLemmas.{replies_last}
 use Rattle.session_tables.specs.declared.tables.Tables.{Tables}
 use Rattle.session_tables.specs.Tables.{state_at}
 use Rattle.session_effects.specs.declared.caller.Caller.{Caller}
-use Rattle.session_engine.specs.declared.telling.Telling.{Telling}
+use Rattle.nested_calls.specs.declared.telling.Telling.{Telling}
 use Rattle.session_effects.specs.Actions.{Keeps}
 use Rattle.session_engine.specs.Commands.{Performs, reply_after}
 use Rattle.session_effects.specs.Setup.{settings_of}
-use Rattle.session_engine.specs.Telling.{doing_at, fresh_telling, spent}
-use Rattle.session_engine.proofs.AgendaLemmas.{spent_is}
+use Rattle.nested_calls.specs.Telling.{doing_at, fresh_telling, spent}
+use Rattle.nested_calls.proofs.AgendaLemmas.{spent_is}
 use Rattle.session_engine.proofs.CommandsLemmas.{its_refusal, or_second, replied_last}
 
 -- the signature that a text spells

@@ -1,10 +1,9 @@
 pub mod EngineLemmas
 pub mod StepLemmas
-pub mod DeletionLemmas
 pub mod EventsLemmas
 pub mod CommandsLemmas
 pub mod PropertiesLemmas
 pub mod ClassesLemmas
-pub mod AgendaLemmas
 pub mod ValuesLemmas
 pub mod InvocationLemmas
+pub mod TreesLemmas

@@ -37,9 +37,9 @@ use Rattle.session_effects.specs.declared.caller.Caller.{Caller}
 use Rattle.session_effects.specs.declared.writing.Notice.{Notice}
 use Rattle.session_effects.specs.Setup.{settings_of}
 use Rattle.session_effects.specs.Writing.{TriesToWrite, Writes, items_of}
-use Rattle.session_engine.specs.declared.telling.Telling.{Telling}
+use Rattle.nested_calls.specs.declared.telling.Telling.{Telling}
 use Rattle.session_engine.specs.Commands.{Performs, reply_after}
-use Rattle.session_engine.specs.Telling.{doing_at, fresh_telling}
+use Rattle.nested_calls.specs.Telling.{doing_at, fresh_telling}
 use Rattle.session_engine.proofs.CommandsLemmas.{its_refusal, or_second, replied_last, starved, stopped}
 
 pub is_null : (json : Data) → is_some (as_null json) ≡ true → json ≡ d.null

@@ -23,7 +23,7 @@ use Rattle.thread_model.proofs.Lawful.{lawful}
 use Rattle.thread_model.proofs.LawLemmas.{keeps_sound}
 use Rattle.session_tables.specs.Session.{Session, gone}
 use Rattle.session_tables.specs.Tables.{session_at}
-use Rattle.session_engine.specs.Engine.{Contents, IsWhole, given_up, place, seen, sessions, states, with_session_at}
+use Rattle.session_engine.specs.Core.{Contents, IsWhole, given_up, place, seen, sessions, states, with_session_at}
 use Rattle.session_engine.specs.Sessions.{Fails, IsStep, Sessions, given_by, session_after, session_does, session_refusal}
 use Rattle.session_engine.proofs.EngineLemmas.{kept_by_name, sessions-others, sessions-own, sessions-place, sound_by_name, whole_given_up, whole_with}
 

@@ -1,7 +1,6 @@
 pub mod Returning
 pub mod Sessions
-pub mod Telling
-pub mod Agenda
 pub mod Invocation
 pub mod Commands
+pub mod Core
 pub mod Engine

@@ -3,82 +3,95 @@ ghost use Rattle.std.specs.Prelude.{◌≡◌, ◌∷◌, [], IfOk};
 ghost use Rattle.thread_model.specs.Asked.{asked};
 ghost use Rattle.session_tables.specs.Tables.{IsPlaced};
 ghost use Rattle.session_engine.specs.Commands.{KnowsProperties, Obeys, Performs, reply_after};
-ghost use Rattle.session_engine.specs.Telling.{fresh_telling};
+ghost use Rattle.nested_calls.specs.Telling.{fresh_telling};
 ghost use Rattle.session_engine.specs.Returning.{wants_memory};
 
 use crate::classes::describe;
-use crate::connections::{connect, disconnect, disconnect_one};
+use crate::connections::{connect, connect_functor, disconnect, disconnect_one};
 use crate::events::{block, delete_later, spin, status};
 use crate::invocation::invoke;
 use crate::properties::{dynamic_names, get, set};
-use crate::telling::Telling;
 use crate::trees::{children, delete_object, find, new_object, set_parent};
+use nested_calls::{Actor, Answering, Telling};
 use plain_types::Items;
 use refusals::{Code, Fault};
-use session_effects::{Caller, Options};
+use session_effects::Options;
 use session_tables::Tables;
 use std::alloc::{AllocError, Global};
 use thread_model::{Answer, Command, Line};
 
 /// Lets a session do a command. Where memory is wanted and not found, it has failed.
-pub fn obey(caller: &Caller, tables: &mut Tables, command: &Command) -> Result<Items<Line>, Fault>
-    requires placed { IsPlaced tables.old caller.now.place }
-    requires known { KnowsProperties caller.now tables.old }
-    ensures { Obeys caller.now (asked command.now) tables.old tables.new result }
+pub fn obey<F: Answering>(
+    actor: &Actor<F>,
+    tables: &mut Tables,
+    command: &Command,
+) -> Result<Items<Line>, Fault>
+    requires placed { IsPlaced tables.old actor.now.caller.place }
+    requires known { KnowsProperties actor.now.caller tables.old }
+    ensures { Obeys actor.now.caller (asked command.now) tables.old tables.new result }
 {
-    if tables.failed(caller.place) {
+    if tables.failed(actor.caller.place) {
         return Err(Fault::Refused(Code::SessionFailed));
     }
-    let replied = reply(caller, tables, command);
+    let replied = reply(actor, tables, command);
     if wants_memory(&replied) {
-        tables.give_up(caller.place);
+        tables.give_up(actor.caller.place);
     }
     replied
 }
 
 /// Does a command, and returns what is told.
-fn reply(caller: &Caller, tables: &mut Tables, command: &Command) -> Result<Items<Line>, Fault>
-    requires placed { IsPlaced tables.old caller.now.place }
-    requires known { KnowsProperties caller.now tables.old }
-    ensures { Performs caller.now (asked command.now) tables.old tables.new (λ lines. lines) result }
+fn reply<F: Answering>(
+    actor: &Actor<F>,
+    tables: &mut Tables,
+    command: &Command,
+) -> Result<Items<Line>, Fault>
+    requires placed { IsPlaced tables.old actor.now.caller.place }
+    requires known { KnowsProperties actor.now.caller tables.old }
+    ensures { Performs actor.now.caller (asked command.now) tables.old tables.new (λ lines. lines) result }
 {
-    let mut telling = Telling::new(caller.setup);
-    let answer = perform(caller, tables, &mut telling, command)?;
+    let mut telling = Telling::new(actor.caller.setup);
+    let answer = perform(actor, tables, &mut telling, command)?;
     telling.tell(Line::Reply(answer))?;
     Ok(telling.lines)
 }
 
 /// Does a command, tells what it tells before its reply, and returns what is replied.
 #[tactic(auto, using(crate::proofs::CommandsLemmas::silently))]
-fn perform(
-    caller: &Caller,
+fn perform<F: Answering>(
+    actor: &Actor<F>,
     tables: &mut Tables,
     telling: &mut Telling,
     command: &Command,
 ) -> Result<Answer, Fault>
-    requires placed { IsPlaced tables.old caller.now.place }
-    requires known { KnowsProperties caller.now tables.old }
-    requires fresh { telling.old ≡ fresh_telling caller.now.setup.now.turns }
-    ensures { Performs caller.now (asked command.now) tables.old tables.new (reply_after telling.new.lines) result }
+    requires placed { IsPlaced tables.old actor.now.caller.place }
+    requires known { KnowsProperties actor.now.caller tables.old }
+    requires fresh { telling.old ≡ fresh_telling actor.now.caller.setup.now.turns }
+    ensures { Performs actor.now.caller (asked command.now) tables.old tables.new (reply_after telling.new.lines) result }
 {
     match command {
-        Command::New { class, parent } => new_object(caller, tables, class, *parent),
-        Command::Delete { object } => delete_object(caller, tables, telling, *object),
-        Command::SetParent { object, parent } => set_parent(caller, tables, *object, *parent),
-        Command::Children { object } => children(caller, tables, *object),
+        Command::New { class, parent } => new_object(&actor.caller, tables, class, *parent),
+        Command::Delete { object } => delete_object(actor, tables, telling, *object),
+        Command::SetParent { object, parent } => set_parent(
+            &actor.caller,
+            tables,
+            *object,
+            *parent,
+        ),
+        Command::Children { object } => children(&actor.caller, tables, *object),
         Command::Find {
             object,
             name,
             class,
-        } => find(caller, tables, *object, name, class),
+        } => find(&actor.caller, tables, *object, name, class),
         Command::Set {
             object,
             property,
             value,
-        } => set(caller, tables, telling, *object, property, value),
-        Command::Get { object, property } => get(caller, tables, *object, property),
-        Command::DynamicNames { object } => dynamic_names(caller, tables, *object),
-        Command::Meta { class } => describe(caller, tables, class),
+        } => set(actor, tables, telling, *object, property, value),
+        Command::Get { object, property } => get(&actor.caller, tables, *object, property),
+        Command::DynamicNames { object } => dynamic_names(&actor.caller, tables, *object),
+        Command::Meta { class } => describe(&actor.caller, tables, class),
         Command::Connect {
             sender,
             signal,
@@ -93,22 +106,54 @@ fn perform(
                 unique: *unique,
                 single: *single,
             };
-            connect(caller, tables, *sender, signal, *receiver, method, options)
+            connect(
+                &actor.caller,
+                tables,
+                *sender,
+                signal,
+                *receiver,
+                method,
+                options,
+            )
         }
-        Command::DisconnectOne { connection } => disconnect_one(caller, tables, *connection),
+        Command::ConnectFunctor {
+            sender,
+            signal,
+            context,
+            functor,
+            mode,
+            unique,
+            single,
+        } => {
+            let options = Options {
+                mode: *mode,
+                unique: *unique,
+                single: *single,
+            };
+            connect_functor(
+                &actor.caller,
+                tables,
+                *sender,
+                signal,
+                *context,
+                functor,
+                options,
+            )
+        }
+        Command::DisconnectOne { connection } => disconnect_one(&actor.caller, tables, *connection),
         Command::Disconnect {
             sender,
             signal,
             receiver,
             method,
-        } => disconnect(caller, tables, *sender, signal, *receiver, method),
+        } => disconnect(&actor.caller, tables, *sender, signal, *receiver, method),
         Command::Invoke {
             object,
             method,
             args,
             mode,
         } => invoke(
-            caller,
+            actor,
             tables,
             telling,
             *object,
@@ -116,10 +161,10 @@ fn perform(
             args.as_slice(),
             *mode,
         ),
-        Command::Spin => spin(caller, tables, telling),
-        Command::DeleteLater { object } => delete_later(caller, tables, *object),
-        Command::Block { object, on } => block(caller, tables, *object, *on),
-        Command::Status => status(caller, tables),
+        Command::Spin => spin(actor, tables, telling),
+        Command::DeleteLater { object } => delete_later(&actor.caller, tables, *object),
+        Command::Block { object, on } => block(&actor.caller, tables, *object, *on),
+        Command::Status => status(&actor.caller, tables),
     }
 }
 

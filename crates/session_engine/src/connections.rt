@@ -1,11 +1,11 @@
 //! The commands for connections.
-ghost use Rattle.thread_model.specs.Asked.{Connect, Disconnect, DisconnectOne};
+ghost use Rattle.thread_model.specs.Asked.{Connect, ConnectFunctor, Disconnect, DisconnectOne};
 ghost use Rattle.session_tables.specs.Tables.{IsPlaced};
 ghost use Rattle.session_engine.specs.Commands.{Performs, reply_lines};
 
 use plain_types::Text;
-use refusals::Fault;
-use session_effects::{Caller, Options, asked_connection, asked_pattern};
+use refusals::{Code, Fault};
+use session_effects::{Caller, Options, asked_connection, asked_functor_connection, asked_pattern};
 use session_tables::Tables;
 use thread_model::Answer;
 
@@ -26,6 +26,30 @@ pub fn connect(
     tables.check_object(caller.place, receiver)?;
     let new = asked_connection(caller, tables, sender, signal, receiver, method, options)?;
     let number = tables.connect(caller.place, new, options.unique)?;
+    Ok(Answer::Number(number))
+}
+
+/// Connects a signal to a functor, and replies the connection's number. A functor's connection is never
+/// unique.
+pub fn connect_functor(
+    caller: &Caller,
+    tables: &mut Tables,
+    sender: u32,
+    signal: &Text,
+    context: u32,
+    functor: &Text,
+    options: Options,
+) -> Result<Answer, Fault>
+    requires { IsPlaced tables.old caller.now.place }
+    ensures { Performs caller.now (ConnectFunctor sender signal.now context functor.now options.mode options.unique options.single) tables.old tables.new reply_lines result }
+{
+    tables.check_object(caller.place, sender)?;
+    tables.check_object(caller.place, context)?;
+    let new = asked_functor_connection(caller, tables, sender, signal, context, functor, options)?;
+    if options.unique {
+        return Err(Fault::Refused(Code::UniqueFunctor));
+    }
+    let number = tables.connect(caller.place, new, false)?;
     Ok(Answer::Number(number))
 }
 

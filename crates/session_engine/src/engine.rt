@@ -1,210 +1,148 @@
 //! The engine: the sessions of a server, and what a command of one of them does to all.
-ghost use Rattle.std.specs.Prelude.{◌≡◌, List, ℕ, ◌++◌, ◌∷◌, [], Some, None, IsTrue, IsFalse, IfOk, OnOk, OnErr};
-ghost use Rattle.std.specs.Result.{result_ok};
-ghost use Rattle.refusals.specs.Answers.{OnMemory};
-ghost use Rattle.thread_model.specs.declared.line.Line.TheVariants.{Error};
-ghost use Rattle.thread_model.specs.Asked.{asked};
-ghost use Rattle.thread_model.specs.Thread.{performs};
-ghost use Rattle.session_tables.specs.Refused.{OnRefused};
-ghost use Rattle.session_tables.specs.Session.{fresh, gone};
-ghost use Rattle.session_engine.specs.Returning.{Returns, told};
-ghost use Rattle.session_engine.specs.Sessions.{AreSound, AreWell, Fails, IsStep, session_refusal};
-ghost use Rattle.session_engine.specs.Engine.{IsPlace, OfSession, failed, names, place, seen, sessions, settings, states, was_refused};
+ghost use Rattle.std.proofs.Props.{props};
+ghost use Rattle.std.specs.Coded.{codes};
+ghost use Rattle.std.specs.Prelude.{◌≡◌};
+ghost use Rattle.stored_slots.specs.contracts.functor.Functor as functor;
+ghost use Rattle.stored_slots.specs.Table.{functors_of};
+ghost use Rattle.session_engine.specs.Core.{settings};
 
-use crate::commands::{obey, one_line, wants_memory};
-use crate::layouts::layouts;
+use crate::engine_core::Core;
 use class_table::ClassTable;
-use indexmap::IndexSet;
 use plain_types::{Items, Text};
-use refusals::{Code, Fault};
-use session_effects::{Caller, Setup};
-use session_tables::Tables;
+use refusals::Fault;
 use std::alloc::{AllocError, Global};
-use std::marker::Model;
+use stored_slots::{Functor, Functors};
 use thread_model::{Command, Line};
 
 /// The sessions of a server. Each is named by a text, and has a place that calls use; none is ever
 /// closed.
 #[derive(Drop)]
 pub struct Engine {
-    setup: Setup,
-    names: IndexSet<Text>,
-    tables: Tables,
-    memory_refused: bool,
-}
-
-impl Model for Engine {
-    ghost use Rattle.std.specs.Coded.{codes};
-    ghost use Rattle.class_table.specs.contracts.class.Class as class;
-    ghost use Rattle.session_tables.specs.contracts.tables.Tables as held;
-    ghost use Rattle.session_engine.specs.Engine.{Contents, IsWhole, contents};
-
-    ghost Value = { Contents };
-
-    ghost coded = { Prim.hlevel (codes, class.the_row.coded, held.the_row.coded) };
-
-    ghost view = { λ e. contents e.setup e.names.keys e.tables e.memory_refused };
-
-    ghost invariant = { λ e. IsWhole (contents e.setup e.names.keys e.tables e.memory_refused) };
+    core: Core,
+    functors: Functors,
+    ghost same: { functors_of functors ≡ (settings core).functors } by { Prim.hlevel (props, codes, functor.the_row.coded) },
 }
 
 impl Engine {
-    /// An engine with no session. Its objects may have these classes, and each command has so many
-    /// turns for the calls that it causes.
-    pub fn new(alloc: Global, classes: ClassTable, turns: u32) -> Result<Engine, AllocError>
-        ensures sessions { IfOk result (λ engine. (name : List ℕ) → sessions engine name ≡ fresh) }
-        ensures names { IfOk result (λ engine. names engine ≡ []) }
-        ensures settings { IfOk result (λ engine. settings engine ≡ record { turns = turns; classes = classes }) }
-        ensures refused { IfOk result (λ engine. IsFalse (was_refused engine)) }
+    ghost use Rattle.std.specs.Prelude.{◌≤◌, length, List, ℕ, ◌++◌, ◌∷◌, [], Some, None, IsTrue, IsFalse, IfOk, OnOk, OnErr};
+    ghost use Rattle.std.specs.Result.{result_ok};
+    ghost use Rattle.refusals.specs.Answers.{OnMemory};
+    ghost use Rattle.stored_slots.specs.declared.limit.TheConstants.{FUNCTORS};
+    ghost use Rattle.thread_model.specs.Asked.{asked};
+    ghost use Rattle.thread_model.specs.Thread.{performs};
+    ghost use Rattle.session_tables.specs.Refused.{OnRefused};
+    ghost use Rattle.session_tables.specs.Session.{fresh, gone};
+    ghost use Rattle.session_engine.specs.Returning.{Returns, told};
+    ghost use Rattle.session_engine.specs.Sessions.{AreSound, AreWell, Fails, IsStep, session_refusal};
+    ghost use Rattle.session_engine.specs.Core.{IsPlace, OfSession, failed, names, place, seen, sessions, states, was_refused};
+    ghost use Rattle.session_engine.specs.Engine.{held};
+
+    /// An engine with no session. Its objects may have these classes, its signals may be connected to
+    /// these functors, whose rows are copied for it, and each command has so many turns for the calls
+    /// that it causes.
+    pub fn new(
+        alloc: Global,
+        classes: ClassTable,
+        functors: Functors,
+        rows: Items<Functor>,
+        turns: u32,
+    ) -> Result<Engine, AllocError>
+        requires rows { rows ≡ functors_of functors }
+        requires few { length rows ≤ FUNCTORS }
+        ensures sessions { IfOk result (λ engine. (name : List ℕ) → sessions (held engine) name ≡ fresh) }
+        ensures names { IfOk result (λ engine. names (held engine) ≡ []) }
+        ensures settings { IfOk result (λ engine. settings (held engine) ≡ record { turns = turns; classes = classes; functors = functors_of functors }) }
+        ensures refused { IfOk result (λ engine. IsFalse (was_refused (held engine))) }
     {
-        let layouts = layouts(alloc, &classes)?;
         Ok(Engine {
-            names: IndexSet::new(alloc),
-            tables: Tables::new(alloc, layouts),
-            memory_refused: false,
-            setup: Setup {
-                alloc,
-                classes,
-                turns,
-            },
+            core: Core::new(alloc, classes, rows, turns)?,
+            functors,
         })
     }
 
     /// The place of a session.
     pub fn find(&self, name: &Text) -> Option<usize>
-        ensures { result ≡ place self.now name.now }
+        ensures { result ≡ place (held self.now) name.now }
     {
-        self.names.get_index_of(name)
+        self.core.find(name)
     }
 
     /// What holds of every session. There is nothing to run: the clauses are for the proofs of
     /// callers.
     pub fn sound(&self)
-        ensures well { AreWell (seen self.now) }
-        ensures sound { AreSound (seen self.now) }
+        ensures well { AreWell (seen (held self.now)) }
+        ensures sound { AreSound (seen (held self.now)) }
     {
-        // The loan is for the proof, which then knows what holds of the engine.
-        let _names = &self.names;
+        self.core.sound();
     }
 
     /// Opens a session for a name that has none, and returns its place.
     pub fn open(&mut self, name: &Text) -> Result<usize, AllocError>
-        requires { place self.old name.now ≡ None }
-        ensures place { IfOk result (λ at. place self.new name.now ≡ Some at) }
-        ensures sessions { sessions self.new ≡ sessions self.old }
-        ensures names { OnOk result (names self.new ≡ names self.old ++ name.now ∷ []) }
-        ensures settings { settings self.new ≡ settings self.old }
-        ensures ok { OnOk result (was_refused self.new ≡ was_refused self.old) }
-        ensures err { OnErr result (IsTrue (was_refused self.new) × (names self.new ≡ names self.old)) }
+        requires { place (held self.old) name.now ≡ None }
+        ensures place { IfOk result (λ at. place (held self.new) name.now ≡ Some at) }
+        ensures sessions { sessions (held self.new) ≡ sessions (held self.old) }
+        ensures names { OnOk result (names (held self.new) ≡ names (held self.old) ++ name.now ∷ []) }
+        ensures settings { settings (held self.new) ≡ settings (held self.old) }
+        ensures ok { OnOk result (was_refused (held self.new) ≡ was_refused (held self.old)) }
+        ensures err { OnErr result (IsTrue (was_refused (held self.new)) × (names (held self.new) ≡ names (held self.old))) }
     {
-        let entered = self.enter(name);
-        if entered.is_err() {
-            self.memory_refused = true;
-        }
-        entered
-    }
-
-    fn enter(&mut self, name: &Text) -> Result<usize, AllocError>
-        requires { place self.old name.now ≡ None }
-        ensures place { IfOk result (λ at. place self.new name.now ≡ Some at) }
-        ensures sessions { sessions self.new ≡ sessions self.old }
-        ensures names { OnOk result (names self.new ≡ names self.old ++ name.now ∷ []) }
-        ensures settings { settings self.new ≡ settings self.old }
-        ensures refused { was_refused self.new ≡ was_refused self.old }
-        ensures err { OnErr result (names self.new ≡ names self.old) }
-    {
-        self.tables.ready()?;
-        let name = name.copy(self.setup.alloc)?;
-        self.names.insert(name)?;
-        Ok(self.tables.open(self.setup.alloc))
+        self.core.open(name)
     }
 
     /// Does a command of a session. A session that has failed for want of memory refuses every
     /// command; where memory is wanted now and not found, the session has failed.
     pub fn command(&mut self, at: usize, command: &Command) -> Result<Items<Line>, Fault>
-        requires { IsPlace self.old at }
-        ensures step { OfSession self.old at (λ name. IsStep (seen self.old) (seen self.new) name (asked command.now) (told result)) }
+        requires { IsPlace (held self.old) at }
+        ensures step { OfSession (held self.old) at (λ name. IsStep (seen (held self.old)) (seen (held self.new)) name (asked command.now) (told result)) }
         // It is refused exactly by its refusal, and else returns what it tells,
-        ensures returns { OfSession self.old at (λ name.
-            Returns (session_refusal (settings self.old) name (sessions self.old name) (asked command.now))
-            (λ lines. lines ≡ (performs (settings self.old) name (states self.old name) (asked command.now)).lines) result) }
+        ensures returns { OfSession (held self.old) at (λ name.
+            Returns (session_refusal (settings (held self.old)) name (sessions (held self.old) name) (asked command.now))
+            (λ lines. lines ≡ (performs (settings (held self.old)) name (states (held self.old) name) (asked command.now)).lines) result) }
         // and a refused command changes nothing.
-        ensures refused { OnRefused result (sessions self.new ≡ sessions self.old) }
-        ensures fails { OfSession self.old at (λ name. OnMemory result (sessions self.new name ≡ gone)) }
+        ensures refused { OnRefused result (sessions (held self.new) ≡ sessions (held self.old)) }
+        ensures fails { OfSession (held self.old) at (λ name. OnMemory result (sessions (held self.new) name ≡ gone)) }
         // A session that has failed wants no memory.
-        ensures fine { OfSession self.old at (λ name. OnMemory result (IsFalse (failed self.old name))) }
-        ensures names { names self.new ≡ names self.old }
-        ensures there { IsPlace self.new at }
+        ensures fine { OfSession (held self.old) at (λ name. OnMemory result (IsFalse (failed (held self.old) name))) }
+        ensures names { names (held self.new) ≡ names (held self.old) }
+        ensures there { IsPlace (held self.new) at }
     {
-        let Some(name) = self.names.get_index(at) else {
-            unreachable!()
-        };
-        let caller = Caller {
-            setup: &self.setup,
-            name,
-            place: at,
-        };
-        let done = obey(&caller, &mut self.tables, command);
-        if wants_memory(&done) {
-            self.memory_refused = true;
-        }
-        done
+        self.core.command(&self.functors, at, command)
     }
 
     /// Does a command of a session, and tells a refusal by its line. Where that line finds no
     /// memory, the session has failed too.
     pub fn told(&mut self, at: usize, command: &Command) -> Result<Items<Line>, AllocError>
-        requires { IsPlace self.old at }
-        ensures step { OfSession self.old at (λ name. IsStep (seen self.old) (seen self.new) name (asked command.now) (result_ok result)) }
-        ensures fails { OfSession self.old at (λ name. OnErr result (sessions self.new name ≡ gone)) }
-        ensures names { names self.new ≡ names self.old }
-        ensures there { IsPlace self.new at }
+        requires { IsPlace (held self.old) at }
+        ensures step { OfSession (held self.old) at (λ name. IsStep (seen (held self.old)) (seen (held self.new)) name (asked command.now) (result_ok result)) }
+        ensures fails { OfSession (held self.old) at (λ name. OnErr result (sessions (held self.new) name ≡ gone)) }
+        ensures names { names (held self.new) ≡ names (held self.old) }
+        ensures there { IsPlace (held self.new) at }
     {
-        match self.command(at, command) {
-            Ok(lines) => Ok(lines),
-            Err(Fault::Refused(code)) => self.tell_refusal(at, code),
-            Err(Fault::Memory) => Err(AllocError),
-        }
-    }
-
-    fn tell_refusal(&mut self, at: usize, code: Code) -> Result<Items<Line>, AllocError>
-        requires { IsPlace self.old at }
-        ensures line { IfOk result (λ lines. lines ≡ Error code ∷ []) }
-        ensures ok { OnOk result (self.new ≡ self.old) }
-        ensures err { OfSession self.old at (λ name. OnErr result (Fails (seen self.old) (seen self.new) name)) }
-        ensures names { names self.new ≡ names self.old }
-        ensures there { IsPlace self.new at }
-    {
-        let told = one_line(self.setup.alloc, Line::Error(code));
-        if told.is_err() {
-            self.give_up(at);
-        }
-        told
+        self.core.told(&self.functors, at, command)
     }
 
     /// Lets a session fail, as where memory is wanted for it elsewhere and not found.
     pub fn give_up(&mut self, at: usize)
-        requires { IsPlace self.old at }
-        ensures fails { OfSession self.old at (λ name. Fails (seen self.old) (seen self.new) name) }
-        ensures names { names self.new ≡ names self.old }
-        ensures there { IsPlace self.new at }
+        requires { IsPlace (held self.old) at }
+        ensures fails { OfSession (held self.old) at (λ name. Fails (seen (held self.old)) (seen (held self.new)) name) }
+        ensures names { names (held self.new) ≡ names (held self.old) }
+        ensures there { IsPlace (held self.new) at }
     {
-        self.tables.give_up(at);
-        self.memory_refused = true;
+        self.core.give_up(at);
     }
 
     /// Whether a session has failed for want of memory.
     pub fn failed(&self, at: usize) -> bool
-        requires { IsPlace self.now at }
-        ensures { OfSession self.now at (λ name. result ≡ failed self.now name) }
+        requires { IsPlace (held self.now) at }
+        ensures { OfSession (held self.now) at (λ name. result ≡ failed (held self.now) name) }
     {
-        self.tables.failed(at)
+        self.core.failed(at)
     }
 
     /// Whether memory was wanted and not found in any call of the engine so far.
     pub fn memory_refused(&self) -> bool
-        ensures { result ≡ was_refused self.now }
+        ensures { result ≡ was_refused (held self.now) }
     {
-        self.memory_refused
+        self.core.memory_refused()
     }
 }

@@ -1,100 +1,106 @@
 //! The commands for events.
 ghost use Rattle.std.specs.Prelude.{◌≡◌, ◌∷◌, [], OnOk};
+ghost use Rattle.connection_types.specs.declared.callee.Callee.TheVariants.{Functor};
 ghost use Rattle.thread_model.specs.Agenda.{call_items, event_items};
 ghost use Rattle.thread_model.specs.Asked.{Block, DeleteLater, Spin, Status};
 ghost use Rattle.thread_model.specs.Items as item;
 ghost use Rattle.session_tables.specs.Tables.{IsPlaced, state_at};
 ghost use Rattle.session_effects.specs.Actions.{Keeps};
 ghost use Rattle.session_effects.specs.Setup.{settings_of};
-ghost use Rattle.session_engine.specs.Agenda.{Does};
+ghost use Rattle.nested_calls.specs.Agenda.{Does};
 ghost use Rattle.session_engine.specs.Commands.{Performs, reply_after, reply_lines};
-ghost use Rattle.session_engine.specs.Telling.{doing_at, fresh_telling};
+ghost use Rattle.nested_calls.specs.Telling.{doing_at, fresh_telling};
 
-use crate::agenda::{emit, run_slot};
-use crate::deletion::delete;
-use crate::telling::Telling;
 use connection_types::Callee;
 use event_queue::{Event, QueuedCall};
+use nested_calls::{Actor, Answering, Telling, delete, emit, run_functor, run_slot};
 use refusals::Fault;
-use session_effects::{Caller, Slot, method_at};
+use session_effects::{Caller, Slot, functor_at, method_at};
 use session_tables::Tables;
 use std::alloc::AllocError;
 use thread_model::Answer;
 
 /// Takes events until there is none or no turn is left, and replies how many.
-pub fn spin(caller: &Caller, tables: &mut Tables, telling: &mut Telling) -> Result<Answer, Fault>
-    requires placed { IsPlaced tables.old caller.now.place }
-    requires fresh { telling.old ≡ fresh_telling caller.now.setup.now.turns }
-    ensures { Performs caller.now Spin tables.old tables.new (reply_after telling.new.lines) result }
+pub fn spin<F: Answering>(
+    actor: &Actor<F>,
+    tables: &mut Tables,
+    telling: &mut Telling,
+) -> Result<Answer, Fault>
+    requires placed { IsPlaced tables.old actor.now.caller.place }
+    requires fresh { telling.old ≡ fresh_telling actor.now.caller.setup.now.turns }
+    ensures { Performs actor.now.caller Spin tables.old tables.new (reply_after telling.new.lines) result }
 {
-    take_events(caller, tables, telling)?;
-    Ok(Answer::Spun(tables.spun(caller.place, telling.taken)))
+    take_events(actor, tables, telling)?;
+    Ok(Answer::Spun(tables.spun(actor.caller.place, telling.taken)))
 }
 
 /// Takes events, one after another, and does what each asks for.
-fn take_events(
-    caller: &Caller,
+fn take_events<F: Answering>(
+    actor: &Actor<F>,
     tables: &mut Tables,
     telling: &mut Telling,
 ) -> Result<(), AllocError>
-    requires placed { IsPlaced tables.old caller.now.place }
+    requires placed { IsPlaced tables.old actor.now.caller.place }
     requires none { telling.old.taken ≡ 0 }
-    ensures does { OnOk result (Does caller.now (item.Spin ∷ []) (doing_at caller.now.place tables.old telling.old) tables.new telling.new) }
-    ensures keeps { Keeps caller.now.place tables.old tables.new }
+    ensures does { OnOk result (Does actor.now.caller (item.Spin ∷ []) (doing_at actor.now.caller.place tables.old telling.old) tables.new telling.new) }
+    ensures keeps { Keeps actor.now.caller.place tables.old tables.new }
 {
-    'events: while tables.has_events(caller.place) {
+    'events: while tables.has_events(actor.caller.place) {
         if telling.turns == 0 {
             return telling.use_up();
         }
-        let Some(event) = tables.take_event(caller.place) else {
+        let Some(event) = tables.take_event(actor.caller.place) else {
             unreachable!()
         };
         telling.turns -= 1;
         telling.taken += 1;
-        deliver(caller, tables, telling, event)?;
+        deliver(actor, tables, telling, event)?;
     }
     Ok(())
 }
 
 /// Does what an event asks for: calls a method, or deletes an object.
-fn deliver(
-    caller: &Caller,
+fn deliver<F: Answering>(
+    actor: &Actor<F>,
     tables: &mut Tables,
     telling: &mut Telling,
     event: Event,
 ) -> Result<(), AllocError>
-    requires placed { IsPlaced tables.old caller.now.place }
-    ensures does { OnOk result (Does caller.now (event_items (settings_of caller.now.setup.now) (state_at tables.old caller.now.place) event)
-        (doing_at caller.now.place tables.old telling.old) tables.new telling.new) }
-    ensures keeps { Keeps caller.now.place tables.old tables.new }
+    requires placed { IsPlaced tables.old actor.now.caller.place }
+    ensures does { OnOk result (Does actor.now.caller (event_items (settings_of actor.now.caller.setup.now) (state_at tables.old actor.now.caller.place) event)
+        (doing_at actor.now.caller.place tables.old telling.old) tables.new telling.new) }
+    ensures keeps { Keeps actor.now.caller.place tables.old tables.new }
 {
     match event {
-        Event::Call(call) => deliver_call(caller, tables, telling, &call),
-        Event::Deletion(object) => delete(caller, tables, telling, object, 0),
+        Event::Call(call) => deliver_call(actor, tables, telling, &call),
+        Event::Deletion(object) => delete(actor, tables, telling, object, 0),
     }
 }
 
 /// Makes a call that was queued: runs the slot, or sends the signal on.
-fn deliver_call(
-    caller: &Caller,
+fn deliver_call<F: Answering>(
+    actor: &Actor<F>,
     tables: &mut Tables,
     telling: &mut Telling,
     call: &QueuedCall,
 ) -> Result<(), AllocError>
-    requires placed { IsPlaced tables.old caller.now.place }
-    ensures does { OnOk result (Does caller.now (call_items (settings_of caller.now.setup.now) (state_at tables.old caller.now.place) call.now call.now.callee)
-        (doing_at caller.now.place tables.old telling.old) tables.new telling.new) }
-    ensures keeps { Keeps caller.now.place tables.old tables.new }
+    requires placed { IsPlaced tables.old actor.now.caller.place }
+    ensures does { OnOk result (Does actor.now.caller (call_items (settings_of actor.now.caller.setup.now) (state_at tables.old actor.now.caller.place) call.now call.now.callee)
+        (doing_at actor.now.caller.place tables.old telling.old) tables.new telling.new) }
+    ensures keeps { Keeps actor.now.caller.place tables.old tables.new }
 {
-    let Callee::Method(index) = call.callee else {
-        return Ok(());
+    let index = match call.callee {
+        Callee::Method(index) => index,
+        Callee::Functor(index) => {
+            return deliver_to_functor(actor, tables, telling, call, index);
+        }
     };
-    let Some(method) = method_at(caller, tables, call.object, index) else {
+    let Some(method) = method_at(&actor.caller, tables, call.object, index) else {
         return Ok(());
     };
     if method.is_signal {
         return emit(
-            caller,
+            actor,
             tables,
             telling,
             call.object,
@@ -109,7 +115,33 @@ fn deliver_call(
         args: call.args.as_slice(),
         depth: 1,
     };
-    run_slot(caller, tables, telling, method, &slot)
+    run_slot(actor, tables, telling, method, &slot)
+}
+
+/// Makes a call of a functor that was queued.
+fn deliver_to_functor<F: Answering>(
+    actor: &Actor<F>,
+    tables: &mut Tables,
+    telling: &mut Telling,
+    call: &QueuedCall,
+    index: u32,
+) -> Result<(), AllocError>
+    requires placed { IsPlaced tables.old actor.now.caller.place }
+    ensures does { OnOk result (Does actor.now.caller (call_items (settings_of actor.now.caller.setup.now) (state_at tables.old actor.now.caller.place) call.now (Functor index))
+        (doing_at actor.now.caller.place tables.old telling.old) tables.new telling.new) }
+    ensures keeps { Keeps actor.now.caller.place tables.old tables.new }
+{
+    let Some(functor) = functor_at(&actor.caller, index) else {
+        return Ok(());
+    };
+    let (object, sender) = (call.object, call.sender);
+    let slot = Slot {
+        object,
+        sender,
+        args: call.args.as_slice(),
+        depth: 1,
+    };
+    run_functor(actor, tables, telling, index, functor, &slot)
 }
 
 /// Posts the deletion of an object.

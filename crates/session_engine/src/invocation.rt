@@ -12,15 +12,14 @@ ghost use Rattle.session_tables.specs.Tables.{IsPlaced, state_at, with_state};
 ghost use Rattle.session_effects.specs.Actions.{Keeps};
 ghost use Rattle.session_effects.specs.Methods.{its_methods};
 ghost use Rattle.session_effects.specs.Setup.{settings_of};
-ghost use Rattle.session_engine.specs.Agenda.{Does};
+ghost use Rattle.nested_calls.specs.Agenda.{Does};
 ghost use Rattle.session_engine.specs.Commands.{Performs, reply_after};
 ghost use Rattle.session_engine.specs.Invocation.{is_limit};
-ghost use Rattle.session_engine.specs.Telling.{fresh_telling};
+ghost use Rattle.nested_calls.specs.Telling.{fresh_telling};
 
-use crate::agenda::{emit, is_queued, run_slot};
-use crate::telling::Telling;
 use connection_types::{Callee, ConnectionType};
 use event_queue::{Event, QueuedCall};
+use nested_calls::{Actor, Answering, Telling, emit, is_queued, run_slot};
 use plain_types::{Items, Text};
 use refusals::{Code, Fault};
 use session_effects::{Caller, Slot, kinds_at, method_at, method_with};
@@ -32,8 +31,8 @@ use variant_value::{Args, Value};
 
 /// Calls a slot of an object or sends a signal of it, at once or by an event, and replies whether it has
 /// such a method.
-pub fn invoke(
-    caller: &Caller,
+pub fn invoke<F: Answering>(
+    actor: &Actor<F>,
     tables: &mut Tables,
     telling: &mut Telling,
     object: u32,
@@ -41,22 +40,22 @@ pub fn invoke(
     args: &[serde_json::Value],
     mode: ConnectionType,
 ) -> Result<Answer, Fault>
-    requires placed { IsPlaced tables.old caller.now.place }
-    requires fresh { telling.old ≡ fresh_telling caller.now.setup.now.turns }
-    ensures { Performs caller.now (Invoke object method.now (map view args.now) mode) tables.old tables.new (reply_after telling.new.lines) result }
+    requires placed { IsPlaced tables.old actor.now.caller.place }
+    requires fresh { telling.old ≡ fresh_telling actor.now.caller.setup.now.turns }
+    ensures { Performs actor.now.caller (Invoke object method.now (map view args.now) mode) tables.old tables.new (reply_after telling.new.lines) result }
 {
-    tables.check_object(caller.place, object)?;
-    let signature = Signature::normalise(caller.setup.alloc, method.as_str())?;
-    let Ok(index) = method_with(caller, tables, object, &signature) else {
+    tables.check_object(actor.caller.place, object)?;
+    let signature = Signature::normalise(actor.caller.setup.alloc, method.as_str())?;
+    let Ok(index) = method_with(&actor.caller, tables, object, &signature) else {
         return Ok(Answer::Truth(false));
     };
-    let kinds = kinds_at(caller, tables, object, index);
-    let values = values_of(caller.setup.alloc, kinds, args)?;
+    let kinds = kinds_at(&actor.caller, tables, object, index);
+    let values = values_of(actor.caller.setup.alloc, kinds, args)?;
     if is_queued(mode) {
-        post(caller, tables, object, index, values.as_slice())?;
+        post(&actor.caller, tables, object, index, values.as_slice())?;
         return Ok(Answer::Truth(true));
     }
-    run(caller, tables, telling, object, index, values.as_slice())?;
+    run(actor, tables, telling, object, index, values.as_slice())?;
     Ok(Answer::Truth(true))
 }
 
@@ -86,26 +85,26 @@ fn post(
 }
 
 /// Calls the slot or sends the signal of this index.
-fn run(
-    caller: &Caller,
+fn run<F: Answering>(
+    actor: &Actor<F>,
     tables: &mut Tables,
     telling: &mut Telling,
     object: u32,
     index: u32,
     values: &[Value],
 ) -> Result<(), AllocError>
-    requires placed { IsPlaced tables.old caller.now.place }
-    requires fresh { telling.old ≡ fresh_telling caller.now.setup.now.turns }
-    requires there { IsSome (slice_get (its_methods caller.now tables.old object) index) }
-    ensures does { OnOk result (Does caller.now (invoked (settings_of caller.now.setup.now) (state_at tables.old caller.now.place) object index values.now).items
-        (invoked (settings_of caller.now.setup.now) (state_at tables.old caller.now.place) object index values.now).doing tables.new telling.new) }
-    ensures keeps { Keeps caller.now.place tables.old tables.new }
+    requires placed { IsPlaced tables.old actor.now.caller.place }
+    requires fresh { telling.old ≡ fresh_telling actor.now.caller.setup.now.turns }
+    requires there { IsSome (slice_get (its_methods actor.now.caller tables.old object) index) }
+    ensures does { OnOk result (Does actor.now.caller (invoked (settings_of actor.now.caller.setup.now) (state_at tables.old actor.now.caller.place) object index values.now).items
+        (invoked (settings_of actor.now.caller.setup.now) (state_at tables.old actor.now.caller.place) object index values.now).doing tables.new telling.new) }
+    ensures keeps { Keeps actor.now.caller.place tables.old tables.new }
 {
-    let Some(method) = method_at(caller, tables, object, index) else {
+    let Some(method) = method_at(&actor.caller, tables, object, index) else {
         return Ok(());
     };
     if method.is_signal {
-        return emit(caller, tables, telling, object, index, values, 0);
+        return emit(actor, tables, telling, object, index, values, 0);
     }
     if telling.turns == 0 {
         return telling.use_up();
@@ -117,7 +116,7 @@ fn run(
         args: values,
         depth: 1,
     };
-    run_slot(caller, tables, telling, method, &slot)
+    run_slot(actor, tables, telling, method, &slot)
 }
 
 /// As many values as there are kinds, each as one of its kind. Of two faults one that is no value comes

@@ -4,10 +4,9 @@ ghost use Rattle.serde_json.specs.View.{view};
 ghost use Rattle.thread_model.specs.Asked.{DynamicNames, Get, Set};
 ghost use Rattle.session_tables.specs.Tables.{IsPlaced};
 ghost use Rattle.session_engine.specs.Commands.{Performs, reply_after, reply_lines};
-ghost use Rattle.session_engine.specs.Telling.{fresh_telling};
+ghost use Rattle.nested_calls.specs.Telling.{fresh_telling};
 
-use crate::agenda::notify;
-use crate::telling::Telling;
+use nested_calls::{Actor, Answering, Telling, notify};
 use plain_types::Text;
 use refusals::Fault;
 use session_effects::{Caller, write_declared, write_dynamic};
@@ -17,30 +16,30 @@ use variant_value::Value;
 
 /// Writes a property, and replies whether it is one that the object's class declares and was written.
 /// Null leaves a declared property as it is, and takes a dynamic one away.
-pub fn set(
-    caller: &Caller,
+pub fn set<F: Answering>(
+    actor: &Actor<F>,
     tables: &mut Tables,
     telling: &mut Telling,
     object: u32,
     property: &Text,
     value: &serde_json::Value,
 ) -> Result<Answer, Fault>
-    requires placed { IsPlaced tables.old caller.now.place }
-    requires fresh { telling.old ≡ fresh_telling caller.now.setup.now.turns }
-    ensures { Performs caller.now (Set object property.now (view value.now)) tables.old tables.new (reply_after telling.new.lines) result }
+    requires placed { IsPlaced tables.old actor.now.caller.place }
+    requires fresh { telling.old ≡ fresh_telling actor.now.caller.setup.now.turns }
+    ensures { Performs actor.now.caller (Set object property.now (view value.now)) tables.old tables.new (reply_after telling.new.lines) result }
 {
-    tables.check_object(caller.place, object)?;
-    let Some((number, kind)) = tables.declared(caller.place, object, property.as_str()) else {
-        let value = Value::infer(caller.setup.alloc, value)?;
-        write_dynamic(caller, tables, object, property, value)?;
+    tables.check_object(actor.caller.place, object)?;
+    let Some((number, kind)) = tables.declared(actor.caller.place, object, property.as_str()) else {
+        let value = Value::infer(actor.caller.setup.alloc, value)?;
+        write_dynamic(&actor.caller, tables, object, property, value)?;
         return Ok(Answer::Truth(false));
     };
     if value.is_null() {
         return Ok(Answer::Truth(false));
     }
-    let value = Value::from_json(caller.setup.alloc, kind, value)?;
-    let told = write_declared(caller, tables, object, number, value);
-    notify(caller, tables, telling, told, 0)?;
+    let value = Value::from_json(actor.caller.setup.alloc, kind, value)?;
+    let told = write_declared(&actor.caller, tables, object, number, value);
+    notify(actor, tables, telling, told, 0)?;
     Ok(Answer::Truth(true))
 }
 

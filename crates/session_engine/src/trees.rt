@@ -3,10 +3,9 @@ ghost use Rattle.std.specs.Prelude.{◌≡◌};
 ghost use Rattle.thread_model.specs.Asked.{Children, Delete, Find, New, SetParent};
 ghost use Rattle.session_tables.specs.Tables.{IsPlaced};
 ghost use Rattle.session_engine.specs.Commands.{KnowsProperties, Performs, reply_after, reply_lines};
-ghost use Rattle.session_engine.specs.Telling.{fresh_telling};
+ghost use Rattle.nested_calls.specs.Telling.{fresh_telling};
 
-use crate::deletion::delete;
-use crate::telling::Telling;
+use nested_calls::{Actor, Answering, Telling, delete};
 use plain_types::{Items, Text};
 use refusals::Fault;
 use session_effects::Caller;
@@ -30,18 +29,18 @@ pub fn new_object(
 }
 
 /// Deletes an object with all below it.
-pub fn delete_object(
-    caller: &Caller,
+pub fn delete_object<F: Answering>(
+    actor: &Actor<F>,
     tables: &mut Tables,
     telling: &mut Telling,
     object: u32,
 ) -> Result<Answer, Fault>
-    requires placed { IsPlaced tables.old caller.now.place }
-    requires fresh { telling.old ≡ fresh_telling caller.now.setup.now.turns }
-    ensures { Performs caller.now (Delete object) tables.old tables.new (reply_after telling.new.lines) result }
+    requires placed { IsPlaced tables.old actor.now.caller.place }
+    requires fresh { telling.old ≡ fresh_telling actor.now.caller.setup.now.turns }
+    ensures { Performs actor.now.caller (Delete object) tables.old tables.new (reply_after telling.new.lines) result }
 {
-    tables.check_object(caller.place, object)?;
-    delete(caller, tables, telling, object, 0)?;
+    tables.check_object(actor.caller.place, object)?;
+    delete(actor, tables, telling, object, 0)?;
     Ok(Answer::Truth(true))
 }
 

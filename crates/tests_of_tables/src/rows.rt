@@ -30,6 +30,8 @@ enum Call {
     Push(u32, u32),
     Insert(u32, u32),
     Replace(u32, u32),
+    /// A number, and by how much its row grows.
+    Grow(u32, u32),
     Remove(u32),
     /// The size of the row with a number.
     Size(u32),
@@ -63,6 +65,7 @@ impl Bench {
             Push(number, size) => self.push(place, Item { number, size }),
             Insert(number, size) => self.insert(place, Item { number, size }),
             Replace(number, size) => Ok(self.replace(place, Item { number, size }) as u64),
+            Grow(number, by) => Ok(self.grow(place, number, by) as u64),
             Remove(number) => Ok(self.remove(place, number) as u64),
             Size(number) => Ok(self.size(place, number) as u64),
             Left => Ok(self.left(place) as u64),
@@ -114,6 +117,22 @@ impl Bench {
         self.size(place, item.number)
     }
 
+    /// Lets a row grow where it stands, and answers its size then.
+    fn grow(&mut self, place: usize, number: u32, by: u32) -> u32
+        requires { place < length self.old.table.places }
+    {
+        let Some(key) = self.table.find(place, number as u64) else {
+            return 0;
+        };
+        let grow = |item: &mut Item| -> u32
+            ensures { item.exit.now.number ≡ item.entry.now.number }
+        {
+            item.size = item.size.wrapping_add(by);
+            item.size
+        };
+        self.table.update(place, key, grow)
+    }
+
     fn remove(&mut self, place: usize, number: u32) -> u32
         requires { place < length self.old.table.places }
     {
@@ -159,7 +178,12 @@ fn places_see_their_own_rows(rt: HostRuntime) -> Result<(), Fail> {
         (1, Size(3), 0),
         (0, Replace(1, 11), 11),
         (1, Size(1), 20),
-        (0, Remove(1), 11),
+        (0, Grow(1, 5), 16),
+        (0, Grow(2, 5), 0),
+        (0, Left, 13),
+        (0, Size(3), 30),
+        (1, Size(1), 20),
+        (0, Remove(1), 16),
         (0, Size(1), 0),
         (0, Size(3), 30),
         (1, Left, 12),

@@ -1,21 +1,25 @@
 //! The engine.
 ghost use Rattle.std.specs.Prelude.{◌≡◌, Some, IfOk};
-ghost use Rattle.session_engine.specs.Engine.{place};
+ghost use Rattle.session_engine.specs.Core.{place};
+ghost use Rattle.session_engine.specs.Engine.{held};
 
 use crate::lines::{given, lamps};
 use refusals::{Code, Fault};
 use session_engine::Engine;
 use std::alloc::{AllocError, Global};
 use std::test::Fail;
+use stored_slots::Functors;
 use thread_model::Tagged;
 
 fn fresh(alloc: Global) -> Result<Engine, AllocError> {
-    Engine::new(alloc, lamps(alloc)?, 10)
+    let functors = Functors::new(alloc);
+    let rows = functors.rows()?;
+    Engine::new(alloc, lamps(alloc)?, functors, rows, 10)
 }
 
 /// The place of the session that gives a command, which is opened where it is not there.
 fn place_of(engine: &mut Engine, given: &Tagged) -> Result<usize, AllocError>
-    ensures { IfOk result (λ at. place engine.new given.now.session ≡ Some at) }
+    ensures { IfOk result (λ at. place (held engine.new) given.now.session ≡ Some at) }
 {
     match engine.find(&given.session) {
         Some(place) => Ok(place),

@@ -12,6 +12,8 @@ mod engine;
 #[cfg(test)]
 mod fakes;
 #[cfg(test)]
+mod functors;
+#[cfg(test)]
 mod lines;
 #[cfg(test)]
 mod runs;

@@ -4,6 +4,7 @@ use crate::lines::lamps;
 use server_world::Server;
 use std::alloc::{AllocError, Global};
 use std::test::Fail;
+use stored_slots::Functors;
 use wire_lines::{RunFault, Summary, run};
 
 const LAMP: &str = "{\"class\":\"QObject\",\"do\":\"new\",\"session\":\"a\"}\n\
@@ -52,7 +53,7 @@ fn end_of_fresh_run(
     reader: &mut SlowSource<'_>,
     writer: &mut SlowSink,
 ) -> Result<Result<Summary, RunFault>, AllocError> {
-    let mut server = Server::new(alloc, lamps(alloc)?, 10)?;
+    let mut server = Server::new(alloc, lamps(alloc)?, Functors::new(alloc), 10)?;
     Ok(end_of_run(alloc, reader, writer, &mut server))
 }
 

@@ -6,13 +6,14 @@ use server_world::{
 };
 use std::alloc::{AllocError, Global};
 use std::test::Fail;
+use stored_slots::Functors;
 use thread_model::{
     actions_run_in_place, agenda_runs_to_its_end, commands_keep_sessions_sound, machine_is_lawful,
 };
 use wire_format::sessions_are_isolated;
 
 fn fresh(alloc: Global) -> Result<Server, AllocError> {
-    Server::new(alloc, lamps(alloc)?, 1000)
+    Server::new(alloc, lamps(alloc)?, Functors::new(alloc), 1000)
 }
 
 /// What a server reports. No clause says here what that is, so that the tests look only at it.

@@ -1,9 +1,17 @@
 //! Worked sessions, from bytes to bytes on a fresh server with ample memory, none of which is refused.
+ghost use Rattle.std.specs.Prelude.{◌≡◌, ◌∷◌, [], IfOk};
+ghost use Rattle.signature_core.specs.declared.kind.Kind.TheVariants.{Int};
+ghost use Rattle.stored_slots.specs.Functors.{AreArguments};
+ghost use Rattle.term_evaluation.specs.Unfolding.{unfolded_body};
+ghost use Rattle.program_start.specs.Clamp.{clamp_body};
+
 use class_table::ClassTable;
-use program_start::DEMONSTRATION;
+use program_start::{DEMONSTRATION, clamped, with_clamp};
 use server_world::Server;
 use std::alloc::{AllocError, Global};
 use std::test::Fail;
+use term_core::{Action, Expr, Node};
+use variant_value::Value;
 use wire_devices::Counted;
 use wire_lines::{Summary, run};
 
@@ -334,8 +342,34 @@ const CELLS: Session = (
 {"reply":true,"session":"a"}"#,
 );
 
+/// Each session's functor has its own session's objects as sender and context.
+const CLAMPED: Session = (
+    r#"{"class":"Cell","do":"new","session":"a"}
+{"class":"Cell","do":"new","session":"a"}
+{"context":2,"do":"connectFunctor","functor":"clamp","sender":1,"session":"a","signal":"xChanged(int)"}
+{"class":"Cell","do":"new","session":"b"}
+{"class":"Cell","do":"new","session":"b"}
+{"context":2,"do":"connectFunctor","functor":"clamp","sender":1,"session":"b","signal":"xChanged(int)"}
+{"do":"set","object":1,"property":"x","session":"a","value":250}
+{"do":"set","object":1,"property":"x","session":"b","value":-5}
+{"do":"get","object":2,"property":"x","session":"a"}
+{"do":"get","object":2,"property":"x","session":"b"}"#,
+    r#"{"reply":1,"session":"a"}
+{"reply":2,"session":"a"}
+{"reply":1,"session":"a"}
+{"reply":1,"session":"b"}
+{"reply":2,"session":"b"}
+{"reply":1,"session":"b"}
+{"args":[250],"call":"clamp","object":2,"sender":1,"session":"a"}
+{"reply":true,"session":"a"}
+{"args":[-5],"call":"clamp","object":2,"sender":1,"session":"b"}
+{"reply":true,"session":"b"}
+{"reply":100,"session":"a"}
+{"reply":0,"session":"b"}"#,
+);
+
 /// Each from a fresh server.
-const SESSIONS: [Session; 20] = [
+const SESSIONS: [Session; 21] = [
     NOTHING,
     LAMP,
     TWO_SESSIONS,
@@ -356,6 +390,7 @@ const SESSIONS: [Session; 20] = [
     BLOCKED,
     DYNAMIC_PROPERTY,
     CELLS,
+    CLAMPED,
 ];
 
 /// What a server writes for an input, and how the run ended.
@@ -382,7 +417,21 @@ fn demonstration(alloc: Global) -> Result<ClassTable, AllocError> {
 /// Whether a fresh server with the demonstration classes answers a session so, and no memory is refused.
 fn is_answered(alloc: Global, session: Session) -> Result<bool, AllocError> {
     let (given, wanted) = session;
-    let mut server = Server::new(alloc, demonstration(alloc)?, TURNS)?;
+    let (least, most) = (0, 100);
+    let clamp = Box::new(
+        alloc,
+        move |alloc: Global, args: &[Value]| -> Result<Vec<Action>, AllocError>
+            requires { AreArguments (Int ∷ []) args.now }
+            ensures { IfOk result (λ actions. actions.items ≡ unfolded_body args.now (clamp_body least most)) }
+        {
+            let node = Node::Const(args[0].copy(alloc)?);
+            clamped(alloc, least, most, &Expr { node })
+        },
+    )?;
+    let Ok(functors) = with_clamp(alloc, least, most, clamp) else {
+        return Err(AllocError);
+    };
+    let mut server = Server::new(alloc, demonstration(alloc)?, functors, TURNS)?;
     let (wrote, summary) = answers(alloc, &mut server, given.as_bytes())?;
     Ok(!summary.memory_refused && wrote.as_slice().trim_ascii_end() == wanted.as_bytes())
 }

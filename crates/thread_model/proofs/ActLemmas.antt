@@ -7,7 +7,7 @@ use Rattle.refusals.specs.declared.code.Code.TheVariants.{DoesNotFit, Limit, NoS
 use Rattle.variant_value.specs.declared.value.Value.{Value}
 use Rattle.term_core.specs.declared.action.Effect.{Effect}
 use Rattle.term_core.specs.declared.action.Effect.TheVariants as e
-use Rattle.connection_types.specs.declared.callee.Callee.TheVariants.{Method}
+use Rattle.connection_types.specs.declared.callee.Callee.TheVariants.{Functor, Method}
 use Rattle.connection_types.specs.declared.connection_type.ConnectionType.{ConnectionType}
 use Rattle.connection_list.specs.declared.connection.NewConnection.{NewConnection}
 use Rattle.connection_list.specs.declared.pattern.Pattern.{Pattern}
@@ -17,7 +17,7 @@ use Rattle.object_tree.specs.Rows.{is_there}
 use Rattle.event_queue.specs.declared.event.Event.TheVariants.{Deletion}
 use Rattle.event_queue.specs.Queue.{has_room}
 use Rattle.thread_model.specs.Acts.{act_refusal, acted, connection, emission, pattern, warns_or, with_found}
-use Rattle.thread_model.specs.Connecting.{connection_refusal, fits_at, new_connection}
+use Rattle.thread_model.specs.Connecting.{connection_refusal, fits_at, fits_functor, new_connection, new_functor_connection}
 use Rattle.thread_model.specs.Doing.{Doing, adopted, blocking, linked, posted, unlinked}
 use Rattle.thread_model.specs.Items.{Delete, Emit, Next, Warn, puts}
 use Rattle.thread_model.specs.Methods.{Found, ◌>>=◌}
@@ -42,6 +42,20 @@ joins settings state sender (Ok s) receiver (Ok m) mode single new e = by (fits_
     made = record { sender = sender; signal = s; receiver = receiver; callee = Method m; mode = mode; single = single }
 
     by : (fits : Bool) → cond fits (Ok made) (Err DoesNotFit) ≡ Ok new → Joins sender receiver new
+    by true e = let same : made ≡ new = cc in record { sender = sym (ap (λ (new : NewConnection). new.sender) same); receiver = sym (ap (λ (new : NewConnection). new.receiver) same) }
+    by false e = absurd (cc)
+
+-- and so does one to a functor, its context object
+pub joins_functor : (settings : Settings) (state : State) (sender : ℕ) (signal : Found ℕ) (context : ℕ) (functor : Found ℕ) (mode : ConnectionType) (single : Bool) (new : NewConnection)
+    → new_functor_connection settings state sender signal context functor mode single ≡ Ok new → Joins sender context new
+joins_functor settings state sender (Err code) context functor mode single new e = absurd (cc)
+joins_functor settings state sender (Ok s) context (Err code) mode single new e = absurd (cc)
+joins_functor settings state sender (Ok s) context (Ok f) mode single new e = by (fits_functor settings state sender s f) e
+  where
+    made : NewConnection
+    made = record { sender = sender; signal = s; receiver = context; callee = Functor f; mode = mode; single = single }
+
+    by : (fits : Bool) → cond fits (Ok made) (Err DoesNotFit) ≡ Ok new → Joins sender context new
     by true e = let same : made ≡ new = cc in record { sender = sym (ap (λ (new : NewConnection). new.sender) same); receiver = sym (ap (λ (new : NewConnection). new.receiver) same) }
     by false e = absurd (cc)
 

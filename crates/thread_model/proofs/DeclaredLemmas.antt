@@ -31,6 +31,7 @@ use Rattle.object_tree.specs.Refusing.{keeps_parent}
 use Rattle.object_tree.specs.Changes.{added, changed, marked, moved, orphaned, removed, reparented, with_blocked}
 use Rattle.property_store.specs.Store.{Properties, properties_of}
 use Rattle.property_store.proofs.SoundLemmas.{added_found, added_others, changed_fields, without_others}
+use Rattle.stored_slots.specs.declared.functor.Functor.{Functor}
 use Rattle.thread_model.specs.declared.call.TheConstants.{DESTROYED, NESTED_SIGNALS}
 use Rattle.thread_model.specs.declared.line.Answer.{Answer}
 use Rattle.thread_model.specs.declared.line.Answer.TheVariants as a
@@ -38,18 +39,19 @@ use Rattle.thread_model.specs.declared.line.Line.{Line}
 use Rattle.thread_model.specs.declared.line.Line.TheVariants as line
 use Rattle.thread_model.specs.declared.post.Post.{Post}
 use Rattle.thread_model.specs.Acts.{chosen}
-use Rattle.thread_model.specs.Agenda.{call_line, called, callee_called, calls_of, connection_of, emitted, event_items, is_held_back, lives, lives_below, method_called, method_items, queued, ran, spun, step, with_turn}
-use Rattle.thread_model.specs.Asked.{Asked, New, Delete, SetParent, Children, Find, Set, Get, DynamicNames, Meta, Connect, DisconnectOne, Disconnect, Invoke, Spin as TakeEvents, DeleteLater, Block, Status}
+use Rattle.thread_model.specs.Agenda.{call_line, called, callee_called, calls_of, connection_of, emitted, event_items, functor_called, functor_line, functor_ran, is_held_back, lives, lives_below, method_called, method_items, queued, ran, spun, step, with_turn}
+use Rattle.thread_model.specs.Asked.{Asked, New, Delete, SetParent, Children, Find, Set, Get, DynamicNames, Meta, Connect, ConnectFunctor, DisconnectOne, Disconnect, Invoke, Spin as TakeEvents, DeleteLater, Block, Status}
 use Rattle.thread_model.specs.Doing.{Doing, adopted, begun, blocking, dying, first_taken, forgotten, gone, in_state, linked, lost, posted, shot, told, turn_taken, unlinked, untied, used_up}
 use Rattle.thread_model.specs.Effects.{does_next, unless}
-use Rattle.thread_model.specs.Items.{Act, Call, Cut, Delete as ToDelete, Emit, Gone, Item, Kin, Next, Reply, ReplySpun, Run, Spin, Warn, puts}
+use Rattle.thread_model.specs.Items.{Act, Call, Cut, Delete as ToDelete, Emit, Gone, Item, Kin, Next, Reply, ReplySpun, Run, RunFunctor, Spin, Warn, puts}
 use Rattle.thread_model.specs.Laws.{KeepsDeclared}
+use Rattle.thread_model.specs.Functors.{functor_at}
 use Rattle.thread_model.specs.Methods.{Found, is_signal_at, method_at, methods_of}
 use Rattle.thread_model.specs.Posting.{is_queued, spin_of}
 use Rattle.thread_model.specs.Properties.{is_declared, sets}
 use Rattle.thread_model.specs.Refusing.{refusal}
 use Rattle.thread_model.specs.Run.{run}
-use Rattle.thread_model.specs.Signals.{asked_connection, asked_method, asked_pattern, connects, disconnects, invoked, invoked_later, invokes}
+use Rattle.thread_model.specs.Signals.{asked_connection, asked_functor_connection, asked_method, asked_pattern, connects, disconnects, invoked, invoked_later, invokes}
 use Rattle.thread_model.specs.State.{IsDeclared, IsSound, State, fields_of, with_object, with_properties, without_connections}
 use Rattle.thread_model.specs.Targets.{truth_evaluated}
 use Rattle.thread_model.specs.Thread.{Settings, arrives, does, performs}
@@ -201,7 +203,16 @@ module _ (settings : Settings) (doing : Doing) (declared : IsDeclared settings.c
       (λ free. cond_both (nat_le NESTED_SIGNALS depth) (puts (Warn Limit (Some target) ∷ []) doing) (puts (calls_of doing target signal args depth) doing) (Keeps settings.classes) (λ deep. declared) (λ shallow. declared))
 
   callee_declared : (connection : Connection) (args : List Value) (depth : ℕ) (to : Callee) → Keeps settings.classes (callee_called settings connection args depth doing to)
-  callee_declared connection args depth (callee.Functor index) = declared
+  callee_declared connection args depth (callee.Functor index) = by (functor_at settings index)
+    where
+      by : (found : Option Functor) → Keeps settings.classes (option_map_or (functor_called connection index args depth doing) found (puts [] doing))
+      by None = declared
+      by (Some functor) =
+          let given = take (length functor.params) args in
+          let call : QueuedCall = record { object = connection.receiver; callee = callee.Functor index; sender = connection.sender; args = given } in
+          cond_both (is_queued connection.mode) (puts [] (queued doing call)) (puts (RunFunctor connection.receiver index connection.sender given depth ∷ []) doing) (Keeps settings.classes)
+          (λ later. queued_declared settings.classes doing declared call)
+          (λ now. declared)
   callee_declared connection args depth (callee.Method index) = by (method_at settings doing.state connection.receiver index)
     where
       by : (found : Option Method) → Keeps settings.classes (option_map_or (method_called connection index args depth doing) found (puts [] doing))
@@ -216,6 +227,10 @@ module _ (settings : Settings) (doing : Doing) (declared : IsDeclared settings.c
   ran_declared : (target sender : ℕ) (args : List Value) (depth : ℕ) (found : Option Method) → Keeps settings.classes (option_map_or (ran doing target sender args depth) found (puts [] doing))
   ran_declared target sender args depth None = declared
   ran_declared target sender args depth (Some method) = told_declared settings.classes doing declared (call_line method target sender args)
+
+  functor_ran_declared : (target sender : ℕ) (args : List Value) (depth : ℕ) (found : Option Functor) → Keeps settings.classes (option_map_or (functor_ran doing target sender args depth) found (puts [] doing))
+  functor_ran_declared target sender args depth None = declared
+  functor_ran_declared target sender args depth (Some functor) = told_declared settings.classes doing declared (functor_line functor target sender args)
 
   chosen_declared : (truth : Found Bool) (held failed : Acts) (args : List Value) (self sender depth : ℕ) → Keeps settings.classes (chosen truth held failed args self sender depth doing)
   chosen_declared (Ok truth) held failed args self sender depth = declared
@@ -242,6 +257,7 @@ item_declared : (settings : Settings) (item : Item) (doing : Doing) → IsDeclar
 item_declared settings (Emit target signal args depth) doing declared = emitted_declared settings doing declared target signal args depth (row_of doing.state.forest.rows target)
 item_declared settings (Call number args depth) doing declared = found_declared settings doing declared args depth (connection_of doing number)
 item_declared settings (Run target index sender args depth) doing declared = ran_declared settings doing declared target sender args depth (method_at settings doing.state target index)
+item_declared settings (RunFunctor target index sender args depth) doing declared = functor_ran_declared settings doing declared target sender args depth (functor_at settings index)
 item_declared settings (Act (effect plain) args self sender depth) doing declared =
     acted_cases settings doing self sender args depth (Keeps settings.classes)
     (λ code. declared)
@@ -314,6 +330,7 @@ module _ (settings : Settings) (state : State) (declared : IsDeclared settings.c
   performed_declared self (DynamicNames target) sound = declared
   performed_declared self (Meta class) sound = declared
   performed_declared self (Connect sender signal receiver method mode unique single) sound = connected_declared (asked_connection settings state sender signal receiver method mode single)
+  performed_declared self (ConnectFunctor sender signal context functor mode unique single) sound = connected_declared (asked_functor_connection settings state sender signal context functor mode single)
   performed_declared self (DisconnectOne connection) sound = declared
   performed_declared self (Disconnect sender signal receiver method) sound = disconnected_declared (asked_pattern settings state sender signal receiver method)
   performed_declared self (Invoke target method args mode) sound = invokes_declared target args mode (asked_method settings state target method)

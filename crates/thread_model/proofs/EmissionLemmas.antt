@@ -18,14 +18,16 @@ use Rattle.event_queue.specs.Queue.{has_room}
 use Rattle.object_tree.specs.declared.row.Row.{Row}
 use Rattle.object_tree.specs.Forest.{Forest}
 use Rattle.object_tree.specs.Rows.{is_there, row_of}
+use Rattle.stored_slots.specs.declared.functor.Functor.{Functor}
 use Rattle.thread_model.specs.declared.call.TheConstants.{DESTROYED, NESTED_SIGNALS}
 use Rattle.thread_model.specs.declared.line.Answer.{Answer}
 use Rattle.thread_model.specs.declared.line.Line.TheVariants as line
 use Rattle.thread_model.specs.declared.line.Line.TheVariants.{Warning}
 use Rattle.thread_model.specs.Acts.{acts}
-use Rattle.thread_model.specs.Agenda.{call_line, callee_called, called, calls_of, connection_of, emitted, is_held_back, method_called, method_items, ran, step, with_turn}
+use Rattle.thread_model.specs.Agenda.{call_line, callee_called, called, calls_of, connection_of, emitted, functor_called, functor_line, functor_ran, is_held_back, method_called, method_items, ran, step, with_turn}
 use Rattle.thread_model.specs.Doing.{Doing, in_state, lost, posted, shot, told, turn_taken, used_up}
-use Rattle.thread_model.specs.Items.{Call, Emit, Reply, Run, Warn, puts}
+use Rattle.thread_model.specs.Items.{Call, Emit, Reply, Run, RunFunctor, Warn, puts}
+use Rattle.thread_model.specs.Functors.{functor_at}
 use Rattle.thread_model.specs.Methods.{method_at}
 use Rattle.thread_model.specs.Posting.{is_queued}
 use Rattle.thread_model.specs.Settings.{Settings}
@@ -148,9 +150,38 @@ module _ (settings : Settings) (number : ℕ) (args : List Value) (depth : ℕ) 
     )
 
     module _ (some : 0 < doing.turns) where
-      -- a functor does nothing, since there are none yet
-      pub call_functor : (index : ℕ) → connection.callee ≡ callee.Functor index → step settings (Call number args depth) doing ≡ puts [] after
-      call_functor index is = call_taken some ∙ ap (callee_called settings connection args depth after) is
+      module _ (index : ℕ) (is : connection.callee ≡ callee.Functor index) where
+        functor_to : (found : Option Functor) → functor_at settings index ≡ found → step settings (Call number args depth) doing ≡ option_map_or (functor_called connection index args depth after) found (puts [] after)
+        functor_to found has =
+            call_taken some
+            ∙ ap (callee_called settings connection args depth after) is
+            ∙ ap (λ found. option_map_or (functor_called connection index args depth after) found (puts [] after)) has
+
+        -- a functor that is not there is not called
+        pub functor_absent : functor_at settings index ≡ None → step settings (Call number args depth) doing ≡ puts [] after
+        functor_absent has = functor_to None has
+
+        module _ (functor : Functor) (has : functor_at settings index ≡ Some functor) where
+          -- a queued connection calls it later, with the same arguments
+          abbrev functor_later : QueuedCall
+          functor_later = record { object = connection.receiver; callee = callee.Functor index; sender = connection.sender; args = take (length functor.params) args }
+
+          module _ (later : is_queued connection.mode ≡ true) where
+            functor_is_later : (room : Bool) → has_room doing.state.queue ≡ room → step settings (Call number args depth) doing ≡ puts [] (cond room (posted after (event.Call functor_later)) (lost after))
+            functor_is_later room has_it =
+                functor_to (Some functor) has ∙ cond-true (is_queued connection.mode) _ _ later
+                ∙ ap (λ room. puts [] (cond room (posted after (event.Call functor_later)) (lost after))) (ap has_room after-state.1 ∙ has_it)
+
+            pub functor_posted : has_room doing.state.queue ≡ true → step settings (Call number args depth) doing ≡ puts [] (posted after (event.Call functor_later))
+            functor_posted room = functor_is_later true room
+
+            pub functor_lost : has_room doing.state.queue ≡ false → step settings (Call number args depth) doing ≡ puts [] (lost after)
+            functor_lost full = functor_is_later false full
+
+          -- and another one runs it
+          pub functor_at_once : is_queued connection.mode ≡ false → step settings (Call number args depth) doing
+              ≡ puts (RunFunctor connection.receiver index connection.sender (take (length functor.params) args) depth ∷ []) after
+          functor_at_once at_once = functor_to (Some functor) has ∙ cond-false (is_queued connection.mode) _ _ at_once
 
       module _ (index : ℕ) (is : connection.callee ≡ callee.Method index) where
         comes_to : (found : Option Method) → method_at settings doing.state connection.receiver index ≡ found
@@ -206,6 +237,16 @@ module _ (settings : Settings) (target index sender : ℕ) (args : List Value) (
   pub run_slot : (method : Method) → method_at settings doing.state target index ≡ Some method → step settings (Run target index sender args depth) doing
       ≡ puts (acts (acts_of method.body.actions) args target sender (depth + 1)) (told doing (call_line method target sender args))
   run_slot method has = ap (λ found. option_map_or (ran doing target sender args depth) found (puts [] doing)) has
+
+module _ (settings : Settings) (target index sender : ℕ) (args : List Value) (depth : ℕ) (doing : Doing) where
+  -- a functor that is not there runs nothing
+  pub run_functor_absent : functor_at settings index ≡ None → step settings (RunFunctor target index sender args depth) doing ≡ puts [] doing
+  run_functor_absent absent = ap (λ found. option_map_or (functor_ran doing target sender args depth) found (puts [] doing)) absent
+
+  -- a functor that is there is told of, and does what its body says, one level deeper
+  pub run_functor : (functor : Functor) → functor_at settings index ≡ Some functor → step settings (RunFunctor target index sender args depth) doing
+      ≡ puts (acts (acts_of functor.body.actions) args target sender (depth + 1)) (told doing (functor_line functor target sender args))
+  run_functor functor has = ap (λ found. option_map_or (functor_ran doing target sender args depth) found (puts [] doing)) has
 
 module _ (settings : Settings) (doing : Doing) where
   -- a warning and a reply are told

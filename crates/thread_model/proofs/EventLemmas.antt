@@ -17,7 +17,7 @@ use Rattle.thread_model.specs.Asked.{Block, DeleteLater, Spin as spin, Status}
 use Rattle.thread_model.specs.Doing.{Doing, first_taken, told, turn_taken, used_up}
 use Rattle.thread_model.specs.Effects.{unless}
 use Rattle.thread_model.specs.Events.{blocks, counts, deletes_later, spins}
-use Rattle.thread_model.specs.Items.{Delete, Emit, Item, ReplySpun, Run, Spin, puts}
+use Rattle.thread_model.specs.Items.{Delete, Emit, Item, ReplySpun, Run, RunFunctor, Spin, puts}
 use Rattle.thread_model.specs.Methods.{method_at}
 use Rattle.thread_model.specs.Posting.{post_refusal, spin_of}
 use Rattle.thread_model.specs.Refusing.{refusal}
@@ -58,9 +58,9 @@ module _ (settings : Settings) (doing : Doing) where
     by_items : (items : List Item) → call_items settings doing.state call call.callee ≡ items → step settings Spin doing ≡ puts (items ++ Spin ∷ []) (first_taken (turn_taken doing))
     by_items items are = spin_taken (event.Call call) later first some ∙ ap (λ items. puts (items ++ Spin ∷ []) (first_taken (turn_taken doing))) are
 
-    -- a functor does nothing, since there are none yet
-    pub spin_functor : (index : ℕ) → call.callee ≡ callee.Functor index → step settings Spin doing ≡ puts (Spin ∷ []) (first_taken (turn_taken doing))
-    spin_functor index is = by_items [] (ap (call_items settings doing.state call) is)
+    -- a functor is run
+    pub spin_functor : (index : ℕ) → call.callee ≡ callee.Functor index → step settings Spin doing ≡ puts (RunFunctor call.object index call.sender call.args 0 ∷ Spin ∷ []) (first_taken (turn_taken doing))
+    spin_functor index is = by_items (RunFunctor call.object index call.sender call.args 0 ∷ []) (ap (call_items settings doing.state call) is)
 
     module _ (index : ℕ) (is : call.callee ≡ callee.Method index) where
       by_method : (found : Option Method) → method_at settings doing.state call.object index ≡ found

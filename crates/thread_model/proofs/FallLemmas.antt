@@ -5,7 +5,7 @@ use Rattle.std.proofs.Math.Nat.{mul-le-mul_right, suc-mul}
 use Rattle.std.proofs.lemmas.Bool.{cond_both}
 use Rattle.refusals.specs.declared.code.Code.TheVariants.{Limit}
 use Rattle.variant_value.specs.declared.value.Value.{Value}
-use Rattle.term_core.specs.Act.{Acts, acts_of, effect, when}
+use Rattle.term_core.specs.Act.{Acts, acts_of, counts, effect, when}
 use Rattle.class_table.specs.declared.class.Method.{Method}
 use Rattle.connection_types.specs.declared.callee.Callee.{Callee}
 use Rattle.connection_types.specs.declared.callee.Callee.TheVariants as callee
@@ -17,14 +17,16 @@ use Rattle.event_queue.specs.declared.event.QueuedCall.{QueuedCall}
 use Rattle.object_tree.specs.declared.row.Row.{Row}
 use Rattle.object_tree.specs.Rows.{children, row_of}
 use Rattle.object_tree.specs.Changes.{marked}
+use Rattle.stored_slots.specs.declared.functor.Functor.{Functor}
 use Rattle.thread_model.specs.declared.call.TheConstants.{DESTROYED, NESTED_SIGNALS}
 use Rattle.thread_model.specs.declared.line.Answer.TheVariants as a
 use Rattle.thread_model.specs.declared.line.Line.TheVariants as line
 use Rattle.thread_model.specs.declared.line.Line.TheVariants.{Warning}
 use Rattle.thread_model.specs.Acts.{acts, chosen}
-use Rattle.thread_model.specs.Agenda.{call_items, call_line, callee_called, called, calls_of, connection_of, emitted, event_items, is_held_back, kins, lives, lives_below, method_called, method_items, queued, ran, spun, step, with_turn}
+use Rattle.thread_model.specs.Agenda.{call_items, call_line, callee_called, called, calls_of, connection_of, emitted, event_items, functor_called, functor_line, functor_ran, is_held_back, kins, lives, lives_below, method_called, method_items, queued, ran, spun, step, with_turn}
 use Rattle.thread_model.specs.Doing.{Doing, adopted, blocking, dying, first_taken, forgotten, gone, in_state, linked, posted, shot, told, turn_taken, unlinked, untied, used_up}
-use Rattle.thread_model.specs.Items.{Act, Call, Cut, Delete, Emit, Gone, Item, Kin, Next, Reply, ReplySpun, Run, Spin, Warn, puts}
+use Rattle.thread_model.specs.Items.{Act, Call, Cut, Delete, Emit, Gone, Item, Kin, Next, Reply, ReplySpun, Run, RunFunctor, Spin, Warn, puts}
+use Rattle.thread_model.specs.Functors.{functor_at}
 use Rattle.thread_model.specs.Methods.{Found, method_at}
 use Rattle.thread_model.specs.Posting.{is_queued, spin_of}
 use Rattle.thread_model.specs.Run.{Most, deletion_weight, most, turn_weight, weight, weights}
@@ -34,7 +36,7 @@ use Rattle.thread_model.specs.Targets.{truth_evaluated}
 use Rattle.thread_model.specs.Writing.{Writing, with_writing, written}
 use Rattle.thread_model.proofs.ActLemmas.{acted_cases}
 use Rattle.thread_model.proofs.LivingLemmas.{few_children, filter-fewer, living_rows}
-use Rattle.thread_model.proofs.WeightLemmas.{act-some, acts-weight, body-size, calls-weight, choice-weight, kins-weight, weight-some, weights-append}
+use Rattle.thread_model.proofs.WeightLemmas.{act-some, acts-weight, body-size, calls-weight, choice-weight, functor-size, kins-weight, weight-some, weights-append}
 use Rattle.thread_model.proofs.WritingLemmas.{written_cases}
 use Rattle.thread_model.proofs.ShrinkLemmas.{Shrinks, adopted_shrinks, blocking_shrinks, both, dying_less, dying_shrinks, first_taken-turns, forgotten_shrinks, gone_shrinks, linked_shrinks, posted_shrinks, queued_shrinks, same, shot_shrinks, taken_shrinks, told_shrinks, turn_shrinks, turn_taken-less, unlinked_shrinks, untied_shrinks, used_up_shrinks, written_shrinks}
 
@@ -117,8 +119,23 @@ module _ (settings : Settings) (item : Item) (doing new : Doing) (shrinks : Shri
       (λ queues. by_turn settings item doing (puts [] (queued new call)) (both doing new (queued new call) shrinks later) (omega (arith, taken, later.turns)) (omega arith))
       (λ direct. by_turn settings item doing (puts (method_items connection.receiver index connection.sender given (depth + 1) depth method) new) shrinks taken (omega (arith, few)))
 
+  -- and so does that of a functor
+  functor_falls : (connection : Connection) (index : ℕ) (args : List Value) (depth : ℕ) (functor : Functor) → FallsTo settings item doing (functor_called connection index args depth new functor)
+  functor_falls connection index args depth functor =
+      let given = take (length functor.params) args in
+      let call : QueuedCall = record { object = connection.receiver; callee = callee.Functor index; sender = connection.sender; args = given } in
+      let later = queued_shrinks new call in
+      let items = RunFunctor connection.receiver index connection.sender given depth ∷ [] in
+      cond_both (is_queued connection.mode) (puts [] (queued new call)) (puts items new) (FallsTo settings item doing)
+      (λ queues. by_turn settings item doing (puts [] (queued new call)) (both doing new (queued new call) shrinks later) (omega (arith, taken, later.turns)) (omega arith))
+      (λ direct. by_turn settings item doing (puts items new) shrinks taken (omega arith))
+
   callee_falls : (connection : Connection) (args : List Value) (depth : ℕ) (called : Callee) → FallsTo settings item doing (callee_called settings connection args depth new called)
-  callee_falls connection args depth (callee.Functor index) = idle settings item doing new shrinks
+  callee_falls connection args depth (callee.Functor index) = by (functor_at settings index)
+    where
+      by : (found : Option Functor) → FallsTo settings item doing (option_map_or (functor_called connection index args depth new) found (puts [] new))
+      by None = idle settings item doing new shrinks
+      by (Some functor) = functor_falls connection index args depth functor
   callee_falls connection args depth (callee.Method index) = by (method_at settings new.state connection.receiver index)
     where
       by : (found : Option Method) → FallsTo settings item doing (option_map_or (method_called connection index args depth new) found (puts [] new))
@@ -174,8 +191,21 @@ ran_falls settings target index sender args depth doing None is = idle settings 
 ran_falls settings target index sender args depth doing (Some method) is =
     let n = most settings doing in
     let its = acts-weight n (acts_of method.body.actions) args target sender (depth + 1) in
-    let short = mul-le-mul_right (n.connections + 3) (body-size settings doing.state target index method is) in
+    let size = body-size settings doing.state target index method is in
+    let within : counts (acts_of method.body.actions) ≤ n.actions = omega (arith, size) in
+    let short = mul-le-mul_right (n.connections + 3) within in
     lighter settings (Run target index sender args depth) doing (ran doing target sender args depth method) (told_shrinks doing (call_line method target sender args)) (omega (arith, its, short))
+
+functor_ran_falls : (settings : Settings) (target index sender : ℕ) (args : List Value) (depth : ℕ) (doing : Doing) (found : Option Functor) → functor_at settings index ≡ found
+    → FallsTo settings (RunFunctor target index sender args depth) doing (option_map_or (functor_ran doing target sender args depth) found (puts [] doing))
+functor_ran_falls settings target index sender args depth doing None is = idle settings (RunFunctor target index sender args depth) doing doing (same doing)
+functor_ran_falls settings target index sender args depth doing (Some functor) is =
+    let n = most settings doing in
+    let its = acts-weight n (acts_of functor.body.actions) args target sender (depth + 1) in
+    let size = functor-size settings index functor is in
+    let within : counts (acts_of functor.body.actions) ≤ n.actions = omega (arith, size) in
+    let short = mul-le-mul_right (n.connections + 3) within in
+    lighter settings (RunFunctor target index sender args depth) doing (functor_ran doing target sender args depth functor) (told_shrinks doing (functor_line functor target sender args)) (omega (arith, its, short))
 
 chosen_falls : (settings : Settings) (test : _) (held failed : Acts) (args : List Value) (self sender depth : ℕ) (doing : Doing) (truth : Found Bool)
     → FallsTo settings (Act (when test held failed) args self sender depth) doing (chosen truth held failed args self sender depth doing)
@@ -205,6 +235,7 @@ pub falls : (settings : Settings) (item : Item) (doing : Doing) → FallsTo sett
 falls settings (Emit target signal args depth) doing = emitted_falls settings target signal args depth doing (row_of doing.state.forest.rows target)
 falls settings (Call number args depth) doing = called_falls settings number args depth doing (connection_of doing number)
 falls settings (Run target index sender args depth) doing = ran_falls settings target index sender args depth doing (method_at settings doing.state target index) refl
+falls settings (RunFunctor target index sender args depth) doing = functor_ran_falls settings target index sender args depth doing (functor_at settings index) refl
 falls settings (Act (effect plain) args self sender depth) doing =
     let item = Act (effect plain) args self sender depth in
     acted_cases settings doing self sender args depth (FallsTo settings item doing)

@@ -86,7 +86,8 @@ module _ (settings : Settings) (self sender : ℕ) (args : List Value) where
         ∙ sym (at_item settings (Act (effect (unfolded_effect args plain)) [] self sender depth) [] doing)
     act-put_in (when test held failed) depth doing = choice-put_in test held failed depth doing (acts-put_in held depth doing) (acts-put_in failed depth doing)
 
-    acts-put_in : (body : Acts) (depth : ℕ) (doing : Doing) → run settings (acts body args self sender depth) doing ≡ run settings (acts (unfolded_acts args body) [] self sender depth) doing
+    -- and so do all actions of a body
+    pub acts-put_in : (body : Acts) (depth : ℕ) (doing : Doing) → run settings (acts body args self sender depth) doing ≡ run settings (acts (unfolded_acts args body) [] self sender depth) doing
     acts-put_in nothing depth doing = refl
     acts-put_in (more action rest) depth doing =
         in_parts settings (Act action args self sender depth ∷ []) (acts rest args self sender depth) doing

@@ -18,13 +18,15 @@ use Rattle.event_queue.specs.declared.event.Event.TheVariants as event
 use Rattle.event_queue.specs.declared.event.QueuedCall.{QueuedCall}
 use Rattle.object_tree.specs.declared.row.Row.{Row}
 use Rattle.object_tree.specs.Rows.{children, row_of}
+use Rattle.stored_slots.specs.declared.functor.Functor.{Functor}
 use Rattle.thread_model.specs.declared.call.TheConstants.{DESTROYED, NESTED_SIGNALS}
 use Rattle.thread_model.specs.declared.line.Answer.TheVariants as a
 use Rattle.thread_model.specs.declared.line.Line.TheVariants as line
 use Rattle.thread_model.specs.Acts.{acts, chosen}
-use Rattle.thread_model.specs.Agenda.{call_items, call_line, called, callee_called, calls_of, connection_of, emitted, event_items, is_held_back, kins, lives, lives_below, method_called, method_items, queued, ran, spun, step, with_turn}
+use Rattle.thread_model.specs.Agenda.{call_items, call_line, called, callee_called, calls_of, connection_of, emitted, event_items, functor_called, functor_line, functor_ran, is_held_back, kins, lives, lives_below, method_called, method_items, queued, ran, spun, step, with_turn}
 use Rattle.thread_model.specs.Doing.{Doing, dying, first_taken, forgotten, in_state, shot, told, turn_taken, untied, used_up}
-use Rattle.thread_model.specs.Items.{Act, Call, Cut, Delete, Emit, Gone, Item, Kin, Next, Reply, ReplySpun, Run, Spin, Warn, puts}
+use Rattle.thread_model.specs.Items.{Act, Call, Cut, Delete, Emit, Gone, Item, Kin, Next, Reply, ReplySpun, Run, RunFunctor, Spin, Warn, puts}
+use Rattle.thread_model.specs.Functors.{functor_at}
 use Rattle.thread_model.specs.Methods.{Found, method_at}
 use Rattle.thread_model.specs.Posting.{is_queued, spin_of}
 use Rattle.thread_model.specs.Settings.{Settings}
@@ -100,7 +102,17 @@ module _ (settings : Settings) (agenda : List Item) (doing : Doing) (under : IsU
       (λ shallow. calls_kept target signal args depth))
 
   callee_kept : (connection : Connection) (args : List Value) (depth : ℕ) → IsTied doing.state connection → IsBrokenInTime agenda connection → (to : Callee) → Keeps agenda (callee_called settings connection args depth doing to)
-  callee_kept connection args depth tied broken (callee.Functor index) = under
+  callee_kept connection args depth tied broken (callee.Functor index) = by (functor_at settings index)
+    where
+      by : (found : Option Functor) → Keeps agenda (option_map_or (functor_called connection index args depth doing) found (puts [] doing))
+      by None = under
+      by (Some functor) =
+          let given = take (length functor.params) args in
+          let call : QueuedCall = record { object = connection.receiver; callee = callee.Functor index; sender = connection.sender; args = given } in
+          let items = RunFunctor connection.receiver index connection.sender given depth ∷ [] in
+          cond_both (is_queued connection.mode) (puts [] (queued doing call)) (puts items doing) (Keeps agenda)
+          (λ later. queued_under agenda doing under connection call tied broken refl)
+          (λ now. in_front items agenda doing.state refl under)
   callee_kept connection args depth tied broken (callee.Method index) = by (method_at settings doing.state connection.receiver index)
     where
       by : (found : Option Method) → Keeps agenda (option_map_or (method_called connection index args depth doing) found (puts [] doing))
@@ -118,6 +130,12 @@ module _ (settings : Settings) (agenda : List Item) (doing : Doing) (under : IsU
   ran_kept target sender args depth (Some method) =
       let said = call_line method target sender args in
       in_front _ agenda (told doing said).state (acts_stay (acts_of method.body.actions) args target sender (depth + 1)) (told_under agenda doing under said)
+
+  functor_ran_kept : (target sender : ℕ) (args : List Value) (depth : ℕ) (found : Option Functor) → Keeps agenda (option_map_or (functor_ran doing target sender args depth) found (puts [] doing))
+  functor_ran_kept target sender args depth None = under
+  functor_ran_kept target sender args depth (Some functor) =
+      let said = functor_line functor target sender args in
+      in_front _ agenda (told doing said).state (acts_stay (acts_of functor.body.actions) args target sender (depth + 1)) (told_under agenda doing under said)
 
   -- what is written fits its object
   written_kept : (target depth : ℕ) (writing : Writing) → IsFit doing.state target writing → Keeps agenda (written settings doing target depth writing)
@@ -171,6 +189,9 @@ item_under_way settings (Call number args depth) agenda doing under =
 item_under_way settings (Run target index sender args depth) agenda doing under =
     let rest = behind (Run target index sender args depth) agenda doing.state (λ number. refl) (λ number. refl) under in
     ran_kept settings agenda doing rest target sender args depth (method_at settings doing.state target index)
+item_under_way settings (RunFunctor target index sender args depth) agenda doing under =
+    let rest = behind (RunFunctor target index sender args depth) agenda doing.state (λ number. refl) (λ number. refl) under in
+    functor_ran_kept settings agenda doing rest target sender args depth (functor_at settings index)
 item_under_way settings (Act (effect plain) args self sender depth) agenda doing under =
     let rest = behind (Act (effect plain) args self sender depth) agenda doing.state (λ number. refl) (λ number. refl) under in
     acted_cases settings doing self sender args depth (Keeps agenda)

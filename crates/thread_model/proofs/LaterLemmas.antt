@@ -23,15 +23,17 @@ use Rattle.event_queue.specs.declared.event.QueuedCall.{QueuedCall}
 use Rattle.event_queue.specs.Queue.{has_room}
 use Rattle.object_tree.specs.declared.row.Row.{Row}
 use Rattle.object_tree.specs.Rows.{row_of}
+use Rattle.stored_slots.specs.declared.functor.Functor.{Functor}
 use Rattle.thread_model.specs.declared.call.TheConstants.{DESTROYED, NESTED_SIGNALS}
 use Rattle.thread_model.specs.declared.line.Answer.TheVariants as a
 use Rattle.thread_model.specs.declared.line.Line.{Line}
 use Rattle.thread_model.specs.declared.line.Line.TheVariants as line
 use Rattle.thread_model.specs.declared.line.Line.TheVariants.{Warning}
 use Rattle.thread_model.specs.Acts.{chosen}
-use Rattle.thread_model.specs.Agenda.{call_line, callee_called, called, calls_of, connection_of, emitted, event_items, is_held_back, lives, lives_below, method_called, method_items, queued, ran, spun, step, with_turn}
+use Rattle.thread_model.specs.Agenda.{call_line, callee_called, called, calls_of, connection_of, emitted, event_items, functor_called, functor_line, functor_ran, is_held_back, lives, lives_below, method_called, method_items, queued, ran, spun, step, with_turn}
 use Rattle.thread_model.specs.Doing.{Doing, adopted, blocking, dying, first_taken, forgotten, gone, in_state, linked, lost, posted, shot, told, turn_taken, unlinked, untied, used_up}
-use Rattle.thread_model.specs.Items.{Act, Call, Cut, Delete, Emit, Gone, Item, Kin, Next, Reply, ReplySpun, Run, Spin, Warn, puts}
+use Rattle.thread_model.specs.Items.{Act, Call, Cut, Delete, Emit, Gone, Item, Kin, Next, Reply, ReplySpun, Run, RunFunctor, Spin, Warn, puts}
+use Rattle.thread_model.specs.Functors.{functor_at}
 use Rattle.thread_model.specs.Methods.{Found, method_at}
 use Rattle.thread_model.specs.Posting.{is_queued, spin_of}
 use Rattle.thread_model.specs.Run.{run}
@@ -160,7 +162,16 @@ module _ (settings : Settings) where
 
   -- a call adds no connection to those that the session has by then
   callee_later : (connection : Connection) (args : List Value) (depth : ℕ) (doing : Doing) (called : Callee) → Later doing (callee_called settings connection args depth doing called).doing
-  callee_later connection args depth doing (callee.Functor index) = unchanged doing
+  callee_later connection args depth doing (callee.Functor index) = by (functor_at settings index)
+    where
+      by : (found : Option Functor) → Later doing (option_map_or (functor_called connection index args depth doing) found (puts [] doing)).doing
+      by None = unchanged doing
+      by (Some functor) =
+          let given = take (length functor.params) args in
+          let call : QueuedCall = record { object = connection.receiver; callee = callee.Functor index; sender = connection.sender; args = given } in
+          cond_both (is_queued connection.mode) (puts [] (queued doing call)) (puts (RunFunctor connection.receiver index connection.sender given depth ∷ []) doing) (λ (next : Next). Later doing next.doing)
+          (λ queues. queued_later doing call)
+          (λ direct. unchanged doing)
   callee_later connection args depth doing (callee.Method index) = by (method_at settings doing.state connection.receiver index)
     where
       by : (found : Option Method) → Later doing (option_map_or (method_called connection index args depth doing) found (puts [] doing)).doing
@@ -192,6 +203,10 @@ module _ (settings : Settings) where
   ran_later target sender args depth doing None = unchanged doing
   ran_later target sender args depth doing (Some method) = told_later doing (call_line method target sender args)
 
+  functor_ran_later : (target sender : ℕ) (args : List Value) (depth : ℕ) (doing : Doing) (found : Option Functor) → Later doing (option_map_or (functor_ran doing target sender args depth) found (puts [] doing)).doing
+  functor_ran_later target sender args depth doing None = unchanged doing
+  functor_ran_later target sender args depth doing (Some functor) = told_later doing (functor_line functor target sender args)
+
   chosen_later : (truth : Found Bool) (held failed : Acts) (args : List Value) (self sender depth : ℕ) (doing : Doing) → Later doing (chosen truth held failed args self sender depth doing).doing
   chosen_later (Ok truth) held failed args self sender depth doing = unchanged doing
   chosen_later (Err code) held failed args self sender depth doing = unchanged doing
@@ -200,6 +215,7 @@ module _ (settings : Settings) where
   step_later (Emit target signal args depth) doing = emitted_later target signal args depth doing (row_of doing.state.forest.rows target)
   step_later (Call number args depth) doing = called_later args depth doing (connection_of doing number)
   step_later (Run target index sender args depth) doing = ran_later target sender args depth doing (method_at settings doing.state target index)
+  step_later (RunFunctor target index sender args depth) doing = functor_ran_later target sender args depth doing (functor_at settings index)
   step_later (Act (effect plain) args self sender depth) doing =
       acted_cases settings doing self sender args depth (λ (next : Next). Later doing next.doing)
       (λ code. unchanged doing)

@@ -26,8 +26,8 @@ use Rattle.thread_model.specs.declared.line.Line.{Line}
 use Rattle.thread_model.specs.declared.post.Post.{Post}
 use Rattle.thread_model.specs.Absence.{absence}
 use Rattle.thread_model.specs.Agenda.{with_turn}
-use Rattle.thread_model.specs.Asked.{Asked, New, Delete, SetParent, Children, Find, Set, Get, DynamicNames, Meta, Connect, DisconnectOne, Disconnect, Invoke, Spin, DeleteLater, Block, Status}
-use Rattle.thread_model.specs.Connecting.{connection_refusal}
+use Rattle.thread_model.specs.Asked.{Asked, New, Delete, SetParent, Children, Find, Set, Get, DynamicNames, Meta, Connect, ConnectFunctor, DisconnectOne, Disconnect, Invoke, Spin, DeleteLater, Block, Status}
+use Rattle.thread_model.specs.Connecting.{connection_refusal, functor_refusal}
 use Rattle.thread_model.specs.Doing.{Doing, begun, turn_taken, used_up}
 use Rattle.thread_model.specs.Effects.{does_next, unless}
 use Rattle.thread_model.specs.Events.{spins}
@@ -39,13 +39,13 @@ use Rattle.thread_model.specs.Posting.{is_queued}
 use Rattle.thread_model.specs.Properties.{is_declared, sets}
 use Rattle.thread_model.specs.Refusing.{class_refusal, refusal}
 use Rattle.thread_model.specs.Run.{run}
-use Rattle.thread_model.specs.Signals.{asked_connection, asked_method, asked_pattern, connects, disconnects, invoked, invoked_later, invokes}
+use Rattle.thread_model.specs.Signals.{asked_connection, asked_functor_connection, asked_method, asked_pattern, connects, disconnects, invoked, invoked_later, invokes}
 use Rattle.thread_model.specs.State.{IsMeant, IsSound, State, with_event}
 use Rattle.thread_model.specs.Thread.{Settings, arrives, does, performs}
 use Rattle.thread_model.specs.UnderWay.{IsUnderWay, is_gone}
 use Rattle.thread_model.specs.Writing.{Writing, asked_writing, with_writing, written}
-use Rattle.thread_model.proofs.ActLemmas.{Joins, joins}
-use Rattle.thread_model.proofs.ConnectionLemmas.{allowed}
+use Rattle.thread_model.proofs.ActLemmas.{Joins, joins, joins_functor}
+use Rattle.thread_model.proofs.ConnectionLemmas.{IsAllowed, allowed}
 use Rattle.thread_model.proofs.DyingLemmas.{each_added, each_blocked, each_reparented}
 use Rattle.thread_model.proofs.FitLemmas.{IsFit, asked_fit}
 use Rattle.thread_model.proofs.ItemLemmas.{item_under_way}
@@ -95,15 +95,25 @@ is_present state target passed = by (is_there state.forest.rows target) passed
     by false e = absurd (cc)
 
 -- a connection that is not refused is made
-connected_sound : (state : State) (sender receiver : ℕ) (unique : Bool) (found : Found NewConnection) → ((new : NewConnection) → found ≡ Ok new → Joins sender receiver new)
-    → is_there state.forest.rows sender ≡ true → is_there state.forest.rows receiver ≡ true → connection_refusal state.connections found unique ≡ None → IsSound state → IsSound (connects state found).state
-connected_sound state sender receiver unique (Err code) ends sender' receiver' passed sound = sound
-connected_sound state sender receiver unique (Ok new) ends sender' receiver' passed sound =
+connected_sound : (state : State) (sender receiver : ℕ) (found : Found NewConnection) → ((new : NewConnection) → found ≡ Ok new → Joins sender receiver new)
+    → is_there state.forest.rows sender ≡ true → is_there state.forest.rows receiver ≡ true → ((new : NewConnection) → found ≡ Ok new → IsAllowed state.connections) → IsSound state → IsSound (connects state found).state
+connected_sound state sender receiver (Err code) ends sender' receiver' passed sound = sound
+connected_sound state sender receiver (Ok new) ends sender' receiver' passed sound =
     let its = ends new refl in
     record {
-      whole = whole_with_connection state new (allowed state.connections new unique passed) (ap (is_there state.forest.rows) its.sender ∙ sender') (ap (is_there state.forest.rows) its.receiver ∙ receiver') sound.whole;
+      whole = whole_with_connection state new (passed new refl) (ap (is_there state.forest.rows) its.sender ∙ sender') (ap (is_there state.forest.rows) its.receiver ∙ receiver') sound.whole;
       living = sound.living;
     }
+
+-- what is not refused is allowed
+connection_allowed : (state : State) (unique : Bool) (found : Found NewConnection) → connection_refusal state.connections found unique ≡ None → (new : NewConnection) → found ≡ Ok new → IsAllowed state.connections
+connection_allowed state unique (Err code) passed new is = absurd (cc)
+connection_allowed state unique (Ok made) passed new is = allowed state.connections made unique passed
+
+functor_allowed : (state : State) (unique : Bool) (found : Found NewConnection) → functor_refusal state.connections found unique ≡ None → (new : NewConnection) → found ≡ Ok new → IsAllowed state.connections
+functor_allowed state unique (Err code) passed new is = absurd (cc)
+functor_allowed state true (Ok made) passed new is = absurd (cc)
+functor_allowed state false (Ok made) passed new is = allowed state.connections made false passed
 
 disconnected_sound : (state : State) (found : Found Pattern) → IsSound state → IsSound (disconnects state found).state
 disconnected_sound state (Err code) sound = sound
@@ -173,8 +183,13 @@ performed_sound settings self state (Meta class) passed sound = sound
 performed_sound settings self state (Connect sender signal receiver method mode unique single) passed sound =
     let one = or_none (absence state sender) _ passed in
     let other = or_none (absence state receiver) _ one.1 in
-    connected_sound state sender receiver unique (asked_connection settings state sender signal receiver method mode single)
-    (joins settings state sender _ receiver _ mode single) (is_present state sender one.0) (is_present state receiver other.0) other.1 sound
+    let found = asked_connection settings state sender signal receiver method mode single in
+    connected_sound state sender receiver found (joins settings state sender _ receiver _ mode single) (is_present state sender one.0) (is_present state receiver other.0) (connection_allowed state unique found other.1) sound
+performed_sound settings self state (ConnectFunctor sender signal context functor mode unique single) passed sound =
+    let one = or_none (absence state sender) _ passed in
+    let other = or_none (absence state context) _ one.1 in
+    let found = asked_functor_connection settings state sender signal context functor mode single in
+    connected_sound state sender context found (joins_functor settings state sender _ context _ mode single) (is_present state sender one.0) (is_present state context other.0) (functor_allowed state unique found other.1) sound
 performed_sound settings self state (DisconnectOne connection) passed sound = record { whole = whole_without_connections state (has_number connection) sound.whole; living = sound.living }
 performed_sound settings self state (Disconnect sender signal receiver method) passed sound = disconnected_sound state (asked_pattern settings state sender signal receiver method) sound
 performed_sound settings self state (Invoke target method args mode) passed sound =

@@ -14,15 +14,15 @@ use Rattle.connection_list.specs.Ends.{matches}
 use Rattle.thread_model.specs.declared.line.Answer.TheVariants as a
 use Rattle.thread_model.specs.Absence.{absence, named_absence}
 use Rattle.thread_model.specs.Agenda.{with_turn}
-use Rattle.thread_model.specs.Asked.{Asked, Connect, Disconnect, DisconnectOne, Invoke}
-use Rattle.thread_model.specs.Connecting.{connection_refusal}
+use Rattle.thread_model.specs.Asked.{Asked, Connect, ConnectFunctor, Disconnect, DisconnectOne, Invoke}
+use Rattle.thread_model.specs.Connecting.{connection_refusal, functor_refusal}
 use Rattle.thread_model.specs.Doing.{begun, turn_taken, used_up}
 use Rattle.thread_model.specs.Effects.{does_next, replies, unless}
 use Rattle.thread_model.specs.Items.{Emit, Next, Run, puts}
 use Rattle.thread_model.specs.Methods.{is_signal_at, methods_of, signature_in}
 use Rattle.thread_model.specs.Posting.{is_queued}
 use Rattle.thread_model.specs.Refusing.{later_refusal, refusal, values_refusal}
-use Rattle.thread_model.specs.Signals.{asked_connection, asked_method, asked_pattern, asked_values, connects, disconnects, disconnects_one, invoked, invoked_later, invokes}
+use Rattle.thread_model.specs.Signals.{asked_connection, asked_functor_connection, asked_method, asked_pattern, asked_values, connects, disconnects, disconnects_one, invoked, invoked_later, invokes}
 use Rattle.thread_model.specs.State.{State, with_connection, without_connections}
 use Rattle.thread_model.specs.Thread.{Settings, does, performs}
 
@@ -47,6 +47,27 @@ module _ (settings : Settings) (self : List ℕ) (state : State) where
     pub connect_made : (new : NewConnection) → asked_connection settings state sender signal receiver method mode single ≡ Ok new
         → performs settings self state (Connect sender signal receiver method mode unique single) ≡ replies (with_connection state new) (a.Number (state.connections.last_number + 1))
     connect_made new found = performs_connect ∙ ap (connects state) found
+
+  module _ (sender : ℕ) (signal : List ℕ) (context : ℕ) (functor : List ℕ) (mode : ConnectionType) (unique single : Bool) where
+    pub refusal_connect_functor : refusal settings self state (ConnectFunctor sender signal context functor mode unique single)
+        ≡ option_or (absence state sender) (option_or (absence state context) (functor_refusal state.connections (asked_functor_connection settings state sender signal context functor mode single) unique))
+    unfolding refusal
+    refusal_connect_functor = refl
+
+    pub performs_connect_functor : performs settings self state (ConnectFunctor sender signal context functor mode unique single) ≡ connects state (asked_functor_connection settings state sender signal context functor mode single)
+    unfolding performs
+    performs_connect_functor = refl
+
+    pub does_connect_functor : does settings self state (ConnectFunctor sender signal context functor mode unique single)
+        ≡ unless (option_or (absence state sender) (option_or (absence state context) (functor_refusal state.connections (asked_functor_connection settings state sender signal context functor mode single) unique))) state
+        (connects state (asked_functor_connection settings state sender signal context functor mode single))
+    unfolding does refusal performs
+    does_connect_functor = refl
+
+    -- the connection that was looked for is made
+    pub connect_functor_made : (new : NewConnection) → asked_functor_connection settings state sender signal context functor mode single ≡ Ok new
+        → performs settings self state (ConnectFunctor sender signal context functor mode unique single) ≡ replies (with_connection state new) (a.Number (state.connections.last_number + 1))
+    connect_functor_made new found = performs_connect_functor ∙ ap (connects state) found
 
   pub refusal_disconnect_one : (connection : ℕ) → refusal settings self state (DisconnectOne connection) ≡ None
   unfolding refusal

@@ -16,10 +16,12 @@ use Rattle.connection_list.specs.declared.connection.Connection.{Connection}
 use Rattle.object_tree.specs.Lines.{greatest}
 use Rattle.object_tree.specs.declared.row.Row.{Row}
 use Rattle.object_tree.specs.Rows.{row_of}
+use Rattle.stored_slots.specs.declared.functor.Functor.{Functor}
 use Rattle.thread_model.specs.Acts.{acts}
-use Rattle.thread_model.specs.Items.{Act, Call, Cut, Delete, Emit, Gone, Item, Kin, Reply, ReplySpun, Run, Spin, Warn}
+use Rattle.thread_model.specs.Functors.{functor_at}
+use Rattle.thread_model.specs.Items.{Act, Call, Cut, Delete, Emit, Gone, Item, Kin, Reply, ReplySpun, Run, RunFunctor, Spin, Warn}
 use Rattle.thread_model.specs.Methods.{method_at, methods_of}
-use Rattle.thread_model.specs.Run.{Most, longest_body, weight, weights}
+use Rattle.thread_model.specs.Run.{Most, longest_body, longest_functor, weight, weights}
 use Rattle.thread_model.specs.Settings.{Settings}
 use Rattle.thread_model.specs.State.{State}
 
@@ -34,6 +36,13 @@ weight-more : (m n : Most) (item : Item) → IsAtMost m n → weight m item ≤ 
 weight-more m n (Emit target signal args depth) less = omega (arith, less.connections)
 weight-more m n (Call number args depth) less = omega arith
 weight-more m n (Run target method sender args depth) less =
+    let times = mul-le-mul_left m.actions (above m.connections n.connections less.connections) in
+    let same : m.actions * (n.connections + 3) ≡ n.actions * (n.connections + 3) = ap (λ k. k * (n.connections + 3)) less.actions in
+    omega (arith, times, same)
+  where
+    above : (a b : ℕ) → a ≤ b → a + 3 ≤ b + 3
+    above a b le = omega arith
+weight-more m n (RunFunctor target functor sender args depth) less =
     let times = mul-le-mul_left m.actions (above m.connections n.connections less.connections) in
     let same : m.actions * (n.connections + 3) ≡ n.actions * (n.connections + 3) = ap (λ k. k * (n.connections + 3)) less.actions in
     omega (arith, times, same)
@@ -74,6 +83,7 @@ pub weight-some : (n : Most) (item : Item) → 1 ≤ weight n item
 weight-some n (Emit target signal args depth) = omega arith
 weight-some n (Call number args depth) = omega arith
 weight-some n (Run target method sender args depth) = omega arith
+weight-some n (RunFunctor target functor sender args depth) = omega arith
 weight-some n (Act action args self sender depth) = let some = act-some n action in omega (arith, some)
 weight-some n (Warn code object) = omega arith
 weight-some n (Delete target depth) = omega arith
@@ -162,3 +172,11 @@ body-size settings state object index method found = All-slice_get (λ method. s
     by : (row : Option Row) → All (λ method. size method ≤ longest_body settings.classes) (option_map_or (λ row. methods settings.classes row.class) row [])
     by None = All-nil (λ method. size method ≤ longest_body settings.classes)
     by (Some row) = gathered-size (longest_body settings.classes) (reverse settings.classes) row.class classes
+
+-- nor is that of a functor
+pub functor-size : (settings : Settings) (index : ℕ) (functor : Functor) → functor_at settings index ≡ Some functor → counts (acts_of functor.body.actions) ≤ longest_functor settings.functors
+functor-size settings index functor found =
+    All-slice_get (λ functor. functor_size functor ≤ longest_functor settings.functors) settings.functors index functor found (below_greatest functor_size settings.functors)
+  where
+    functor_size : Functor → ℕ
+    functor_size functor = counts (acts_of functor.body.actions)

@@ -17,13 +17,15 @@ use Rattle.event_queue.specs.Queue.{has_room}
 use Rattle.connection_list.specs.Rows.{has_number}
 use Rattle.object_tree.specs.declared.row.Row.{Row}
 use Rattle.object_tree.specs.Rows.{children, row_of, is_same}
+use Rattle.stored_slots.specs.declared.functor.Functor.{Functor}
 use Rattle.thread_model.specs.declared.call.TheConstants.{DESTROYED, NESTED_SIGNALS}
 use Rattle.thread_model.specs.declared.line.Answer.TheVariants as a
 use Rattle.thread_model.specs.declared.line.Line.{Line}
 use Rattle.thread_model.specs.declared.line.Line.TheVariants as line
 use Rattle.thread_model.specs.Acts.{act_refusal, acted, acts, chosen, warns_or}
 use Rattle.thread_model.specs.Doing.{Doing, dying, first_taken, forgotten, gone, lost, posted, shot, told, turn_taken, untied, used_up}
-use Rattle.thread_model.specs.Items.{Act, Call, Cut, Delete, Emit, Gone, Item, Kin, Next, Reply, ReplySpun, Run, Spin, Warn, puts}
+use Rattle.thread_model.specs.Items.{Act, Call, Cut, Delete, Emit, Gone, Item, Kin, Next, Reply, ReplySpun, Run, RunFunctor, Spin, Warn, puts}
+use Rattle.thread_model.specs.Functors.{functor_at}
 use Rattle.thread_model.specs.Methods.{method_at}
 use Rattle.thread_model.specs.Posting.{is_queued, spin_of}
 use Rattle.thread_model.specs.Settings.{Settings}
@@ -89,10 +91,18 @@ method_called connection index args depth doing method =
     then puts [] (queued doing (record { object = connection.receiver; callee = callee.Method index; sender = connection.sender; args = given }))
     else puts (method_items connection.receiver index connection.sender given (depth + 1) depth method) doing
 
--- what a connection calls; there are no functors yet
+-- the same of a functor, whose context object is the receiver
+abbrev pub functor_called : Connection → ℕ → List Value → ℕ → Doing → Functor → Next
+functor_called connection index args depth doing functor =
+    let given = take (length functor.params) args in
+    if is_queued connection.mode
+    then puts [] (queued doing (record { object = connection.receiver; callee = callee.Functor index; sender = connection.sender; args = given }))
+    else puts (RunFunctor connection.receiver index connection.sender given depth ∷ []) doing
+
+-- what a connection calls
 abbrev pub callee_called : Settings → Connection → List Value → ℕ → Doing → Callee → Next
 callee_called settings connection args depth doing (callee.Method index) = option_map_or (method_called connection index args depth doing) (method_at settings doing.state connection.receiver index) (puts [] doing)
-callee_called settings connection args depth doing (callee.Functor index) = puts [] doing
+callee_called settings connection args depth doing (callee.Functor index) = option_map_or (functor_called connection index args depth doing) (functor_at settings index) (puts [] doing)
 
 -- a connection's call; a single-shot connection goes first
 abbrev pub called : Settings → Connection → List Value → ℕ → Doing → Next
@@ -101,7 +111,7 @@ called settings connection args depth doing = callee_called settings connection 
 -- what an event comes to: all that it does is done at depth 0
 abbrev pub call_items : Settings → State → QueuedCall → Callee → List Item
 call_items settings state call (callee.Method index) = option_map_or (method_items call.object index call.sender call.args 0 0) (method_at settings state call.object index) []
-call_items settings state call (callee.Functor index) = []
+call_items settings state call (callee.Functor index) = RunFunctor call.object index call.sender call.args 0 ∷ []
 
 abbrev pub event_items : Settings → State → Event → List Item
 event_items settings state (event.Call call) = call_items settings state call call.callee
@@ -116,15 +126,24 @@ spun settings doing (event ∷ later) = with_turn doing (λ doing. puts (event_i
 abbrev pub call_line : Method → ℕ → ℕ → List Value → Line
 call_line method target sender args = line.Call (record { method = method_text method; object = target; sender = sender; args = args })
 
+-- the line of a functor's call, by its name
+abbrev pub functor_line : Functor → ℕ → ℕ → List Value → Line
+functor_line functor target sender args = line.Call (record { method = functor.name; object = target; sender = sender; args = args })
+
 -- a slot is told of, and then does what its body says, one level deeper
 abbrev pub ran : Doing → ℕ → ℕ → List Value → ℕ → Method → Next
 ran doing target sender args depth method = puts (acts (acts_of method.body.actions) args target sender (depth + 1)) (told doing (call_line method target sender args))
+
+-- and so does a functor for its context object
+abbrev pub functor_ran : Doing → ℕ → ℕ → List Value → ℕ → Functor → Next
+functor_ran doing target sender args depth functor = puts (acts (acts_of functor.body.actions) args target sender (depth + 1)) (told doing (functor_line functor target sender args))
 
 -- what an item comes to
 abbrev pub step : Settings → Item → Doing → Next
 step settings (Emit target signal args depth) doing = option_map_or (emitted doing target signal args depth) (row_of doing.state.forest.rows target) (puts [] doing)
 step settings (Call number args depth) doing = option_map_or (λ connection. with_turn doing (called settings connection args depth)) (connection_of doing number) (puts [] doing)
 step settings (Run target method sender args depth) doing = option_map_or (ran doing target sender args depth) (method_at settings doing.state target method) (puts [] doing)
+step settings (RunFunctor target functor sender args depth) doing = option_map_or (functor_ran doing target sender args depth) (functor_at settings functor) (puts [] doing)
 step settings (Act (effect plain) args self sender depth) doing = warns_or (act_refusal settings doing.state self sender args plain) self doing (acted settings doing self sender args depth plain)
 step settings (Act (when test held failed) args self sender depth) doing = chosen (truth_evaluated doing.state self sender args test) held failed args self sender depth doing
 step settings (Warn code object) doing = puts [] (told doing (line.Warning code object))

@@ -30,6 +30,8 @@ pub data Asked : Type 0 where
   Meta : (class : List ℕ) → Asked
   -- connect a signal of the sender to a method of the receiver
   Connect : (sender : ℕ) (signal : List ℕ) (receiver : ℕ) (method : List ℕ) (mode : ConnectionType) (unique single : Bool) → Asked
+  -- connect a signal of the sender to the functor of this name, for a context object
+  ConnectFunctor : (sender : ℕ) (signal : List ℕ) (context : ℕ) (functor : List ℕ) (mode : ConnectionType) (unique single : Bool) → Asked
   -- break the connection of this number
   DisconnectOne : (connection : ℕ) → Asked
   -- break the connections of the sender that match where signal, receiver and method are given
@@ -57,6 +59,7 @@ asked (c.Get target property) = Get target property
 asked (c.DynamicNames target) = DynamicNames target
 asked (c.Meta class) = Meta class
 asked (c.Connect sender signal receiver method mode unique single) = Connect sender signal receiver method mode unique single
+asked (c.ConnectFunctor sender signal context functor mode unique single) = ConnectFunctor sender signal context functor mode unique single
 asked (c.DisconnectOne connection) = DisconnectOne connection
 asked (c.Disconnect sender signal receiver method) = Disconnect sender signal receiver method
 asked (c.Invoke target method args mode) = Invoke target method (map view args) mode

@@ -5,6 +5,7 @@ pub mod Absence
 pub mod Doing
 pub mod Items
 pub mod Methods
+pub mod Functors
 pub mod Connecting
 pub mod Posting
 pub mod Targets

@@ -10,12 +10,12 @@ use Rattle.class_table.specs.Lookup.{index_of}
 use Rattle.connection_types.specs.declared.connection_type.ConnectionType.{ConnectionType}
 use Rattle.object_tree.specs.Refusing.{add_refusal, parent_refusal, set_parent_refusal}
 use Rattle.thread_model.specs.Absence.{absence, named_absence}
-use Rattle.thread_model.specs.Asked.{Asked, New, Delete, SetParent, Children, Find, Set, Get, DynamicNames, Meta, Connect, DisconnectOne, Disconnect, Invoke, Spin, DeleteLater, Block, Status}
-use Rattle.thread_model.specs.Connecting.{connection_refusal}
+use Rattle.thread_model.specs.Asked.{Asked, New, Delete, SetParent, Children, Find, Set, Get, DynamicNames, Meta, Connect, ConnectFunctor, DisconnectOne, Disconnect, Invoke, Spin, DeleteLater, Block, Status}
+use Rattle.thread_model.specs.Connecting.{connection_refusal, functor_refusal}
 use Rattle.thread_model.specs.Methods.{signature_in}
 use Rattle.thread_model.specs.Posting.{is_queued, post_refusal}
 use Rattle.thread_model.specs.Settings.{Settings}
-use Rattle.thread_model.specs.Signals.{asked_connection, asked_method, asked_pattern, asked_values}
+use Rattle.thread_model.specs.Signals.{asked_connection, asked_functor_connection, asked_method, asked_pattern, asked_values}
 use Rattle.thread_model.specs.State.{State}
 use Rattle.thread_model.specs.Writing.{asked_writing}
 
@@ -57,6 +57,10 @@ refusal settings self state (Connect sender signal receiver method mode unique s
     option_or (absence state sender) (
     option_or (absence state receiver)
     (connection_refusal state.connections (asked_connection settings state sender signal receiver method mode single) unique))
+refusal settings self state (ConnectFunctor sender signal context functor mode unique single) =
+    option_or (absence state sender) (
+    option_or (absence state context)
+    (functor_refusal state.connections (asked_functor_connection settings state sender signal context functor mode single) unique))
 refusal settings self state (DisconnectOne connection) = None
 refusal settings self state (Disconnect sender signal receiver method) =
     option_or (absence state sender) (

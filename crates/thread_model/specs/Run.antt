@@ -4,9 +4,10 @@ use Rattle.term_core.specs.Act.{acts_of, count, counts}
 use Rattle.class_table.specs.declared.class.Class.{Class}
 use Rattle.connection_list.specs.declared.limit.TheConstants.{CONNECTIONS}
 use Rattle.object_tree.specs.Lines.{greatest}
+use Rattle.stored_slots.specs.declared.functor.Functor.{Functor}
 use Rattle.thread_model.specs.Agenda.{is_living, step}
 use Rattle.thread_model.specs.Doing.{Doing}
-use Rattle.thread_model.specs.Items.{Act, Call, Cut, Delete, Emit, Gone, Item, Kin, Reply, ReplySpun, Run, Spin, Warn}
+use Rattle.thread_model.specs.Items.{Act, Call, Cut, Delete, Emit, Gone, Item, Kin, Reply, ReplySpun, Run, RunFunctor, Spin, Warn}
 use Rattle.thread_model.specs.Settings.{Settings}
 
 -- at most so many items done, each with what it puts in front of the others
@@ -23,6 +24,10 @@ living doing = length (filter is_living doing.state.forest.rows)
 abbrev pub longest_body : List Class → ℕ
 longest_body classes = greatest (map (λ class. greatest (map (λ method. counts (acts_of method.body.actions)) class.methods)) classes)
 
+-- and how many that of these functors
+abbrev pub longest_functor : List Functor → ℕ
+longest_functor functors = greatest (map (λ functor. counts (acts_of functor.body.actions)) functors)
+
 -- how many there are at most while an agenda is done; none of its items makes an object
 pub record Most : Type 0 where
   pub connections : ℕ
@@ -33,7 +38,7 @@ abbrev pub most : Settings → Doing → Most
 most settings doing = record {
   connections = max CONNECTIONS (length doing.state.connections.rows);
   objects = length doing.state.forest.rows;
-  actions = longest_body settings.classes;
+  actions = max (longest_body settings.classes) (longest_functor settings.functors);
 }
 
 -- how many items an item comes to at most, where no further call is made and no further object deleted
@@ -41,6 +46,7 @@ abbrev pub weight : Most → Item → ℕ
 weight most (Emit target signal args depth) = most.connections + 2
 weight most (Call number args depth) = 1
 weight most (Run target method sender args depth) = most.actions * (most.connections + 3) + 1
+weight most (RunFunctor target functor sender args depth) = most.actions * (most.connections + 3) + 1
 weight most (Act action args self sender depth) = count action * (most.connections + 3)
 weight most (Warn code object) = 1
 weight most (Delete target depth) = 1

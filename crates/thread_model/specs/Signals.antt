@@ -22,9 +22,10 @@ use Rattle.thread_model.specs.declared.line.Answer.TheVariants as a
 use Rattle.thread_model.specs.declared.line.Line.{Line}
 use Rattle.thread_model.specs.declared.post.Post.{Post}
 use Rattle.thread_model.specs.Agenda.{with_turn}
-use Rattle.thread_model.specs.Connecting.{new_connection, pattern_with}
+use Rattle.thread_model.specs.Connecting.{new_connection, new_functor_connection, pattern_with}
 use Rattle.thread_model.specs.Doing.{begun}
 use Rattle.thread_model.specs.Effects.{does_next, refuses, replies}
+use Rattle.thread_model.specs.Functors.{functor_named}
 use Rattle.thread_model.specs.Items.{Emit, Next, Run, puts}
 use Rattle.thread_model.specs.Methods.{Found, is_signal_at, kinds_at, method_named, methods_of, signal_named}
 use Rattle.thread_model.specs.Settings.{Settings}
@@ -37,6 +38,14 @@ asked_connection settings state sender signal receiver method mode single =
     new_connection settings state
     sender (signal_named (methods_of settings state sender) signal)
     receiver (method_named (methods_of settings state receiver) method)
+    mode single
+
+-- and the connection to a functor that is asked for
+abbrev pub asked_functor_connection : Settings → State → ℕ → List ℕ → ℕ → List ℕ → ConnectionType → Bool → Found NewConnection
+asked_functor_connection settings state sender signal context functor mode single =
+    new_functor_connection settings state
+    sender (signal_named (methods_of settings state sender) signal)
+    context (functor_named settings functor)
     mode single
 
 -- making a connection replies its number, which is the next one

@@ -4,13 +4,13 @@ use Rattle.std.specs.Prelude.{ℕ, Bool, false, List}
 use Rattle.isolation.specs.Machine.{Effect}
 use Rattle.thread_model.specs.declared.line.Line.{Line}
 use Rattle.thread_model.specs.declared.post.Post.{Post}
-use Rattle.thread_model.specs.Asked.{Asked, New, Delete, SetParent, Children, Find, Set, Get, DynamicNames, Meta, Connect, DisconnectOne, Disconnect, Invoke, Spin, DeleteLater, Block, Status}
+use Rattle.thread_model.specs.Asked.{Asked, New, Delete, SetParent, Children, Find, Set, Get, DynamicNames, Meta, Connect, ConnectFunctor, DisconnectOne, Disconnect, Invoke, Spin, DeleteLater, Block, Status}
 use Rattle.thread_model.specs.Classes.{describes}
 use Rattle.thread_model.specs.Effects.{unless}
 use Rattle.thread_model.specs.Events.{blocks, counts, deletes_later, spins}
 use Rattle.thread_model.specs.Properties.{gets, names, sets}
 use Rattle.thread_model.specs.Refusing.{refusal}
-use Rattle.thread_model.specs.Signals.{asked_connection, asked_method, asked_pattern, connects, disconnects, disconnects_one, invokes}
+use Rattle.thread_model.specs.Signals.{asked_connection, asked_functor_connection, asked_method, asked_pattern, connects, disconnects, disconnects_one, invokes}
 use Rattle.thread_model.specs.State.{State}
 use Rattle.thread_model.specs.Trees.{deletes, finds, lists, makes, reparents}
 use Rattle.thread_model.specs.Writing.{asked_writing}
@@ -28,6 +28,7 @@ performs settings self state (Get target property) = gets state target property
 performs settings self state (DynamicNames target) = names state target
 performs settings self state (Meta class) = describes settings.classes state class
 performs settings self state (Connect sender signal receiver method mode unique single) = connects state (asked_connection settings state sender signal receiver method mode single)
+performs settings self state (ConnectFunctor sender signal context functor mode unique single) = connects state (asked_functor_connection settings state sender signal context functor mode single)
 performs settings self state (DisconnectOne connection) = disconnects_one state connection
 performs settings self state (Disconnect sender signal receiver method) = disconnects state (asked_pattern settings state sender signal receiver method)
 performs settings self state (Invoke target method args mode) = invokes settings state target args mode (asked_method settings state target method)

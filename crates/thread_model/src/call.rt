@@ -12,12 +12,12 @@ pub const DESTROYED: u32 = 0;
 /// first.
 pub const OBJECT_NAME: u32 = 0;
 
-/// A slot as it is called.
+/// A slot or a functor as it is called.
 #[derive(Debug, Drop)]
 pub struct Call {
-    /// The normal text of the slot's signature.
+    /// The normal text of the slot's signature, or the functor's name.
     pub method: Text,
-    /// The object whose slot it is.
+    /// The object whose slot it is, or the functor's context object.
     pub object: u32,
     /// The object that sent the signal, or 0 where a command calls the slot.
     pub sender: u32,

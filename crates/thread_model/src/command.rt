@@ -65,6 +65,19 @@ pub enum Command {
         /// Taken out before its method is first called (`Qt::SingleShotConnection`).
         single: bool,
     },
+    /// Connects a signal of an object to a functor, which runs for a context object, and replies the
+    /// connection's number. When the context is deleted, the connection goes.
+    ConnectFunctor {
+        sender: u32,
+        signal: Text,
+        context: u32,
+        functor: Text,
+        mode: ConnectionType,
+        /// Refused: functors cannot be told apart (`Qt::UniqueConnection`).
+        unique: bool,
+        /// Taken out before its functor is first called (`Qt::SingleShotConnection`).
+        single: bool,
+    },
     /// Breaks the connection of this number, and replies whether it stood.
     DisconnectOne {
         connection: u32,

@@ -54,9 +54,9 @@ pub enum Line {
     Reply(Answer),
     /// The command was refused.
     Error(Code),
-    /// A slot is called.
+    /// A slot or a functor is called.
     Call(Call),
-    /// An action in the body of this object's slot was refused, or a signal of this object was not
-    /// sent. That the turns are used up is said of no object.
+    /// An action in the body of this object's slot, or of a functor that ran for it, was refused, or a
+    /// signal of this object was not sent. That the turns are used up is said of no object.
     Warning { code: Code, object: Option<u32> },
 }

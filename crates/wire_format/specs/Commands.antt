@@ -5,7 +5,7 @@ use Rattle.serde_json.specs.Data.{Data}
 use Rattle.json_reading.specs.Fields.{◌>>=◌, text_at}
 use Rattle.thread_model.specs.Asked.{Asked}
 use Rattle.wire_format.specs.declared.commands.Word.{Word}
-use Rattle.wire_format.specs.declared.commands.Word.TheVariants.{New, Delete, SetParent, Children, Find, Set, Get, DynamicNames, Meta, Connect, Disconnect, Invoke, Spin, DeleteLater, Block, Status}
+use Rattle.wire_format.specs.declared.commands.Word.TheVariants.{New, Delete, SetParent, Children, Find, Set, Get, DynamicNames, Meta, Connect, ConnectFunctor, Disconnect, Invoke, Spin, DeleteLater, Block, Status}
 use Rattle.wire_format.specs.Form.{Form}
 use Rattle.wire_format.specs.Held.{held_by}
 use Rattle.wire_format.specs.Trees as trees
@@ -25,6 +25,7 @@ form_of Get = properties.get
 form_of DynamicNames = properties.dynamic_names
 form_of Meta = classes.meta
 form_of Connect = signals.connect
+form_of ConnectFunctor = signals.connect_functor
 form_of Disconnect = signals.disconnect
 form_of Invoke = signals.invoke
 form_of Spin = events.spin
@@ -33,7 +34,7 @@ form_of Block = events.block
 form_of Status = events.status
 
 abbrev pub all_words : List Word
-all_words = New ∷ Delete ∷ SetParent ∷ Children ∷ Find ∷ Set ∷ Get ∷ DynamicNames ∷ Meta ∷ Connect ∷ Disconnect ∷ Invoke ∷ Spin ∷ DeleteLater ∷ Block ∷ Status ∷ []
+all_words = New ∷ Delete ∷ SetParent ∷ Children ∷ Find ∷ Set ∷ Get ∷ DynamicNames ∷ Meta ∷ Connect ∷ ConnectFunctor ∷ Disconnect ∷ Invoke ∷ Spin ∷ DeleteLater ∷ Block ∷ Status ∷ []
 
 -- the command of this name
 abbrev pub word_named : List ℕ → Option Word

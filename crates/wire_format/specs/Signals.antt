@@ -1,8 +1,8 @@
 -- The commands of signals and slots.
 use Rattle.std.specs.Prelude.{List, [], ◌∷◌, Option, Some, None, codes}
 use Rattle.json_reading.specs.Fields.{◌>>=◌}
-use Rattle.thread_model.specs.Asked.{Asked, Connect, DisconnectOne, Disconnect, Invoke}
-use Rattle.wire_format.specs.declared.keys.Holds.TheVariants.{Number, Text, Truth, Mode, List as AList}
+use Rattle.thread_model.specs.Asked.{Asked, Connect, ConnectFunctor, DisconnectOne, Disconnect, Invoke}
+use Rattle.wire_format.specs.declared.keys.Holds.TheVariants.{Name, Number, Text, Truth, Mode, List as AList}
 use Rattle.wire_format.specs.Form.{Form}
 use Rattle.wire_format.specs.Held.{Held, absent, number, number_of, text_of, truth_of, mode_of, list_of}
 use Rattle.wire_format.specs.Keys.{needed, optional}
@@ -19,6 +19,19 @@ connect_of held = None
 
 abbrev pub connect : Form
 connect = record { word = codes "connect"; keys = needed (codes "sender") Number ∷ needed (codes "signal") Text ∷ needed (codes "receiver") Number ∷ needed (codes "method") Text ∷ optional (codes "type") Mode ∷ optional (codes "unique") Truth ∷ optional (codes "single") Truth ∷ []; asks = connect_of }
+
+-- `connectFunctor` connects a signal of the sender to a functor, for a context object
+abbrev pub connect_functor_of : List Held → Option Asked
+connect_functor_of (sender ∷ signal ∷ context ∷ functor ∷ calls ∷ unique ∷ single ∷ []) = do
+  from ← number_of sender
+  sent ← text_of signal
+  to ← number_of context
+  called ← text_of functor
+  Some (ConnectFunctor from sent to called (mode_of calls) (truth_of unique) (truth_of single))
+connect_functor_of held = None
+
+abbrev pub connect_functor : Form
+connect_functor = record { word = codes "connectFunctor"; keys = needed (codes "sender") Number ∷ needed (codes "signal") Text ∷ needed (codes "context") Number ∷ needed (codes "functor") Name ∷ optional (codes "type") Mode ∷ optional (codes "unique") Truth ∷ optional (codes "single") Truth ∷ []; asks = connect_functor_of }
 
 -- `disconnect` breaks a connection by its number alone, or those of a sender that match; a method is named only beside a receiver
 abbrev pub disconnect_of : List Held → Option Asked

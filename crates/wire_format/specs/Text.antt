@@ -104,10 +104,6 @@ text_of_line session line = compact_text (said_in_json session line) ++ 10 ∷ [
 abbrev pub blamed : LineFault → List ℕ
 blamed fault = unwrap_or fault.session (codes "-")
 
--- the text of a fault's line
-abbrev pub text_of_fault : LineFault → List ℕ
-text_of_fault fault = text_of_line (blamed fault) (Error fault.code)
-
 -- what a line may name as its session: a name, or `-`
 abbrev pub is_session_text : List ℕ → Bool
 is_session_text text = is_name text || bytes_eq text (codes "-")

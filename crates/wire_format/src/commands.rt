@@ -15,7 +15,10 @@ use crate::events::{
 use crate::held::{Held, held_by};
 use crate::keys::Key;
 use crate::properties::{DYNAMIC_NAMES, GET, SET, dynamic_names_of, get_of, set_of};
-use crate::signals::{CONNECT, DISCONNECT, INVOKE, connect_of, disconnect_of, invoke_of};
+use crate::signals::{
+    CONNECT, CONNECT_FUNCTOR, DISCONNECT, INVOKE, connect_functor_of, connect_of, disconnect_of,
+    invoke_of,
+};
 use crate::trees::{
     CHILDREN, DELETE, FIND, NEW, SET_PARENT, children_of, delete_of, find_of, new_of, set_parent_of,
 };
@@ -36,6 +39,7 @@ pub enum Word {
     DynamicNames,
     Meta,
     Connect,
+    ConnectFunctor,
     Disconnect,
     Invoke,
     Spin,
@@ -58,6 +62,7 @@ fn word_named(name: &str) -> Option<Word>
         "dynamicNames" => Some(Word::DynamicNames),
         "meta" => Some(Word::Meta),
         "connect" => Some(Word::Connect),
+        "connectFunctor" => Some(Word::ConnectFunctor),
         "disconnect" => Some(Word::Disconnect),
         "invoke" => Some(Word::Invoke),
         "spin" => Some(Word::Spin),
@@ -83,6 +88,7 @@ fn keys_of(word: Word) -> &'static [Key]
         Word::DynamicNames => &DYNAMIC_NAMES,
         Word::Meta => &META,
         Word::Connect => &CONNECT,
+        Word::ConnectFunctor => &CONNECT_FUNCTOR,
         Word::Disconnect => &DISCONNECT,
         Word::Invoke => &INVOKE,
         Word::Spin => &SPIN,
@@ -111,6 +117,7 @@ fn asked_with(
         Word::DynamicNames => Ok(dynamic_names_of(held)),
         Word::Meta => meta_of(alloc, held),
         Word::Connect => connect_of(alloc, held),
+        Word::ConnectFunctor => connect_functor_of(alloc, held),
         Word::Disconnect => disconnect_of(alloc, held),
         Word::Invoke => invoke_of(alloc, held),
         Word::Spin => Ok(spin_of(held)),

@@ -7,7 +7,7 @@ pub(crate) const MOST_KEYS: usize = 8;
 /// What a key holds.
 #[derive(Clone, Copy)]
 pub enum Holds {
-    /// A name, as that of a class or of a property.
+    /// A name, as that of a class, of a property or of a functor.
     Name,
     /// Any text.
     Text,

@@ -24,7 +24,7 @@ pub use json::Scratch;
 pub use line::{LINE_BYTES, is_blank};
 pub use parts::{Parts, error_parts, line_parts};
 pub use reading::read_line;
-pub use writing::{fault_text, line_text, write_line};
+pub use writing::{line_text, write_line};
 
 /// What holds of inputs and what is written for them: where the lines of sessions are left out that
 /// no kept session joins, each kept session is told the same, byte for byte.

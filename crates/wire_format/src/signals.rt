@@ -2,7 +2,7 @@
 ghost use Rattle.std.specs.Prelude.{◌≡◌, IfOk, map, option_map};
 ghost use Rattle.thread_model.specs.Asked.{asked};
 ghost use Rattle.wire_format.specs.Held.{held_seen};
-ghost use Rattle.wire_format.specs.Signals.{connect_of, disconnect_of, invoke_of};
+ghost use Rattle.wire_format.specs.Signals.{connect_of, connect_functor_of, disconnect_of, invoke_of};
 
 use crate::held::Held;
 use crate::keys::{Holds, Key};
@@ -40,6 +40,43 @@ pub(crate) fn connect_of(
         signal,
         receiver,
         method,
+        mode: mode.mode(),
+        unique: unique.truth(),
+        single: single.truth(),
+    }))
+}
+
+pub(crate) const CONNECT_FUNCTOR: [Key; 7] = [
+    Key::Needed("sender", Holds::Number),
+    Key::Needed("signal", Holds::Text),
+    Key::Needed("context", Holds::Number),
+    Key::Needed("functor", Holds::Name),
+    Key::Optional("type", Holds::Mode),
+    Key::Optional("unique", Holds::Truth),
+    Key::Optional("single", Holds::Truth),
+];
+
+/// `connectFunctor`: a signal of a sender, a functor with its context, and how its calls are made.
+pub(crate) fn connect_functor_of(
+    alloc: Global,
+    held: &[Held<'_, '_>],
+) -> Result<Option<Command>, AllocError>
+    ensures { IfOk result (λ command. option_map asked command ≡ connect_functor_of (map held_seen held.now)) }
+{
+    let [sender, signal, context, functor, mode, unique, single] = held else {
+        return Ok(None);
+    };
+    let (Some(sender), Some(context)) = (sender.number(), context.number()) else {
+        return Ok(None);
+    };
+    let (Some(signal), Some(functor)) = (signal.text(alloc)?, functor.text(alloc)?) else {
+        return Ok(None);
+    };
+    Ok(Some(Command::ConnectFunctor {
+        sender,
+        signal,
+        context,
+        functor,
         mode: mode.mode(),
         unique: unique.truth(),
         single: single.truth(),

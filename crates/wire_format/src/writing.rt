@@ -5,9 +5,8 @@ ghost use Rattle.serde_json.specs.Data.{string};
 ghost use Rattle.serde_json.specs.Written.{compact_text};
 ghost use Rattle.variant_value.specs.Values.{json_of};
 ghost use Rattle.wire_format.specs.Shown.{text_of_shown};
-ghost use Rattle.wire_format.specs.Text.{array_of, json_of_meta, json_of_name, json_of_number, json_of_spin, json_of_status, text_of_line, text_of_fault, is_plain_byte};
+ghost use Rattle.wire_format.specs.Text.{array_of, json_of_meta, json_of_name, json_of_number, json_of_spin, json_of_status, text_of_line, is_plain_byte};
 
-use crate::fault::LineFault;
 use crate::shown::{Shown, shown_as, shown_value};
 use itoa::Buffer as Digits;
 use json::Writer;
@@ -26,13 +25,6 @@ pub fn line_text(alloc: Global, session: &str, line: &Line) -> Result<String, Al
     let mut text = String::new(alloc);
     push_line(alloc, &mut text, session, line)?;
     Ok(text)
-}
-
-/// The text of the line that says a fault, with its line feed.
-pub fn fault_text(alloc: Global, fault: &LineFault) -> Result<String, AllocError>
-    ensures { IfOk result (λ text. string_bytes text ≡ text_of_fault fault.now) }
-{
-    line_text(alloc, fault.blamed(), &Line::Error(fault.code))
 }
 
 /// Puts the text of a line into a buffer, in place of what it holds, so that one buffer serves for
@@ -121,7 +113,7 @@ fn push_call(
     Ok(())
 }
 
-/// Appends the bracket that opens a call's line, and the values that the slot is given.
+/// Appends the bracket that opens a call's line, and the values that are given with it.
 fn push_args(alloc: Global, buffer: &mut String, args: &[Value]) -> Result<(), AllocError>
     ensures { OnOk result (string_bytes buffer.new ≡ string_bytes buffer.old
         ++ (codes "{\"args\":" ++ compact_text (array_of json_of args.now))) }
@@ -136,7 +128,7 @@ fn push_args(alloc: Global, buffer: &mut String, args: &[Value]) -> Result<(), A
     buffer.push_str("]")
 }
 
-/// Appends the slot, up to the number of its object.
+/// Appends the slot or the functor, up to the number of the object.
 fn push_method(alloc: Global, buffer: &mut String, method: &str) -> Result<(), AllocError>
     ensures { OnOk result (string_bytes buffer.new ≡ string_bytes buffer.old
         ++ (codes ",\"call\":" ++ (compact_text (string method.now) ++ codes ",\"object\":"))) }

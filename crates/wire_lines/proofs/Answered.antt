@@ -1,8 +1,7 @@
 -- The step of a run that answers one line.
 use Rattle.std.proofs.Common.{◌≡◌, ℕ, ◌+◌, ◌≤◌, true, false, List, [], ◌∷◌, ◌++◌, length, Result, Ok, Err, IsFalse, sym, ap, ◌∙◌, subst, arith, append_assoc}
 use Rattle.std.specs.Prelude.{Option, None, Some}
-use Rattle.server_world.specs.declared.server.Server.{Server}
-use Rattle.server_world.specs.Server.{states, was_refused, settings}
+use Rattle.server_world.specs.Server.{Server, states, was_refused, settings}
 use Rattle.thread_model.specs.Thread.{Settings}
 use Rattle.wire_format.specs.Command.{command_of, is_blank}
 use Rattle.wire_format.specs.Input.{Piece, NoEnd, lines_of, piece_from, piece_of}

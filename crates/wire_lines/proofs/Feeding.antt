@@ -1,8 +1,7 @@
 -- Steps of a run, one after another.
 use Rattle.std.proofs.Common.{◌≡◌, ℕ, ◌+◌, ◌<◌, List, [], ◌++◌, length, Result, Ok, Err, IsFalse, refl, sym, ap, ◌∙◌, subst, arith, append-nil, append_assoc}
 use Rattle.std.proofs.lemmas.Bool.{both_ways, false_from_ne_true}
-use Rattle.server_world.specs.declared.server.Server.{Server}
-use Rattle.server_world.specs.Server.{states, was_refused, settings}
+use Rattle.server_world.specs.Server.{Server, states, was_refused, settings}
 use Rattle.wire_format.specs.Input.{lines_of}
 use Rattle.wire_format.specs.Output.{output, world_of}
 use Rattle.wire_lines.specs.declared.fault.RunFault.{RunFault}

@@ -1,8 +1,7 @@
 -- What a run writes keeps sessions apart.
 use Rattle.std.proofs.Common.{ℕ, List, sym}
 use Rattle.isolation.proofs.Piecewise.{told_alone}
-use Rattle.server_world.specs.declared.server.Server.{Server}
-use Rattle.server_world.specs.Server.{states, names, settings}
+use Rattle.server_world.specs.Server.{Server, states, names, settings}
 use Rattle.server_world.proofs.ServerLemmas.{knows_all}
 use Rattle.thread_model.specs.Machine.{machine}
 use Rattle.thread_model.specs.Thread.{Settings}

@@ -1,7 +1,6 @@
 -- Steps of a run that keep the front of a line, and that come to the end of the input.
 use Rattle.std.proofs.Common.{◌≡◌, ℕ, ◌+◌, ◌<◌, List, [], ◌∷◌, ◌++◌, length, take, Result, Ok, Err, refl, sym, ap, ◌∙◌, subst, arith, append-nil, append_assoc, IsErrAnd}
-use Rattle.server_world.specs.declared.server.Server.{Server}
-use Rattle.server_world.specs.Server.{states, settings}
+use Rattle.server_world.specs.Server.{Server, states, settings}
 use Rattle.wire_format.specs.declared.line.TheConstants.{LINE_BYTES}
 use Rattle.std.specs.List.{filter_map, flat_map}
 use Rattle.isolation.specs.Pieces.{commands_of, piece_answers}

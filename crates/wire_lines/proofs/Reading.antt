@@ -1,8 +1,7 @@
 -- Steps of a run that write what is gathered and read more, over an input that is known.
 use Rattle.std.proofs.Common.{◌≡◌, ℕ, ◌+◌, ◌<◌, List, [], ◌++◌, length, Option, Some, None, Result, Ok, Err, inl, refl, sym, ap, ◌∙◌, subst, append-nil, append_assoc}
 use Rattle.std.specs.Io.KnownBytes.{Appends, Consumes, IsAtEnd}
-use Rattle.server_world.specs.declared.server.Server.{Server}
-use Rattle.server_world.specs.Server.{states, settings}
+use Rattle.server_world.specs.Server.{Server, states, settings}
 use Rattle.wire_devices.specs.Bytes.{AppendsFront}
 use Rattle.wire_format.specs.Input.{lines_of}
 use Rattle.wire_format.specs.Output.{output}

@@ -1,8 +1,7 @@
 -- How a whole run ends, and what it has written.
 use Rattle.std.proofs.Common.{IfOk, ⊎_elim, ◌≡◌, ◌⊎◌, ◌≤◌, ℕ, ◌+◌, ◌<◌, List, [], ◌++◌, length, Option, Result, Ok, Err, IsOk, IsErr, IsFalse, inl, inr, sym, ap, ◌∙◌, subst, arith, append-nil, append_assoc}
 use Rattle.std.specs.Io.KnownBytes.{Appends}
-use Rattle.server_world.specs.declared.server.Server.{Server}
-use Rattle.server_world.specs.Server.{states, was_refused, settings}
+use Rattle.server_world.specs.Server.{Server, states, was_refused, settings}
 use Rattle.wire_devices.specs.Bytes.{AppendsFront}
 use Rattle.wire_format.specs.Input.{lines_of}
 use Rattle.wire_format.specs.Output.{output, world_of}
@@ -14,6 +13,7 @@ use Rattle.wire_lines.specs.Stream.{Point, Done, Cut}
 use Rattle.wire_lines.specs.Run.{AppendsSome, WritesFront, ReadFails, WriteFails, Ends, Runs}
 use Rattle.wire_lines.proofs.Sent.{Sent-then, SentFront-then, SentFront-then_front, SentFront-whole}
 use Rattle.wire_lines.proofs.Kept.{point}
+use Rattle.wire_lines.proofs.Reading.{Cut-here}
 
 -- what is gathered at the end is written
 pub Done-flushed : (a : Point) (server : Server) (old new : Option (List ℕ)) (gathered left : List ℕ) (lines count : ℕ) → left ≡ [] → count ≡ lines → Appends old new gathered →
@@ -93,6 +93,10 @@ Runs-stopped max_lines max_reads input held held_after old new left count T Endl
       (λ (enough : max_reads ≤ length input). inr enough)
       ends.1,
 )
+
+-- where a run has not begun, it has written nothing
+pub Runs-unbegun : (max_lines max_reads : ℕ) (input : List ℕ) (held : Option (List ℕ)) (server : Server) → Runs max_lines max_reads input held server held server (Err Memory)
+Runs-unbegun max_lines max_reads input held server = WritesFront-cut input held held server server [] 0 (Cut-here (beginning server held input) [] [])
 
 pub Runs-done : (max_lines max_reads : ℕ) (input : List ℕ) (held held_after : Option (List ℕ)) (old new : Server) (left : List ℕ) (summary : Summary) → left ≡ [] →
     Done (beginning old held input) (point new (out held_after left) summary.lines []) → Runs max_lines max_reads input held old held_after new (Ok summary)

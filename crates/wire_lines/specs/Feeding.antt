@@ -1,9 +1,9 @@
 -- Where the code of a run stands.
 use Rattle.std.specs.Prelude.{ℕ, List, Option}
-use Rattle.server_world.specs.declared.server.Server.{Server}
 use Rattle.wire_lines.specs.declared.lines.Lines.{Lines}
 use Rattle.wire_lines.specs.Sending.{out}
 use Rattle.wire_lines.specs.Stream.{Point}
+use Rattle.server_world.specs.Server.{Server}
 
 -- with what the sink has taken, the lines so far, the server, and the bytes that are not yet answered
 abbrev pub at : Option (List ℕ) → Lines → Server → List ℕ → Point

@@ -4,8 +4,7 @@ use Rattle.std.specs.Io.KnownBytes.{Appends}
 use Rattle.isolation.specs.Alone.{items, alone_lines}
 use Rattle.isolation.specs.Influence.{influences}
 use Rattle.isolation.specs.Pieces.{commands_of, told}
-use Rattle.server_world.specs.declared.server.Server.{Server}
-use Rattle.server_world.specs.Server.{states, names, was_refused, settings}
+use Rattle.server_world.specs.Server.{Server, states, names, was_refused, settings}
 use Rattle.thread_model.specs.Machine.{machine}
 use Rattle.thread_model.specs.Thread.{Settings}
 use Rattle.wire_devices.specs.Counts.{FailsOnce}

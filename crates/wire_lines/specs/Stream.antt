@@ -1,8 +1,7 @@
 -- A run under way: what a server does with the lines of an input that comes in pieces.
 use Rattle.std.specs.Prelude.{◌≡◌, ℕ, ◌+◌, ◌<◌, List, [], ◌++◌, length, Result, IsTrue, IsFalse, Ok, Err}
 use Rattle.thread_model.specs.Thread.{Settings}
-use Rattle.server_world.specs.declared.server.Server.{Server}
-use Rattle.server_world.specs.Server.{states, was_refused, settings}
+use Rattle.server_world.specs.Server.{Server, states, was_refused, settings}
 use Rattle.wire_format.specs.Input.{lines_of}
 use Rattle.wire_format.specs.Output.{output, world_of}
 use Rattle.wire_devices.specs.Counts.{FailsOnce}

@@ -5,6 +5,7 @@ ghost use Rattle.wire_devices.specs.Counts.{CountsErrors};
 ghost use Rattle.wire_format.specs.Input.{NoEnd};
 ghost use Rattle.wire_lines.specs.Stream.{Feeds, SinkFails};
 ghost use Rattle.wire_lines.specs.Feeding.{at};
+ghost use Rattle.server_world.specs.Server.{seen_as};
 
 use crate::fault::RunFault;
 use crate::output::Output;
@@ -55,8 +56,8 @@ impl Lines {
         writer: &mut W,
     ) -> Result<(), RunFault>
         requires { NoEnd line.now }
-        ensures fed { Feeds self.old.most (at (W.held writer.old) self.old server.old (line.now ++ 10 ∷ []))
-            (at (W.held writer.new) self.new server.new []) result }
+        ensures fed { Feeds self.old.most (at (W.held writer.old) self.old (seen_as server.old) (line.now ++ 10 ∷ []))
+            (at (W.held writer.new) self.new (seen_as server.new) []) result }
         ensures failed { SinkFails (W.failures writer.old) (W.failures writer.new) result }
         ensures most { self.new.most ≡ self.old.most }
     {

@@ -2,11 +2,12 @@
 ghost use Rattle.std.specs.Prelude.{◌≡◌, [], IsTrue, IsFalse, IfOk, List, Some};
 ghost use Rattle.std.specs.List.{flat_map};
 ghost use Rattle.isolation.specs.World.{effect, after};
-ghost use Rattle.server_world.specs.Server.{states, was_refused, settings};
+ghost use Rattle.server_world.specs.Server.{seen_as, states, was_refused, settings};
 ghost use Rattle.thread_model.specs.Asked.{tag};
 ghost use Rattle.thread_model.specs.declared.line.Line.{Line};
 ghost use Rattle.thread_model.specs.declared.line.Line.TheVariants.{Error};
 ghost use Rattle.thread_model.specs.Machine.{machine};
+ghost use Rattle.refusals.specs.declared.code.Code.TheVariants.{OutOfMemory};
 ghost use Rattle.wire_devices.specs.Bytes.{AppendsAll};
 ghost use Rattle.wire_devices.specs.Counts.{CountsErrors};
 ghost use Rattle.wire_format.specs.Command.{command_of};
@@ -69,21 +70,36 @@ impl Output {
         server: &mut Server,
         writer: &mut W,
     ) -> Result<(), RunFault>
-        ensures later { Later server.old server.new }
-        ensures said { IsFalse (was_refused server.new) → SentAll (out (W.held writer.old) self.old.gathered) (out (W.held writer.new) self.new.gathered) result
-            (text_of_piece (settings server.old) (states server.old) (Some (piece_from (command_of line.now)))) }
-        ensures states { IsFalse (was_refused server.new)
-            → states server.new ≡ world_after_piece (settings server.old) (states server.old) (Some (piece_from (command_of line.now))) }
+        ensures later { Later (seen_as server.old) (seen_as server.new) }
+        ensures said { IsFalse (was_refused (seen_as server.new)) → SentAll (out (W.held writer.old) self.old.gathered) (out (W.held writer.new) self.new.gathered) result
+            (text_of_piece (settings (seen_as server.old)) (states (seen_as server.old)) (Some (piece_from (command_of line.now)))) }
+        ensures states { IsFalse (was_refused (seen_as server.new))
+            → states (seen_as server.new) ≡ world_after_piece (settings (seen_as server.old)) (states (seen_as server.old)) (Some (piece_from (command_of line.now))) }
         ensures failed { SendFails (W.failures writer.old) (W.failures writer.new) result }
     {
         match read_line(self.alloc, &mut self.scratch, line) {
             Ok(given) => self.obey(&given, server, writer),
             Err(ReadError::Fault(fault)) => self.say_error(fault.code, fault.blamed(), writer),
-            Err(ReadError::Memory) => {
-                server.note_memory_refused();
-                self.say_error(Code::OutOfMemory, "-", writer)
-            }
+            Err(ReadError::Memory) => self.say_out_of_memory("-", server, writer),
         }
+    }
+
+    /// Notes that memory was wanted outside the server and not found, and says so.
+    fn say_out_of_memory<W: Sink>(
+        &mut self,
+        session: &str,
+        server: &mut Server,
+        writer: &mut W,
+    ) -> Result<(), RunFault>
+        requires { IsTrue (is_session_text session.now) }
+        ensures later { Later (seen_as server.old) (seen_as server.new) }
+        ensures refused { IsTrue (was_refused (seen_as server.new)) }
+        ensures said { SentAll (out (W.held writer.old) self.old.gathered) (out (W.held writer.new) self.new.gathered) result
+            (text_of_line session.now (Error OutOfMemory)) }
+        ensures failed { SendFails (W.failures writer.old) (W.failures writer.new) result }
+    {
+        server.note_memory_refused();
+        self.say_error(Code::OutOfMemory, session, writer)
     }
 
     /// Lets the server do what a command asks, and says its lines, or that there was no memory.
@@ -94,11 +110,11 @@ impl Output {
         writer: &mut W,
     ) -> Result<(), RunFault>
         requires { IsTrue (is_session_text given.now.session) }
-        ensures later { Later server.old server.new }
-        ensures said { IsFalse (was_refused server.new) → SentAll (out (W.held writer.old) self.old.gathered) (out (W.held writer.new) self.new.gathered) result
-            (flat_map (text_of_line given.now.session) (effect (machine (settings server.old)) (states server.old) (tag given.now)).lines) }
-        ensures states { IsFalse (was_refused server.new)
-            → states server.new ≡ after (machine (settings server.old)) (states server.old) (tag given.now) }
+        ensures later { Later (seen_as server.old) (seen_as server.new) }
+        ensures said { IsFalse (was_refused (seen_as server.new)) → SentAll (out (W.held writer.old) self.old.gathered) (out (W.held writer.new) self.new.gathered) result
+            (flat_map (text_of_line given.now.session) (effect (machine (settings (seen_as server.old))) (states (seen_as server.old)) (tag given.now)).lines) }
+        ensures states { IsFalse (was_refused (seen_as server.new))
+            → states (seen_as server.new) ≡ after (machine (settings (seen_as server.old))) (states (seen_as server.old)) (tag given.now) }
         // Also where memory was refused, all that is said names the session.
         ensures named { (lines : List Line) × SentAll (out (W.held writer.old) self.old.gathered) (out (W.held writer.new) self.new.gathered) result
             (flat_map (text_of_line given.now.session) lines) }

@@ -1,6 +1,6 @@
 //! Runs over whole inputs.
 ghost use Rattle.std.specs.Prelude.{◌≡◌, ◌<◌, ◌++◌, ◌∷◌, ℕ, List, [], length, Some, None, IfSome, IsOk, IfOk, OnOk};
-ghost use Rattle.server_world.specs.Server.{was_refused};
+ghost use Rattle.server_world.specs.Server.{seen_as, was_refused};
 ghost use Rattle.wire_format.specs.Input.{NoEnd};
 ghost use Rattle.wire_lines.specs.Run.{RunsOver, DevicesFail, ReadFails, WriteFails, Ends, Runs, device_failed};
 ghost use Rattle.wire_lines.specs.Stream.{Later, SinkFails, Feeds, Finishes};
@@ -61,8 +61,8 @@ impl Stream {
         server: &mut Server,
         writer: &mut W,
     ) -> Result<(), RunFault>
-        ensures fed { Feeds self.old.lines.most (at (W.held writer.old) self.old.lines server.old (self.old.begun ++ chunk.now))
-            (at (W.held writer.new) self.new.lines server.new self.new.begun) result }
+        ensures fed { Feeds self.old.lines.most (at (W.held writer.old) self.old.lines (seen_as server.old) (self.old.begun ++ chunk.now))
+            (at (W.held writer.new) self.new.lines (seen_as server.new) self.new.begun) result }
         ensures failed { SinkFails (W.failures writer.old) (W.failures writer.new) result }
         ensures most { self.new.lines.most ≡ self.old.lines.most }
     {
@@ -83,8 +83,8 @@ impl Stream {
         writer: &mut W,
     ) -> Result<(), RunFault>
         requires { NoEnd line.now }
-        ensures fed { Feeds self.old.lines.most (at (W.held writer.old) self.old.lines server.old (self.old.begun ++ line.now ++ 10 ∷ []))
-            (at (W.held writer.new) self.new.lines server.new []) result }
+        ensures fed { Feeds self.old.lines.most (at (W.held writer.old) self.old.lines (seen_as server.old) (self.old.begun ++ line.now ++ 10 ∷ []))
+            (at (W.held writer.new) self.new.lines (seen_as server.new) []) result }
         ensures begun { self.new.begun ≡ [] }
         ensures failed { SinkFails (W.failures writer.old) (W.failures writer.new) result }
         ensures most { self.new.lines.most ≡ self.old.lines.most }
@@ -100,8 +100,8 @@ impl Stream {
 
     /// Answers the last line, where it lacks its end.
     fn finish<W: Sink>(&mut self, server: &mut Server, writer: &mut W) -> Result<(), RunFault>
-        ensures done { Finishes self.old.lines.most (at (W.held writer.old) self.old.lines server.old self.old.begun)
-            (at (W.held writer.new) self.new.lines server.new []) result }
+        ensures done { Finishes self.old.lines.most (at (W.held writer.old) self.old.lines (seen_as server.old) self.old.begun)
+            (at (W.held writer.new) self.new.lines (seen_as server.new) []) result }
         ensures failed { SinkFails (W.failures writer.old) (W.failures writer.new) result }
     {
         if self.begun.is_empty() {
@@ -120,10 +120,10 @@ impl Stream {
         max_reads: u64,
     ) -> Result<(), RunFault>
         requires { 0 < length chunk.old }
-        ensures later { Later server.old server.new }
+        ensures later { Later (seen_as server.old) (seen_as server.new) }
         ensures ends { (input : List ℕ) → R.left reader.old ≡ Some input
-            → Ends self.old.lines.most max_reads (at (W.held writer.old) self.old.lines server.old (self.old.begun ++ input))
-            (at (W.held writer.new) self.new.lines server.new []) result }
+            → Ends self.old.lines.most max_reads (at (W.held writer.old) self.old.lines (seen_as server.old) (self.old.begun ++ input))
+            (at (W.held writer.new) self.new.lines (seen_as server.new) []) result }
         ensures all_read { (input : List ℕ) → R.left reader.old ≡ Some input → IsOk result → R.left reader.new ≡ Some [] }
         ensures read_fails { ReadFails (R.failures reader.old) (R.failures reader.new) result }
         ensures write_fails { WriteFails (W.failures writer.old) (W.failures writer.new) result }
@@ -151,10 +151,10 @@ impl Stream {
         max_reads: u64,
     ) -> Result<(), RunFault>
         requires { 0 < length chunk.old }
-        ensures later { Later server.old server.new }
+        ensures later { Later (seen_as server.old) (seen_as server.new) }
         ensures ends { (input : List ℕ) → R.left reader.old ≡ Some input
-            → Ends self.old.lines.most max_reads (at (W.held writer.old) self.old.lines server.old (self.old.begun ++ input))
-            (at (W.held writer.new) self.new.lines server.new []) result }
+            → Ends self.old.lines.most max_reads (at (W.held writer.old) self.old.lines (seen_as server.old) (self.old.begun ++ input))
+            (at (W.held writer.new) self.new.lines (seen_as server.new) []) result }
         ensures emptied { OnOk result (self.new.lines.output.gathered ≡ []) }
         ensures all_read { (input : List ℕ) → R.left reader.old ≡ Some input → IsOk result → R.left reader.new ≡ Some [] }
         ensures read_fails { ReadFails (R.failures reader.old) (R.failures reader.new) result }
@@ -169,7 +169,7 @@ impl Stream {
     }
 
     fn summary(&self, server: &Server) -> Summary
-        ensures { result ≡ record { lines = self.now.lines.count; memory_refused = was_refused server.now } }
+        ensures { result ≡ record { lines = self.now.lines.count; memory_refused = was_refused (seen_as server.now) } }
     {
         Summary {
             lines: self.lines.count,
@@ -214,10 +214,10 @@ pub fn run<R: Source, W: Sink>(
 ) -> Result<Summary, RunFault>
     // Where the bytes of the source are known: the output, and that it keeps the sessions apart.
     ensures runs { (input : List ℕ) → R.left reader.old ≡ Some input
-        → RunsOver input server.old server.new (W.held writer.old) (W.held writer.new) (R.left reader.new) result }
+        → RunsOver input (seen_as server.old) (seen_as server.new) (W.held writer.old) (W.held writer.new) (R.left reader.new) result }
     ensures devices { DevicesFail (R.failures reader.old) (R.failures reader.new) (W.failures writer.old) (W.failures writer.new) result }
-    ensures memory { IfOk result (λ summary. summary.memory_refused ≡ was_refused server.new) }
-    ensures later { Later server.old server.new }
+    ensures memory { IfOk result (λ summary. summary.memory_refused ≡ was_refused (seen_as server.new)) }
+    ensures later { Later (seen_as server.old) (seen_as server.new) }
 {
     run_bounded(alloc, reader, writer, server, MOST_LINES, MOST_READS)
 }
@@ -232,10 +232,10 @@ pub(crate) fn run_bounded<R: Source, W: Sink>(
     max_reads: u64,
 ) -> Result<Summary, RunFault>
     ensures runs { (input : List ℕ) → R.left reader.old ≡ Some input
-        → Runs max_lines max_reads input (W.held writer.old) server.old (W.held writer.new) server.new result }
+        → Runs max_lines max_reads input (W.held writer.old) (seen_as server.old) (W.held writer.new) (seen_as server.new) result }
     ensures all_read { (input : List ℕ) → R.left reader.old ≡ Some input → IsOk result → R.left reader.new ≡ Some [] }
-    ensures memory { IfOk result (λ summary. summary.memory_refused ≡ was_refused server.new) }
-    ensures later { Later server.old server.new }
+    ensures memory { IfOk result (λ summary. summary.memory_refused ≡ was_refused (seen_as server.new)) }
+    ensures later { Later (seen_as server.old) (seen_as server.new) }
     ensures read_fails { ReadFails (R.failures reader.old) (R.failures reader.new) result }
     ensures write_fails { WriteFails (W.failures writer.old) (W.failures writer.new) result }
 {

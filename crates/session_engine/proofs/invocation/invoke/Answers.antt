@@ -15,80 +15,80 @@ use Rattle.session_engine.proofs.InvocationLemmas.{asked_is, method_there, numbe
 use Rattle.session_engine.proofs.invocation.invoke.Goals as goal
 
 pub returns-in_err-check_object : goal.returns-in_err-check_object
-returns-in_err-check_object c = stopped _ _ _ _ _ c.in_err-check_object.field-0.0 _ c.from_residual.ensures.1 (refusal_invoke _ _ _ _ _ _ _ ∙ or_first _ _ _ c.in_err-check_object.ensures) refl
+returns-in_err-check_object g c = stopped _ _ _ _ _ c.in_err-check_object.field-0.0 _ c.from_residual.ensures.1 (refusal_invoke _ _ _ _ _ _ _ ∙ or_first _ _ _ c.in_err-check_object.ensures) refl
 
 pub returns-in_err-signature : goal.returns-in_err-signature
-returns-in_err-signature c =
-    let settings = settings_of c.args.caller.now.setup.now in
-    let state = state_at c.args.tables.now c.args.caller.now.place in
+returns-in_err-signature g c =
+    let settings = settings_of c.args.actor.now.caller.setup.now in
+    let state = state_at c.args.tables.now c.args.actor.now.caller.place in
     let asked = asked_method settings state c.args.object c.args.method.now in
     found_fault _ _ _ _ (λ found. option_or (result_err found) (option_or (values_refusal settings state c.args.object (map view c.args.args.now) asked) (later_refusal state c.args.mode asked))) _ c.in_err-signature.field-0.0 _
     c.from_residual-in_err-signature.ensures.1 (refusal_invoke _ _ _ _ _ _ _ ∙ or_second _ _ c.in_ok-check_object.ensures) (λ code. refl) (rw c.as_str.ensures at c.in_err-signature.ensures.exact)
 
 pub returns-in_default : goal.returns-in_default
-returns-in_default c =
-    let settings = settings_of c.args.caller.now.setup.now in
-    let state = state_at c.args.tables.now c.args.caller.now.place in
+returns-in_default g c =
+    let settings = settings_of c.args.actor.now.caller.setup.now in
+    let state = state_at c.args.tables.now c.args.actor.now.caller.place in
     let spelled = rw c.as_str.ensures at c.in_ok-signature.ensures.exact in
     let asked : asked_method settings state c.args.object c.args.method.now ≡ None =
     asked_is settings state c.args.object c.args.method.now c.in_ok-signature.signature None spelled (number_none (method_number c.in_ok-signature.signature (methods_of settings state c.args.object)) _ c.in_default.ensures) in
     silently _ _ _ _ _ _ c.requires.fresh
-    (replied_by _ _ _ _ (refusal_absent c.args.caller.now c.args.object c.args.method.now (map view c.args.args.now) c.args.mode c.args.tables.now c.args.tables.now c.in_ok-signature.signature c.in_ok-check_object.ensures spelled asked)
+    (replied_by _ _ _ _ (refusal_absent c.args.actor.now.caller c.args.object c.args.method.now (map view c.args.args.now) c.args.mode c.args.tables.now c.args.tables.now c.in_ok-signature.signature c.in_ok-check_object.ensures spelled asked)
     (invoke_none _ _ _ _ _ _ _ asked))
 
 pub returns-in_err-values : goal.returns-in_err-values
-returns-in_err-values c =
-    let settings = settings_of c.args.caller.now.setup.now in
-    let state = state_at c.args.tables.now c.args.caller.now.place in
+returns-in_err-values g c =
+    let settings = settings_of c.args.actor.now.caller.setup.now in
+    let state = state_at c.args.tables.now c.args.actor.now.caller.place in
     let spelled = rw c.as_str.ensures at c.in_ok-signature.ensures.exact in
     let asked : asked_method settings state c.args.object c.args.method.now ≡ Some c.in-Ok.index =
     asked_is settings state c.args.object c.args.method.now c.in_ok-signature.signature (Some c.in-Ok.index) spelled (number_is (method_number c.in_ok-signature.signature (methods_of settings state c.args.object)) _ c.in-Ok.ensures) in
     found_fault _ _ _ _ (λ given. option_or (result_err given) (later_refusal state c.args.mode (Some c.in-Ok.index))) (asked_values settings state c.args.object c.in-Ok.index (map view c.args.args.now)) c.in_err-values.field-0.0 _ c.from_residual-in_err-values.ensures.1
-    (refusal_found c.args.caller.now c.args.object c.args.method.now (map view c.args.args.now) c.args.mode c.args.tables.now c.args.tables.now c.in_ok-signature.signature c.in_ok-check_object.ensures spelled (Some c.in-Ok.index) asked)
+    (refusal_found c.args.actor.now.caller c.args.object c.args.method.now (map view c.args.args.now) c.args.mode c.args.tables.now c.args.tables.now c.in_ok-signature.signature c.in_ok-check_object.ensures spelled (Some c.in-Ok.index) asked)
     (λ code. refl) (rw c.kinds_at-kinds.ensures at c.in_err-values.ensures)
 
 pub returns-in_err-post : goal.returns-in_err-post
-returns-in_err-post c =
-    let settings = settings_of c.args.caller.now.setup.now in
-    let state = state_at c.args.tables.now c.args.caller.now.place in
+returns-in_err-post g c =
+    let settings = settings_of c.args.actor.now.caller.setup.now in
+    let state = state_at c.args.tables.now c.args.actor.now.caller.place in
     let spelled = rw c.as_str.ensures at c.in_ok-signature.ensures.exact in
     let asked : asked_method settings state c.args.object c.args.method.now ≡ Some c.in-Ok.index =
     asked_is settings state c.args.object c.args.method.now c.in_ok-signature.signature (Some c.in-Ok.index) spelled (number_is (method_number c.in_ok-signature.signature (methods_of settings state c.args.object)) _ c.in-Ok.ensures) in
     let given : asked_values settings state c.args.object c.in-Ok.index (map view c.args.args.now) ≡ Ok c.in_ok-values.values = rw c.kinds_at-kinds.ensures at c.in_ok-values.ensures in
     made_fault _ _ _ _ _ _ c.in_err-post.field-0.0 _ c.from_residual-in_err-post.ensures.1
-    (refusal_later c.args.caller.now c.args.object c.args.method.now (map view c.args.args.now) c.args.mode c.args.tables.now c.post.new.tables c.in_ok-signature.signature c.in_ok-check_object.ensures spelled c.in-Ok.index c.in_ok-values.values asked given
+    (refusal_later c.args.actor.now.caller c.args.object c.args.method.now (map view c.args.args.now) c.args.mode c.args.tables.now c.post.new.tables c.in_ok-signature.signature c.in_ok-check_object.ensures spelled c.in-Ok.index c.in_ok-values.values asked given
     (sym c.if-is_queued.ensures))
     c.in_err-post.ensures.refusal (on_refused _ c.in_err-post.ensures.err) (changes_same _ _ _ c.in_err-post.ensures.err)
 
 pub returns-then-is_queued : goal.returns-then-is_queued
-returns-then-is_queued c =
-    let settings = settings_of c.args.caller.now.setup.now in
-    let state = state_at c.args.tables.now c.args.caller.now.place in
+returns-then-is_queued g c =
+    let settings = settings_of c.args.actor.now.caller.setup.now in
+    let state = state_at c.args.tables.now c.args.actor.now.caller.place in
     let spelled = rw c.as_str.ensures at c.in_ok-signature.ensures.exact in
     let asked : asked_method settings state c.args.object c.args.method.now ≡ Some c.in-Ok.index =
     asked_is settings state c.args.object c.args.method.now c.in_ok-signature.signature (Some c.in-Ok.index) spelled (number_is (method_number c.in_ok-signature.signature (methods_of settings state c.args.object)) _ c.in-Ok.ensures) in
     let given : asked_values settings state c.args.object c.in-Ok.index (map view c.args.args.now) ≡ Ok c.in_ok-values.values = rw c.kinds_at-kinds.ensures at c.in_ok-values.ensures in
     silently _ _ _ _ _ _ c.requires.fresh
     (replied _ _ _ _ _ _
-    (refusal_later c.args.caller.now c.args.object c.args.method.now (map view c.args.args.now) c.args.mode c.args.tables.now c.post.new.tables c.in_ok-signature.signature c.in_ok-check_object.ensures spelled c.in-Ok.index c.in_ok-values.values asked given
+    (refusal_later c.args.actor.now.caller c.args.object c.args.method.now (map view c.args.args.now) c.args.mode c.args.tables.now c.post.new.tables c.in_ok-signature.signature c.in_ok-check_object.ensures spelled c.in-Ok.index c.in_ok-values.values asked given
     (sym c.if-is_queued.ensures) ∙ c.in_ok-post.ensures.refusal)
-    (posts_invoked c.args.caller.now c.args.object c.args.method.now (map view c.args.args.now) c.args.mode state c.in-Ok.index c.in_ok-values.values (sym c.if-is_queued.ensures) asked given)
+    (posts_invoked c.args.actor.now.caller c.args.object c.args.method.now (map view c.args.args.now) c.args.mode state c.in-Ok.index c.in_ok-values.values (sym c.if-is_queued.ensures) asked given)
     (rw c.as_slice.ensures at c.in_ok-post.ensures.ok))
 
 pub run-requires-clause-there : goal.run-requires-clause-there
-run-requires-clause-there c =
-    let methods = methods_of (settings_of c.args.caller.now.setup.now) (state_at c.args.tables.now c.args.caller.now.place) c.args.object in
+run-requires-clause-there g c =
+    let methods = methods_of (settings_of c.args.actor.now.caller.setup.now) (state_at c.args.tables.now c.args.actor.now.caller.place) c.args.object in
     method_there methods c.in_ok-signature.signature c.in-Ok.index (number_is (method_number c.in_ok-signature.signature methods) _ c.in-Ok.ensures)
 
 pub returns : goal.returns
-returns c =
-    let settings = settings_of c.args.caller.now.setup.now in
-    let state = state_at c.args.tables.now c.args.caller.now.place in
+returns g c =
+    let settings = settings_of c.args.actor.now.caller.setup.now in
+    let state = state_at c.args.tables.now c.args.actor.now.caller.place in
     let spelled = rw c.as_str.ensures at c.in_ok-signature.ensures.exact in
     let asked : asked_method settings state c.args.object c.args.method.now ≡ Some c.in-Ok.index =
     asked_is settings state c.args.object c.args.method.now c.in_ok-signature.signature (Some c.in-Ok.index) spelled (number_is (method_number c.in_ok-signature.signature (methods_of settings state c.args.object)) _ c.in-Ok.ensures) in
     let given : asked_values settings state c.args.object c.in-Ok.index (map view c.args.args.now) ≡ Ok c.in_ok-values.values = rw c.kinds_at-kinds.ensures at c.in_ok-values.ensures in
-    performs_invoked c.args.caller.now c.args.object c.args.method.now (map view c.args.args.now) c.args.mode c.args.tables.now c.run.new.tables c.run.new.telling c.in-Ok.index c.in_ok-values.values (sym c.if-is_queued.ensures)
-    (refusal_now c.args.caller.now c.args.object c.args.method.now (map view c.args.args.now) c.args.mode c.args.tables.now c.run.new.tables c.in_ok-signature.signature c.in_ok-check_object.ensures spelled c.in-Ok.index c.in_ok-values.values asked given
+    performs_invoked c.args.actor.now.caller c.args.object c.args.method.now (map view c.args.args.now) c.args.mode c.args.tables.now c.run.new.tables c.run.new.telling c.in-Ok.index c.in_ok-values.values (sym c.if-is_queued.ensures)
+    (refusal_now c.args.actor.now.caller c.args.object c.args.method.now (map view c.args.args.now) c.args.mode c.args.tables.now c.run.new.tables c.in_ok-signature.signature c.in_ok-check_object.ensures spelled c.in-Ok.index c.in_ok-values.values asked given
     (sym c.if-is_queued.ensures))
     asked given (rw c.as_slice-2.ensures at c.in_ok-run.ensures.does) c.in_ok-run.ensures.keeps

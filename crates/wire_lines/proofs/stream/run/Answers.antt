@@ -1,12 +1,12 @@
-use Rattle.server_world.specs.Server.{states, settings}
+use Rattle.server_world.specs.Server.{seen_as, states, settings}
 use Rattle.wire_lines.proofs.Whole.{Runs-well, Runs-lines, Runs-prefix, Runs-endless}
 use Rattle.wire_lines.proofs.Isolated.{told_as_alone, told_as_without}
 use Rattle.wire_lines.proofs.stream.run.Goals as goal
 
 pub returns-clause-runs : goal.returns-clause-runs
 returns-clause-runs g c = λ input known.
-    let old = c.args.server.now in
-    let new = c.run_bounded.new.server in
+    let old = (seen_as c.args.server.now) in
+    let new = (seen_as c.run_bounded.new.server) in
     let held = g.W.Sink.held c.args.writer.now in
     let held_after = g.W.Sink.held c.run_bounded.new.writer in
     let runs = c.run_bounded.ensures.runs input known in

@@ -1,22 +1,27 @@
 use Rattle.std.proofs.Common.{[], Ok, Err, sym, subst}
-use Rattle.server_world.specs.Server.{was_refused}
+use Rattle.server_world.specs.Server.{seen_as, was_refused}
 use Rattle.wire_lines.specs.declared.stream.Summary.{Summary}
 use Rattle.wire_lines.specs.Feeding.{at}
 use Rattle.wire_lines.specs.Run.{Runs}
 use Rattle.wire_lines.proofs.Kept.{err_is}
-use Rattle.wire_lines.proofs.Whole.{Ends-beginning, Runs-stopped, Runs-done, ReadFails-fault, WriteFails-fault}
+use Rattle.wire_lines.proofs.Whole.{Ends-beginning, Runs-stopped, Runs-unbegun, Runs-done, ReadFails-fault, WriteFails-fault}
 use Rattle.wire_lines.proofs.stream.run_bounded.Goals as goal
+
+pub returns-in_err-stream-clause-runs : goal.returns-in_err-stream-clause-runs
+returns-in_err-stream-clause-runs g c = λ input known.
+    let held = g.W.Sink.held c.args.writer.now in
+    subst (Runs c.args.max_lines c.args.max_reads input held (seen_as c.args.server.now) held (seen_as c.args.server.now)) (sym (err_is _ _ c.from_residual.ensures.1)) (Runs-unbegun c.args.max_lines c.args.max_reads input held (seen_as c.args.server.now))
 
 pub returns-in_err-serve_to_end-clause-runs : goal.returns-in_err-serve_to_end-clause-runs
 returns-in_err-serve_to_end-clause-runs g c = λ input known.
     let made = c.in_ok-stream.ensures in
     let served = c.serve_to_end in
-    let end = at (g.W.Sink.held served.new.writer) served.new.self.lines served.new.server [] in
+    let end = at (g.W.Sink.held served.new.writer) served.new.self.lines (seen_as served.new.server) [] in
     let fault = c.in_err-serve_to_end.field-0.0 in
-    let ends = Ends-beginning {T = Unit {0}} c.args.max_lines c.args.max_reads _ _ _ _ input (g.W.Sink.held c.args.writer.now) c.args.server.now end (Err fault) made.most made.output made.count made.begun
+    let ends = Ends-beginning {T = Unit {0}} c.args.max_lines c.args.max_reads _ _ _ _ input (g.W.Sink.held c.args.writer.now) (seen_as c.args.server.now) end (Err fault) made.most made.output made.count made.begun
     (c.in_err-serve_to_end.ensures.ends input known) in
-    let runs = Runs-stopped c.args.max_lines c.args.max_reads input (g.W.Sink.held c.args.writer.now) (g.W.Sink.held served.new.writer) c.args.server.now served.new.server served.new.self.lines.output.gathered served.new.self.lines.count (Unit {0}) fault ends in
-    subst (Runs c.args.max_lines c.args.max_reads input (g.W.Sink.held c.args.writer.now) c.args.server.now (g.W.Sink.held served.new.writer) served.new.server) (sym (err_is _ _ c.from_residual-in_err-serve_to_end.ensures.1)) runs
+    let runs = Runs-stopped c.args.max_lines c.args.max_reads input (g.W.Sink.held c.args.writer.now) (g.W.Sink.held served.new.writer) (seen_as c.args.server.now) (seen_as served.new.server) served.new.self.lines.output.gathered served.new.self.lines.count (Unit {0}) fault ends in
+    subst (Runs c.args.max_lines c.args.max_reads input (g.W.Sink.held c.args.writer.now) (seen_as c.args.server.now) (g.W.Sink.held served.new.writer) (seen_as served.new.server)) (sym (err_is _ _ c.from_residual-in_err-serve_to_end.ensures.1)) runs
 
 pub returns-in_err-serve_to_end-clause-read_fails : goal.returns-in_err-serve_to_end-clause-read_fails
 returns-in_err-serve_to_end-clause-read_fails g c = ReadFails-fault (Unit {0}) _ _ c.in_err-serve_to_end.field-0.0 _ c.in_err-serve_to_end.ensures.read_fails (err_is _ _ c.from_residual-in_err-serve_to_end.ensures.1)
@@ -28,10 +33,10 @@ pub returns-clause-runs : goal.returns-clause-runs
 returns-clause-runs g c = λ input known.
     let made = c.in_ok-stream.ensures in
     let served = c.serve_to_end in
-    let end = at (g.W.Sink.held served.new.writer) served.new.self.lines served.new.server [] in
-    let done = Ends-beginning c.args.max_lines c.args.max_reads _ _ _ _ input (g.W.Sink.held c.args.writer.now) c.args.server.now end (Ok c.in_ok-serve_to_end.field-0) made.most made.output made.count made.begun
+    let end = at (g.W.Sink.held served.new.writer) served.new.self.lines (seen_as served.new.server) [] in
+    let done = Ends-beginning c.args.max_lines c.args.max_reads _ _ _ _ input (g.W.Sink.held c.args.writer.now) (seen_as c.args.server.now) end (Ok c.in_ok-serve_to_end.field-0) made.most made.output made.count made.begun
     (c.in_ok-serve_to_end.ensures.ends input known) in
     let count = served.new.self.lines.count in
-    let runs = Runs-done c.args.max_lines c.args.max_reads input (g.W.Sink.held c.args.writer.now) (g.W.Sink.held served.new.writer) c.args.server.now served.new.server served.new.self.lines.output.gathered
-    (record { lines = count; memory_refused = was_refused served.new.server }) c.in_ok-serve_to_end.ensures.emptied done in
-    subst (λ (summary : Summary). Runs c.args.max_lines c.args.max_reads input (g.W.Sink.held c.args.writer.now) c.args.server.now (g.W.Sink.held served.new.writer) served.new.server (Ok summary)) (sym c.summary.ensures) runs
+    let runs = Runs-done c.args.max_lines c.args.max_reads input (g.W.Sink.held c.args.writer.now) (g.W.Sink.held served.new.writer) (seen_as c.args.server.now) (seen_as served.new.server) served.new.self.lines.output.gathered
+    (record { lines = count; memory_refused = was_refused (seen_as served.new.server) }) c.in_ok-serve_to_end.ensures.emptied done in
+    subst (λ (summary : Summary). Runs c.args.max_lines c.args.max_reads input (g.W.Sink.held c.args.writer.now) (seen_as c.args.server.now) (g.W.Sink.held served.new.writer) (seen_as served.new.server) (Ok summary)) (sym c.summary.ensures) runs

@@ -12,11 +12,11 @@ use Rattle.server_world.proofs.ServerLemmas.{knows_all}
 use Rattle.server_world.proofs.server.Server.run.Goals as goal
 
 pub loop-given-preserved : goal.loop-given-preserved
-loop-given-preserved c =
+loop-given-preserved g c =
     let invariant = c.loop-given.invariant in
-    let initial = c.args.self.now in
-    let now = c.loop-given.self in
-    let next = c.entry.new.self in
+    let initial = (server.seen_as c.args.self.now) in
+    let now = (server.seen_as c.loop-given.self) in
+    let next = (server.seen_as c.entry.new.self) in
     let given = c.given-item.result in
     let entry = c.entry.result in
     let before = tags (take c.loop-given.given-index c.args.list.now) in
@@ -42,34 +42,34 @@ loop-given-preserved c =
     }
 
 pub returns-clause-world : goal.returns-clause-world
-returns-clause-world c = λ refused.
+returns-clause-world g c = λ refused.
     let found = sym c.memory_refused.ensures ∙ refused in
     let whole = take_all c.loop-given.given-index c.args.list.now (omega arith) in
     record {
       lines = c.from_vec.ensures ∙ c.loop-given.invariant.lines found
-          ∙ ap (λ list. map Lines (world_lines (machine (server.settings c.args.self.now)) (server.states c.args.self.now) (tags list))) whole;
-      states = c.loop-given.invariant.states found ∙ ap (λ list. world_after (machine (server.settings c.args.self.now)) (server.states c.args.self.now) (tags list)) whole;
-      names = c.loop-given.invariant.names found ∙ ap (λ list. with_names (server.names c.args.self.now) (tags list)) whole;
+          ∙ ap (λ list. map Lines (world_lines (machine (server.settings (server.seen_as c.args.self.now))) (server.states (server.seen_as c.args.self.now)) (tags list))) whole;
+      states = c.loop-given.invariant.states found ∙ ap (λ list. world_after (machine (server.settings (server.seen_as c.args.self.now))) (server.states (server.seen_as c.args.self.now)) (tags list)) whole;
+      names = c.loop-given.invariant.names found ∙ ap (λ list. with_names (server.names (server.seen_as c.args.self.now)) (tags list)) whole;
     }
 
 pub returns-clause-isolated : goal.returns-clause-isolated
-returns-clause-isolated c = λ found. isolated c.args.self.now c.loop-given.self (tags c.args.list.now) _ (returns-clause-world c found)
+returns-clause-isolated g c = λ found. isolated (server.seen_as c.args.self.now) (server.seen_as c.loop-given.self) (tags c.args.list.now) _ (returns-clause-world g c found)
 
 pub returns-clause-blame : goal.returns-clause-blame
-returns-clause-blame c = λ was refused. inr (subst (λ entries. IsShort entries ⊎ server.SomeFails c.args.self.now c.loop-given.self) (sym c.from_vec.ensures) (c.loop-given.invariant.blame was (sym c.memory_refused.ensures ∙ refused)))
+returns-clause-blame g c = λ was refused. inr (subst (λ entries. IsShort entries ⊎ server.SomeFails (server.seen_as c.args.self.now) (server.seen_as c.loop-given.self)) (sym c.from_vec.ensures) (c.loop-given.invariant.blame was (sym c.memory_refused.ensures ∙ refused)))
 
 pub returns-clause-later : goal.returns-clause-later
-returns-clause-later c = record {
+returns-clause-later g c = record {
   settings = c.loop-given.invariant.settings;
   kept = c.loop-given.invariant.kept;
-  knows = knows_all (server.settings c.loop-given.self) c.loop-given.self.engine;
+  knows = knows_all (server.settings (server.seen_as c.loop-given.self)) (server.seen_as c.loop-given.self).engine;
   sound = c.sound-2.ensures.sound;
 }
 
 pub returns-in_default-clause-later : goal.returns-in_default-clause-later
-returns-in_default-clause-later c = record {
+returns-in_default-clause-later g c = record {
   settings = c.note_memory_refused.ensures.settings;
   kept = λ was. c.note_memory_refused.ensures.refused.refused;
-  knows = knows_all (server.settings c.note_memory_refused.new.self) c.note_memory_refused.new.self.engine;
+  knows = knows_all (server.settings (server.seen_as c.note_memory_refused.new.self)) (server.seen_as c.note_memory_refused.new.self).engine;
   sound = c.sound.ensures.sound;
 }

@@ -9,14 +9,14 @@ use Rattle.server_world.specs.Runs.{IsShort, tags}
 use Rattle.server_world.proofs.server.Server.run.Given as goal
 
 abbrev pub invariant-loop-given : goal.invariant-loop-given
-invariant-loop-given l = record {
+invariant-loop-given g l = record {
   room : vec_capacity l.entries ≡ length l.list;
   filled : vec_len l.entries ≡ l.given-index;
-  settings : server.settings l.self ≡ server.settings l.initial.self;
-  kept : IsTrue (server.was_refused l.initial.self) → IsTrue (server.was_refused l.self);
-  states : IsFalse (server.was_refused l.self) → server.states l.self ≡ world_after (machine (server.settings l.initial.self)) (server.states l.initial.self) (tags (take l.given-index l.list));
-  lines : IsFalse (server.was_refused l.self) → l.entries.items ≡ map Lines (world_lines (machine (server.settings l.initial.self)) (server.states l.initial.self) (tags (take l.given-index l.list)));
-  names : IsFalse (server.was_refused l.self) → server.names l.self ≡ with_names (server.names l.initial.self) (tags (take l.given-index l.list));
-  failed : (name : List ℕ) → IsTrue (server.failed l.initial.self name) → IsTrue (server.failed l.self name);
-  blame : IsFalse (server.was_refused l.initial.self) → IsTrue (server.was_refused l.self) → IsShort l.entries.items ⊎ server.SomeFails l.initial.self l.self;
+  settings : server.settings (server.seen_as l.self) ≡ server.settings (server.seen_as l.initial.self);
+  kept : IsTrue (server.was_refused (server.seen_as l.initial.self)) → IsTrue (server.was_refused (server.seen_as l.self));
+  states : IsFalse (server.was_refused (server.seen_as l.self)) → server.states (server.seen_as l.self) ≡ world_after (machine (server.settings (server.seen_as l.initial.self))) (server.states (server.seen_as l.initial.self)) (tags (take l.given-index l.list));
+  lines : IsFalse (server.was_refused (server.seen_as l.self)) → l.entries.items ≡ map Lines (world_lines (machine (server.settings (server.seen_as l.initial.self))) (server.states (server.seen_as l.initial.self)) (tags (take l.given-index l.list)));
+  names : IsFalse (server.was_refused (server.seen_as l.self)) → server.names (server.seen_as l.self) ≡ with_names (server.names (server.seen_as l.initial.self)) (tags (take l.given-index l.list));
+  failed : (name : List ℕ) → IsTrue (server.failed (server.seen_as l.initial.self) name) → IsTrue (server.failed (server.seen_as l.self) name);
+  blame : IsFalse (server.was_refused (server.seen_as l.initial.self)) → IsTrue (server.was_refused (server.seen_as l.self)) → IsShort l.entries.items ⊎ server.SomeFails (server.seen_as l.initial.self) (server.seen_as l.self);
 }

@@ -1,6 +1,6 @@
 use Rattle.std.proofs.Common.{◌∙◌, ℕ, List, IsTrue, sym, subst}
 use Rattle.std.proofs.lemmas.Bool.{or_left}
-use Rattle.server_world.specs.Server.{states, settings}
+use Rattle.server_world.specs.Server.{seen_as, states, settings}
 use Rattle.thread_model.specs.Asked.{tag}
 use Rattle.wire_format.specs.Command.{command_of}
 use Rattle.wire_format.specs.Text.{is_session_text}
@@ -18,21 +18,21 @@ say_error-requires g c =
 
 pub returns-in-Ok-clause-said : goal.returns-in-Ok-clause-said
 returns-in-Ok-clause-said g c = λ clean.
-    let old = c.args.server.now in
+    let old = (seen_as c.args.server.now) in
     rw (text-given (settings old) (states old) (command_of c.args.line.now) (tag c.in-Ok.given) c.in-Ok.ensures) (c.obey.ensures.said clean)
 
 pub returns-in-Ok-clause-states : goal.returns-in-Ok-clause-states
 returns-in-Ok-clause-states g c = λ clean.
-    let old = c.args.server.now in
+    let old = (seen_as c.args.server.now) in
     c.obey.ensures.states clean ∙ sym (world-given (settings old) (states old) (command_of c.args.line.now) (tag c.in-Ok.given) c.in-Ok.ensures)
 
 pub returns-in-Err-Fault-clause-said : goal.returns-in-Err-Fault-clause-said
 returns-in-Err-Fault-clause-said g c = λ clean.
-    let old = c.args.server.now in
+    let old = (seen_as c.args.server.now) in
     rw (text-faulty (settings old) (states old) (command_of c.args.line.now) c.in-Err-Fault.fault (rw c.in-Err-Fault.field-0-is at c.in-Err-Fault.ensures))
     (rw c.blamed.ensures at c.say_error.ensures.said)
 
 pub returns-in-Err-Fault-clause-states : goal.returns-in-Err-Fault-clause-states
 returns-in-Err-Fault-clause-states g c = λ clean.
-    let old = c.args.server.now in
+    let old = (seen_as c.args.server.now) in
     sym (world-faulty (settings old) (states old) (command_of c.args.line.now) c.in-Err-Fault.fault (rw c.in-Err-Fault.field-0-is at c.in-Err-Fault.ensures))

@@ -3,14 +3,15 @@ use Rattle.std.proofs.Common.{◌≡◌, ◌≤◌, ◌++◌, ℕ, List, length}
 use Rattle.std.specs.Io.KnownBytes.{Consumes}
 use Rattle.wire_lines.specs.Stream.{Fed}
 use Rattle.wire_lines.specs.Feeding.{at}
+use Rattle.server_world.specs.Server.{seen_as}
 use Rattle.wire_lines.proofs.stream.Stream.serve_all.Given as goal
 
 abbrev pub invariant-reads : goal.invariant-reads
 invariant-reads g l = (bytes : List ℕ) × record {
   consumed : Consumes (g.R.Source.left l.initial.reader) (g.R.Source.left l.reader) bytes;
   enough : l._reads ≤ length bytes;
-  fed : Fed (at (g.W.Sink.held l.initial.writer) l.initial.self.lines l.initial.server (l.initial.self.begun ++ bytes))
-      (at (g.W.Sink.held l.writer) l.self.lines l.server l.self.begun);
+  fed : Fed (at (g.W.Sink.held l.initial.writer) l.initial.self.lines (seen_as l.initial.server) (l.initial.self.begun ++ bytes))
+      (at (g.W.Sink.held l.writer) l.self.lines (seen_as l.server) l.self.begun);
   most : l.self.lines.most ≡ l.initial.self.lines.most;
   read_fails : g.R.Source.failures l.reader ≡ g.R.Source.failures l.initial.reader;
   write_fails : g.W.Sink.failures l.writer ≡ g.W.Sink.failures l.initial.writer;

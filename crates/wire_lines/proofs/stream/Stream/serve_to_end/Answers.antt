@@ -4,25 +4,26 @@ use Rattle.wire_lines.specs.Feeding.{at}
 use Rattle.wire_lines.proofs.Kept.{err_is}
 use Rattle.wire_lines.proofs.Reading.{Ends-stopped}
 use Rattle.wire_lines.proofs.Whole.{Ends-flushed, Ends-flush_failed}
+use Rattle.server_world.specs.Server.{seen_as}
 use Rattle.wire_lines.proofs.stream.Stream.serve_to_end.Goals as goal
 
 pub returns-in_err-flush-clause-ends : goal.returns-in_err-flush-clause-ends
 returns-in_err-flush-clause-ends g c = λ input known.
     let old = c.args.self.now in
-    let start = at (g.W.Sink.held c.args.writer.now) old.lines c.args.server.now (old.begun ++ input) in
+    let start = at (g.W.Sink.held c.args.writer.now) old.lines (seen_as c.args.server.now) (old.begun ++ input) in
     let served = c.serve_all-ended in
-    let end = at (g.W.Sink.held c.flush.new.writer) c.flush.new.self served.new.server [] in
+    let end = at (g.W.Sink.held c.flush.new.writer) c.flush.new.self (seen_as served.new.server) [] in
     let flushed = c.in_err-flush.ensures in
     Ends-stopped old.lines.most c.args.max_reads Write start end c.from_residual.result
-    (Ends-flush_failed old.lines.most c.args.max_reads start served.new.server (g.W.Sink.held served.new.writer) (g.W.Sink.held c.flush.new.writer)
+    (Ends-flush_failed old.lines.most c.args.max_reads start (seen_as served.new.server) (g.W.Sink.held served.new.writer) (g.W.Sink.held c.flush.new.writer)
     served.new.self.lines.output.gathered c.flush.new.self.output.gathered served.new.self.lines.count c.flush.new.self.count served.result flushed.emptied flushed.bytes (served.ensures.ends input known))
     (err_is _ _ c.from_residual.ensures.1)
 
 pub returns-clause-ends : goal.returns-clause-ends
 returns-clause-ends g c = λ input known.
     let old = c.args.self.now in
-    let start = at (g.W.Sink.held c.args.writer.now) old.lines c.args.server.now (old.begun ++ input) in
+    let start = at (g.W.Sink.held c.args.writer.now) old.lines (seen_as c.args.server.now) (old.begun ++ input) in
     let served = c.serve_all-ended in
     let flushed = c.in_ok-flush.ensures in
-    Ends-flushed old.lines.most c.args.max_reads start served.new.server (g.W.Sink.held served.new.writer) (g.W.Sink.held c.flush.new.writer)
+    Ends-flushed old.lines.most c.args.max_reads start (seen_as served.new.server) (g.W.Sink.held served.new.writer) (g.W.Sink.held c.flush.new.writer)
     served.new.self.lines.output.gathered c.flush.new.self.output.gathered served.new.self.lines.count c.flush.new.self.count served.result flushed.emptied flushed.count flushed.bytes (served.ensures.ends input known)

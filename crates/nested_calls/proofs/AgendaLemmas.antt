@@ -1,0 +1,483 @@
+-- An agenda by nested calls.
+use Rattle.std.proofs.Common.{◌≡◌, ◌<◌, ◌≤◌, ◌+◌, ◌-◌, ◌*◌, ◌==◌, ◌&&◌, nat_lt, nat_le, ℕ, suc, Bool, true, false, cond, not, is_some, List, [], ◌∷◌, ◌++◌, Option, Some, None, find, drop, take, length, refl, sym, subst, ap, ◌∙◌, if◌then◌else◌, arith}
+use Rattle.std.proofs.Common.{Result, Ok, Err, OnErr, OnOk, get_or, ⊎_elim, ◌⊎◌}
+use Rattle.std.proofs.Math.Nat.{mul-le-mul_left, mul-suc}
+use Rattle.std.proofs.lemmas.List.{drop_all}
+use Rattle.std.specs.List.{AllByRecursion}
+use Rattle.std.specs.Option.{option_map}
+use Rattle.std.proofs.lemmas.Bool.{cond-false, cond-true, ne_eqb}
+use Rattle.std.proofs.lemmas.List.Elements.{recursion_from_All}
+use Rattle.std.proofs.lemmas.Bool.Decides.{nat_tests}
+use Rattle.refusals.specs.declared.code.Code.{Code}
+use Rattle.refusals.specs.declared.code.Code.TheVariants.{Limit, TurnsUsedUp}
+use Rattle.refusals.specs.declared.fault.Fault.{Fault}
+use Rattle.refusals.specs.declared.fault.Fault.TheVariants.{Refused, Memory}
+use Rattle.refusals.specs.Answers.{Answers}
+use Rattle.variant_value.specs.declared.value.Value.{Value}
+use Rattle.class_table.specs.declared.class.Method as class
+use Rattle.connection_types.specs.declared.callee.Callee.{Callee}
+use Rattle.connection_types.specs.declared.callee.Callee.TheVariants.{Functor, Method}
+use Rattle.term_core.specs.declared.action.Effect.{Effect}
+use Rattle.term_core.specs.Term.{Term}
+use Rattle.connection_list.specs.declared.connection.Connection.{Connection}
+use Rattle.connection_list.specs.Rows.{IsRising, IsSound, has_number, is_next}
+use Rattle.connection_list.proofs.RowsLemmas.{rising_head, rising_tail}
+use Rattle.event_queue.specs.declared.event.Event.TheVariants as event
+use Rattle.event_queue.specs.declared.event.QueuedCall.{QueuedCall}
+use Rattle.event_queue.specs.Queue.{has_room}
+use Rattle.object_tree.specs.declared.row.Row.{Row}
+use Rattle.object_tree.specs.Rows.{row_of}
+use Rattle.term_core.specs.Act.{Act, Acts, acts_of, effect, when}
+use Rattle.thread_model.specs.declared.call.TheConstants.{DESTROYED, NESTED_SIGNALS}
+use Rattle.thread_model.specs.declared.line.Line.{Line}
+use Rattle.thread_model.specs.declared.line.Line.TheVariants.{Warning}
+use Rattle.thread_model.specs.Acts as model
+use Rattle.thread_model.specs.Agenda.{call_line, callee_called, connection_of, is_held_back, step}
+use Rattle.thread_model.specs.Methods.{method_at}
+use Rattle.thread_model.specs.Targets.{truth_evaluated}
+use Rattle.thread_model.proofs.ActionLemmas as action
+use Rattle.thread_model.specs.Doing.{Doing, in_state, lost, posted, shot, told, turn_taken, used_up}
+use Rattle.thread_model.specs.Items.{Call, Emit, Item, Next, Run, Warn, puts}
+use Rattle.thread_model.specs.Posting.{is_queued}
+use Rattle.thread_model.specs.Run.{longest_functor, run}
+use Rattle.thread_model.specs.Settings.{Settings}
+use Rattle.thread_model.specs.State.{State, with_event, with_lost, without_connections}
+use Rattle.thread_model.proofs.EmissionLemmas as rule
+use Rattle.thread_model.proofs.FilterLemmas.{find-passes}
+use Rattle.thread_model.proofs.LaterLemmas.{run_later}
+use Rattle.thread_model.proofs.LivingLemmas.{living_rows}
+use Rattle.thread_model.proofs.NextCallLemmas.{calls_to, emission_end, emission_first, emission_next}
+use Rattle.thread_model.proofs.RemainingLemmas.{remaining}
+use Rattle.thread_model.proofs.RunLemmas.{after_first, at_end, by_change, by_step, run_shrinks}
+use Rattle.thread_model.proofs.FallLemmas.{falls}
+use Rattle.thread_model.proofs.ShrinkLemmas.{Shrinks}
+use Rattle.session_tables.specs.declared.tables.Tables.{Tables}
+use Rattle.session_tables.specs.Refused.{OnRefused}
+use Rattle.session_tables.specs.Tables.{IsPlaced, state_at, with_state}
+use Rattle.session_tables.proofs.TablesLemmas.{state_with}
+use Rattle.session_effects.specs.declared.slot.Slot.{Slot}
+use Rattle.nested_calls.specs.declared.telling.Telling.{Telling}
+use Rattle.session_effects.specs.Actions.{Keeps, Tries, act_of}
+use Rattle.session_effects.proofs.ActionLemmas.{keeps_same, keeps_with}
+use Rattle.session_effects.specs.declared.caller.Caller.{Caller}
+use Rattle.session_effects.specs.Setup.{settings_of}
+use Rattle.nested_calls.specs.Telling.{Warns, doing_at, spent, with_line}
+use Rattle.session_effects.proofs.FoundLemmas.{item_at}
+
+-- what follows from what a call has done, where it has
+pub OnOk-map : {T E P Q : Type 0} (answer : Result T E) → (P → Q) → OnOk answer P → OnOk answer Q
+OnOk-map (Ok value) f h = f h
+OnOk-map (Err error) f h = tt
+
+-- how many calls and deletions there can still be
+abbrev pub left_at : ℕ → Tables → Telling → ℕ
+left_at place tables telling = telling.turns + living_rows (state_at tables place).forest.rows
+
+-- what each of them counts for, where the longest body of a functor has so many actions
+unfoldable pub rounds : ℕ → ℕ → ℕ
+rounds longest left = (100 + 2 * longest) * left
+
+pub rounds_fewer : (longest new old : ℕ) → new ≤ old → rounds longest new ≤ rounds longest old
+unfolding rounds
+rounds_fewer longest new old le = mul-le-mul_left (100 + 2 * longest) le
+
+pub rounds_one_less : (longest new old : ℕ) → new + 1 ≤ old → rounds longest new + 100 + 2 * longest ≤ rounds longest old
+unfolding rounds
+rounds_one_less longest new old less =
+    let one : (100 + 2 * longest) * suc new ≡ (100 + 2 * longest) * new + (100 + 2 * longest) = mul-suc (100 + 2 * longest) new in
+    let fewer : (100 + 2 * longest) * suc new ≤ (100 + 2 * longest) * old = mul-le-mul_left (100 + 2 * longest) (omega (arith, less)) in
+    omega (arith, one, fewer)
+
+-- how many actions the longest body of the functors has
+abbrev pub longest_of : Caller → ℕ
+longest_of caller = longest_functor (settings_of caller.setup.now).functors
+
+-- how much is left to do: each way round the calls takes a turn or an object that lives, which counts for
+-- more than any rank
+abbrev pub left_to_do : Caller → Tables → Telling → ℕ → ℕ
+left_to_do caller tables telling rank = rounds (longest_of caller) (left_at caller.place tables telling) + rank
+
+-- with as much left it is the rank that falls, and with less any rank may rise by what one counts for
+module _ (caller : Caller) (old new : Tables) (before after : Telling) (rank next : ℕ) where
+  pub rank_falls : left_at caller.place new after ≤ left_at caller.place old before → next < rank → left_to_do caller new after next < left_to_do caller old before rank
+  rank_falls fewer less = let rounds = rounds_fewer (longest_of caller) (left_at caller.place new after) (left_at caller.place old before) fewer in omega (arith, rounds, less)
+
+  pub round_falls : left_at caller.place new after + 1 ≤ left_at caller.place old before → next < rank + 100 + 2 * longest_of caller → left_to_do caller new after next < left_to_do caller old before rank
+  round_falls one_less within = let rounds = rounds_one_less (longest_of caller) (left_at caller.place new after) (left_at caller.place old before) one_less in omega (arith, rounds, within)
+
+-- no call gives turns back, or makes an object
+pub left_falls : (settings : Settings) (agenda : List Item) (place : ℕ) (old new : Tables) (before after : Telling) → run settings agenda (doing_at place old before) ≡ doing_at place new after → left_at place new after ≤ left_at place old before
+left_falls settings agenda place old new before after does =
+    let shrinks : Shrinks (doing_at place old before) (doing_at place new after) = subst (Shrinks (doing_at place old before)) does (run_shrinks settings agenda (doing_at place old before)) in
+    omega (arith, shrinks.turns, shrinks.living)
+
+-- nor does an item that is done, whatever it puts in front
+pub left_stepped : (settings : Settings) (item : Item) (items : List Item) (place : ℕ) (old new : Tables) (telling : Telling) → step settings item (doing_at place old telling) ≡ puts items (doing_at place new telling) → left_at place new telling ≤ left_at place old telling
+left_stepped settings item items place old new telling is =
+    let shrinks : Shrinks (doing_at place old telling) (doing_at place new telling) = subst (λ (next : Next). Shrinks (doing_at place old telling) next.doing) is (falls settings item (doing_at place old telling)).shrinks in
+    omega (arith, shrinks.turns, shrinks.living)
+
+-- a single-shot connection that goes leaves as much
+pub left_shot : (place : ℕ) (connection : Connection) (old new : Tables) (telling : Telling) → IsPlaced old place
+    → new ≡ with_state old place (if connection.single then without_connections (state_at old place) (has_number connection.number) else state_at old place) → left_at place new telling ≤ left_at place old telling
+left_shot place connection old new telling placed e =
+    let there : living_rows (state_at new place).forest.rows ≡ living_rows (if connection.single then without_connections (state_at old place) (has_number connection.number) else state_at old place).forest.rows =
+    ap (λ (state : State). living_rows state.forest.rows) (state_with old new place _ placed e) in
+    omega (arith, there, as_many connection.single)
+  where
+    as_many : (b : Bool) → living_rows (if b then without_connections (state_at old place) (has_number connection.number) else state_at old place).forest.rows ≡ living_rows (state_at old place).forest.rows
+    as_many true = refl
+    as_many false = refl
+
+-- a connection that was found among those above a number has a greater one
+found_above : (least : ℕ) (test : Connection → Bool) (rows : List Connection) (row : Connection) → AllByRecursion (λ (row : Connection). least < row.number) rows → find test rows ≡ Some row → least < row.number
+found_above least test [] row above e = absurd (cc)
+found_above least test (first ∷ rows) row above e = by (test first) e (found_above least test rows row above.1)
+  where
+    by : (passed : Bool) → cond passed (Some first) (find test rows) ≡ Some row → (find test rows ≡ Some row → least < row.number) → least < row.number
+    by true e rest = let is : first ≡ row = cc in subst (λ (row : Connection). least < row.number) is above.0
+    by false e rest = rest e
+
+-- a connection that was found is the one that stands under its number
+pub found_stands : (test : Connection → Bool) (rows : List Connection) (row : Connection) → IsRising rows → find test rows ≡ Some row → find (has_number row.number) rows ≡ Some row
+found_stands test [] row rising e = absurd (cc)
+found_stands test (first ∷ rows) row rising e = by (test first) e (found_stands test rows row (rising_tail first rows rising))
+  where
+    above : AllByRecursion (λ (later : Connection). first.number < later.number) rows
+    above = recursion_from_All (λ (later : Connection). first.number < later.number) rows (rising_head first rows rising)
+
+    same : (n : ℕ) → (n == n) ≡ true
+    same n = grind (arith, nat_tests)
+
+    by : (passed : Bool) → cond passed (Some first) (find test rows) ≡ Some row → (find test rows ≡ Some row → find (has_number row.number) rows ≡ Some row) → find (has_number row.number) (first ∷ rows) ≡ Some row
+    by true e rest =
+        let is : first ≡ row = cc in
+        cond-true (first.number == row.number) (Some first) _ (ap (λ (r : Connection). r.number == row.number) is ∙ same row.number) ∙ ap (λ (r : Connection). Some r) is
+    by false e rest =
+        let more = found_above first.number test rows row above e in
+        let other : (first.number == row.number) ≡ false = grind (arith, nat_tests, more) in
+        cond-false (first.number == row.number) (Some first) _ other ∙ rest e
+
+-- is a signal held back, by what was looked at
+pub is_held : (blocked : Bool) (signal : ℕ) → blocked ≡ true → (signal ≡ DESTROYED → ⊥) → (blocked && not (signal == DESTROYED)) ≡ true
+is_held blocked signal is other =
+    let e : (signal == DESTROYED) ≡ false = ne_eqb signal DESTROYED other in
+    ap (λ b. b && not (signal == DESTROYED)) is ∙ ap not e
+
+pub is_let_through : (blocked : Bool) (signal : ℕ) → ((blocked ≡ true) × (signal ≡ DESTROYED)) ⊎ (blocked ≡ false) → (blocked && not (signal == DESTROYED)) ≡ false
+is_let_through blocked signal either = ⊎_elim
+    (λ both. let e : (signal == DESTROYED) ≡ true = grind (arith, nat_tests, both.1) in ap (λ b. b && not (signal == DESTROYED)) both.0 ∙ ap not e)
+    (λ free. ap (λ b. b && not (signal == DESTROYED)) free)
+    either
+
+-- a call that is posted, or for which memory was wanted, changes no other session
+pub keeps_posted : {T E : Type 0} (result : Result T E) (place : ℕ) (middle new : Tables) (state : State) → IsPlaced middle place → OnOk result (new ≡ with_state middle place state) → OnErr result (new ≡ middle) → Keeps place middle new
+keeps_posted (Ok value) place middle new state still ok err = keeps_with middle new place state still ok
+keeps_posted (Err error) place middle new state still ok err = keeps_same middle new place err
+
+-- the object that a signal is sent by
+record Sends (rows : List Row) (target : ℕ) (blocked : Bool) : Type 0 where
+  row : Row
+  there : row_of rows target ≡ Some row
+  is : row.blocked ≡ blocked
+
+sends : (rows : List Row) (target : ℕ) (blocked : Bool) → Some blocked ≡ option_map (λ row. row.blocked) (row_of rows target) → Sends rows target blocked
+sends rows target blocked e = by (row_of rows target) refl e
+  where
+    by : (found : Option Row) → row_of rows target ≡ found → Some blocked ≡ option_map (λ row. row.blocked) found → Sends rows target blocked
+    by None is e = absurd (cc)
+    by (Some row) is e = record { row = row; there = is; is = cc }
+
+module _ (settings : Settings) (target signal : ℕ) (args : List Value) (depth : ℕ) where
+  -- an object that has gone sends nothing
+  pub emission_absent : (doing : Doing) → None ≡ option_map (λ row. row.blocked) (row_of doing.state.forest.rows target) → run settings (Emit target signal args depth ∷ []) doing ≡ doing
+  emission_absent doing none = by_change settings (Emit target signal args depth) doing doing (rule.emit_absent settings target signal args depth doing (by (row_of doing.state.forest.rows target) none))
+    where
+      by : (found : Option Row) → None ≡ option_map (λ row. row.blocked) found → is_some found ≡ false
+      by None e = refl
+      by (Some row) e = absurd (cc)
+
+  module _ (doing : Doing) (blocked : Bool) (has : Some blocked ≡ option_map (λ row. row.blocked) (row_of doing.state.forest.rows target)) where
+    its_row : Sends doing.state.forest.rows target blocked
+    its_row = sends doing.state.forest.rows target blocked has
+
+    held_is : (held : Bool) → (blocked && not (signal == DESTROYED)) ≡ held → is_held_back signal its_row.row ≡ held
+    held_is held e = ap (λ blocked. blocked && not (signal == DESTROYED)) its_row.is ∙ e
+
+    -- a signal of a blocked object is not sent
+    pub emission_held_back : (blocked && not (signal == DESTROYED)) ≡ true → run settings (Emit target signal args depth ∷ []) doing ≡ doing
+    emission_held_back held = by_change settings (Emit target signal args depth) doing doing (rule.emit_held_back settings target signal args depth doing its_row.row its_row.there (held_is true held))
+
+    module _ (sent : (blocked && not (signal == DESTROYED)) ≡ false) where
+      -- one that is nested too deep is warned of
+      pub emission_deep : (new : Doing) → NESTED_SIGNALS ≤ depth → run settings (Warn Limit (Some target) ∷ []) doing ≡ new → run settings (Emit target signal args depth ∷ []) doing ≡ new
+      emission_deep new deep does = by_step settings (Emit target signal args depth) doing _ (rule.emit_deep settings target signal args depth doing its_row.row its_row.there (held_is false sent) deep) ∙ does
+
+      -- an emission that begins has all connections of the signal before it
+      pub emission_begins : depth < NESTED_SIGNALS → IsSound doing.state.connections
+          → run settings (calls_to settings args depth (remaining target signal doing.state.connections.last_number 0 doing.state.connections.rows)) doing ≡ run settings (Emit target signal args depth ∷ []) doing
+      emission_begins shallow sound =
+          sym (by_step settings (Emit target signal args depth) doing _ (rule.emit_calls settings target signal args depth doing its_row.row its_row.there (held_is false sent) shallow)
+          ∙ ap (λ agenda. run settings agenda doing) (emission_first settings target signal args depth doing sound))
+
+  -- a signal that nothing is connected to comes to nothing, whether its object is there or not, blocked or not
+  pub emission_unheard : (doing : Doing) → depth < NESTED_SIGNALS → IsSound doing.state.connections → is_some (find (is_next target signal 0 doing.state.connections.last_number) doing.state.connections.rows) ≡ false
+      → run settings (Emit target signal args depth ∷ []) doing ≡ doing
+  emission_unheard doing shallow sound unheard = by_row (option_map (λ (row : Row). row.blocked) (row_of doing.state.forest.rows target)) refl
+    where
+      none : (found : Option Connection) → is_some found ≡ false → found ≡ None
+      none None e = refl
+      none (Some connection) e = absurd (cc)
+
+      sent : (blocked : Bool) → Some blocked ≡ option_map (λ (row : Row). row.blocked) (row_of doing.state.forest.rows target) → (held : Bool) → (blocked && not (signal == DESTROYED)) ≡ held → run settings (Emit target signal args depth ∷ []) doing ≡ doing
+      sent blocked has true held = emission_held_back doing blocked has held
+      sent blocked has false free =
+          sym (emission_begins doing blocked has free shallow sound)
+          ∙ emission_end settings target signal args depth doing.state.connections.last_number 0 doing (none (find (is_next target signal 0 doing.state.connections.last_number) doing.state.connections.rows) unheard)
+
+      by_row : (found : Option Bool) → option_map (λ (row : Row). row.blocked) (row_of doing.state.forest.rows target) ≡ found → run settings (Emit target signal args depth ∷ []) doing ≡ doing
+      by_row None e = emission_absent doing (sym e)
+      by_row (Some blocked) e = sent blocked (sym e) (blocked && not (signal == DESTROYED)) refl
+
+  -- the next connection is called, and those behind it are left
+  pub emission_goes_on : (up_to after : ℕ) (old middle new : Doing) (next : Connection) → IsSound middle.state.connections → up_to ≤ middle.state.connections.last_number
+      → find (is_next target signal after up_to) middle.state.connections.rows ≡ Some next
+      → run settings (Call next.number args depth ∷ []) middle ≡ new
+      → run settings (calls_to settings args depth (remaining target signal up_to after middle.state.connections.rows)) middle ≡ old
+      → run settings (calls_to settings args depth (remaining target signal up_to next.number new.state.connections.rows)) new ≡ old
+  emission_goes_on up_to after old middle new next sound most found called before =
+      sym (ap (λ (done : Doing). run settings (calls_to settings args depth (remaining target signal up_to next.number done.state.connections.rows)) done) called)
+      ∙ sym (emission_next settings target signal args depth up_to after middle next sound most found)
+      ∙ before
+
+  -- the numbers of connections do not fall
+  pub last_stays : (up_to : ℕ) (middle new : Doing) (next : Connection) → up_to ≤ middle.state.connections.last_number → run settings (Call next.number args depth ∷ []) middle ≡ new → up_to ≤ new.state.connections.last_number
+  last_stays up_to middle new next most called =
+      subst (λ (doing : Doing). up_to ≤ doing.state.connections.last_number) called
+      (let later = (run_later settings (Call next.number args depth ∷ []) middle).last in omega (arith, later, most))
+
+-- what was told
+pub told_is : (place : ℕ) (tables : Tables) (before after : Telling) (line : Line) → after ≡ with_line before line → told (doing_at place tables before) line ≡ doing_at place tables after
+unfolding told
+told_is place tables before after line e = ap (doing_at place tables) (sym e)
+
+-- that no turn is left is told once
+pub spent_is : (place : ℕ) (tables : Tables) (before after : Telling) → after ≡ spent before → used_up (doing_at place tables before) ≡ doing_at place tables after
+unfolding used_up
+spent_is place tables before after e = by before.spent ∙ ap (doing_at place tables) (sym e)
+  where
+    by : (b : Bool) → (if b then doing_at place tables before else record (doing_at place tables before) { spent = true; lines = before.lines ++ Warning TurnsUsedUp None ∷ [] })
+        ≡ doing_at place tables (if b then before else record { lines = before.lines ++ Warning TurnsUsedUp None ∷ []; turns = before.turns; spent = true; taken = before.taken })
+    by true = refl
+    by false = refl
+
+-- a warning is told
+pub warn_done : (settings : Settings) (place : ℕ) (tables : Tables) (before after : Telling) (code : Code) (object : Option ℕ) → after ≡ with_line before (Warning code object)
+    → run settings (Warn code object ∷ []) (doing_at place tables before) ≡ doing_at place tables after
+warn_done settings place tables before after code object e =
+    by_change settings (Warn code object) (doing_at place tables before) _ (rule.warn_told settings (doing_at place tables before) code object) ∙ told_is place tables before after (Warning code object) e
+
+module _ (settings : Settings) (slot : Slot) (place : ℕ) (tables : Tables) (before after : Telling) where
+  -- a refused action warns
+  pub warned : (item : Item) (code : Code) → step settings item (doing_at place tables before) ≡ puts (Warn code (Some slot.object) ∷ []) (doing_at place tables before) → after ≡ with_line before (Warning code (Some slot.object))
+      → run settings (item ∷ []) (doing_at place tables before) ≡ doing_at place tables after
+  warned item code is e = by_step settings item (doing_at place tables before) _ is ∙ warn_done settings place tables before after code (Some slot.object) e
+
+  -- so a choice whose test has no truth
+  pub test_warned : (test : Term) (held failed : Acts) (fault : Fault) → Answers {T = Bool} (Err fault) (truth_evaluated (state_at tables place) slot.object slot.sender slot.args.now test) → Warns fault slot.object before after
+      → run settings (act_of slot (when test held failed) ∷ []) (doing_at place tables before) ≡ doing_at place tables after
+  test_warned test held failed (Refused code) why e = warned (act_of slot (when test held failed)) code (action.when_faulty settings slot.object slot.sender slot.args.now slot.depth (doing_at place tables before) test held failed code why) e
+  test_warned test held failed Memory why e = absurd e
+
+-- so an effect that is refused
+pub effect_warned : {T : Type 0} (caller : Caller) (slot : Slot) (plain : Effect) (tables : Tables) (items : T → List Item) (new : Tables) (before after : Telling) (fault : Fault) → Tries caller slot plain tables items new (Err fault) → Warns fault slot.object before after
+    → run (settings_of caller.setup.now) (act_of slot (effect plain) ∷ []) (doing_at caller.place tables before) ≡ doing_at caller.place tables after
+effect_warned caller slot plain tables items new before after (Refused code) tried e = warned (settings_of caller.setup.now) slot caller.place tables before after (act_of slot (effect plain)) code (tried (doing_at caller.place tables before)) e
+effect_warned caller slot plain tables items new before after Memory tried e = absurd e
+
+-- the same of one that may have changed the session before memory was wanted
+pub effect_refused : {T : Type 0} (caller : Caller) (slot : Slot) (plain : Effect) (old : Tables) (items : T → List Item) (new : Tables) (before after : Telling) (fault : Fault) → Tries caller slot plain old items new (Err fault) → OnRefused {T = T} (Err fault) (new ≡ old)
+    → Warns fault slot.object before after → run (settings_of caller.setup.now) (act_of slot (effect plain) ∷ []) (doing_at caller.place old before) ≡ doing_at caller.place new after
+effect_refused caller slot plain old items new before after (Refused code) tried same e =
+    warned (settings_of caller.setup.now) slot caller.place old before after (act_of slot (effect plain)) code (tried (doing_at caller.place old before)) e ∙ ap (λ tables. doing_at caller.place tables after) (sym same)
+effect_refused caller slot plain old items new before after Memory tried same e = absurd e
+
+module _ (settings : Settings) (slot : Slot) (doing : Doing) (test : Term) (held failed : Acts) where
+  abbrev its_acts : Acts → List Item
+  its_acts branch = model.acts branch slot.args.now slot.object slot.sender slot.depth
+
+  -- the branch that is chosen is done
+  pub held_done : (new : Doing) → truth_evaluated doing.state slot.object slot.sender slot.args.now test ≡ Ok true → run settings (its_acts held) doing ≡ new → run settings (act_of slot (when test held failed) ∷ []) doing ≡ new
+  held_done new is does = by_step settings (act_of slot (when test held failed)) doing _ (action.when_held settings slot.object slot.sender slot.args.now slot.depth doing test held failed is) ∙ does
+
+  pub failed_done : (new : Doing) → truth_evaluated doing.state slot.object slot.sender slot.args.now test ≡ Ok false → run settings (its_acts failed) doing ≡ new → run settings (act_of slot (when test held failed) ∷ []) doing ≡ new
+  failed_done new is does = by_step settings (act_of slot (when test held failed)) doing _ (action.when_failed settings slot.object slot.sender slot.args.now slot.depth doing test held failed is) ∙ does
+
+-- an action is done, and then those behind it
+pub acts_go_on : (settings : Settings) (slot : Slot) (old middle new : Doing) (i : ℕ) (actions : List Act) (act : Act) → i < length actions → act ≡ get_or actions i act
+    → run settings (act_of slot act ∷ []) middle ≡ new
+    → run settings (model.acts (acts_of (drop i actions)) slot.args.now slot.object slot.sender slot.depth) middle ≡ old
+    → run settings (model.acts (acts_of (drop (i + 1) actions)) slot.args.now slot.object slot.sender slot.depth) new ≡ old
+acts_go_on settings slot old middle new i actions act within is does before =
+    ap (run settings (model.acts (acts_of (drop (i + 1) actions)) slot.args.now slot.object slot.sender slot.depth)) (sym does)
+    ∙ sym (after_first settings (act_of slot act) (model.acts (acts_of (drop (i + 1) actions)) slot.args.now slot.object slot.sender slot.depth) middle)
+    ∙ ap (λ (acts : List Act). run settings (model.acts (acts_of acts) slot.args.now slot.object slot.sender slot.depth) middle) (sym (item_at actions i act within is))
+    ∙ before
+
+-- with no action left all is done
+pub acts_end : (settings : Settings) (slot : Slot) (old new : Doing) (i : ℕ) (actions : List Act) → length actions ≤ i
+    → run settings (model.acts (acts_of (drop i actions)) slot.args.now slot.object slot.sender slot.depth) new ≡ old → old ≡ new
+acts_end settings slot old new i actions past before =
+    sym before ∙ ap (λ (acts : List Act). run settings (model.acts (acts_of acts) slot.args.now slot.object slot.sender slot.depth) new) (drop_all i actions past) ∙ at_end settings new
+
+-- a call takes a turn, and a single-shot connection goes
+module _ (caller : Caller) (connection : Connection) (args : List Value) (depth : ℕ) (old new : Tables) (before : Telling) where
+  abbrev its_settings : Settings
+  its_settings = settings_of caller.setup.now
+
+  abbrev pub taken : Telling
+  taken = record { lines = before.lines; turns = before.turns - 1; spent = before.spent; taken = before.taken }
+
+  abbrev pub shot_state : State
+  shot_state = if connection.single then without_connections (state_at old caller.place) (has_number connection.number) else state_at old caller.place
+
+  module _ (placed : IsPlaced old caller.place) (standing : connection_of (doing_at caller.place old before) connection.number ≡ Some connection) where
+    pub call_spent : (after : Telling) → before.turns ≡ 0 → after ≡ spent before → run its_settings (Call connection.number args depth ∷ []) (doing_at caller.place old before) ≡ doing_at caller.place old after
+    call_spent after none e =
+        by_change its_settings (Call connection.number args depth) (doing_at caller.place old before) _ (rule.call_spent its_settings connection.number args depth (doing_at caller.place old before) connection standing none)
+        ∙ spent_is caller.place old before after e
+
+    module _ (e : new ≡ with_state old caller.place shot_state) (some : 0 < before.turns) where
+      is_shot : shot (turn_taken (doing_at caller.place old before)) connection ≡ doing_at caller.place new taken
+      unfolding shot turn_taken
+      is_shot = by connection.single ∙ ap (λ (state : State). in_state (doing_at caller.place old taken) state) (sym (state_with old new caller.place shot_state placed e))
+        where
+          by : (b : Bool) → (if b then in_state (doing_at caller.place old taken) (without_connections (state_at old caller.place) (has_number connection.number)) else doing_at caller.place old taken)
+              ≡ in_state (doing_at caller.place old taken) (if b then without_connections (state_at old caller.place) (has_number connection.number) else state_at old caller.place)
+          by true = refl
+          by false = refl
+
+      -- the methods of objects are as before
+      same_method : (object index : ℕ) → method_at its_settings (state_at new caller.place) object index ≡ method_at its_settings (state_at old caller.place) object index
+      same_method object index = ap (λ (state : State). method_at its_settings state object index) (state_with old new caller.place shot_state placed e) ∙ by connection.single
+        where
+          by : (b : Bool) → method_at its_settings (if b then without_connections (state_at old caller.place) (has_number connection.number) else state_at old caller.place) object index ≡ method_at its_settings (state_at old caller.place) object index
+          by true = refl
+          by false = refl
+
+      -- nor is the queue another one
+      same_queue : (state_at new caller.place).queue ≡ (state_at old caller.place).queue
+      same_queue = ap (λ (state : State). state.queue) (state_with old new caller.place shot_state placed e) ∙ by connection.single
+        where
+          by : (b : Bool) → (if b then without_connections (state_at old caller.place) (has_number connection.number) else state_at old caller.place).queue ≡ (state_at old caller.place).queue
+          by true = refl
+          by false = refl
+
+      -- a functor is called then
+      pub call_functor : (index : ℕ) → connection.callee ≡ Functor index → (done : Doing)
+          → run its_settings (callee_called its_settings connection args depth (doing_at caller.place new taken) (Functor index)).items (callee_called its_settings connection args depth (doing_at caller.place new taken) (Functor index)).doing ≡ done
+          → run its_settings (Call connection.number args depth ∷ []) (doing_at caller.place old before) ≡ done
+      call_functor index is done does =
+          by_step its_settings (Call connection.number args depth) (doing_at caller.place old before) _ (rule.call_taken its_settings connection.number args depth (doing_at caller.place old before) connection standing some)
+          ∙ ap (λ (called : Callee). let next = callee_called its_settings connection args depth (shot (turn_taken (doing_at caller.place old before)) connection) called in run its_settings next.items next.doing) is
+          ∙ ap (λ (doing : Doing). let next = callee_called its_settings connection args depth doing (Functor index) in run its_settings next.items next.doing) is_shot
+          ∙ does
+
+      module _ (index : ℕ) (is : connection.callee ≡ Method index) where
+        pub call_absent : None ≡ method_at its_settings (state_at new caller.place) connection.receiver index → run its_settings (Call connection.number args depth ∷ []) (doing_at caller.place old before) ≡ doing_at caller.place new taken
+        call_absent has =
+            by_change its_settings (Call connection.number args depth) (doing_at caller.place old before) _
+            (rule.call_absent its_settings connection.number args depth (doing_at caller.place old before) connection standing some index is (sym (has ∙ same_method connection.receiver index))) ∙ is_shot
+
+        -- the event that a queued connection posts
+        module _ (given : List Value) where
+          abbrev pub posted_call : QueuedCall
+          posted_call = record { object = connection.receiver; callee = connection.callee; sender = connection.sender; args = given }
+
+        module _ (method : class.Method) (has : Some method ≡ method_at its_settings (state_at new caller.place) connection.receiver index) (given : List Value) (cut : given ≡ take (length method.signature.kinds) args) where
+          abbrev its_call : QueuedCall
+          its_call = posted_call given
+
+          abbrev pub its_later : Bool → State
+          its_later room = if room then with_event (state_at new caller.place) (event.Call its_call) else with_lost (state_at new caller.place)
+
+          later_is : record { object = connection.receiver; callee = Method index; sender = connection.sender; args = take (length method.signature.kinds) args } ≡ its_call
+          later_is = ap (λ (called : Callee). record { object = connection.receiver; callee = called; sender = connection.sender; args = take (length method.signature.kinds) args }) (sym is)
+              ∙ ap (λ (values : List Value). record { object = connection.receiver; callee = connection.callee; sender = connection.sender; args = values }) (sym cut)
+
+          posted_is : (final : Tables) → IsPlaced new caller.place → final ≡ with_state new caller.place (with_event (state_at new caller.place) (event.Call its_call)) → posted (doing_at caller.place new taken) (event.Call its_call) ≡ doing_at caller.place final taken
+          unfolding posted
+          posted_is final still f = ap (λ (state : State). in_state (doing_at caller.place new taken) state) (sym (state_with new final caller.place _ still f))
+
+          lost_is : (final : Tables) → IsPlaced new caller.place → final ≡ with_state new caller.place (with_lost (state_at new caller.place)) → lost (doing_at caller.place new taken) ≡ doing_at caller.place final taken
+          unfolding lost
+          lost_is final still f = ap (λ (state : State). in_state (doing_at caller.place new taken) state) (sym (state_with new final caller.place _ still f))
+
+          -- a queued connection calls later
+          pub call_queued : (final : Tables) → IsPlaced new caller.place → is_queued connection.mode ≡ true → final ≡ with_state new caller.place (its_later (has_room (state_at new caller.place).queue))
+              → run its_settings (Call connection.number args depth ∷ []) (doing_at caller.place old before) ≡ doing_at caller.place final taken
+          call_queued final still later f = by (has_room (state_at new caller.place).queue) refl
+            where
+              at_first : (room : Bool) → has_room (state_at new caller.place).queue ≡ room → has_room (state_at old caller.place).queue ≡ room
+              at_first room is_room = ap has_room (sym same_queue) ∙ is_room
+
+              by : (room : Bool) → has_room (state_at new caller.place).queue ≡ room → run its_settings (Call connection.number args depth ∷ []) (doing_at caller.place old before) ≡ doing_at caller.place final taken
+              by true room =
+                  by_change its_settings (Call connection.number args depth) (doing_at caller.place old before) _
+                  (rule.call_posted its_settings connection.number args depth (doing_at caller.place old before) connection standing some index is method (sym (has ∙ same_method connection.receiver index)) later (at_first true room))
+                  ∙ ap (λ (call : QueuedCall). posted (shot (turn_taken (doing_at caller.place old before)) connection) (event.Call call)) later_is
+                  ∙ ap (λ (doing : Doing). posted doing (event.Call its_call)) is_shot
+                  ∙ posted_is final still (f ∙ ap (λ room. with_state new caller.place (its_later room)) room)
+              by false full =
+                  by_change its_settings (Call connection.number args depth) (doing_at caller.place old before) _
+                  (rule.call_lost its_settings connection.number args depth (doing_at caller.place old before) connection standing some index is method (sym (has ∙ same_method connection.receiver index)) later (at_first false full))
+                  ∙ ap (λ (doing : Doing). lost doing) is_shot
+                  ∙ lost_is final still (f ∙ ap (λ room. with_state new caller.place (its_later room)) full)
+
+          pub call_signal : (done : Doing) → is_queued connection.mode ≡ false → method.is_signal ≡ true → run its_settings (Emit connection.receiver index given (depth + 1) ∷ []) (doing_at caller.place new taken) ≡ done
+              → run its_settings (Call connection.number args depth ∷ []) (doing_at caller.place old before) ≡ done
+          call_signal done at_once signal does =
+              by_step its_settings (Call connection.number args depth) (doing_at caller.place old before) _
+              (rule.call_signal its_settings connection.number args depth (doing_at caller.place old before) connection standing some index is method (sym (has ∙ same_method connection.receiver index)) at_once signal)
+              ∙ ap (run its_settings (Emit connection.receiver index (take (length method.signature.kinds) args) (depth + 1) ∷ [])) is_shot
+              ∙ ap (λ (given : List Value). run its_settings (Emit connection.receiver index given (depth + 1) ∷ []) (doing_at caller.place new taken)) (sym cut)
+              ∙ does
+
+          pub call_slot : (done : Doing) → is_queued connection.mode ≡ false → method.is_signal ≡ false
+              → run its_settings (model.acts (acts_of method.body.actions) given connection.receiver connection.sender (depth + 1)) (told (doing_at caller.place new taken) (call_line method connection.receiver connection.sender given)) ≡ done
+              → run its_settings (Call connection.number args depth ∷ []) (doing_at caller.place old before) ≡ done
+          call_slot done at_once slot does =
+              by_step its_settings (Call connection.number args depth) (doing_at caller.place old before) _
+              (rule.call_slot its_settings connection.number args depth (doing_at caller.place old before) connection standing some index is method (sym (has ∙ same_method connection.receiver index)) at_once slot)
+              ∙ ap (run its_settings (Run connection.receiver index connection.sender (take (length method.signature.kinds) args) depth ∷ [])) is_shot
+              ∙ ap (λ (given : List Value). run its_settings (Run connection.receiver index connection.sender given depth ∷ []) (doing_at caller.place new taken)) (sym cut)
+              ∙ by_step its_settings (Run connection.receiver index connection.sender given depth) (doing_at caller.place new taken) _ (rule.run_slot its_settings connection.receiver index connection.sender given depth (doing_at caller.place new taken) method (sym has))
+              ∙ does
+
+-- the next connection is above the last one that was called, and not above the last of all
+pub next_within : (target signal after up_to : ℕ) (row : Connection) → is_next target signal after up_to row ≡ true → (after < row.number) × (row.number ≤ up_to)
+next_within target signal after up_to row passes =
+    let above : nat_lt after row.number ≡ true = first_of (nat_lt after row.number) _ passes in
+    let below : nat_le row.number up_to ≡ true = first_of (nat_le row.number up_to) _ (second_of (nat_lt after row.number) _ passes) in
+    (grind (arith, nat_tests, above), grind (arith, nat_tests, below))
+  where
+    first_of : (a b : Bool) → (a && b) ≡ true → a ≡ true
+    first_of true b e = refl
+    first_of false b e = e
+
+    second_of : (a b : Bool) → (a && b) ≡ true → b ≡ true
+    second_of true b e = e
+    second_of false b e = absurd (cc)
+
+-- so fewer are left
+pub next_smaller : (target signal after up_to : ℕ) (rows : List Connection) (row : Connection) → find (is_next target signal after up_to) rows ≡ Some row → up_to - row.number < up_to - after
+next_smaller target signal after up_to rows row found =
+    let within = next_within target signal after up_to row (find-passes (is_next target signal after up_to) rows row found) in
+    omega (arith, within.0, within.1)
+
+-- an effect that is not refused is done by what it comes to
+pub effect_done : (caller : Caller) (slot : Slot) (plain : Effect) (old : Tables) (agenda : List Item) (between new : Tables) (before after : Telling)
+    → step (settings_of caller.setup.now) (act_of slot (effect plain)) (doing_at caller.place old before) ≡ puts agenda (doing_at caller.place between before)
+    → run (settings_of caller.setup.now) agenda (doing_at caller.place between before) ≡ doing_at caller.place new after
+    → run (settings_of caller.setup.now) (act_of slot (effect plain) ∷ []) (doing_at caller.place old before) ≡ doing_at caller.place new after
+effect_done caller slot plain old agenda between new before after is does = by_step (settings_of caller.setup.now) (act_of slot (effect plain)) (doing_at caller.place old before) _ is ∙ does

@@ -1,0 +1,3 @@
+pub mod DeletionLemmas
+pub mod AgendaLemmas
+pub mod FunctorLemmas

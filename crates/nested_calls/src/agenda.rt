@@ -1,0 +1,414 @@
+//! An agenda by nested calls. Each function does what the item of its name does, and calls the others
+//! where that puts items in front. The calls come to an end, since each way round takes a turn, or marks
+//! an object that lives as dying; no action gives a turn back, or makes an object.
+ghost use Rattle.std.specs.Prelude.{◌≡◌, ◌∷◌, [], ◌≤◌, ◌<◌, OnOk, OnErr, Some, find, is_some, take};
+ghost use Rattle.connection_list.specs.Rows.{IsSound, is_next};
+ghost use Rattle.connection_types.specs.declared.callee.Callee.TheVariants as callee;
+ghost use Rattle.term_core.specs.Act.{acts_of, effect};
+ghost use Rattle.thread_model.specs.declared.call.TheConstants.{NESTED_SIGNALS};
+ghost use Rattle.thread_model.specs.Acts as model;
+ghost use Rattle.thread_model.specs.Agenda.{call_line, callee_called, connection_of, functor_line};
+ghost use Rattle.thread_model.specs.Doing.{told};
+ghost use Rattle.thread_model.specs.Items.{Call, Emit};
+ghost use Rattle.thread_model.specs.Functors.{functor_at};
+ghost use Rattle.thread_model.specs.Posting.{is_queued};
+ghost use Rattle.thread_model.specs.State.{with_call};
+ghost use Rattle.class_table.specs.Sound.{IsMethod};
+ghost use Rattle.session_tables.specs.Tables.{IsPlaced, state_at, with_state};
+ghost use Rattle.session_effects.specs.Actions.{Keeps, act_of};
+ghost use Rattle.session_effects.specs.Setup.{settings_of};
+ghost use Rattle.session_effects.specs.Writing.{items_of};
+ghost use Rattle.nested_calls.specs.Agenda.{Does, DoesNext};
+ghost use Rattle.nested_calls.specs.Telling.{doing_at};
+
+use crate::actor::{Actor, answered};
+use crate::answering::Answering;
+use crate::deletion::delete;
+use crate::telling::Telling;
+use class_table::Method;
+use connection_list::Connection;
+use connection_types::{Callee, ConnectionType};
+use event_queue::QueuedCall;
+use refusals::Code;
+use session_effects::{
+    Caller, Notice, Slot, change, deleted, functor_at, method_at, sent, set, told_args, truth,
+};
+use session_tables::Tables;
+use std::alloc::AllocError;
+use stored_slots::Functor;
+use term_core::{Action, Effect, Step};
+use thread_model::{DESTROYED, NESTED_SIGNALS};
+use variant_value::{Args, Value};
+
+/// Sends a signal, unless the signals of its object are blocked: calls its connections one after another,
+/// as they stand by then, up to the last that was made when the sending began. `destroyed()` cannot be
+/// blocked.
+#[cycle(agenda)]
+pub fn emit<F: Answering>(
+    actor: &Actor<F>,
+    tables: &mut Tables,
+    telling: &mut Telling,
+    target: u32,
+    signal: u32,
+    args: &[Value],
+    depth: u32,
+) -> Result<(), AllocError>
+    requires placed { IsPlaced tables.old actor.now.caller.place }
+    requires depth { depth ≤ NESTED_SIGNALS }
+    ensures does { OnOk result (Does actor.now.caller (Emit target signal args.now depth ∷ []) (doing_at actor.now.caller.place tables.old telling.old) tables.new telling.new) }
+    ensures keeps { Keeps actor.now.caller.place tables.old tables.new }
+{
+    let Some(blocked) = tables.blocked(actor.caller.place, target) else {
+        return Ok(());
+    };
+    if blocked && signal != DESTROYED {
+        return Ok(());
+    }
+    if depth >= NESTED_SIGNALS {
+        return telling.warn(Code::Limit, Some(target));
+    }
+    let up_to = tables.last_connection(actor.caller.place);
+    let mut after = 0;
+    'calls: while let Some(connection) = tables.next_connection(
+        actor.caller.place,
+        target,
+        signal,
+        after,
+        up_to,
+    ) {
+        call(actor, tables, telling, &connection, args, depth)?;
+        after = connection.number;
+    }
+    Ok(())
+}
+
+/// Sends what tells of a change, where there is such a signal. Where nothing is connected to it, there is
+/// nothing to do below the level where nested signals are warned of.
+#[cycle(agenda)]
+pub fn notify<F: Answering>(
+    actor: &Actor<F>,
+    tables: &mut Tables,
+    telling: &mut Telling,
+    told: Option<Notice>,
+    depth: u32,
+) -> Result<(), AllocError>
+    requires placed { IsPlaced tables.old actor.now.caller.place }
+    requires depth { depth ≤ NESTED_SIGNALS }
+    ensures does { OnOk result (Does actor.now.caller (items_of (settings_of actor.now.caller.setup.now) (state_at tables.old actor.now.caller.place) depth told)
+        (doing_at actor.now.caller.place tables.old telling.old) tables.new telling.new) }
+    ensures keeps { Keeps actor.now.caller.place tables.old tables.new }
+{
+    let Some(notice) = told else {
+        return Ok(());
+    };
+    if depth < NESTED_SIGNALS && !is_heard(tables, actor.caller.place, notice) {
+        return Ok(());
+    }
+    let args = told_args(&actor.caller, tables, notice)?;
+    emit(
+        actor,
+        tables,
+        telling,
+        notice.object,
+        notice.signal,
+        args.as_slice(),
+        depth,
+    )
+}
+
+/// Whether a connection stands that a notice's signal calls.
+fn is_heard(tables: &Tables, place: usize, notice: Notice) -> bool
+    requires { IsPlaced tables.now place }
+    ensures heard { let connections = (state_at tables.now place).connections in
+        result ≡ is_some (find (is_next notice.object notice.signal 0 connections.last_number) connections.rows) }
+    ensures sound { IsSound (state_at tables.now place).connections }
+{
+    let last = tables.last_connection(place);
+    tables
+        .next_connection(place, notice.object, notice.signal, 0, last)
+        .is_some()
+}
+
+/// Calls what a connection calls, which stands: later, by an event, or at once. A single-shot connection
+/// goes first.
+#[cycle(agenda)]
+fn call<F: Answering>(
+    actor: &Actor<F>,
+    tables: &mut Tables,
+    telling: &mut Telling,
+    connection: &Connection,
+    args: &[Value],
+    depth: u32,
+) -> Result<(), AllocError>
+    requires placed { IsPlaced tables.old actor.now.caller.place }
+    requires depth { depth < NESTED_SIGNALS }
+    requires stands { connection_of (doing_at actor.now.caller.place tables.old telling.old) connection.now.number ≡ Some connection.now }
+    ensures does { OnOk result (Does actor.now.caller (Call connection.now.number args.now depth ∷ []) (doing_at actor.now.caller.place tables.old telling.old) tables.new telling.new) }
+    ensures keeps { Keeps actor.now.caller.place tables.old tables.new }
+{
+    if telling.turns == 0 {
+        return telling.use_up();
+    }
+    telling.turns -= 1;
+    tables.shoot(actor.caller.place, connection);
+    let index = match connection.callee {
+        Callee::Method(index) => index,
+        Callee::Functor(index) => {
+            return call_functor(actor, tables, telling, connection, index, args, depth);
+        }
+    };
+    let Some(method) = method_at(&actor.caller, tables, connection.receiver, index) else {
+        return Ok(());
+    };
+    let given = first(args, method.signature.kinds.len());
+    if is_queued(connection.mode) {
+        return call_later(&actor.caller, tables, connection, given);
+    }
+    if method.is_signal {
+        return emit(
+            actor,
+            tables,
+            telling,
+            connection.receiver,
+            index,
+            given,
+            depth + 1,
+        );
+    }
+    let slot = Slot {
+        object: connection.receiver,
+        sender: connection.sender,
+        args: given,
+        depth: depth + 1,
+    };
+    run_slot(actor, tables, telling, method, &slot)
+}
+
+/// Calls the functor of a connection whose turn is taken: later, by an event, or at once.
+#[cycle(agenda)]
+fn call_functor<F: Answering>(
+    actor: &Actor<F>,
+    tables: &mut Tables,
+    telling: &mut Telling,
+    connection: &Connection,
+    index: u32,
+    args: &[Value],
+    depth: u32,
+) -> Result<(), AllocError>
+    requires placed { IsPlaced tables.old actor.now.caller.place }
+    requires depth { depth < NESTED_SIGNALS }
+    requires callee { connection.now.callee ≡ callee.Functor index }
+    ensures does { OnOk result (DoesNext actor.now.caller (callee_called (settings_of actor.now.caller.setup.now) connection.now args.now depth
+        (doing_at actor.now.caller.place tables.old telling.old) (callee.Functor index)) tables.new telling.new) }
+    ensures keeps { Keeps actor.now.caller.place tables.old tables.new }
+{
+    let Some(functor) = functor_at(&actor.caller, index) else {
+        return Ok(());
+    };
+    let given = first(args, functor.params.len());
+    if is_queued(connection.mode) {
+        return call_later(&actor.caller, tables, connection, given);
+    }
+    let its_depth = depth + 1;
+    let slot = Slot {
+        object: connection.receiver,
+        sender: connection.sender,
+        args: given,
+        depth: its_depth,
+    };
+    run_functor(actor, tables, telling, index, functor, &slot)
+}
+
+/// Posts the call of what a connection calls, or counts it as lost where the queue is full.
+fn call_later(
+    caller: &Caller,
+    tables: &mut Tables,
+    connection: &Connection,
+    args: &[Value],
+) -> Result<(), AllocError>
+    requires { IsPlaced tables.old caller.now.place }
+    ensures ok { OnOk result (tables.new ≡ with_state tables.old caller.now.place (with_call (state_at tables.old caller.now.place)
+        (record { object = connection.now.receiver; callee = connection.now.callee; sender = connection.now.sender; args = args.now }))) }
+    ensures err { OnErr result (tables.new ≡ tables.old) }
+{
+    let call = QueuedCall {
+        object: connection.receiver,
+        callee: connection.callee,
+        sender: connection.sender,
+        args: Args::copied(caller.setup.alloc, args)?,
+    };
+    tables.post_call(caller.place, call)
+}
+
+/// Tells of a slot that is called, and does what its body says.
+#[cycle(agenda)]
+pub fn run_slot<F: Answering>(
+    actor: &Actor<F>,
+    tables: &mut Tables,
+    telling: &mut Telling,
+    method: &Method,
+    slot: &Slot,
+) -> Result<(), AllocError>
+    requires placed { IsPlaced tables.old actor.now.caller.place }
+    requires depth { slot.now.depth ≤ NESTED_SIGNALS }
+    requires sound { IsMethod method.now }
+    ensures does { OnOk result (Does actor.now.caller (model.acts (acts_of method.now.body.actions) slot.now.args.now slot.now.object slot.now.sender slot.now.depth)
+        (told (doing_at actor.now.caller.place tables.old telling.old) (call_line method.now slot.now.object slot.now.sender slot.now.args.now)) tables.new telling.new) }
+    ensures keeps { Keeps actor.now.caller.place tables.old tables.new }
+{
+    telling.call(actor.caller.setup.alloc, method, slot)?;
+    acts(actor, tables, telling, slot, method.body.actions.as_slice())
+}
+
+/// Tells of a functor that is called, and does what its closure answers. Its closure is called with no
+/// other arguments than those that may be given to it; with others it does what its body says, which is
+/// the same.
+#[cycle(agenda)]
+pub fn run_functor<F: Answering>(
+    actor: &Actor<F>,
+    tables: &mut Tables,
+    telling: &mut Telling,
+    index: u32,
+    functor: &Functor,
+    slot: &Slot,
+) -> Result<(), AllocError>
+    requires placed { IsPlaced tables.old actor.now.caller.place }
+    requires depth { slot.now.depth ≤ NESTED_SIGNALS }
+    requires found { Some functor.now ≡ functor_at (settings_of actor.now.caller.setup.now) index }
+    ensures does { OnOk result (Does actor.now.caller (model.acts (acts_of functor.now.body.actions) slot.now.args.now slot.now.object slot.now.sender slot.now.depth)
+        (told (doing_at actor.now.caller.place tables.old telling.old) (functor_line functor.now slot.now.object slot.now.sender slot.now.args.now)) tables.new telling.new) }
+    ensures keeps { Keeps actor.now.caller.place tables.old tables.new }
+{
+    telling.call_functor(actor.caller.setup.alloc, functor, slot)?;
+    let answer = answered(actor, index, functor, slot.args)?;
+    let Some(actions) = answer else {
+        return acts(
+            actor,
+            tables,
+            telling,
+            slot,
+            functor.body.actions.as_slice(),
+        );
+    };
+    let put_in = Slot {
+        object: slot.object,
+        sender: slot.sender,
+        args: &[],
+        depth: slot.depth,
+    };
+    acts(actor, tables, telling, &put_in, actions.as_slice())
+}
+
+/// Does actions, one after another.
+#[cycle(agenda)]
+fn acts<F: Answering>(
+    actor: &Actor<F>,
+    tables: &mut Tables,
+    telling: &mut Telling,
+    slot: &Slot,
+    actions: &[Action],
+) -> Result<(), AllocError>
+    requires placed { IsPlaced tables.old actor.now.caller.place }
+    requires depth { slot.now.depth ≤ NESTED_SIGNALS }
+    ensures does { OnOk result (Does actor.now.caller (model.acts (acts_of actions.now) slot.now.args.now slot.now.object slot.now.sender slot.now.depth)
+        (doing_at actor.now.caller.place tables.old telling.old) tables.new telling.new) }
+    ensures keeps { Keeps actor.now.caller.place tables.old tables.new }
+{
+    'actions: for action in actions {
+        act(actor, tables, telling, slot, action)?;
+    }
+    Ok(())
+}
+
+/// Does an action: its effect, or the branch that its test chooses.
+#[cycle(agenda)]
+fn act<F: Answering>(
+    actor: &Actor<F>,
+    tables: &mut Tables,
+    telling: &mut Telling,
+    slot: &Slot,
+    action: &Action,
+) -> Result<(), AllocError>
+    requires placed { IsPlaced tables.old actor.now.caller.place }
+    requires depth { slot.now.depth ≤ NESTED_SIGNALS }
+    ensures does { OnOk result (Does actor.now.caller (act_of slot.now action.now ∷ []) (doing_at actor.now.caller.place tables.old telling.old) tables.new telling.new) }
+    ensures keeps { Keeps actor.now.caller.place tables.old tables.new }
+{
+    match &action.step {
+        Step::Effect(plain) => effect(actor, tables, telling, slot, plain),
+        Step::When(test, held, failed) => match truth(&actor.caller, tables, slot, test) {
+            Ok(true) => acts(actor, tables, telling, slot, held),
+            Ok(false) => acts(actor, tables, telling, slot, failed),
+            Err(fault) => telling.warn_of(fault, slot.object),
+        },
+    }
+}
+
+/// Does what an action does that is no choice.
+#[cycle(agenda)]
+fn effect<F: Answering>(
+    actor: &Actor<F>,
+    tables: &mut Tables,
+    telling: &mut Telling,
+    slot: &Slot,
+    plain: &Effect,
+) -> Result<(), AllocError>
+    requires placed { IsPlaced tables.old actor.now.caller.place }
+    requires depth { slot.now.depth ≤ NESTED_SIGNALS }
+    ensures does { OnOk result (Does actor.now.caller (act_of slot.now (effect plain.now) ∷ []) (doing_at actor.now.caller.place tables.old telling.old) tables.new telling.new) }
+    ensures keeps { Keeps actor.now.caller.place tables.old tables.new }
+{
+    match plain {
+        Effect::Emit { of, signal, args } => {
+            match sent(&actor.caller, tables, slot, of, signal, args.as_slice()) {
+                Ok(sent) => emit(
+                    actor,
+                    tables,
+                    telling,
+                    sent.object,
+                    sent.signal,
+                    sent.args.as_slice(),
+                    slot.depth,
+                ),
+                Err(fault) => telling.warn_of(fault, slot.object),
+            }
+        }
+        Effect::Delete(target) => match deleted(&actor.caller, tables, slot, target) {
+            Ok(object) => delete(actor, tables, telling, object, slot.depth),
+            Err(fault) => telling.warn_of(fault, slot.object),
+        },
+        Effect::Set {
+            of,
+            property,
+            value,
+        } => match set(&actor.caller, tables, slot, of, property, value) {
+            Ok(told) => notify(actor, tables, telling, told, slot.depth),
+            Err(fault) => telling.warn_of(fault, slot.object),
+        },
+        _ => match change(&actor.caller, tables, slot, plain) {
+            Ok(()) => Ok(()),
+            Err(fault) => telling.warn_of(fault, slot.object),
+        },
+    }
+}
+
+/// Whether a call is made later, by an event.
+pub fn is_queued(mode: ConnectionType) -> bool
+    ensures { result ≡ is_queued mode }
+{
+    match mode {
+        ConnectionType::Auto | ConnectionType::Direct => false,
+        ConnectionType::Queued => true,
+    }
+}
+
+/// The first values, as many as are wanted.
+fn first(values: &[Value], wanted: usize) -> &[Value]
+    ensures { result.now ≡ take wanted values.now }
+{
+    if wanted < values.len() {
+        &values[..wanted]
+    } else {
+        values
+    }
+}

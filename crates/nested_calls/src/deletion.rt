@@ -1,0 +1,86 @@
+//! Deleting an object with all below it, by nested calls as those of the agenda: with the same contract,
+//! and the same measure. An object is marked as dying before anything else, so that none is deleted twice;
+//! then it says so by `destroyed()`, whose slots may do anything.
+ghost use Rattle.std.specs.Prelude.{◌∷◌, [], ◌≤◌, OnOk};
+ghost use Rattle.thread_model.specs.declared.call.TheConstants.{NESTED_SIGNALS};
+ghost use Rattle.thread_model.specs.Items.{Cut, Delete, Kin};
+ghost use Rattle.session_tables.specs.Tables.{IsPlaced};
+ghost use Rattle.session_effects.specs.Actions.{Keeps};
+ghost use Rattle.nested_calls.specs.Agenda.{Does};
+ghost use Rattle.nested_calls.specs.Telling.{doing_at};
+
+use crate::actor::Actor;
+use crate::agenda::emit;
+use crate::answering::Answering;
+use crate::telling::Telling;
+use session_tables::Tables;
+use std::alloc::AllocError;
+use thread_model::DESTROYED;
+
+/// Deletes an object, unless it is gone or dying.
+#[cycle(agenda)]
+pub fn delete<F: Answering>(
+    actor: &Actor<F>,
+    tables: &mut Tables,
+    telling: &mut Telling,
+    target: u32,
+    depth: u32,
+) -> Result<(), AllocError>
+    requires placed { IsPlaced tables.old actor.now.caller.place }
+    requires depth { depth ≤ NESTED_SIGNALS }
+    ensures does { OnOk result (Does actor.now.caller (Delete target depth ∷ []) (doing_at actor.now.caller.place tables.old telling.old) tables.new telling.new) }
+    ensures keeps { Keeps actor.now.caller.place tables.old tables.new }
+{
+    if !tables.lives(actor.caller.place, target) {
+        return Ok(());
+    }
+    tables.mark_dying(actor.caller.place, target);
+    emit(actor, tables, telling, target, DESTROYED, &[], depth)?;
+    cut(actor, tables, telling, target, depth)?;
+    tables.remove(actor.caller.place, target);
+    Ok(())
+}
+
+/// Breaks the connections of a dying object, drops its events, and deletes its children.
+#[cycle(agenda)]
+fn cut<F: Answering>(
+    actor: &Actor<F>,
+    tables: &mut Tables,
+    telling: &mut Telling,
+    target: u32,
+    depth: u32,
+) -> Result<(), AllocError>
+    requires placed { IsPlaced tables.old actor.now.caller.place }
+    requires depth { depth ≤ NESTED_SIGNALS }
+    ensures does { OnOk result (Does actor.now.caller (Cut target depth ∷ []) (doing_at actor.now.caller.place tables.old telling.old) tables.new telling.new) }
+    ensures keeps { Keeps actor.now.caller.place tables.old tables.new }
+{
+    let children = tables.children(actor.caller.place, Some(target))?;
+    tables.untie(actor.caller.place, target);
+    tables.forget(actor.caller.place, target);
+    'children: for child in children.as_slice() {
+        kin(actor, tables, telling, target, *child, depth)?;
+    }
+    Ok(())
+}
+
+/// Deletes a child, unless it has gone, is dying or has another parent by now.
+#[cycle(agenda)]
+fn kin<F: Answering>(
+    actor: &Actor<F>,
+    tables: &mut Tables,
+    telling: &mut Telling,
+    parent: u32,
+    child: u32,
+    depth: u32,
+) -> Result<(), AllocError>
+    requires placed { IsPlaced tables.old actor.now.caller.place }
+    requires depth { depth ≤ NESTED_SIGNALS }
+    ensures does { OnOk result (Does actor.now.caller (Kin parent child depth ∷ []) (doing_at actor.now.caller.place tables.old telling.old) tables.new telling.new) }
+    ensures keeps { Keeps actor.now.caller.place tables.old tables.new }
+{
+    if !tables.lives_below(actor.caller.place, parent, child) {
+        return Ok(());
+    }
+    delete(actor, tables, telling, child, depth)
+}

@@ -1,0 +1,15 @@
+//! The calls that a command causes, which call one another in turn: signals that are sent, slots and functors
+//! that run, actions that are done, objects that are deleted.
+#![tactic(auto)]
+
+mod actor;
+mod agenda;
+mod answering;
+mod deletion;
+mod telling;
+
+pub use actor::Actor;
+pub use agenda::{emit, is_queued, notify, run_functor, run_slot};
+pub use answering::Answering;
+pub use deletion::delete;
+pub use telling::Telling;

@@ -1,0 +1,114 @@
+//! What a command has told so far, and the turns that it has left.
+ghost use Rattle.std.specs.Prelude.{◌≡◌, OnOk};
+ghost use Rattle.thread_model.specs.declared.line.Line.TheVariants.{Warning};
+ghost use Rattle.thread_model.specs.Agenda.{call_line, functor_line};
+ghost use Rattle.class_table.specs.Sound.{IsMethod};
+ghost use Rattle.nested_calls.specs.Telling.{Warns, fresh_telling, spent, with_line};
+
+use class_table::Method;
+use plain_types::Items;
+use refusals::{Code, Fault};
+use session_effects::{Setup, Slot};
+use std::alloc::{AllocError, Global};
+use stored_slots::Functor;
+use thread_model::{Call, Line};
+use variant_value::Args;
+
+/// What a command has told so far, and the turns that it has left for the calls that it causes.
+#[derive(Drop)]
+pub struct Telling {
+    pub lines: Items<Line>,
+    pub turns: u32,
+    /// It was told that no turn is left.
+    pub spent: bool,
+    /// How many events it took.
+    pub taken: u32,
+}
+
+impl Telling {
+    /// Of a command that begins.
+    pub fn new(setup: &Setup) -> Telling
+        ensures { result ≡ fresh_telling setup.now.turns }
+    {
+        Telling {
+            lines: Items::new(setup.alloc),
+            turns: setup.turns,
+            spent: false,
+            taken: 0,
+        }
+    }
+
+    /// Tells a line.
+    pub fn tell(&mut self, line: Line) -> Result<(), AllocError>
+        ensures { OnOk result (self.new ≡ with_line self.old line) }
+    {
+        self.lines.push(line)
+    }
+
+    /// Warns of a code, and names an object with it.
+    pub(crate) fn warn(&mut self, code: Code, object: Option<u32>) -> Result<(), AllocError>
+        ensures { OnOk result (self.new ≡ with_line self.old (Warning code object)) }
+    {
+        self.tell(Line::Warning { code, object })
+    }
+
+    /// Warns that a turn is wanted and none is left, once in a command.
+    pub fn use_up(&mut self) -> Result<(), AllocError>
+        ensures { OnOk result (self.new ≡ spent self.old) }
+    {
+        if self.spent {
+            return Ok(());
+        }
+        self.warn(Code::TurnsUsedUp, None)?;
+        self.spent = true;
+        Ok(())
+    }
+
+    /// Warns of what an action of the slot of `object` was refused for. Where memory was wanted there is
+    /// nothing to warn of.
+    pub(crate) fn warn_of(&mut self, fault: Fault, object: u32) -> Result<(), AllocError>
+        ensures { OnOk result (Warns fault object self.old self.new) }
+    {
+        match fault {
+            Fault::Refused(code) => self.warn(code, Some(object)),
+            Fault::Memory => Err(AllocError),
+        }
+    }
+
+    /// Tells of a slot that is called.
+    pub(crate) fn call(
+        &mut self,
+        alloc: Global,
+        method: &Method,
+        slot: &Slot,
+    ) -> Result<(), AllocError>
+        requires { IsMethod method.now }
+        ensures { OnOk result (self.new ≡ with_line self.old (call_line method.now slot.now.object slot.now.sender slot.now.args.now)) }
+    {
+        let call = Call {
+            method: method.text.copy(alloc)?,
+            object: slot.object,
+            sender: slot.sender,
+            args: Args::copied(alloc, slot.args)?,
+        };
+        self.tell(Line::Call(call))
+    }
+
+    /// Tells of a functor that is called.
+    pub(crate) fn call_functor(
+        &mut self,
+        alloc: Global,
+        functor: &Functor,
+        slot: &Slot,
+    ) -> Result<(), AllocError>
+        ensures { OnOk result (self.new ≡ with_line self.old (functor_line functor.now slot.now.object slot.now.sender slot.now.args.now)) }
+    {
+        let call = Call {
+            method: functor.name.copy(alloc)?,
+            object: slot.object,
+            sender: slot.sender,
+            args: Args::copied(alloc, slot.args)?,
+        };
+        self.tell(Line::Call(call))
+    }
+}

@@ -1,0 +1,31 @@
+-- The functor that keeps a number between two bounds.
+use Rattle.std.specs.Prelude.{ℤ, List, [], ◌∷◌, codes}
+use Rattle.variant_value.specs.declared.value.Value.TheVariants as v
+use Rattle.signature_core.specs.declared.kind.Kind.TheVariants.{Int}
+use Rattle.stored_slots.specs.declared.functor.Functor.{Functor}
+use Rattle.term_core.specs.declared.action.Effect.TheVariants.{Set}
+use Rattle.term_core.specs.declared.body.Body.{Body}
+use Rattle.term_core.specs.declared.operator.Operator.TheVariants.{Less}
+use Rattle.term_core.specs.declared.target.Target.TheVariants.{Itself}
+use Rattle.term_core.specs.Act.{Act, Acts, effect, when, nothing, more}
+use Rattle.term_core.specs.Term.{Term, const, arg, binary}
+
+-- its context object's `x` is set to a value
+abbrev pub sets_x : Term → Acts
+sets_x value = more (effect (Set Itself (codes "x") value)) nothing
+
+-- `x` is set to a number, or to the most where it is above that
+abbrev pub at_most : ℤ → Term → Act
+at_most most number = when (binary Less (const (v.Int most)) number) (sets_x (const (v.Int most))) (sets_x number)
+
+-- the same, but to the least where it is below that
+abbrev pub clamped : ℤ → ℤ → Term → List Act
+clamped least most number = when (binary Less number (const (v.Int least))) (sets_x (const (v.Int least))) (more (at_most most number) nothing) ∷ []
+
+-- the body of `clamp`: so it is done with its first argument
+abbrev pub clamp_body : ℤ → ℤ → Body
+clamp_body least most = record { params = 1; actions = clamped least most (arg 0) }
+
+-- the functor itself
+abbrev pub clamp : ℤ → ℤ → Functor
+clamp least most = record { name = codes "clamp"; params = Int ∷ []; body = clamp_body least most }

@@ -1,0 +1,108 @@
+//! The functor `clamp`, which sets its context object's `x` to its argument, kept between two bounds.
+ghost use Rattle.std.specs.Prelude.{◌≡◌, ◌∷◌, [], IfOk};
+ghost use Rattle.signature_core.specs.declared.kind.Kind.TheVariants.{Int};
+ghost use Rattle.stored_slots.specs.Closures.{GivesBody, MayBeCalled};
+ghost use Rattle.stored_slots.specs.Table.{functors_of};
+ghost use Rattle.variant_value.specs.declared.value.Value.TheVariants as v;
+ghost use Rattle.term_core.specs.Act.{acts_of, when};
+ghost use Rattle.term_core.specs.Term.{const, binary};
+ghost use Rattle.term_core.specs.declared.operator.Operator.TheVariants.{Less};
+ghost use Rattle.program_start.specs.Clamp.{at_most, clamp, clamped, clamp_body, sets_x};
+
+use plain_types::{Items, Text};
+use refusals::Fault;
+use signature_core::Kind;
+use std::alloc::{AllocError, Global};
+use stored_slots::{Closure, Functors};
+use term_core::{Action, Body, Effect, Expr, Node, Operator, Step, Target};
+use variant_value::Value;
+
+fn number(number: i32) -> Expr
+    ensures { result ≡ const (v.Int number) }
+{
+    Expr {
+        node: Node::Const(Value::Int(number)),
+    }
+}
+
+fn less(alloc: Global, a: Expr, b: Expr) -> Result<Expr, AllocError>
+    ensures { IfOk result (λ expr. expr ≡ binary Less a b) }
+{
+    Ok(Expr {
+        node: Node::Binary(Operator::Less, Box::new(alloc, a)?, Box::new(alloc, b)?),
+    })
+}
+
+fn set_x(alloc: Global, value: Expr) -> Result<Vec<Action>, AllocError>
+    ensures { IfOk result (λ actions. acts_of actions.items ≡ sets_x value) }
+{
+    let effect = Effect::Set {
+        of: Target::Itself,
+        property: Text::from_str(alloc, "x")?,
+        value,
+    };
+    let action = Action {
+        step: Step::Effect(effect),
+    };
+    Ok(vec![in alloc; action]?)
+}
+
+/// One action that is done in one of two ways.
+fn when(test: Expr, held: Vec<Action>, failed: Vec<Action>) -> Action
+    ensures { result ≡ when test (acts_of held.items) (acts_of failed.items) }
+{
+    Action {
+        step: Step::When(test, held, failed),
+    }
+}
+
+/// Sets `x` to a number, or to the greatest that it may be.
+fn at_most(alloc: Global, most: i32, given: &Expr) -> Result<Action, AllocError>
+    ensures { IfOk result (λ action. action ≡ at_most most given.now) }
+{
+    let is_above = less(alloc, number(most), given.copy(alloc)?)?;
+    let above = set_x(alloc, number(most))?;
+    let between = set_x(alloc, given.copy(alloc)?)?;
+    Ok(when(is_above, above, between))
+}
+
+/// Sets `x` to a number, kept between the bounds.
+pub fn clamped(
+    alloc: Global,
+    least: i32,
+    most: i32,
+    given: &Expr,
+) -> Result<Vec<Action>, AllocError>
+    ensures { IfOk result (λ actions. actions.items ≡ clamped least most given.now) }
+{
+    let is_below = less(alloc, given.copy(alloc)?, number(least))?;
+    let below = set_x(alloc, number(least))?;
+    let not_below = vec![in alloc; at_most(alloc, most, given)?]?;
+    Ok(vec![in alloc; when(is_below, below, not_below)]?)
+}
+
+/// What `clamp` does with its argument.
+pub fn clamp_body(alloc: Global, least: i32, most: i32) -> Result<Body, AllocError>
+    ensures { IfOk result (λ body. body ≡ clamp_body least most) }
+{
+    let argument = Expr { node: Node::Arg(0) };
+    Ok(Body {
+        params: 1,
+        actions: Items::from_vec(clamped(alloc, least, most, &argument)?),
+    })
+}
+
+/// A table with `clamp` alone, whose closure is handed in.
+pub fn with_clamp(alloc: Global, least: i32, most: i32, run: Closure) -> Result<Functors, Fault>
+    requires callable { MayBeCalled (Closure.pre run) (Int ∷ []) }
+    requires gives_body { GivesBody (Closure.post run) (Int ∷ []) (clamp_body least most) }
+    ensures { IfOk result (λ functors. functors_of functors ≡ clamp least most ∷ []) }
+{
+    let mut params = Items::new(alloc);
+    params.push(Kind::Int)?;
+    let name = Text::from_str(alloc, "clamp")?;
+    let body = clamp_body(alloc, least, most)?;
+    let mut functors = Functors::new(alloc);
+    functors.add(name, params, body, run)?;
+    Ok(functors)
+}

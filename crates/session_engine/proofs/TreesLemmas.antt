@@ -1,0 +1,34 @@
+-- What a deletion comes to that a command asks for.
+use Rattle.std.proofs.Common.{◌≡◌, ℕ, true, [], ◌∷◌, None, Ok, sym, ap, ◌∙◌}
+use Rattle.thread_model.specs.declared.line.Answer.TheVariants as a
+use Rattle.thread_model.specs.declared.line.Line.TheVariants as line
+use Rattle.thread_model.specs.Asked as asked
+use Rattle.thread_model.specs.Doing.{begun, told}
+use Rattle.thread_model.specs.Effects.{ended}
+use Rattle.thread_model.specs.Items.{Delete, puts}
+use Rattle.thread_model.specs.Run.{run}
+use Rattle.thread_model.proofs.ThreadLemmas.{replies_last}
+use Rattle.thread_model.proofs.TreeLemmas.{performs_delete}
+use Rattle.session_tables.specs.declared.tables.Tables.{Tables}
+use Rattle.session_tables.specs.Tables.{state_at}
+use Rattle.session_effects.specs.declared.caller.Caller.{Caller}
+use Rattle.session_effects.specs.Actions.{Keeps}
+use Rattle.session_effects.specs.Setup.{settings_of}
+use Rattle.nested_calls.specs.declared.telling.Telling.{Telling}
+use Rattle.session_engine.specs.Commands.{Performs, reply_after}
+use Rattle.nested_calls.specs.Telling.{doing_at, fresh_telling}
+use Rattle.session_engine.proofs.CommandsLemmas.{its_refusal, replied_last}
+
+-- so the command is performed
+pub performs_deleted : (caller : Caller) (target : ℕ) (old new : Tables) (before after : Telling) → its_refusal caller (asked.Delete target) old new ≡ None → before ≡ fresh_telling caller.setup.now.turns
+    → run (settings_of caller.setup.now) (Delete target 0 ∷ []) (doing_at caller.place old before) ≡ doing_at caller.place new after → Keeps caller.place old new
+    → Performs caller (asked.Delete target) old new (reply_after after.lines) (Ok (a.Truth true))
+performs_deleted caller target old new before after passed fresh does keeps =
+    let settings = settings_of caller.setup.now in
+    let state = state_at old caller.place in
+    replied_last caller (asked.Delete target) old new after (a.Truth true) passed
+    (performs_delete settings caller.name.now state target
+    ∙ replies_last settings (puts (Delete target 0 ∷ []) (begun settings state)) (a.Truth true)
+    ∙ ap (λ doing. ended (told (run settings (Delete target 0 ∷ []) doing) (line.Reply (a.Truth true)))) (sym (ap (doing_at caller.place old) fresh))
+    ∙ ap (λ doing. ended (told doing (line.Reply (a.Truth true)))) does)
+    keeps

@@ -1,9 +1,0 @@
-use Rattle.std.proofs.Common.{ap, position, ◌∙◌}
-use Rattle.std.specs.Prelude.{bytes_eq}
-use Rattle.session_engine.proofs.StepLemmas.{step_told}
-use Rattle.session_engine.proofs.engine.Engine.told.Goals as goal
-
-pub returns-in-Err-Refused-clause-step : goal.returns-in-Err-Refused-clause-step
-returns-in-Err-Refused-clause-step c = λ name there.
-    step_told c.args.self.now c.command.new.self c.tell_refusal.new.self name _ c.in-Err-Refused.code c.tell_refusal.result (rw c.in-Err-Refused.field-0-is at (c.in-Err-Refused.ensures.step name there)) c.tell_refusal.ensures.line c.tell_refusal.ensures.ok
-    (c.tell_refusal.ensures.err name (ap (λ names. position (bytes_eq name) names) c.command.ensures.names ∙ there))

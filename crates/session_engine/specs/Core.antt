@@ -1,0 +1,98 @@
+-- What contracts see of the core of an engine.
+use Rattle.std.specs.Prelude.{◌≡◌, ℕ, Bool, true, List, ◌∷◌, ◌++◌, [], Option, Some, IsFalse, bytes_eq, length, position}
+use Rattle.std.specs.Option.{option_map_or}
+use Rattle.class_table.specs.declared.class.Class.{Class}
+use Rattle.thread_model.specs.State.{IsDeclared, IsSound, State}
+use Rattle.thread_model.specs.Thread.{Settings}
+use Rattle.session_tables.specs.declared.tables.Tables.{Tables}
+use Rattle.session_tables.specs.Session.{Session, fresh, gone}
+use Rattle.session_tables.specs.Tables as tables
+use Rattle.session_tables.specs.Tables.{AreEven, AreLaid, session_at, with_session}
+use Rattle.session_effects.specs.declared.setup.Setup.{Setup}
+use Rattle.session_engine.specs.Sessions.{Sessions}
+use Rattle.session_effects.specs.Setup.{settings_of}
+
+pub record Contents : Type 0 where
+  -- what is fixed for the whole life of the engine
+  pub settings : Settings
+  -- the name of each place
+  pub names : List (List ℕ)
+  -- the session of each place
+  pub tables : Tables
+  -- has memory ever been wanted and not found in a call of the engine
+  pub memory_refused : Bool
+
+-- made of these
+abbrev pub contents : Setup → List (List ℕ) → Tables → Bool → Contents
+contents setup names tables memory_refused = record { settings = settings_of setup; names = names; tables = tables; memory_refused = memory_refused }
+
+abbrev pub settings : Contents → Settings
+settings engine = engine.settings
+
+abbrev pub was_refused : Contents → Bool
+was_refused engine = engine.memory_refused
+
+-- the names of the sessions, by place
+abbrev pub names : Contents → List (List ℕ)
+names engine = engine.names
+
+abbrev pub place : Contents → List ℕ → Option ℕ
+place engine name = position (bytes_eq name) engine.names
+
+-- the session of each name, fresh where it has no place
+abbrev pub sessions : Contents → List ℕ → Session
+sessions engine name = option_map_or (session_at engine.tables) (place engine name) fresh
+
+abbrev pub states : Contents → List ℕ → State
+states engine name = (sessions engine name).state
+
+abbrev pub failed : Contents → List ℕ → Bool
+failed engine name = (sessions engine name).failed
+
+-- all that is seen by name
+abbrev pub seen : Contents → Sessions
+seen engine = record { settings = settings engine; session = sessions engine; memory_refused = was_refused engine }
+
+-- some session has this place
+abbrev pub IsPlace : Contents → ℕ → Type 0
+IsPlace engine at = (name : List ℕ) × (place engine name ≡ Some at)
+
+-- each name has its place still, this place has a name, and what is fixed has stayed
+pub record KeepsPlaces (old new : Contents) (at : ℕ) : Type 0 where
+  pub names : names new ≡ names old
+  pub settings : settings new ≡ settings old
+  pub there : IsPlace new at
+
+-- a fact of the session at a place, by its name
+abbrev pub OfSession : Contents → ℕ → (List ℕ → Type 0) → Type 0
+OfSession engine at P = (name : List ℕ) → place engine name ≡ Some at → P name
+
+-- with one more session
+abbrev pub opened : Contents → List ℕ → Contents
+opened engine name = record { settings = engine.settings; names = engine.names ++ name ∷ []; tables = tables.opened engine.tables; memory_refused = engine.memory_refused }
+
+-- with another session at a place
+abbrev pub with_session_at : Contents → ℕ → Session → Contents
+with_session_at engine at session = record { settings = engine.settings; names = engine.names; tables = with_session engine.tables at session; memory_refused = engine.memory_refused }
+
+-- after memory was wanted and not found
+abbrev pub refused_growth : Contents → Contents
+refused_growth engine = record { settings = engine.settings; names = engine.names; tables = engine.tables; memory_refused = true }
+
+-- after memory was wanted and not found for the session at a place, which has failed for it
+abbrev pub given_up : Contents → ℕ → Contents
+given_up engine at = refused_growth (with_session_at engine at gone)
+
+-- what holds of every session: it has failed only where memory was refused, its state is sound, and each
+-- object has the properties that its class declares
+pub record IsKept (classes : List Class) (memory_refused : Bool) (session : Session) : Type 0 where
+  pub well : IsFalse memory_refused → IsFalse session.failed
+  pub sound : IsSound session.state
+  pub declared : IsDeclared classes session.state
+
+-- each name has its place in every table, the tables know the classes, and every session is as it must be
+pub record IsWhole (engine : Contents) : Type 0 where
+  pub even : AreEven engine.tables
+  pub paired : length engine.names ≡ length engine.tables.failed.places
+  pub laid : AreLaid engine.settings.classes engine.tables
+  pub kept : (at : ℕ) → IsKept engine.settings.classes engine.memory_refused (session_at engine.tables at)

@@ -1,0 +1,25 @@
+-- A list whose elements are seen by a part of each.
+use Rattle.std.proofs.Common.{◌≡◌, ℕ, zero, suc, ◌+◌, List, [], ◌∷◌, Some, Bool, not, cond, ap, refl, sym, subst, map, get_or}
+use Rattle.std.specs.Prelude.{IsSomeAnd, IfOk, Result, Ok, Err}
+use Rattle.std.specs.List.{position, position_or_len, slice_get}
+use Rattle.std.proofs.lemmas.List.{length-map}
+
+module _ {A B : Type 0} (part : A → B) where
+  -- where a test of the parts passes first
+  pub position_or_len-map : (p : B → Bool) (xs : List A) → position_or_len p (map part xs) ≡ position_or_len (λ x. p (part x)) xs
+  position_or_len-map p [] = refl
+  position_or_len-map p (x ∷ xs) = ap (λ n. cond (not (p (part x))) (1 + n) 0) (position_or_len-map p xs)
+
+  pub position-map : (p : B → Bool) (xs : List A) → position (λ x. p (part x)) xs ≡ position p (map part xs)
+  position-map p xs = rw (position_or_len-map p xs, length-map xs part) refl
+
+  -- what is known of the part at an index, of the element that is read there
+  pub part_at : (P : B → Type 0) (xs : List A) (i : ℕ) (x : A) → IsSomeAnd (slice_get (map part xs) i) P → x ≡ get_or xs i x → P (part x) × (slice_get (map part xs) i ≡ Some (part x))
+  part_at P [] i x known is = absurd known
+  part_at P (y ∷ ys) zero x known is = (subst (λ z. P (part z)) (sym is) known, ap (λ z. Some (part z)) (sym is))
+  part_at P (y ∷ ys) (suc i) x known is = part_at P ys i x known is
+
+-- what follows of an answer that is there
+pub if_ok : {T E : Type 0} (P Q : T → Type 0) (r : Result T E) → ((x : T) → P x → Q x) → IfOk r P → IfOk r Q
+if_ok P Q (Ok x) follows holds = follows x holds
+if_ok P Q (Err e) follows holds = holds

@@ -1,0 +1,37 @@
+-- What contracts see of a server's functors: their names, parameters and bodies, in the order in which they
+-- were handed in.
+use Rattle.std.specs.Prelude.{ℕ, List, Option, Some, None, IsSomeAnd, bytes_eq, if◌then◌else◌, is_some, length, nat_le, option_map, position, slice_get}
+use Rattle.std.specs.List.{AllZip}
+use Rattle.refusals.specs.declared.code.Code.{Code}
+use Rattle.refusals.specs.declared.code.Code.TheVariants.{Limit, NameTaken}
+use Rattle.signature_core.specs.declared.kind.Kind.{Kind}
+use Rattle.variant_value.specs.declared.value.Value.{Value}
+use Rattle.variant_value.specs.Values.{IsOfKind}
+use Rattle.term_core.specs.Act.{Act}
+use Rattle.term_evaluation.specs.Unfolding.{unfolded_body}
+use Rattle.stored_slots.specs.declared.functor.Functor.{Functor}
+use Rattle.stored_slots.specs.declared.limit.TheConstants.{FUNCTORS}
+
+-- these values may be given for parameters of these kinds: as many, each of its kind, and no text too long
+abbrev pub AreArguments : List Kind → List Value → Type 0
+AreArguments kinds values = AllZip IsOfKind kinds values
+
+-- the index of the functor of this name
+abbrev pub index_of : List ℕ → List Functor → Option ℕ
+index_of name functors = position (λ functor. bytes_eq name functor.name) functors
+
+-- why a functor of this name is refused, in the order in which refusals are looked for
+abbrev pub add_refusal : List Functor → List ℕ → Option Code
+add_refusal functors name =
+    if is_some (index_of name functors) then Some NameTaken
+    else (if nat_le FUNCTORS (length functors) then Some Limit
+    else None)
+
+-- there is a functor at this index, and these values may be given to it
+abbrev pub IsCall : List Functor → ℕ → List Value → Type 0
+IsCall functors index args = IsSomeAnd (slice_get functors index) (λ functor. AreArguments functor.params args)
+
+-- what the functor at this index does with these values: its body's actions, with each argument replaced by
+-- the value of its place
+abbrev pub actions_of : List Functor → ℕ → List Value → Option (List Act)
+actions_of functors index args = option_map (λ functor. unfolded_body args functor.body) (slice_get functors index)

@@ -1,0 +1,3 @@
+pub mod Functors
+pub mod Closures
+pub mod Table

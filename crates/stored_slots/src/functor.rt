@@ -1,0 +1,42 @@
+//! What is known of a functor besides its closure.
+ghost use Rattle.std.specs.Prelude.{◌≡◌, IfOk};
+
+use plain_types::{Items, Text};
+use signature_core::Kind;
+use std::alloc::{AllocError, Global};
+use term_core::Body;
+use term_evaluation::unfold;
+
+/// A functor as it is shown: plain data, by which two functors can be compared.
+#[derive(Drop)]
+pub struct Functor {
+    /// What a connection names it by, and its calls are printed with.
+    pub name: Text,
+    /// The kinds of its parameters. A signal may be connected to it whose first parameters are of these
+    /// kinds.
+    pub params: Items<Kind>,
+    /// What it does, as a slot's body says what a slot does; `self` is its context object.
+    pub body: Body,
+}
+
+impl Functor {
+    pub fn copy(&self, alloc: Global) -> Result<Functor, AllocError>
+        ensures { IfOk result (λ copy. copy ≡ self.now) }
+    {
+        Ok(Functor {
+            name: self.name.copy(alloc)?,
+            params: Items::from_vec(Vec::from_slice(alloc, self.params.as_slice())?),
+            body: copied_body(alloc, &self.body)?,
+        })
+    }
+}
+
+/// A body with no arguments put in, which is the body itself.
+fn copied_body(alloc: Global, body: &Body) -> Result<Body, AllocError>
+    ensures { IfOk result (λ copy. copy ≡ body.now) }
+{
+    Ok(Body {
+        params: body.params,
+        actions: unfold(alloc, body, &[])?,
+    })
+}

@@ -1,0 +1,124 @@
+//! The functors of a server, and what is looked up among them.
+ghost use Rattle.std.specs.Prelude.{◌≡◌, ◌<◌, ◌≤◌, IfSome, bytes_eq, length, position, vec_len};
+ghost use Rattle.stored_slots.specs.declared.limit.TheConstants.{FUNCTORS};
+
+use crate::functor::Functor;
+use crate::limit::FUNCTORS;
+use crate::stored::{Closure, StoredFunctor};
+use plain_types::{Items, Text};
+use refusals::{Code, Fault};
+use signature_core::Kind;
+use std::alloc::{AllocError, Global};
+use term_core::{Action, Body};
+use variant_value::Value;
+
+/// The functors that were handed in, each by its index: the first has index 0. None is ever taken out.
+#[derive(Drop)]
+pub struct Functors {
+    alloc: Global,
+    stored: Vec<StoredFunctor>,
+    ghost few: { vec_len stored ≤ FUNCTORS },
+}
+
+/// Where the functor of this name stands.
+fn number_of(stored: &[StoredFunctor], name: &str) -> Option<usize>
+    ensures number { result ≡ position (λ one. bytes_eq name.now one.functor.name) stored.now }
+    ensures within { IfSome result (λ number. number < length stored.now) }
+{
+    stored.iter().position(
+        |one|
+            ensures { result ≡ bytes_eq name.entry.now one.now.functor.name }
+        { one.is_named(name) },
+    )
+}
+
+impl Functors {
+    ghost use Rattle.std.specs.Prelude.{◌++◌, ◌∷◌, [], Some, IfOk, OnOk, OnErr, slice_get};
+    ghost use Rattle.std.specs.Option.{option_copied};
+    ghost use Rattle.refusals.specs.Answers.{RefusedBy};
+    ghost use Rattle.stored_slots.specs.Closures.{MayBeCalled, GivesBody};
+    ghost use Rattle.stored_slots.specs.Functors.{IsCall, actions_of, add_refusal, index_of};
+    ghost use Rattle.stored_slots.specs.Table.{functors_of};
+
+    /// A table without functors, which takes no memory yet.
+    pub fn new(alloc: Global) -> Functors
+        ensures { functors_of result ≡ [] }
+    {
+        Functors {
+            alloc,
+            stored: Vec::new(alloc),
+        }
+    }
+
+    /// Puts a functor behind the others. A name that another one has is `NameTaken`, and one more than
+    /// [`FUNCTORS`] is `Limit`.
+    ///
+    /// Who hands the closure in owes two facts of it, proved where it is made: with arguments that are
+    /// as many as the parameters and of their kinds it may be called, whatever allocator it is given,
+    /// and an `Ok` of it is the body with those arguments put in. So a closure whose answer depends on
+    /// anything else, as on how often it was called, cannot be handed in.
+    pub fn add(
+        &mut self,
+        name: Text,
+        params: Items<Kind>,
+        body: Body,
+        run: Closure,
+    ) -> Result<(), Fault>
+        requires callable { MayBeCalled (Closure.pre run) params }
+        requires gives_body { GivesBody (Closure.post run) params body }
+        ensures refusal { RefusedBy (add_refusal (functors_of self.old) name) result }
+        ensures ok { OnOk result (functors_of self.new
+            ≡ functors_of self.old ++ record { name = name; params = params; body = body } ∷ []) }
+        ensures err { OnErr result (functors_of self.new ≡ functors_of self.old) }
+    {
+        if self.find(name.as_str()).is_some() {
+            return Err(Fault::Refused(Code::NameTaken));
+        }
+        if self.stored.len() >= FUNCTORS {
+            return Err(Fault::Refused(Code::Limit));
+        }
+        let functor = Functor { name, params, body };
+        self.stored.push(StoredFunctor { functor, run })?;
+        Ok(())
+    }
+
+    /// The index of the functor of this name.
+    pub fn find(&self, name: &str) -> Option<u32>
+        ensures { result ≡ index_of name.now (functors_of self.now) }
+    {
+        let index = number_of(&self.stored, name)?;
+        Some(index as u32)
+    }
+
+    /// What the functor at this index answers to these arguments: the actions of its body with the
+    /// arguments put in. That is known of its closure by what `add` was promised, and by nothing else.
+    /// An error is want of memory, the closure's own among it.
+    pub fn call(&self, index: u32, args: &[Value]) -> Result<Vec<Action>, AllocError>
+        requires { IsCall (functors_of self.now) index args.now }
+        ensures { IfOk result (λ actions.
+            Some actions.items ≡ actions_of (functors_of self.now) index args.now) }
+    {
+        let stored = &self.stored[index as usize];
+        stored.answer(self.alloc, args)
+    }
+
+    /// The functors without their closures, once more.
+    pub fn rows(&self) -> Result<Items<Functor>, AllocError>
+        ensures rows { IfOk result (λ rows. rows ≡ functors_of self.now) }
+        ensures few { IfOk result (λ rows. length rows ≤ FUNCTORS) }
+    {
+        let mut rows = Items::new(self.alloc);
+        for one in &self.stored {
+            rows.push(one.functor.copy(self.alloc)?)?;
+        }
+        Ok(rows)
+    }
+
+    /// The functor at this index.
+    pub fn row(&self, index: u32) -> Option<&Functor>
+        ensures { option_copied result ≡ slice_get (functors_of self.now) index }
+    {
+        let stored = self.stored.get(index as usize)?;
+        Some(&stored.functor)
+    }
+}
