@@ -18,7 +18,7 @@ use Rattle.term_core.specs.Arguments.{TakesAtMost, EffectTakesAtMost, ActTakesAt
 use Rattle.term_core.specs.Bodies as bodies
 use Rattle.term_core.specs.Effects.{signature_in, unless_null, optional, flag_in, mode_in, terms_in, set_in, emit_in, connect_in, disconnect_in, delete_in, delete_later_in, block_in, set_parent_in, effect_in}
 use Rattle.term_core.specs.Forms as forms
-use Rattle.term_core.specs.Json.{Read, ◌>>=◌, formed, provided, at_key, name_in, natural_in, constant_in, target_in}
+use Rattle.term_core.specs.Json.{Read, ◌>>=◌, formed, provided, where_holds, at_key, name_in, natural_in, constant_in, target_in}
 use Rattle.term_core.specs.Term.{Term, const, arg}
 
 -- what holds of whatever is read in the end
@@ -42,6 +42,10 @@ wherever P f (Some x) d h k = h x
 if_provided : {A : Type 0} (P : A → Type 0) (b : Bool) (x : A) → (b ≡ true → P x) → IfOk (provided b x) P
 if_provided P true x h = h refl
 if_provided P false x h = tt
+
+where_read : {A : Type 0} (P : A → Type 0) (b : Bool) (r : Read A) → IfOk r P → IfOk (where_holds b r) P
+where_read P true r h = h
+where_read P false r h = tt
 
 found : {A B : Type 0} (P : B → Type 0) (f : A → Read B) (b : Bool) (x : A) (rest : Option A) (d : Read B) → IfOk (f x) P → IfOk (option_map_or f rest d) P → IfOk (option_map_or f (if b then Some x else rest) d) P
 found P f true x rest d h k = h
@@ -123,28 +127,28 @@ abbrev Effect_ok : Scope → Effect → Type 0
 Effect_ok scope = EffectTakesAtMost (forms.params scope)
 
 set_read : (scope : Scope) (json named : Data) → IfOk (set_in scope json named) (Effect_ok scope)
-set_read scope json named = always (Effect_ok scope) (name_in named) _ (λ property. always (Effect_ok scope) (forms.subject_in json) _ (λ target. always (Effect_ok scope) (at_key (codes "to") json) _ (λ to. kept (Term_ok scope) (Effect_ok scope) (forms.term_in scope to) _ (term_read scope to) (λ value h. if_provided (Effect_ok scope) _ _ (λ e. h)))))
+set_read scope json named = where_read (Effect_ok scope) _ _ (always (Effect_ok scope) (at_key (codes "to") json) _ (λ to. always (Effect_ok scope) (name_in named) _ (λ property. always (Effect_ok scope) (forms.subject_in json) _ (λ target. kept (Term_ok scope) (Effect_ok scope) (forms.term_in scope to) _ (term_read scope to) (λ value h. h)))))
 
 emit_read : (scope : Scope) (json named : Data) → IfOk (emit_in scope json named) (Effect_ok scope)
-emit_read scope json named = always (Effect_ok scope) (signature_in named) _ (λ signal. always (Effect_ok scope) (forms.subject_in json) _ (λ target. always (Effect_ok scope) (at_key (codes "args") json) _ (λ there. always (Effect_ok scope) (formed (as_array there)) _ (λ items. kept (All (Term_ok scope)) (Effect_ok scope) (terms_in scope items) _ (terms_read scope items) (λ args h. if_provided (Effect_ok scope) _ _ (λ e. h))))))
+emit_read scope json named = where_read (Effect_ok scope) _ _ (always (Effect_ok scope) (at_key (codes "args") json) _ (λ there. always (Effect_ok scope) (formed (as_array there)) _ (λ items. always (Effect_ok scope) (signature_in named) _ (λ signal. always (Effect_ok scope) (forms.subject_in json) _ (λ target. kept (All (Term_ok scope)) (Effect_ok scope) (terms_in scope items) _ (terms_read scope items) (λ args h. h))))))
 
 connect_read : (scope : Scope) (json named : Data) → IfOk (connect_in json named) (Effect_ok scope)
-connect_read scope json named = always (Effect_ok scope) (signature_in named) _ (λ signal. always (Effect_ok scope) (forms.subject_in json) _ (λ target. always (Effect_ok scope) (at_key (codes "to") json) _ (λ receiver. always (Effect_ok scope) (target_in receiver) _ (λ to. always (Effect_ok scope) (at_key (codes "method") json) _ (λ there. always (Effect_ok scope) (signature_in there) _ (λ method. always (Effect_ok scope) (mode_in json) _ (λ mode. always (Effect_ok scope) (flag_in (codes "unique") json) _ (λ unique. always (Effect_ok scope) (flag_in (codes "single") json) _ (λ single. if_provided (Effect_ok scope) _ _ (λ e. tt))))))))))
+connect_read scope json named = where_read (Effect_ok scope) _ _ (always (Effect_ok scope) (at_key (codes "to") json) _ (λ receiver. always (Effect_ok scope) (at_key (codes "method") json) _ (λ there. always (Effect_ok scope) (mode_in json) _ (λ mode. always (Effect_ok scope) (flag_in (codes "unique") json) _ (λ unique. always (Effect_ok scope) (flag_in (codes "single") json) _ (λ single. always (Effect_ok scope) (signature_in named) _ (λ signal. always (Effect_ok scope) (forms.subject_in json) _ (λ target. always (Effect_ok scope) (target_in receiver) _ (λ to. always (Effect_ok scope) (signature_in there) _ (λ method. tt))))))))))
 
 disconnect_read : (scope : Scope) (json named : Data) → IfOk (disconnect_in json named) (Effect_ok scope)
-disconnect_read scope json named = always (Effect_ok scope) (unless_null signature_in named) _ (λ signal. always (Effect_ok scope) (forms.subject_in json) _ (λ target. always (Effect_ok scope) (optional target_in (codes "to") json) _ (λ to. always (Effect_ok scope) (optional signature_in (codes "method") json) _ (λ method. if_provided (Effect_ok scope) _ _ (λ e. tt)))))
+disconnect_read scope json named = where_read (Effect_ok scope) _ _ (always (Effect_ok scope) (unless_null signature_in named) _ (λ signal. always (Effect_ok scope) (forms.subject_in json) _ (λ target. always (Effect_ok scope) (optional target_in (codes "to") json) _ (λ to. always (Effect_ok scope) (optional signature_in (codes "method") json) _ (λ method. tt)))))
 
 delete_read : (scope : Scope) (json named : Data) → IfOk (delete_in json named) (Effect_ok scope)
-delete_read scope json named = always (Effect_ok scope) (target_in named) _ (λ target. if_provided (Effect_ok scope) _ _ (λ e. tt))
+delete_read scope json named = where_read (Effect_ok scope) _ _ (always (Effect_ok scope) (target_in named) _ (λ target. tt))
 
 delete_later_read : (scope : Scope) (json named : Data) → IfOk (delete_later_in json named) (Effect_ok scope)
-delete_later_read scope json named = always (Effect_ok scope) (target_in named) _ (λ target. if_provided (Effect_ok scope) _ _ (λ e. tt))
+delete_later_read scope json named = where_read (Effect_ok scope) _ _ (always (Effect_ok scope) (target_in named) _ (λ target. tt))
 
 block_read : (scope : Scope) (json named : Data) → IfOk (block_in json named) (Effect_ok scope)
-block_read scope json named = always (Effect_ok scope) (formed (as_bool named)) _ (λ on. always (Effect_ok scope) (forms.subject_in json) _ (λ target. if_provided (Effect_ok scope) _ _ (λ e. tt)))
+block_read scope json named = where_read (Effect_ok scope) _ _ (always (Effect_ok scope) (formed (as_bool named)) _ (λ on. always (Effect_ok scope) (forms.subject_in json) _ (λ target. tt)))
 
 set_parent_read : (scope : Scope) (json named : Data) → IfOk (set_parent_in json named) (Effect_ok scope)
-set_parent_read scope json named = always (Effect_ok scope) (unless_null target_in named) _ (λ parent. always (Effect_ok scope) (forms.subject_in json) _ (λ target. if_provided (Effect_ok scope) _ _ (λ e. tt)))
+set_parent_read scope json named = where_read (Effect_ok scope) _ _ (always (Effect_ok scope) (unless_null target_in named) _ (λ parent. always (Effect_ok scope) (forms.subject_in json) _ (λ target. tt)))
 
 effect_read : (scope : Scope) (json : Data) → IfOk (effect_in scope json) (Effect_ok scope)
 effect_read scope json =
@@ -170,7 +174,7 @@ found_branch P true x rest d h k = h
 found_branch P false x rest d h k = k
 
 choice_made : (scope : Scope) (json : Data) (held failed : Option (Read (List Act))) → IfOk (unwrap_or held (Err BadValue)) (Acts_ok scope) → IfOk (unwrap_or failed (Ok [])) (Acts_ok scope) → IfOk (bodies.choice_in scope json held failed) (Act_ok scope)
-choice_made scope json held failed h k = always (Act_ok scope) (at_key (codes "when") json) _ (λ condition. kept (Term_ok scope) (Act_ok scope) (forms.term_in scope condition) _ (term_read scope condition) (λ test ht. kept (Acts_ok scope) (Act_ok scope) (unwrap_or held (Err BadValue)) _ h (λ a ha. kept (Acts_ok scope) (Act_ok scope) (unwrap_or failed (Ok [])) _ k (λ b hb. if_provided (Act_ok scope) _ _ (λ e. (ht, (ha, hb)))))))
+choice_made scope json held failed h k = where_read (Act_ok scope) _ _ (always (Act_ok scope) (at_key (codes "when") json) _ (λ condition. kept (Acts_ok scope) (Act_ok scope) (unwrap_or held (Err BadValue)) _ h (λ a ha. kept (Acts_ok scope) (Act_ok scope) (unwrap_or failed (Ok [])) _ k (λ b hb. kept (Term_ok scope) (Act_ok scope) (forms.term_in scope condition) _ (term_read scope condition) (λ test ht. (ht, (ha, hb)))))))
 
 action_made : (scope : Scope) (json : Data) (held failed : Option (Read (List Act))) → IfOk (unwrap_or held (Err BadValue)) (Acts_ok scope) → IfOk (unwrap_or failed (Ok [])) (Acts_ok scope) → IfOk (bodies.made scope json held failed) (Act_ok scope)
 action_made scope json held failed h k = either (Act_ok scope) (is_some (get (codes "when") json)) _ _ (choice_made scope json held failed h k) (kept (Effect_ok scope) (Act_ok scope) (effect_in scope json) _ (effect_read scope json) (λ plain h. h))

@@ -11,16 +11,16 @@ use Rattle.term_core.specs.Act.{Act, effect, when, acts_of, counts, are_limited}
 use Rattle.term_core.specs.Arguments.{ActsTakeAtMost}
 use Rattle.term_core.specs.Effects.{effect_in}
 use Rattle.term_core.specs.Forms.{term_in}
-use Rattle.term_core.specs.Json.{Read, ◌>>=◌, has_only, at_key, provided}
+use Rattle.term_core.specs.Json.{Read, ◌>>=◌, where_only, at_key}
 
 -- a choice between two lists of actions, by what stands behind `then` and `else`
 abbrev pub choice_in : Scope → Data → Option (Read (List Act)) → Option (Read (List Act)) → Read Act
-choice_in scope json held failed = do
+choice_in scope json held failed = where_only (codes "when" ∷ codes "then" ∷ codes "else" ∷ []) json (do
   condition ← at_key (codes "when") json
-  test ← term_in scope condition
   a ← unwrap_or held (Err BadValue)
   b ← unwrap_or failed (Ok [])
-  provided (has_only (codes "when" ∷ codes "then" ∷ codes "else" ∷ []) json) (when test (acts_of a) (acts_of b))
+  test ← term_in scope condition
+  Ok (when test (acts_of a) (acts_of b)))
 
 -- an action, by the same
 abbrev pub made : Scope → Data → Option (Read (List Act)) → Option (Read (List Act)) → Read Act

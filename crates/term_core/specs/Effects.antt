@@ -12,7 +12,7 @@ use Rattle.connection_types.specs.declared.connection_type.ConnectionType.{Conne
 use Rattle.connection_types.specs.declared.connection_type.ConnectionType.TheVariants as mode
 use Rattle.term_core.specs.declared.scope.Scope.{Scope}
 use Rattle.term_core.specs.Term.{Term}
-use Rattle.term_core.specs.Json.{Read, ◌>>=◌, formed, provided, has_only, at_key, name_in, target_in}
+use Rattle.term_core.specs.Json.{Read, ◌>>=◌, formed, where_holds, has_only, where_only, at_key, name_in, target_in}
 use Rattle.term_core.specs.Forms.{subject_in, term_in}
 
 -- the signature that a text spells
@@ -50,64 +50,68 @@ terms_in scope (item json rest) = term_in scope json >>= λ term. terms_in scope
 -- each action by what stands behind the key that names it, and by the whole object
 
 abbrev pub set_in : Scope → Data → Data → Read Effect
-set_in scope json named = do
+set_in scope json named = where_only (codes "set" ∷ codes "to" ∷ codes "of" ∷ []) json (do
+  to ← at_key (codes "to") json
   property ← name_in named
   of ← subject_in json
-  to ← at_key (codes "to") json
   value ← term_in scope to
-  provided (has_only (codes "set" ∷ codes "to" ∷ codes "of" ∷ []) json) (e.Set of property value)
+  Ok (e.Set of property value))
 
 abbrev pub emit_in : Scope → Data → Data → Read Effect
-emit_in scope json named = do
-  signal ← signature_in named
-  of ← subject_in json
+emit_in scope json named = where_only (codes "emit" ∷ codes "args" ∷ codes "of" ∷ []) json (do
   there ← at_key (codes "args") json
   items ← formed (as_array there)
-  args ← terms_in scope items
-  provided (has_only (codes "emit" ∷ codes "args" ∷ codes "of" ∷ []) json) (e.Emit of signal args)
-
-abbrev pub connect_in : Data → Data → Read Effect
-connect_in json named = do
   signal ← signature_in named
   of ← subject_in json
+  args ← terms_in scope items
+  Ok (e.Emit of signal args))
+
+abbrev pub connect_in : Data → Data → Read Effect
+connect_in json named = where_only (codes "connect" ∷ codes "of" ∷ codes "to" ∷ codes "method" ∷ codes "type" ∷ codes "unique" ∷ codes "single" ∷ []) json (do
   receiver ← at_key (codes "to") json
-  to ← target_in receiver
   member ← at_key (codes "method") json
-  method ← signature_in member
   mode ← mode_in json
   unique ← flag_in (codes "unique") json
   single ← flag_in (codes "single") json
-  provided (has_only (codes "connect" ∷ codes "of" ∷ codes "to" ∷ codes "method" ∷ codes "type" ∷ codes "unique" ∷ codes "single" ∷ []) json) (e.Connect of signal to method mode unique single)
+  signal ← signature_in named
+  of ← subject_in json
+  to ← target_in receiver
+  method ← signature_in member
+  Ok (e.Connect of signal to method mode unique single))
+
+-- a method is named only beside a receiver
+abbrev pub has_receiver : Data → Bool
+has_receiver json = is_none (get (codes "method") json) || is_some (get (codes "to") json)
 
 abbrev pub disconnect_in : Data → Data → Read Effect
-disconnect_in json named = do
+disconnect_in json named = where_holds (has_receiver json && has_only (codes "disconnect" ∷ codes "of" ∷ codes "to" ∷ codes "method" ∷ []) json) (do
   signal ← unless_null signature_in named
   of ← subject_in json
   to ← optional target_in (codes "to") json
   method ← optional signature_in (codes "method") json
-  provided ((is_none method || is_some to) && has_only (codes "disconnect" ∷ codes "of" ∷ codes "to" ∷ codes "method" ∷ []) json) (e.Disconnect of signal to method)
+  Ok (e.Disconnect of signal to method))
 
 abbrev pub delete_in : Data → Data → Read Effect
-delete_in json named = do
+delete_in json named = where_only (codes "delete" ∷ []) json (do
   target ← target_in named
-  provided (has_only (codes "delete" ∷ []) json) (e.Delete target)
+  Ok (e.Delete target))
 
 abbrev pub delete_later_in : Data → Data → Read Effect
-delete_later_in json named = do
+delete_later_in json named = where_only (codes "deleteLater" ∷ []) json (do
   target ← target_in named
-  provided (has_only (codes "deleteLater" ∷ []) json) (e.DeleteLater target)
+  Ok (e.DeleteLater target))
 
 abbrev pub block_in : Data → Data → Read Effect
-block_in json named = do
+block_in json named = where_only (codes "block" ∷ codes "of" ∷ []) json (do
   on ← formed (as_bool named)
   of ← subject_in json
-  provided (has_only (codes "block" ∷ codes "of" ∷ []) json) (e.Block of on)
+  Ok (e.Block of on))
 
 abbrev pub set_parent_in : Data → Data → Read Effect
-set_parent_in json named = do
+set_parent_in json named = where_only (codes "setParent" ∷ codes "of" ∷ []) json (do
   parent ← unless_null target_in named
   of ← subject_in json
-  provided (has_only (codes "setParent" ∷ codes "of" ∷ []) json) (e.SetParent of parent)
+  Ok (e.SetParent of parent))
 
 -- the action whose key the object has
 abbrev pub effect_in : Scope → Data → Read Effect

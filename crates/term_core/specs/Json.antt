@@ -30,6 +30,10 @@ formed o = ok_or o BadValue
 abbrev pub provided : {A : Type 0} → Bool → A → Read A
 provided test value = if test then Ok value else Err BadValue
 
+-- what is read where a test holds, else a fault of form
+abbrev pub where_holds : {A : Type 0} → Bool → Read A → Read A
+where_holds test read = if test then read else Err BadValue
+
 -- members have no keys but these
 abbrev pub keys_are_among : List (List ℕ) → Members → Bool
 keys_are_among keys no_members = true
@@ -38,6 +42,10 @@ keys_are_among keys (member key json rest) = list_any (bytes_eq key) keys && key
 -- an object has no keys but these
 abbrev pub has_only : List (List ℕ) → Data → Bool
 has_only keys json = option_map_or (keys_are_among keys) (as_object json) false
+
+-- what is read from an object that has no keys but these
+abbrev pub where_only : {A : Type 0} → List (List ℕ) → Data → Read A → Read A
+where_only keys json read = where_holds (has_only keys json) read
 
 -- what stands behind a key that must be there
 abbrev pub at_key : List ℕ → Data → Read Data

@@ -50,7 +50,9 @@ fn action(alloc: Global, scope: Scope, json: &Json) -> Result<Action, Fault>
     let Some(condition) = json.get("when") else {
         return Ok(Action::effect(effect(alloc, scope, json)?));
     };
-    let test = expression(alloc, scope, condition)?;
+    if !has_only(json, &["when", "then", "else"]) {
+        return Err(BAD);
+    }
     let Some(held) = json.get("then") else {
         return Err(BAD);
     };
@@ -59,9 +61,7 @@ fn action(alloc: Global, scope: Scope, json: &Json) -> Result<Action, Fault>
         Some(failed) => actions(alloc, scope, failed)?,
         None => Items::new(alloc),
     };
-    if !has_only(json, &["when", "then", "else"]) {
-        return Err(BAD);
-    }
+    let test = expression(alloc, scope, condition)?;
     Ok(Action::when(test, held, failed))
 }
 

@@ -3,7 +3,7 @@ ghost use Rattle.std.specs.Prelude.{◌≡◌, codes};
 ghost use Rattle.serde_json.specs.View.{view, items_view};
 ghost use Rattle.refusals.specs.Answers.{Answers};
 ghost use Rattle.term_core.specs.Json.{target_in};
-ghost use Rattle.term_core.specs.Effects.{signature_in, unless_null, optional, flag_in, mode_in, mode_named, terms_in, set_in, emit_in, connect_in, disconnect_in, delete_in, delete_later_in, block_in, set_parent_in, effect_in};
+ghost use Rattle.term_core.specs.Effects.{signature_in, unless_null, optional, flag_in, mode_in, mode_named, terms_in, set_in, emit_in, connect_in, has_receiver, disconnect_in, delete_in, delete_later_in, block_in, set_parent_in, effect_in};
 
 use crate::action::Effect;
 use crate::expr::Expr;
@@ -86,15 +86,15 @@ fn mode(json: &Json) -> Result<ConnectionType, Fault>
 fn set(alloc: Global, scope: Scope, json: &Json, named: &Json) -> Result<Effect, Fault>
     ensures { Answers result (set_in scope (view json.now) (view named.now)) }
 {
-    let property = name(alloc, named)?;
-    let of = subject(alloc, json)?;
-    let Some(to) = json.get("to") else {
-        return Err(BAD);
-    };
-    let value = expression(alloc, scope, to)?;
     if !has_only(json, &["set", "to", "of"]) {
         return Err(BAD);
     }
+    let Some(to) = json.get("to") else {
+        return Err(BAD);
+    };
+    let property = name(alloc, named)?;
+    let of = subject(alloc, json)?;
+    let value = expression(alloc, scope, to)?;
     Ok(Effect::Set {
         of,
         property,
@@ -116,40 +116,40 @@ fn expressions(alloc: Global, scope: Scope, list: &[Json]) -> Result<Items<Expr>
 fn emit(alloc: Global, scope: Scope, json: &Json, named: &Json) -> Result<Effect, Fault>
     ensures { Answers result (emit_in scope (view json.now) (view named.now)) }
 {
-    let signal = signature(alloc, named)?;
-    let of = subject(alloc, json)?;
-    let Some(list) = json.get("args").and_then(Json::as_array) else {
-        return Err(BAD);
-    };
-    let args = expressions(alloc, scope, list)?;
     if !has_only(json, &["emit", "args", "of"]) {
         return Err(BAD);
     }
+    let Some(list) = json.get("args").and_then(Json::as_array) else {
+        return Err(BAD);
+    };
+    let signal = signature(alloc, named)?;
+    let of = subject(alloc, json)?;
+    let args = expressions(alloc, scope, list)?;
     Ok(Effect::Emit { of, signal, args })
 }
 
 fn connect(alloc: Global, json: &Json, named: &Json) -> Result<Effect, Fault>
     ensures { Answers result (connect_in (view json.now) (view named.now)) }
 {
-    let signal = signature(alloc, named)?;
-    let of = subject(alloc, json)?;
-    let Some(receiver) = json.get("to") else {
-        return Err(BAD);
-    };
-    let to = target(alloc, receiver)?;
-    let Some(member) = json.get("method") else {
-        return Err(BAD);
-    };
-    let method = signature(alloc, member)?;
-    let mode = mode(json)?;
-    let unique = flag(json, "unique")?;
-    let single = flag(json, "single")?;
     if !has_only(
         json,
         &["connect", "of", "to", "method", "type", "unique", "single"],
     ) {
         return Err(BAD);
     }
+    let Some(receiver) = json.get("to") else {
+        return Err(BAD);
+    };
+    let Some(member) = json.get("method") else {
+        return Err(BAD);
+    };
+    let mode = mode(json)?;
+    let unique = flag(json, "unique")?;
+    let single = flag(json, "single")?;
+    let signal = signature(alloc, named)?;
+    let of = subject(alloc, json)?;
+    let to = target(alloc, receiver)?;
+    let method = signature(alloc, member)?;
     Ok(Effect::Connect {
         of,
         signal,
@@ -181,17 +181,23 @@ fn method(alloc: Global, json: &Json) -> Result<Option<Signature>, Fault>
     }
 }
 
+/// Whether a receiver is named, which must be where a method is.
+fn has_receiver(json: &Json) -> bool
+    ensures { result ≡ has_receiver (view json.now) }
+{
+    json.get("method").is_none() || json.get("to").is_some()
+}
+
 fn disconnect(alloc: Global, json: &Json, named: &Json) -> Result<Effect, Fault>
     ensures { Answers result (disconnect_in (view json.now) (view named.now)) }
 {
+    if !has_receiver(json) || !has_only(json, &["disconnect", "of", "to", "method"]) {
+        return Err(BAD);
+    }
     let signal = signature_or_null(alloc, named)?;
     let of = subject(alloc, json)?;
     let to = receiver(alloc, json)?;
     let method = method(alloc, json)?;
-    let has_receiver = method.is_none() || to.is_some();
-    if !has_receiver || !has_only(json, &["disconnect", "of", "to", "method"]) {
-        return Err(BAD);
-    }
     Ok(Effect::Disconnect {
         of,
         signal,
@@ -203,44 +209,42 @@ fn disconnect(alloc: Global, json: &Json, named: &Json) -> Result<Effect, Fault>
 fn delete(alloc: Global, json: &Json, named: &Json) -> Result<Effect, Fault>
     ensures { Answers result (delete_in (view json.now) (view named.now)) }
 {
-    let target = target(alloc, named)?;
     if !has_only(json, &["delete"]) {
         return Err(BAD);
     }
-    Ok(Effect::Delete(target))
+    Ok(Effect::Delete(target(alloc, named)?))
 }
 
 fn delete_later(alloc: Global, json: &Json, named: &Json) -> Result<Effect, Fault>
     ensures { Answers result (delete_later_in (view json.now) (view named.now)) }
 {
-    let target = target(alloc, named)?;
     if !has_only(json, &["deleteLater"]) {
         return Err(BAD);
     }
-    Ok(Effect::DeleteLater(target))
+    Ok(Effect::DeleteLater(target(alloc, named)?))
 }
 
 fn block(alloc: Global, json: &Json, named: &Json) -> Result<Effect, Fault>
     ensures { Answers result (block_in (view json.now) (view named.now)) }
 {
+    if !has_only(json, &["block", "of"]) {
+        return Err(BAD);
+    }
     let Some(on) = named.as_bool() else {
         return Err(BAD);
     };
     let of = subject(alloc, json)?;
-    if !has_only(json, &["block", "of"]) {
-        return Err(BAD);
-    }
     Ok(Effect::Block { of, on })
 }
 
 fn set_parent(alloc: Global, json: &Json, named: &Json) -> Result<Effect, Fault>
     ensures { Answers result (set_parent_in (view json.now) (view named.now)) }
 {
-    let parent = target_or_null(alloc, named)?;
-    let of = subject(alloc, json)?;
     if !has_only(json, &["setParent", "of"]) {
         return Err(BAD);
     }
+    let parent = target_or_null(alloc, named)?;
+    let of = subject(alloc, json)?;
     Ok(Effect::SetParent { of, parent })
 }
 

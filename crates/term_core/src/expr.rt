@@ -99,20 +99,19 @@ impl Expr {
     ) -> Result<Expr, AllocError>
         ensures { IfOk result (λ expr. expr ≡ binary operator a b) }
     {
+        let (a, b) = boxed(alloc, a, b)?;
         Ok(Expr {
-            node: Node::Binary(operator, Box::new(alloc, a)?, Box::new(alloc, b)?),
+            node: Node::Binary(operator, a, b),
         })
     }
 
     pub(crate) fn choice(alloc: Global, test: Expr, a: Expr, b: Expr) -> Result<Expr, AllocError>
         ensures { IfOk result (λ expr. expr ≡ choice test a b) }
     {
+        let test = Box::new(alloc, test)?;
+        let (a, b) = boxed(alloc, a, b)?;
         Ok(Expr {
-            node: Node::Choice(
-                Box::new(alloc, test)?,
-                Box::new(alloc, a)?,
-                Box::new(alloc, b)?,
-            ),
+            node: Node::Choice(test, a, b),
         })
     }
 
@@ -171,6 +170,14 @@ impl Expr {
     {
         self.nodes() <= NODES && self.has_short_texts()
     }
+}
+
+/// Two expressions, each in memory of its own.
+fn boxed(alloc: Global, a: Expr, b: Expr) -> Result<(Box<Expr>, Box<Expr>), AllocError>
+    ensures first { IfOk result (λ boxes. boxes.0.value ≡ a) }
+    ensures second { IfOk result (λ boxes. boxes.1.value ≡ b) }
+{
+    Ok((Box::new(alloc, a)?, Box::new(alloc, b)?))
 }
 
 fn is_short(value: &Value) -> bool
