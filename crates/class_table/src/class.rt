@@ -29,7 +29,7 @@ pub struct Method {
 }
 
 /// A declared property.
-#[derive(Debug, Drop)]
+#[derive(Drop)]
 pub struct Property {
     pub name: Text,
     pub kind: Kind,

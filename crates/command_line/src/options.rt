@@ -13,7 +13,7 @@ use std::convert::AsStr;
 pub const DEFAULT_TURNS: u32 = 10_000;
 
 /// What the program is told to do.
-#[derive(Debug, Drop)]
+#[derive(Drop)]
 pub struct Options {
     /// The path of the class file, as it was written; none stands for the demonstration classes.
     pub classes: Option<Text>,

@@ -16,7 +16,7 @@ use std::alloc::{AllocError, Global};
 use std::marker::Model;
 
 /// Routes that are made with the first connection.
-#[derive(Debug, Drop)]
+#[derive(Drop)]
 pub(crate) struct LazyRoutes {
     made: Option<Box<Routes>>,
 }

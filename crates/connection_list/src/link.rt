@@ -2,7 +2,7 @@
 
 /// Leads to a connection from one of its ends. Those of an object stand together, and of these those
 /// of a signal, by rising number.
-#[derive(Clone, Copy, Debug, PartialEq, Eq, PartialOrd, Ord)]
+#[derive(Clone, Copy, PartialEq, Eq, PartialOrd, Ord)]
 pub(crate) struct Link {
     pub(crate) object: u32,
     /// At the receiving end it is 0.

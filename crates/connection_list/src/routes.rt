@@ -16,7 +16,7 @@ use shared_rows::{Links, SharedRows};
 use std::alloc::{AllocError, Global};
 
 /// What a place keeps beside its connections.
-#[derive(Debug, Drop)]
+#[derive(Drop)]
 pub(crate) struct Routes {
     pub(crate) last_number: u32,
     /// From the senders.

@@ -1,7 +1,7 @@
 //! What is called.
 
 /// What a connection calls at its receiver.
-#[derive(Clone, Copy, Debug, PartialEq, Eq)]
+#[derive(Clone, Copy, PartialEq, Eq)]
 pub enum Callee {
     /// The method of the receiver's class with this index.
     Method(u32),

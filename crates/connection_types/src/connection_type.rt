@@ -1,7 +1,7 @@
 //! How it is called.
 
 /// How a connection's callee is called (`Qt::ConnectionType`).
-#[derive(Clone, Copy, Debug, PartialEq, Eq)]
+#[derive(Clone, Copy, PartialEq, Eq)]
 pub enum ConnectionType {
     /// Direct, since sender and receiver always live in one session.
     Auto,

@@ -7,7 +7,7 @@ use shared_rows::Numbered;
 use variant_value::Args;
 
 /// A call that waits in the queue (`QMetaCallEvent`).
-#[derive(Debug, Drop)]
+#[derive(Drop)]
 pub struct QueuedCall {
     /// The receiver: the object whose method is called, or that is the functor's context.
     pub object: u32,
@@ -18,7 +18,7 @@ pub struct QueuedCall {
 }
 
 /// What an event loop delivers to an object.
-#[derive(Debug, Drop)]
+#[derive(Drop)]
 pub enum Event {
     Call(QueuedCall),
     /// The deletion of this object, which was asked for later (`QEvent::DeferredDelete`).
@@ -38,7 +38,7 @@ impl Event {
 }
 
 /// An event as it stands in its queue.
-#[derive(Debug, Drop)]
+#[derive(Drop)]
 pub(crate) struct Posted {
     /// Above those of all events that were posted before it and are still queued.
     pub(crate) number: u64,

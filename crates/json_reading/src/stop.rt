@@ -4,7 +4,7 @@ use json::Invalid;
 use std::alloc::{AllocError, AllocFailed};
 
 /// Why a way of reading does not give a text's members. Another way may.
-#[derive(Clone, Copy, Debug, Drop, PartialEq, Eq)]
+#[derive(Clone, Copy, Drop, PartialEq, Eq)]
 pub enum Stop {
     /// The text is not in the form that this way reads.
     Form,

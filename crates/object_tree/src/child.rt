@@ -15,7 +15,7 @@ use std::collections::vec_deque::Iter;
 
 /// A child, with its parent and its age. The fields stand in this order so that they fill 16 bytes,
 /// which a removal moves fast.
-#[derive(Clone, Copy, Debug, PartialEq, Eq)]
+#[derive(Clone, Copy, PartialEq, Eq)]
 pub(crate) struct Child {
     pub(crate) stamp: u64,
     /// The number of the parent; a root has 0, which no object has.

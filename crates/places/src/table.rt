@@ -8,7 +8,7 @@ use std::marker::Model;
 
 /// A value for each place. Places are counted from 0 in the order in which they were opened, and none
 /// is ever closed.
-#[derive(Debug, Drop)]
+#[derive(Drop)]
 pub struct Places<T> {
     items: Vec<T>,
 }

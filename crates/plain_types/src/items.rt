@@ -6,7 +6,7 @@ use std::alloc::{AllocError, Global};
 use std::marker::Model;
 
 /// A `Vec` that contracts see as the list of its elements.
-#[derive(Debug, Drop)]
+#[derive(Drop)]
 pub struct Items<T> {
     inner: Vec<T>,
 }

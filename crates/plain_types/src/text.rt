@@ -9,14 +9,14 @@ use std::marker::Model;
 /// A text of so many bytes, or fewer, is kept in the value itself and takes no memory.
 const INLINE: usize = 22;
 
-#[derive(Debug, Drop)]
+#[derive(Drop)]
 enum Kept {
     Inline(ArrayString<INLINE>),
     Heap(String),
 }
 
 /// A string that contracts see as the list of its bytes.
-#[derive(Debug, Drop)]
+#[derive(Drop)]
 pub struct Text {
     kept: Kept,
 }

@@ -20,7 +20,7 @@ pub const MOST_BYTES: usize = FILE_BYTES + 1;
 const CHUNK_BYTES: usize = 4096;
 
 /// Why there are no classes to run with.
-#[derive(Clone, Copy, Debug, PartialEq, Eq)]
+#[derive(Clone, Copy, PartialEq, Eq)]
 pub enum ClassFileError {
     /// The class file has this fault.
     Refused(ClassFault),

@@ -14,7 +14,7 @@ use std::borrow::CowStr;
 use wire_devices::{Failed, Sink, write_all};
 
 /// A stream that the program says its last text on.
-#[derive(Clone, Copy, Debug, PartialEq, Eq)]
+#[derive(Clone, Copy, PartialEq, Eq)]
 pub enum Stream {
     StandardOutput,
     StandardError,

@@ -13,7 +13,7 @@ use variant_value::Value;
 pub const DYNAMIC: usize = 64;
 
 /// A dynamic property.
-#[derive(Debug, Drop)]
+#[derive(Drop)]
 pub(crate) struct Named {
     pub(crate) name: Text,
     pub(crate) value: Value,

@@ -13,7 +13,7 @@ use std::alloc::{AllocError, Global};
 use variant_value::{Args, Value};
 
 /// A declared property, as a store knows it.
-#[derive(Debug, Drop)]
+#[derive(Drop)]
 pub struct Field {
     pub name: Text,
     pub kind: Kind,

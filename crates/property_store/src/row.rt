@@ -15,7 +15,7 @@ use shared_rows::{Numbered, SharedRows};
 use variant_value::{Args, Value};
 
 /// An object with its properties.
-#[derive(Debug, Drop)]
+#[derive(Drop)]
 pub(crate) struct Row {
     pub(crate) object: u32,
     /// The number of its class.

@@ -3,7 +3,7 @@ use plain_types::Items;
 use thread_model::Line;
 
 /// What a run tells of one of its commands.
-#[derive(Debug, Drop)]
+#[derive(Drop)]
 pub enum Entry {
     /// What its session is told, in order. A refusal is one line.
     Lines(Items<Line>),
@@ -13,7 +13,7 @@ pub enum Entry {
 }
 
 /// What a run returns.
-#[derive(Debug, Drop)]
+#[derive(Drop)]
 pub struct Report {
     /// One entry for each command, in their order; or none at all, where the room for the list
     /// itself was not found and no command was done.

@@ -24,7 +24,7 @@ use variant_value::{Args, TEXT_BYTES, Value};
 
 /// A signal that is to be sent since it tells that a declared property has another value (NOTIFY). What
 /// it is sent with is read of the property when it is sent.
-#[derive(Clone, Copy, Debug)]
+#[derive(Clone, Copy)]
 pub struct Notice {
     pub object: u32,
     /// The number of the property among those that the object's class declares.

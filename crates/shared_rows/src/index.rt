@@ -6,14 +6,14 @@ use crate::number::Number;
 use std::collections::VecDeque;
 
 /// A row, and the place that it belongs to.
-#[derive(Debug, Drop)]
+#[derive(Drop)]
 pub(crate) struct Slot<R> {
     pub(crate) place: usize,
     pub(crate) row: R,
 }
 
 /// The number of a row, and the key of its slot, which fill 8 bytes where numbers have 32 bits.
-#[derive(Clone, Copy, Debug)]
+#[derive(Clone, Copy)]
 pub(crate) struct Entry<N> {
     pub(crate) number: N,
     pub(crate) key: u32,

@@ -9,7 +9,7 @@ use std::marker::Model;
 
 /// Keys by rising order, each once. Where one comes in or goes out, the shorter side of the others
 /// moves.
-#[derive(Debug, Drop)]
+#[derive(Drop)]
 pub struct Links<K: Ord + Copy> {
     items: VecDeque<K>,
     /// For so many at least there is memory.

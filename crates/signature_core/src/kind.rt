@@ -3,7 +3,7 @@ ghost use Rattle.std.specs.Prelude.{◌≡◌, Some, IfSome};
 ghost use Rattle.signature_core.specs.Kinds.{kind_named, kind_name};
 
 /// The type of a property or of a parameter: six of the types that Qt's meta-objects know.
-#[derive(Clone, Copy, Debug, PartialEq, Eq)]
+#[derive(Clone, Copy, PartialEq, Eq)]
 pub enum Kind {
     /// A truth: `bool`.
     Bool,

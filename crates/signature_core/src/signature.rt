@@ -12,7 +12,7 @@ use std::alloc::{AllocError, Global};
 pub const PARAMS: usize = 10;
 
 /// What tells a method from the others of its class. `normalise` makes one of a text.
-#[derive(Debug, Drop)]
+#[derive(Drop)]
 pub struct Signature {
     /// The method's name.
     pub name: Text,

@@ -3,7 +3,7 @@ ghost use Rattle.std.specs.Prelude.{◌≡◌};
 ghost use Rattle.term_core.specs.Forms.{form_named};
 
 /// What is made of two operands.
-#[derive(Clone, Copy, Debug, PartialEq, Eq)]
+#[derive(Clone, Copy, PartialEq, Eq)]
 pub enum Operator {
     /// The sum of two numbers.
     Sum,
@@ -18,7 +18,7 @@ pub enum Operator {
 }
 
 /// A form of expression that has one key.
-#[derive(Clone, Copy, Debug)]
+#[derive(Clone, Copy)]
 pub(crate) enum Form {
     Const,
     Arg,

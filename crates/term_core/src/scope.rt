@@ -5,7 +5,7 @@ ghost use Rattle.term_core.specs.Forms.{params, has_target};
 use crate::target::Target;
 
 /// Where an expression stands, which decides what it may speak of.
-#[derive(Clone, Copy, Debug)]
+#[derive(Clone, Copy)]
 pub(crate) enum Scope {
     Binding,
     /// The body of a slot with so many parameters.

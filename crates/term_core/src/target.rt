@@ -6,7 +6,7 @@ use std::alloc::{AllocError, Global};
 
 /// The object that an expression reads, or that an action acts on. Which object it is is found when
 /// the expression is evaluated or the action is run.
-#[derive(Debug, Drop)]
+#[derive(Drop)]
 pub enum Target {
     /// The object whose property is bound, or whose slot is run.
     Itself,

@@ -27,7 +27,7 @@ pub trait Reads {
 }
 
 /// The reader of nothing: there is no object. It serves expressions of constants and arguments.
-#[derive(Debug, Drop)]
+#[derive(Drop)]
 pub struct NoObjects;
 
 impl Reads for NoObjects {

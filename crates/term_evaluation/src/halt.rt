@@ -4,7 +4,7 @@ use std::alloc::AllocError;
 
 /// Why an evaluation ends without a value. `O` is what the reader of properties may answer beside the
 /// codes, as that a property depends on itself.
-#[derive(Debug, Drop)]
+#[derive(Drop)]
 pub enum Halt<O> {
     Refused(Code),
     /// The reader's own fault, as the reader answered it.

@@ -7,7 +7,7 @@ use std::alloc::{AllocError, Global};
 use term_core::{Expr, Node, Target};
 
 /// A property that an expression reads.
-#[derive(Debug, Drop)]
+#[derive(Drop)]
 pub struct Read {
     pub target: Target,
     pub name: Text,

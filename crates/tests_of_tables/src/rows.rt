@@ -7,7 +7,7 @@ use std::alloc::{AllocError, Global};
 use std::test::Fail;
 
 /// A row that says besides its number how large it is.
-#[derive(Clone, Copy, Debug)]
+#[derive(Clone, Copy)]
 struct Item {
     number: u32,
     size: u32,

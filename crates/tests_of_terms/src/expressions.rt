@@ -11,7 +11,7 @@ use term_evaluation::{Halt, NoObjects, Reads, evaluate, reads_of, unfold};
 use variant_value::Value;
 
 /// A fault of this reader's own.
-#[derive(Debug, Drop)]
+#[derive(Drop)]
 struct Loop;
 
 /// Reads of the object itself `x`, which is 7, and `loop`, which depends on itself; of the object 2

@@ -13,7 +13,7 @@ pub const DESTROYED: u32 = 0;
 pub const OBJECT_NAME: u32 = 0;
 
 /// A slot or a functor as it is called.
-#[derive(Debug, Drop)]
+#[derive(Drop)]
 pub struct Call {
     /// The normal text of the slot's signature, or the functor's name.
     pub method: Text,

@@ -6,7 +6,7 @@ use refusals::Code;
 use variant_value::Value;
 
 /// What a command replies.
-#[derive(Debug, Drop)]
+#[derive(Drop)]
 pub enum Answer {
     /// The number of an object.
     Number(u32),
@@ -25,7 +25,7 @@ pub enum Answer {
 }
 
 /// What came of taking events.
-#[derive(Clone, Copy, Debug, PartialEq, Eq)]
+#[derive(Clone, Copy, PartialEq, Eq)]
 pub struct Spin {
     /// How many were taken.
     pub events: u32,
@@ -38,7 +38,7 @@ pub struct Spin {
 }
 
 /// How much there is in a session.
-#[derive(Clone, Copy, Debug, PartialEq, Eq)]
+#[derive(Clone, Copy, PartialEq, Eq)]
 pub struct Status {
     pub connections: u32,
     pub lost: u64,
@@ -49,7 +49,7 @@ pub struct Status {
 }
 
 /// One line of what a session is told.
-#[derive(Debug, Drop)]
+#[derive(Drop)]
 pub enum Line {
     Reply(Answer),
     /// The command was refused.

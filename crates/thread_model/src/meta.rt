@@ -2,7 +2,7 @@
 use plain_types::{Items, Text};
 
 /// What there is in a class, as Qt's `QMetaObject` tells it.
-#[derive(Debug, Drop)]
+#[derive(Drop)]
 pub struct MetaObject {
     /// The name of the class.
     pub class: Text,

@@ -5,7 +5,7 @@ use variant_value::Value;
 
 /// A published signal as it is sent: the name under which it was published, the kinds of its
 /// parameters, and as many arguments.
-#[derive(Debug, Drop)]
+#[derive(Drop)]
 pub struct Post {
     pub name: Text,
     pub kinds: Items<Kind>,

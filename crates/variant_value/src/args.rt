@@ -7,14 +7,14 @@ use std::marker::Model;
 use std::mem;
 
 /// One value is kept here itself, and takes no memory.
-#[derive(Debug, Drop)]
+#[derive(Drop)]
 enum Kept {
     One(Value),
     List(Vec<Value>),
 }
 
 /// Values that contracts see as a list.
-#[derive(Debug, Drop)]
+#[derive(Drop)]
 pub struct Args {
     kept: Kept,
 }

@@ -15,7 +15,7 @@ use std::alloc::{AllocError, Global};
 pub const TEXT_BYTES: usize = 4096;
 
 /// What a property holds, and what a signal carries.
-#[derive(Debug, PartialEq, Drop)]
+#[derive(PartialEq, Drop)]
 pub enum Value {
     /// No value.
     Invalid,

@@ -15,7 +15,7 @@ const MOST_RETRIES: u32 = 1_000;
 ///
 /// A call that a signal interrupted is made again, at most 1,000 times in a row, before it counts as
 /// a failure. No other error is tried again.
-#[derive(Debug, Drop)]
+#[derive(Drop)]
 pub struct Counted<D> {
     device: D,
     failures: u64,

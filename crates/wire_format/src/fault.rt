@@ -4,7 +4,7 @@ use refusals::Code;
 use std::alloc::AllocError;
 
 /// Why a line is no command, and for which session that is said.
-#[derive(Debug, Drop)]
+#[derive(Drop)]
 pub struct LineFault {
     pub code: Code,
     /// The session that the line names, where it is a JSON object that names one.
@@ -27,7 +27,7 @@ impl LineFault {
 }
 
 /// Why a line was not read.
-#[derive(Debug, Drop)]
+#[derive(Drop)]
 pub enum ReadError {
     /// The line is no command.
     Fault(LineFault),

@@ -3,7 +3,7 @@ use std::alloc::{AllocError, AllocFailed};
 use wire_devices::Failed;
 
 /// Why a run ended before its input did.
-#[derive(Clone, Copy, Debug, PartialEq, Eq)]
+#[derive(Clone, Copy, PartialEq, Eq)]
 pub enum RunFault {
     /// The source failed.
     Read,

@@ -24,7 +24,7 @@ const MOST_READS: u64 = 1 << 40;
 const CHUNK_BYTES: usize = 65_536;
 
 /// What a run did.
-#[derive(Clone, Copy, Debug, PartialEq, Eq)]
+#[derive(Clone, Copy, PartialEq, Eq)]
 pub struct Summary {
     /// How many lines were read, those that were skipped among them.
     pub lines: u64,
