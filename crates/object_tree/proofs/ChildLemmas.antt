@@ -1,18 +1,17 @@
 -- The children of all parents, in one order.
-use Rattle.std.proofs.Common.{◌≡◌, ◌≢◌, ◌⊎◌, ℕ, zero, suc, ◌+◌, ◌-◌, ◌<◌, ◌≤◌, ◌==◌, ◌∙◌, Bool, true, false, not, cond, List, [], ◌∷◌, Option, Some, None, length, map, filter, get_or, take, drop, refl, sym, ap, subst, arith, ⊎_elim, inl, inr, nat_lt, nat_eq}
+use Rattle.std.proofs.Common.{◌≡◌, ◌≢◌, ◌⊎◌, ℕ, zero, suc, ◌+◌, ◌-◌, ◌<◌, ◌≤◌, ◌==◌, ◌∙◌, Bool, true, false, not, cond, List, [], ◌∷◌, Option, Some, None, length, map, filter, get_or, take, drop, refl, sym, ap, subst, arith, ⊎_elim, inl, inr, nat_le, nat_lt, nat_eq}
 use Rattle.std.specs.Cmp.{IsTotalOrder}
 use Rattle.std.specs.Option.{is_some, option_and_then, option_map}
 use Rattle.std.specs.List.{All, AllByRecursion, Any, Contains, IsDistinct}
-use Rattle.std.specs.List.Sorted.{IsNonDecreasingBy, IsPartitionedBy}
+use Rattle.std.specs.List.Sorted.{IsPartitionedBy}
 use Rattle.std.specs.Ordering.{is_lt, nat_cmp, ordering_reverse, ordering_then}
 use Rattle.std.specs.declared.cmp.Ordering.{Ordering}
 use Rattle.std.specs.declared.cmp.Ordering.TheVariants.{Less, Equal, Greater}
-use Rattle.std.proofs.lemmas.Bool.{cases_Bool, cases_eq, cases_lt, cond-true, cond-false, eqb-true, eqb-false, eq-eqb, ne_eqb, ltb-true, ltb-false, false≢true}
+use Rattle.std.proofs.lemmas.Bool.{cases_Bool, cases_eq, cases_lt, cond-true, cond-false, eqb-true, eqb-false, eq-eqb, ne_eqb, leb-true, le-leb, ltb-true, ltb-false, false≢true}
 use Rattle.std.proofs.lemmas.Bool.Decides.{nat_tests}
-use Rattle.std.proofs.lemmas.Cmp.{nat_cmp_total, on_total, then_total}
+use Rattle.std.proofs.lemmas.Cmp.{back_total, nat_cmp_total, on_total, then_total}
 use Rattle.std.proofs.lemmas.List.{get_or_default}
 use Rattle.std.proofs.lemmas.List.Elements.{All-contains, All-contains_itself, All-from_recursion, All-weaker, recursion_from_All}
-use Rattle.std.proofs.lemmas.List.Sorted.{IsPartitionedBy-ltb}
 use Rattle.std.proofs.lemmas.List.Kept.{AllPairs-cons, AllPairs-filter}
 use Rattle.std.proofs.lemmas.Map.Keys.{IsDistinct-head, IsDistinct-tail}
 use Rattle.shared_rows.specs.Links.{AreLinked, IsInOrder, first_from, with_link, without_link}
@@ -30,7 +29,7 @@ use Rattle.object_tree.proofs.RowLemmas.{IsDistinct-stamps_filter, change_one}
 
 -- the order
 pub child_total : IsTotalOrder child_cmp
-child_total = then_total (then_total (on_total (λ (c : Child). c.parent) nat_cmp_total) (on_total (λ (c : Child). c.stamp) nat_cmp_total)) (on_total (λ (c : Child). c.number) nat_cmp_total)
+child_total = then_total (then_total (on_total (λ (c : Child). c.parent) (back_total nat_cmp_total)) (on_total (λ (c : Child). c.stamp) nat_cmp_total)) (on_total (λ (c : Child). c.number) nat_cmp_total)
 
 both_equal : (a b : Ordering) → ordering_then a b ≡ Equal → (a ≡ Equal) × (b ≡ Equal)
 both_equal Less b e = absurd (cc)
@@ -39,23 +38,23 @@ both_equal Greater b e = absurd (cc)
 
 pub child_same : (x y : Child) → child_cmp x y ≡ Equal → x ≡ y
 child_same x y e =
-    let outer = both_equal (ordering_then (nat_cmp x.parent y.parent) (nat_cmp x.stamp y.stamp)) (nat_cmp x.number y.number) e in
-    let inner = both_equal (nat_cmp x.parent y.parent) (nat_cmp x.stamp y.stamp) outer.0 in
-    λ i. record { stamp = same-from_cmp x.stamp y.stamp inner.1 i; parent = same-from_cmp x.parent y.parent inner.0 i; number = same-from_cmp x.number y.number outer.1 i }
+    let outer = both_equal (ordering_then (nat_cmp y.parent x.parent) (nat_cmp x.stamp y.stamp)) (nat_cmp x.number y.number) e in
+    let inner = both_equal (nat_cmp y.parent x.parent) (nat_cmp x.stamp y.stamp) outer.0 in
+    λ i. record { stamp = same-from_cmp x.stamp y.stamp inner.1 i; parent = sym (same-from_cmp y.parent x.parent inner.0) i; number = same-from_cmp x.number y.number outer.1 i }
 
 equal_cmp : (a b : ℕ) → a ≡ b → nat_cmp a b ≡ Equal
 equal_cmp a b h = grind (arith, nat_tests)
 
 younger : (a b : Child) → a.parent ≡ b.parent → a.stamp < b.stamp → child_cmp a b ≡ Less
-younger a b same lt = λ i. ordering_then (ordering_then (equal_cmp a.parent b.parent same i) (less_cmp a.stamp b.stamp lt i)) (nat_cmp a.number b.number)
+younger a b same lt = λ i. ordering_then (ordering_then (equal_cmp b.parent a.parent (sym same) i) (less_cmp a.stamp b.stamp lt i)) (nat_cmp a.number b.number)
 
-pub not_below : (a b : Child) → is_lt (child_cmp a b) ≡ false → b.parent ≤ a.parent
+pub not_below : (a b : Child) → is_lt (child_cmp a b) ≡ false → a.parent ≤ b.parent
 not_below a b e = ⊎_elim
-    (λ (low : nat_lt a.parent b.parent ≡ true).
-    let less : is_lt (child_cmp a b) ≡ true = λ i. is_lt (ordering_then (ordering_then (less_cmp a.parent b.parent (ltb-true _ _ low) i) (nat_cmp a.stamp b.stamp)) (nat_cmp a.number b.number)) in
+    (λ (low : nat_lt b.parent a.parent ≡ true).
+    let less : is_lt (child_cmp a b) ≡ true = λ i. is_lt (ordering_then (ordering_then (less_cmp b.parent a.parent (ltb-true _ _ low) i) (nat_cmp a.stamp b.stamp)) (nat_cmp a.number b.number)) in
     absurd (false≢true (sym e ∙ less)))
-    (λ (high : nat_lt a.parent b.parent ≡ false). ltb-false _ _ high)
-    (cases_Bool (nat_lt a.parent b.parent))
+    (λ (high : nat_lt b.parent a.parent ≡ false). ltb-false _ _ high)
+    (cases_Bool (nat_lt b.parent a.parent))
 
 not_lt : (a b : ℕ) → b ≤ a → is_lt (nat_cmp a b) ≡ false
 not_lt a b h = grind (arith, nat_tests)
@@ -67,8 +66,8 @@ then_not_lt Equal Equal c x y z = z
 then_not_lt Equal Greater c x y z = refl
 then_not_lt Greater b c x y z = refl
 
-at_least : (stamp parent number object : ℕ) → object ≤ parent → is_lt (child_cmp (record { stamp = stamp; parent = parent; number = number }) (record { stamp = 0; parent = object; number = 0 })) ≡ false
-at_least stamp parent number object h = then_not_lt (nat_cmp parent object) (nat_cmp stamp 0) (nat_cmp number 0) (not_lt parent object h) (not_lt stamp 0 (omega arith)) (not_lt number 0 (omega arith))
+at_least : (stamp parent number object : ℕ) → parent ≤ object → is_lt (child_cmp (record { stamp = stamp; parent = parent; number = number }) (record { stamp = 0; parent = object; number = 0 })) ≡ false
+at_least stamp parent number object h = then_not_lt (nat_cmp object parent) (nat_cmp stamp 0) (nat_cmp number 0) (not_lt object parent h) (not_lt stamp 0 (omega arith)) (not_lt number 0 (omega arith))
 
 -- a row that moves, or goes, is the only one of its number
 module _ (n : ℕ) (row : Row) (rows : List Row) (links : List Child) (linked : AreLinked child_of rows links) (numbered : row.number ≡ n)
@@ -277,8 +276,8 @@ module _ (rows : List Row) (links : List Child) (linked : AreLinked child_of row
   pub none_next : (child : Child) → Some child ≡ first_from child_cmp links first → child.parent ≢ object → map (orphaned object) rows ≡ rows
   none_next child found other = is_orphan (λ r there has.
       let least = first_some child_total child_same links order first child (sym found) in
-      let low : object ≤ child.parent = not_below child first least.1 in
-      let high : child.parent ≤ order_of r.parent = not_below (child_of r) child (least.2 (child_of r) (stood r there) (child_link r has)) in
+      let low : child.parent ≤ object = not_below child first least.1 in
+      let high : order_of r.parent ≤ child.parent = not_below (child_of r) child (least.2 (child_of r) (stood r there) (child_link r has)) in
       other (omega (arith, low, high, order_same r.parent (Some object) has)))
 
   -- whose link is the first
@@ -301,20 +300,20 @@ module _ (rows : List Row) (links : List Child) (linked : AreLinked child_of row
       by (Some p) e = ap Some e
 
 -- the children of a parent stand together
-parents_rise : (list : List Child) → IsInOrder child_cmp list → IsNonDecreasingBy (λ (c : Child). c.parent) list
-parents_rise list order i j d le within = ⊎_elim
+parents_fall : (list : List Child) → IsInOrder child_cmp list → (i j : ℕ) (d : Child) → i ≤ j → j < length list → (get_or list j d).parent ≤ (get_or list i d).parent
+parents_fall list order i j d le within = ⊎_elim
     (λ (same : i ≡ j). omega (arith, ap (λ k. (get_or list k d).parent) same))
     (λ differ. not_below (get_or list j d) (get_or list i d) (ap is_lt (child_total.antisymm (get_or list j d) (get_or list i d) ∙ ap ordering_reverse (order i j d (omega (arith, le, differ)) within))))
     (cases_eq i j)
 
-pub parted : (list : List Child) → IsInOrder child_cmp list → (parent : ℕ) → IsPartitionedBy (λ (c : Child). nat_lt c.parent parent) list
-parted list order parent = IsPartitionedBy-ltb (λ (c : Child). c.parent) list parent (parents_rise list order)
+pub parted : (list : List Child) → IsInOrder child_cmp list → (parent : ℕ) → IsPartitionedBy (λ (c : Child). nat_le parent c.parent) list
+parted list order parent i j d le within later = le-leb _ _ (omega (arith, leb-true _ _ later, parents_fall list order i j d le within))
 
--- where the last one has a parent below this one, all have
-pub all_before : (list : List Child) → IsInOrder child_cmp list → (parent count : ℕ) (last : Child) → count ≡ length list → last ≡ get_or list (count - 1) last → last.parent < parent → (k : ℕ) (d : Child) → k < count → (get_or list k d).parent < parent
-all_before list order parent count last all is low k d lt =
-    let at_last : last.parent ≡ (get_or list (count - 1) d).parent = ap (λ (c : Child). c.parent) (is ∙ get_or_default list (count - 1) last d (omega (arith, all))) in
-    omega (arith, at_last, low, parents_rise list order k (count - 1) d (omega (arith, all)) (omega (arith, all)))
+-- where the first one has a parent below this one, all have
+pub all_below : (list : List Child) → IsInOrder child_cmp list → (parent : ℕ) (first : Child) → first ≡ get_or list 0 first → first.parent < parent → (k : ℕ) (d : Child) → k < length list → (get_or list k d).parent < parent
+all_below list order parent first is low k d lt =
+    let at_first : first.parent ≡ (get_or list 0 d).parent = ap (λ (c : Child). c.parent) (is ∙ get_or_default list 0 first d (omega (arith, lt))) in
+    omega (arith, at_first, low, parents_fall list order 0 k d (omega arith) lt)
 
 nobody : Child
 nobody = record { stamp = 0; parent = 0; number = 0 }
@@ -339,8 +338,8 @@ module _ {X : Type 0} where
       cond-false (p x) _ _ (before 0 x (omega arith)) ∙ (stretch p rest from to (omega arith) (omega arith) (λ k d h. before (suc k) d (omega arith)) (λ k d ge lt. in' (suc k) d (omega arith) (omega arith)) (λ k d ge lt. behind (suc k) d (omega arith) (omega arith)) ∙ sym (ap (λ n. take n (drop from rest)) short))
 
 module _ (list : List Child) (parent from to : ℕ) (within : to ≤ length list)
-    (before : (k : ℕ) (d : Child) → k < from → (get_or list k d).parent < parent) (behind : (k : ℕ) (d : Child) → from ≤ k → k < length list → parent ≤ (get_or list k d).parent)
-    (before_end : (k : ℕ) (d : Child) → k < to → (get_or list k d).parent < parent + 1) (behind_end : (k : ℕ) (d : Child) → to ≤ k → k < length list → parent + 1 ≤ (get_or list k d).parent) where
+    (before : (k : ℕ) (d : Child) → k < from → parent + 1 ≤ (get_or list k d).parent) (behind : (k : ℕ) (d : Child) → from ≤ k → k < length list → (get_or list k d).parent < parent + 1)
+    (before_end : (k : ℕ) (d : Child) → k < to → parent ≤ (get_or list k d).parent) (behind_end : (k : ℕ) (d : Child) → to ≤ k → k < length list → (get_or list k d).parent < parent) where
   pub group_order : from ≤ length list → from ≤ to
   group_order inside = ⊎_elim (λ lt. absurd (omega (arith, before to nobody lt, behind_end to nobody (omega arith) (omega arith)))) (λ ge. ge) (cases_lt to from)
 

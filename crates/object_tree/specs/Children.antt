@@ -1,6 +1,6 @@
 -- How the objects of the places are kept. No public clause cites this module.
 use Rattle.std.specs.Prelude.{ℕ, ◌≡◌, ◌<◌, List, Option, None, Some, length, map, slice_index_or}
-use Rattle.std.specs.Ordering.{nat_cmp, on, then_cmp}
+use Rattle.std.specs.Ordering.{flip_args, nat_cmp, on, then_cmp}
 use Rattle.std.specs.declared.cmp.Ordering.{Ordering}
 use Rattle.places.specs.Table.{Table}
 use Rattle.shared_rows.specs.Rows.{Keyed, rows_at}
@@ -20,9 +20,9 @@ order_of (Some number) = number
 abbrev pub child_of : Row → Child
 child_of row = record { stamp = row.stamp; parent = order_of row.parent; number = row.number }
 
--- by parent, and then by age
+-- the children of later parents first, the roots last, and by age those of one parent
 abbrev pub child_cmp : Child → Child → Ordering
-child_cmp = then_cmp (then_cmp (on (λ child. child.parent) nat_cmp) (on (λ child. child.stamp) nat_cmp)) (on (λ child. child.number) nat_cmp)
+child_cmp = then_cmp (then_cmp (on (λ child. child.parent) (flip_args nat_cmp)) (on (λ child. child.stamp) nat_cmp)) (on (λ child. child.number) nat_cmp)
 
 -- rows, whatever their keys
 abbrev pub rows_of : List (Keyed Row) → List Row

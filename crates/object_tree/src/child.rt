@@ -1,4 +1,4 @@
-//! The children of all parents in one order: by parent, and then by age.
+//! The children of all parents in one order: later parents first, and the children of one by age.
 ghost use Rattle.std.specs.Prelude.{◌≡◌, ◌<◌, ◌≤◌, ◌==◌, ℕ, filter, length, slice_index_or};
 ghost use Rattle.std.specs.VecDeque.Iter.{deque_iter_rest};
 ghost use Rattle.std.proofs.Common.{rules};
@@ -15,6 +15,11 @@ use std::collections::vec_deque::Iter;
 
 /// A child, with its parent and its age. The fields stand in this order so that they fill 16 bytes,
 /// which a removal moves fast.
+///
+/// In order, those of later parents stand first and the roots last. Where a child goes, the shorter side
+/// of the others moves: those behind it in blocks, those before it one by one. Most parents that lose a
+/// child in a deletion are recent, so that few stand before it; before the children of the others stand
+/// more than behind them.
 #[derive(Clone, Copy, PartialEq, Eq)]
 pub(crate) struct Child {
     pub(crate) stamp: u64,
@@ -33,8 +38,9 @@ impl Ord for Child {
     ghost matches_eq = { Prim.search (comparing, rules) };
 
     fn cmp(&self, other: &Child) -> Ordering {
-        self.parent
-            .cmp(&other.parent)
+        other
+            .parent
+            .cmp(&self.parent)
             .then(self.stamp.cmp(&other.stamp))
             .then(self.number.cmp(&other.number))
     }
@@ -43,14 +49,14 @@ impl Ord for Child {
 impl PartialOrd for Child {
     ghost partial_cmp = { as_partial_cmp child_cmp };
 
-    ghost laws = { partial_order_from_own_ties (Prim.search (comparing, rules)) (Prim.search (comparing, rules)) };
+    ghost laws = { partial_order_from_own_ties (Prim.search (comparing, rules) depth 7) (Prim.search (comparing, rules)) };
 
     fn partial_cmp(&self, other: &Child) -> Option<Ordering> {
         Some(self.cmp(other))
     }
 }
 
-/// The number of a parent, and 0 where there is none: the children of all parents stand in this order.
+/// The number of a parent, and 0 where there is none: a child of a greater one stands first.
 pub(crate) fn order_of(parent: Option<u32>) -> u32
     ensures { result ≡ order_of parent }
 {
@@ -74,21 +80,25 @@ pub(crate) fn group(children: &VecDeque<Child>, parent: u32) -> Iter<'_, Child>
     ensures { deque_iter_rest result ≡ filter (λ child. child.parent == parent) children.now.items }
 {
     let low = parent as u64;
-    let start = first_of(children, low);
-    let end = first_of(children, low + 1);
+    let start = count_from(children, low + 1);
+    let end = count_from(children, low);
     children.range(start..end)
 }
 
-/// How many have a parent below this one.
-fn first_of(children: &VecDeque<Child>, parent: u64) -> usize
+/// How many have this parent or a later one: they stand before all others. A parent above all that have
+/// children, as a new object is, needs no search, nor does 0, which none is below.
+fn count_from(children: &VecDeque<Child>, parent: u64) -> usize
     requires { IsInOrder child_cmp children.now.items }
     ensures within { result ≤ length children.now.items }
-    ensures before { (k : ℕ) (d : Child) → k < result → (slice_index_or children.now.items k d).parent < parent }
+    ensures before { (k : ℕ) (d : Child) → k < result → parent ≤ (slice_index_or children.now.items k d).parent }
     ensures behind { (k : ℕ) (d : Child) → result ≤ k → k < length children.now.items
-        → parent ≤ (slice_index_or children.now.items k d).parent }
+        → (slice_index_or children.now.items k d).parent < parent }
 {
-    match children.back() {
-        Some(last) if (last.parent as u64) < parent => children.len(),
-        _ => children.partition_point(|child| (child.parent as u64) < parent),
+    if parent == 0 {
+        return children.len();
+    }
+    match children.front() {
+        Some(first) if (first.parent as u64) < parent => 0,
+        _ => children.partition_point(|child| parent <= child.parent as u64),
     }
 }

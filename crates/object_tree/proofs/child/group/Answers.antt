@@ -3,7 +3,7 @@ use Rattle.object_tree.proofs.ChildLemmas.{group_between, group_order}
 use Rattle.object_tree.proofs.child.group.Goals as goal
 
 pub range-requires-clause-start_le_end : goal.range-requires-clause-start_le_end
-range-requires-clause-start_le_end c = group_order c.args.children.now.items c.args.parent c.first_of-start.result c.first_of-end.result c.first_of-end.ensures.within c.first_of-start.ensures.before c.first_of-start.ensures.behind c.first_of-end.ensures.before c.first_of-end.ensures.behind c.first_of-start.ensures.within
+range-requires-clause-start_le_end c = group_order c.args.children.now.items c.args.parent c.count_from-start.result c.count_from-end.result c.count_from-end.ensures.within c.count_from-start.ensures.before c.count_from-start.ensures.behind c.count_from-end.ensures.before c.count_from-end.ensures.behind c.count_from-start.ensures.within
 
 pub returns : goal.returns
-returns c = c.range.ensures.rest ∙ group_between c.args.children.now.items c.args.parent c.first_of-start.result c.first_of-end.result c.first_of-end.ensures.within c.first_of-start.ensures.before c.first_of-start.ensures.behind c.first_of-end.ensures.before c.first_of-end.ensures.behind c.first_of-start.ensures.within
+returns c = c.range.ensures.rest ∙ group_between c.args.children.now.items c.args.parent c.count_from-start.result c.count_from-end.result c.count_from-end.ensures.within c.count_from-start.ensures.before c.count_from-start.ensures.behind c.count_from-end.ensures.before c.count_from-end.ensures.behind c.count_from-start.ensures.within
