@@ -102,6 +102,22 @@ module _ {K : Type 0} {cmp : K → K → Ordering} (total : IsTotalOrder cmp) wh
           },
         )
 
+    -- and before them where the first one is above
+    pub seat_before : (first : K) → first ≡ get_or links 0 first → is_lt (cmp link first) ≡ true → IsSeat cmp links link (Err 0)
+    seat_before first is low =
+        let above_first : cmp link first ≡ Less = less_from (cmp link first) low in (
+          omega arith,
+          record {
+            below = λ k d from upto. absurd (omega arith);
+            above = λ k d from upto.
+                let same : first ≡ get_or links 0 d = is ∙ get_or_default links 0 first d (omega (arith, upto)) in
+                ⊎_elim
+                (λ (behind : 0 < k). total.trans link first (get_or links k d) above_first (subst (λ (l : K). cmp l (get_or links k d) ≡ Less) (sym same) (order 0 k d behind upto)))
+                (λ (at : k ≤ 0). let here : k ≡ 0 = omega arith in ap (λ i. cmp link (get_or links i d)) here ∙ (ap (λ l. cmp link l) (sym same) ∙ above_first))
+                (cases_lt 0 k);
+          },
+        )
+
     module _ (before from : ℕ) (upto : before ≤ from) (within : from ≤ length links) (between : IsBetween cmp links link before from) (middle : AllWithin (λ other. cmp other link ≡ Equal) links before from) where
       not_below : AllWithin (λ other. is_lt (cmp other link) ≡ false) links before (length links)
       not_below = λ k d low high. ⊎_elim

@@ -135,13 +135,25 @@ impl<K: Ord + Copy> Links<K> {
     }
 }
 
-/// Where a link stands, or where it would stand: most come behind all others.
+/// Where a link stands, or where it would stand: most that come in do so behind all others or before
+/// them, where no search is needed.
 fn seat<K: Ord + Copy>(links: &VecDeque<K>, link: K) -> Result<usize, usize>
     requires { IsInOrder K.cmp links.now.items }
     ensures { IsSeat K.cmp links.now.items link result }
 {
     match links.back() {
         Some(last) if last.cmp(&link).is_lt() => Err(links.len()),
+        _ => seat_from_front(links, link),
+    }
+}
+
+/// The same, with the look at the first link alone.
+fn seat_from_front<K: Ord + Copy>(links: &VecDeque<K>, link: K) -> Result<usize, usize>
+    requires { IsInOrder K.cmp links.now.items }
+    ensures { IsSeat K.cmp links.now.items link result }
+{
+    match links.front() {
+        Some(first) if link.cmp(first).is_lt() => Err(0),
         _ => links.binary_search(&link),
     }
 }

@@ -1,6 +1,6 @@
-use Rattle.std.proofs.Common.{◌<◌, ◌≡◌, ◌-◌, true, deque_len, refl, rules}
+use Rattle.std.proofs.Common.{◌<◌, ◌≡◌, true, deque_len, refl, rules}
 use Rattle.std.specs.Ordering.{is_lt}
-use Rattle.shared_rows.proofs.LinkLemmas.{seat_behind, seat_found}
+use Rattle.shared_rows.proofs.LinkLemmas.{seat_behind}
 use Rattle.shared_rows.proofs.links.seat.Goals as goal
 
 pub returns-in-Some : goal.returns-in-Some
@@ -8,6 +8,3 @@ returns-in-Some g c =
     let some : 0 < deque_len c.args.links.now = c.in-Some.ensures.variant.0 refl in
     let low : is_lt (g.K.Ord.cmp c.in-Some.last.now c.args.link) ≡ true = search rules in
     rw c.len.ensures (seat_behind g.met.K.Ord.total c.args.links.now.items c.requires c.args.link (deque_len c.args.links.now) c.in-Some.last.now c.args.links.now.ok.0 some c.in-Some.ensures.lookup low)
-
-pub returns-in_default : goal.returns-in_default
-returns-in_default g c = seat_found g.met.K.Ord.total c.args.links.now.items c.requires c.args.link c.binary_search.result (rw c.args.links.now.ok.0 at c.binary_search.ensures.bound) c.binary_search.ensures.position
