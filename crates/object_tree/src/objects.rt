@@ -228,8 +228,7 @@ impl Objects {
         requires sound { IsSound (forest_at self.old place) }
         ensures { self.new ≡ with_forest self.old place (removed (forest_at self.old place) number) }
     {
-        if let Some(key) = self.rows.find(place, number as u64) {
-            let row = self.rows.remove(place, key);
+        if let Some(row) = self.rows.take(place, number as u64) {
             self.kinships.get_mut(place).children.remove(child_of(row));
             self.orphan(place, number);
         }

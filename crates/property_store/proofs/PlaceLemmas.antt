@@ -1,8 +1,7 @@
 -- The stores of places in rows.
-use Rattle.std.proofs.Common.{◌≡◌, ◌∙◌, ℕ, ◌<◌, ◌==◌, nat_lt, not, Bool, true, false, cond, List, [], ◌∷◌, ◌++◌, Some, None, filter, find, length, get_or, refl, sym, ap, subst, arith, ⊎_elim}
+use Rattle.std.proofs.Common.{◌≡◌, ◌∙◌, ℕ, ◌<◌, ◌==◌, nat_lt, not, Bool, true, false, cond, List, [], ◌∷◌, ◌++◌, Some, None, filter, find, length, get_or, refl, sym, ap, subst, arith}
 use Rattle.std.specs.List.{AllPairs}
 use Rattle.std.specs.Option.{option_map}
-use Rattle.std.proofs.lemmas.Bool.{cases_Bool, eq-eqb}
 use Rattle.std.proofs.lemmas.List.{get_or-map, length-map, map-set}
 use Rattle.std.proofs.lemmas.List.Elements.{All-append, All-filter, All-map, All-set}
 use Rattle.places.specs.Table.{IsPlace, Table, with_place}
@@ -15,7 +14,7 @@ use Rattle.property_store.specs.Inside.{AreKept, AreRows, row_of, shelves_of, sh
 use Rattle.property_store.specs.Store.{AreSound, Properties, Store, added, changed, fields_in, fresh, properties_of}
 use Rattle.property_store.specs.Store as store
 use Rattle.property_store.specs.Table.{Shelves, store_at, with_store}
-use Rattle.property_store.proofs.ListLemmas.{found, map_at, map_over_map, map_same, mapped, unmapped}
+use Rattle.property_store.proofs.ListLemmas.{found, map_same, mapped, unmapped}
 use Rattle.property_store.proofs.KindLemmas.{fresh_sound}
 use Rattle.property_store.proofs.StoreLemmas.{IsRowOf, absent_none, absent_unchanged, added_shown, changed_shown, number, properties_shown, row_stands, there}
 

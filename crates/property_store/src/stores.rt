@@ -231,8 +231,8 @@ impl Stores {
         requires { IsPlace self.old.table place }
         ensures { self.new ≡ with_store self.old place (without object (store_at self.old place)) }
     {
-        if let Some(key) = self.rows.find(place, object as u64) {
-            drop(self.rows.remove(place, key));
+        if let Some(row) = self.rows.take(place, object as u64) {
+            drop(row);
         }
     }
 

@@ -154,6 +154,33 @@ module _ {R N A : Type 0} where
     found_at n m at o found is same =
         subst (λ k. IsAt value index.items k at) same (MatchOption-at_some (Unit {0}) (IsAt value index.items n) at is found)
 
+    -- the row of a number stands where the entry of the number leads
+    pub record IsRowOf (n : ℕ) (entry : Entry N) (slot : Slot R) : Type 0 where
+      pub key : key_of number (rows_at table place) n ≡ Some entry.key
+      pub some : IsSome (row_under (rows_at table place) entry.key)
+      pub row : row_under (rows_at table place) entry.key ≡ Some slot.row
+      pub numbered : number slot.row ≡ n
+      pub stood : slot_at slots entry.key ≡ Some (record { place = place; row = slot.row })
+
+    entry_of : (o : Option (Entry N)) (entry : Entry N) (at : ℕ) → IfSome o (λ y. y ≡ get_or index.items at y) → o ≡ Some entry → entry ≡ get_or index.items at entry
+    entry_of o entry at value_is is = MatchOption-at_some (Unit {0}) (λ y. y ≡ get_or index.items at y) entry is value_is
+
+    pub key_some : (at n : ℕ) (o : Option (Entry N)) (entry : Entry N) → IsAt value index.items n at → IfSome o (λ y. y ≡ get_or index.items at y) → o ≡ Some entry → option_map number (row_under (rows_at table place) entry.key) ≡ Some n
+    key_some at n o entry is value_is entry_is = ap (λ (e : Entry N). option_map number (row_under (rows_at table place) e.key)) (entry_of o entry at value_is entry_is) ∙ number_stands at n entry is
+
+    pub row_of_number : (at n : ℕ) (o : Option (Entry N)) (entry : Entry N) (slot : Slot R) → IsAt value index.items n at → IfSome o (λ y. y ≡ get_or index.items at y) → o ≡ Some entry → slot_at slots entry.key ≡ Some slot → IsRowOf n entry slot
+    row_of_number at n o entry slot is value_is entry_is stands =
+        let numbers = key_some at n o entry is value_is entry_is in
+        let some = some_mapped number (row_under (rows_at table place) entry.key) n numbers in
+        let under = slot_under entry.key slot some stands in
+        record {
+          key = sym (ap (λ (e : Entry N). Some e.key) (entry_of o entry at value_is entry_is) ∙ number_found at n entry is);
+          some = some;
+          row = under.1;
+          numbered = same_Some (number slot.row) n (sym (ap (option_map number) under.1) ∙ numbers);
+          stood = stands ∙ ap (λ p. Some (record { place = p; row = slot.row })) under.0;
+        }
+
     pub none_there : rows_at table place ≡ [] → index.items ≡ []
     none_there empty = nil_from_length index.items (omega (arith, seen.count, index.ok.0, ap length empty))
 

@@ -1,5 +1,5 @@
 //! The rows of all places.
-ghost use Rattle.std.specs.Prelude.{◌≡◌, ◌≢◌, ◌^◌, ◌<◌, ◌≤◌, [], All, IfOk, IfSome, IsSome, None, OnOk, OnErr, Some, length, slice_index_or};
+ghost use Rattle.std.specs.Prelude.{◌≡◌, ◌≢◌, ◌^◌, ◌<◌, ◌≤◌, [], ℕ, All, IfNone, IfOk, IfSome, IsSome, None, OnOk, OnErr, Some, length, slice_index_or};
 ghost use Rattle.std.specs.Borrow.{MutBor};
 ghost use Rattle.std.specs.Fn.{FnOnceReturnsAtMut};
 ghost use Rattle.std.specs.Option.{option_map};
@@ -211,6 +211,23 @@ impl<R: Numbered> SharedRows<R> {
         let at = position(index, row.number().value()).unwrap();
         index.remove(at);
         row
+    }
+
+    /// Takes out the row with a number, where there is one, with one search.
+    pub fn take(&mut self, place: usize, number: u64) -> Option<R>
+        requires { IsPlace self.old place }
+        ensures taken { IfSome result (λ row. (key : ℕ) × (key_of R.number (rows_at self.old place) number ≡ Some key)
+            × (row_under (rows_at self.old place) key ≡ Some row) × (R.number row ≡ number)
+            × (self.new ≡ with_place self.old place (without (rows_at self.old place) key))) }
+        ensures absent { IfNone result (key_of R.number (rows_at self.old place) number ≡ None) }
+        ensures unchanged { IfNone result (self.new ≡ self.old) }
+        ensures sound { IsSound R.number (rows_at self.old place) }
+    {
+        let index = self.indexes.get_mut(place);
+        let at = position(index, number)?;
+        let entry = index.remove(at).unwrap();
+        let Slot { place: _, row } = self.slab.remove(entry.key as usize);
+        Some(row)
     }
 
     /// Takes out all rows of the place, and gives back the memory of its index. What its rows stood in

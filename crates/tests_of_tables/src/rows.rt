@@ -33,6 +33,7 @@ enum Call {
     /// A number, and by how much its row grows.
     Grow(u32, u32),
     Remove(u32),
+    Take(u32),
     /// The size of the row with a number.
     Size(u32),
     /// The numbers that stand, as the digits of one number.
@@ -67,6 +68,7 @@ impl Bench {
             Replace(number, size) => Ok(self.replace(place, Item { number, size }) as u64),
             Grow(number, by) => Ok(self.grow(place, number, by) as u64),
             Remove(number) => Ok(self.remove(place, number) as u64),
+            Take(number) => Ok(self.take(place, number) as u64),
             Size(number) => Ok(self.size(place, number) as u64),
             Left => Ok(self.left(place) as u64),
             Clear => {
@@ -142,6 +144,15 @@ impl Bench {
         }
     }
 
+    fn take(&mut self, place: usize, number: u32) -> u32
+        requires { place < length self.old.table.places }
+    {
+        match self.table.take(place, number as u64) {
+            Some(item) => item.size,
+            None => 0,
+        }
+    }
+
     fn size(&self, place: usize, number: u32) -> u32
         requires { place < length self.now.table.places }
     {
@@ -211,6 +222,14 @@ fn places_see_their_own_rows(rt: HostRuntime) -> Result<(), Fail> {
         (0, Size(3), 30),
         (0, Size(6), 15),
         (1, Left, 1),
+        (1, Size(1), 70),
+        // The least, one from the midst, and a number that does not stand.
+        (0, Take(1), 80),
+        (0, Take(4), 60),
+        (0, Take(5), 0),
+        (1, Take(6), 0),
+        (0, Left, 236),
+        (0, Size(3), 30),
         (1, Size(1), 70),
     ];
     let mut bench = Bench::new(rt.alloc())?;
