@@ -48,22 +48,20 @@ join_push c [] x some = absurd (omega arith)
 join_push c (y ∷ []) x some = refl
 join_push c (y ∷ z ∷ xs) x some = ap (λ t. y ++ (c ∷ t)) (join_push c (z ∷ xs) x (omega arith)) ∙ sym (append_assoc y (c ∷ join_with_byte c (z ∷ xs)) (c ∷ x))
 
--- what the kinds before the i-th give, and the i-th with its comma
-abbrev pub text_to : List ℕ → List Kind → ℕ → List ℕ
-text_to name kinds i = name ++ (codes "(" ++ join_with_byte 44 (map kind_name (take i kinds)))
+-- the names of the kinds before the i-th behind this text
+abbrev pub names_to : List ℕ → List Kind → ℕ → List ℕ
+names_to start kinds i = start ++ join_with_byte 44 (map kind_name (take i kinds))
 
 -- the first kind, and a further one behind a comma: `now` is the text after the step
-pub text_to_first : (name : List ℕ) (kinds items : List Kind) (i : ℕ) (d : Kind) (now before word : List ℕ) → items ≡ kinds → i < length items → i ≤ 0 → before ≡ text_to name kinds i → word ≡ kind_name (get_or items i d) → now ≡ before ++ word → now ≡ text_to name kinds (i + 1)
-text_to_first name kinds items i d now before word same within none kept named pushed =
+pub names_to_first : (start : List ℕ) (kinds : List Kind) (i : ℕ) (d : Kind) (now before word : List ℕ) → i < length kinds → i ≤ 0 → before ≡ names_to start kinds i → word ≡ kind_name (get_or kinds i d) → now ≡ before ++ word → now ≡ names_to start kinds (i + 1)
+names_to_first start kinds i d now before word within none kept named pushed =
     let first : i ≡ 0 = omega arith in
-    let inside : i < length kinds = omega (arith, ap length same) in
-    let names = map_more kind_name kinds i d inside in
-    rw (pushed, kept, named, same, names, first) (simp append_assoc)
+    let names = map_more kind_name kinds i d within in
+    rw (pushed, kept, named, names, first) (simp append_assoc)
 
-pub text_to_more : (name : List ℕ) (kinds items : List Kind) (i : ℕ) (d : Kind) (now before comma word : List ℕ) → items ≡ kinds → i < length items → 0 < i → before ≡ text_to name kinds i → comma ≡ codes "," → word ≡ kind_name (get_or items i d) → now ≡ (before ++ comma) ++ word → now ≡ text_to name kinds (i + 1)
-text_to_more name kinds items i d now before comma word same within later kept mark named pushed =
-    let inside : i < length kinds = omega (arith, ap length same) in
-    let names = map_more kind_name kinds i d inside in
+pub names_to_more : (start : List ℕ) (kinds : List Kind) (i : ℕ) (d : Kind) (now before comma word : List ℕ) → i < length kinds → 0 < i → before ≡ names_to start kinds i → comma ≡ codes "," → word ≡ kind_name (get_or kinds i d) → now ≡ (before ++ comma) ++ word → now ≡ names_to start kinds (i + 1)
+names_to_more start kinds i d now before comma word within later kept mark named pushed =
+    let names = map_more kind_name kinds i d within in
     let some : 0 < length (map kind_name (take i kinds)) = simp (length-map, length-take) (omega arith) in
     let joined = join_push 44 (map kind_name (take i kinds)) (kind_name (get_or kinds i d)) some in
-    rw (pushed, kept, mark, named, same, names, joined) (simp append_assoc)
+    rw (pushed, kept, mark, named, names, joined) (simp append_assoc)

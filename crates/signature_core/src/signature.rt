@@ -1,6 +1,7 @@
 //! Signatures: a method's name and the kinds of its parameters.
-ghost use Rattle.std.specs.Prelude.{◌≡◌, ◌↔◌, ◌++◌, List, Some, IsTrue, IfOk, string_bytes};
-ghost use Rattle.signature_core.specs.Kinds.{fits};
+ghost use Rattle.std.specs.Prelude.{◌≡◌, ◌↔◌, ◌++◌, List, Some, IsTrue, IfOk, map, string_bytes};
+ghost use Rattle.std.specs.List.{join_with_byte};
+ghost use Rattle.signature_core.specs.Kinds.{fits, kind_name};
 
 use crate::kind::Kind;
 use crate::reading::signature;
@@ -50,7 +51,6 @@ impl Signature {
 
     /// The signature as it is written with nothing that may be left out, such as
     /// `setText(QString,int)`. Two texts spell one signature where their normal texts are equal.
-    #[tactic(auto, using(crate::proofs::Normal::normal_text_read))]
     pub fn text(&self, alloc: Global) -> Result<String, AllocError>
         ensures text { IfOk result (λ text. string_bytes text
             ≡ normal_text self.now.name self.now.kinds) }
@@ -59,15 +59,24 @@ impl Signature {
     {
         let mut text = String::from_str(alloc, self.name.as_str())?;
         text.push('(')?;
-        for (index, kind) in self.kinds.as_slice().iter().enumerate() {
-            if index > 0 {
-                text.push(',')?;
-            }
-            text.push_str(kind.name())?;
-        }
+        push_names(&mut text, self.kinds.as_slice())?;
         text.push(')')?;
         Ok(text)
     }
+}
+
+/// Writes the kinds' names behind the text, with commas between them.
+fn push_names(text: &mut String, kinds: &[Kind]) -> Result<(), AllocError>
+    ensures pushed { IfOk result (λ _. string_bytes text.new
+        ≡ string_bytes text.old ++ join_with_byte 44 (map kind_name kinds.now)) }
+{
+    for (index, kind) in kinds.iter().enumerate() {
+        if index > 0 {
+            text.push(',')?;
+        }
+        text.push_str(kind.name())?;
+    }
+    Ok(())
 }
 
 /// Whether a slot with these parameters can be connected to a signal with those: the slot's kinds
