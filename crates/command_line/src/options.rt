@@ -64,7 +64,7 @@ fn metad_command<'a>(alloc: Global) -> Result<Command<'a>, AllocError>
         .arg(turns)
 }
 
-const ABOUT: &str = "metad 0.7.0, proved with rattle-kit-13f logic dac8208d650f15bf
+const ABOUT: &str = "metad 0.7.0, proved with rattle-kit-13b logic dac8208d650f15bf
 
 A server of live objects with the meta-object system of Qt 6, in isolated
 sessions. It reads commands from standard input, one JSON object a line, and
