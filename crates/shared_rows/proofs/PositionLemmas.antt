@@ -1,39 +1,21 @@
 -- What a search by number finds.
-use Rattle.std.proofs.Common.{◌≡◌, ◌∙◌, ℕ, ◌+◌, ◌<◌, ◌≤◌, true, false, nat_lt, List, length, Result, Ok, Err, IfSome, IfNone, slice_index_or, ◌-◌, arith, sym, ap, subst, ⊎_elim}
+use Rattle.std.proofs.Common.{◌≡◌, ◌∙◌, ◌⊎◌, ℕ, zero, suc, ◌+◌, ◌<◌, ◌≤◌, true, false, nat_lt, List, length, slice_index_or, ◌-◌, min, arith, sym, ap, subst, ⊎_elim}
 use Rattle.std.specs.List.{AllWithin, insert}
-use Rattle.std.specs.List.Sorted.{IsSearchInRange, IsBinarySearchResult, IsNonDecreasingBy, IsPartitionPoint, IsPartitionedBy}
-use Rattle.std.specs.Ordering.{nat_cmp, ordering_index}
-use Rattle.std.specs.Result.{result_ok}
+use Rattle.std.specs.List.Sorted.{IsNonDecreasingBy, IsPartitionPoint, IsPartitionedBy}
 use Rattle.std.proofs.lemmas.Bool.{cases_lt, ltb-false, ltb-true}
-use Rattle.std.proofs.lemmas.Bool.Decides.{nat_tests}
-use Rattle.std.proofs.lemmas.Cmp.{ranked}
 use Rattle.std.proofs.lemmas.List.{get_or_default}
 use Rattle.std.proofs.lemmas.List.Edits.{get_or-insert_above, get_or-insert_at, get_or-insert_below, length-insert}
 use Rattle.std.proofs.lemmas.List.Sorted.{IsPartitionedBy-ltb}
 use Rattle.shared_rows.specs.declared.index.Entry.{Entry}
-use Rattle.shared_rows.specs.Index.{HasNot, IsAt, IsCountBelow, IsRisingIndex}
+use Rattle.shared_rows.specs.declared.index.Window.{Window}
+use Rattle.shared_rows.specs.Index.{HasNot, IsCountBelow, IsRisingIndex, IsWindow}
+
+pub least_below : (guess ahead count : ℕ) → guess ≡ min ahead (count - 1) → 0 < count → guess < count
+least_below guess ahead count least some = grind (arith, least)
 
 module _ {N : Type 0} (value : N → ℕ) (entries : List (Entry N)) (rising : IsRisingIndex value entries) (number : ℕ) where
   abbrev number_at : ℕ → Entry N → ℕ
   number_at k default = value (slice_index_or entries k default).number
-
-  -- the comparisons with a number rise along the entries
-  comparisons_rise : IsNonDecreasingBy (λ entry. ordering_index (nat_cmp (value entry.number) number)) entries
-  comparisons_rise i j default upto in_range =
-      let rise : number_at i default ≤ number_at j default = grind (arith, rising i j default, λ (same : i ≡ j). ap (λ k. number_at k default) same) in
-      grind (arith, nat_tests)
-
-  -- a binary search ends at the entry of the number, or there is none
-  pub searched : (r : Result ℕ ℕ) → IsSearchInRange r (length entries) → IsBinarySearchResult (λ entry. nat_cmp (value entry.number) number) entries r
-      → record { found : IfSome (result_ok r) (IsAt value entries number); absent : IfNone (result_ok r) (HasNot value entries number) }
-  searched (Ok at) in_range equal = record { found = record { in_range = in_range; is = λ default. ranked _ number _ (sym (equal default)) }; absent = tt }
-  searched (Err at) in_range parted = record {
-    found = tt;
-    absent = λ k default within same. ⊎_elim
-        (λ (below : k < at). let smaller : number_at k default < number = ranked _ number _ (sym ((parted comparisons_rise).0 k default (omega arith) below)) in absurd (omega (arith, smaller, same)))
-        (λ (above : at ≤ k). let greater : number < number_at k default = ranked _ number _ (sym ((parted comparisons_rise).1 k default above within)) in absurd (omega (arith, greater, same)))
-        (cases_lt k at);
-  }
 
   numbers_rise : IsNonDecreasingBy (λ entry. value entry.number) entries
   numbers_rise i j default upto in_range = grind (arith, rising i j default, λ (same : i ≡ j). ap (λ k. number_at k default) same)
@@ -44,11 +26,77 @@ module _ {N : Type 0} (value : N → ℕ) (entries : List (Entry N)) (rising : I
       let at_first : value first.number ≡ number_at 0 d = ap (λ (entry : Entry N). value entry.number) (is ∙ get_or_default entries 0 first d (omega arith)) in
       omega (arith, at_first, low, same, numbers_rise 0 k d (omega arith) within)
 
-  -- nor above the last one
-  pub none_behind : (count : ℕ) (last : Entry N) → count ≡ length entries → last ≡ slice_index_or entries (count - 1) last → value last.number < number → HasNot value entries number
-  none_behind count last all is low k d within same =
-      let at_last : value last.number ≡ number_at (count - 1) d = ap (λ (entry : Entry N). value entry.number) (is ∙ get_or_default entries (count - 1) last d (omega (arith, all))) in
-      omega (arith, at_last, low, same, numbers_rise k (count - 1) d (omega (arith, all)) (omega (arith, all)))
+  -- two entries are no farther apart than their numbers
+  spread : (j i : ℕ) (d : Entry N) → i ≤ j → j < length entries → number_at i d + (j - i) ≤ number_at j d
+  spread zero i d le within = let same : i ≡ 0 = omega (arith, le) in omega (arith, same, ap (λ k. number_at k d) same)
+  spread (suc j) i d le within = ⊎_elim
+      (λ (below : i < suc j). let step : number_at j d < number_at (suc j) d = rising j (suc j) d (omega arith) within in omega (arith, below, step, spread j i d (omega (arith, below)) (omega (arith, within))))
+      (λ (here : suc j ≤ i). let same : i ≡ suc j = omega (arith, le, here) in omega (arith, same, ap (λ k. number_at k d) same))
+      (cases_lt i (suc j))
+
+  -- what a look at a position sees
+  pub there_at : (at there : ℕ) (entry : Entry N) → entry ≡ slice_index_or entries at entry → at < length entries → there ≡ value entry.number → (d : Entry N) → number_at at d ≡ there
+  there_at at there entry is within same d = sym (same ∙ ap (λ (e : Entry N). value e.number) (is ∙ get_or_default entries at entry d within))
+
+  -- at first all positions are left
+  pub all_left : (count guess : ℕ) → count ≡ length entries → guess < count → IsWindow value entries number (record { low = 0; high = count; guess = guess })
+  all_left count guess all within = record {
+    in_range = omega (arith, all);
+    guess = λ some. (omega arith, within);
+    only = λ k d inside same. (omega arith, omega (arith, all, inside));
+  }
+
+  -- and where none is left there is no entry
+  pub none_left : (window : Window) → IsWindow value entries number window → window.high ≤ window.low → HasNot value entries number
+  none_left window left empty k d within same = let only = left.only k d within same in omega (arith, empty, only.0, only.1)
+
+  module _ (window : Window) (left : IsWindow value entries number window) (at there : ℕ) (low : window.low ≤ at) (high : at < window.high) (is : (d : Entry N) → number_at at d ≡ there) where
+    -- an entry below leaves those behind it
+    pub left_behind : (behind : ℕ) → there < number → behind ≡ min (number - there) (window.high - 1 - at) → IsWindow value entries number (record { low = at + 1; high = at + behind + 1; guess = at + behind })
+    left_behind behind below least = record {
+      in_range = omega (arith, left.in_range, high, most);
+      guess = λ some. (omega (arith, some), omega arith);
+      only = λ k d within same.
+          let only = left.only k d within same in
+          ⊎_elim
+          (λ (later : at < k). (
+            omega (arith, later),
+            ⊎_elim
+                (λ (near : k < at + behind + 1). near)
+                (λ (far : at + behind + 1 ≤ k). absurd (omega (arith, far, only.1, is d, same, spread k at d (omega (arith, later)) within, which)))
+                (cases_lt k (at + behind + 1)),
+          ))
+          (λ (upto : k ≤ at). absurd (omega (arith, below, is d, same, numbers_rise k at d upto (omega (arith, high, left.in_range)))))
+          (cases_lt at k);
+    }
+      where
+        most : behind ≤ window.high - 1 - at
+        most = grind (arith, least)
+
+        which : (behind ≡ number - there) ⊎ (behind ≡ window.high - 1 - at)
+        which = grind (arith, least)
+
+    -- and one above those before it
+    pub left_before : (before : ℕ) → number < there → before ≡ min (there - number) (at - window.low) → IsWindow value entries number (record { low = at - before; high = at; guess = at - before })
+    left_before before above least = record {
+      in_range = omega (arith, left.in_range, high);
+      guess = λ some. (omega arith, some);
+      only = λ k d within same.
+          let only = left.only k d within same in
+          ⊎_elim
+          (λ (earlier : k < at). (
+            ⊎_elim
+                (λ (far : k < at - before). absurd (omega (arith, far, only.0, is d, same, spread at k d (omega (arith, earlier)) (omega (arith, high, left.in_range)), which)))
+                (λ (near : at - before ≤ k). near)
+                (cases_lt k (at - before)),
+            earlier,
+          ))
+          (λ (from : at ≤ k). absurd (omega (arith, above, is d, same, numbers_rise at k d from within)))
+          (cases_lt k at);
+    }
+      where
+        which : (before ≡ there - number) ⊎ (before ≡ at - window.low)
+        which = grind (arith, least)
 
   -- what a split by a number counts
   pub parted : IsPartitionedBy (λ entry. nat_lt (value entry.number) number) entries

@@ -6,6 +6,7 @@ use Rattle.std.specs.Option.{option_map}
 use Rattle.shared_rows.specs.Rows.{Keyed}
 use Rattle.shared_rows.specs.declared.index.Entry.{Entry}
 use Rattle.shared_rows.specs.declared.index.Slot.{Slot}
+use Rattle.shared_rows.specs.declared.index.Window.{Window}
 
 module _ {R N : Type 0} where
   -- what an index shows: the row that each entry's slot holds, with its key
@@ -27,6 +28,12 @@ module _ {N : Type 0} (value : N → ℕ) where
   -- no entry has the number
   abbrev pub HasNot : List (Entry N) → ℕ → Type 0
   HasNot entries number = All (λ entry. value entry.number ≢ number) entries
+
+  -- only in this window can an entry of the number stand, and the guess is in it
+  pub record IsWindow (entries : List (Entry N)) (number : ℕ) (window : Window) : Type 0 where
+    pub in_range : window.high ≤ length entries
+    pub guess : window.low < window.high → (window.low ≤ window.guess) × (window.guess < window.high)
+    pub only : (k : ℕ) (default : Entry N) → k < length entries → value (slice_index_or entries k default).number ≡ number → (window.low ≤ k) × (k < window.high)
 
   -- so many entries, the first ones, are below a number
   pub record IsCountBelow (entries : List (Entry N)) (number count : ℕ) : Type 0 where

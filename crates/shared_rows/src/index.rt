@@ -1,6 +1,6 @@
 //! Where the rows of one place stand.
-ghost use Rattle.std.specs.Prelude.{IfSome, IfNone, IsTrue};
-ghost use Rattle.shared_rows.specs.Index.{IsAt, IsCountBelow, IsRisingIndex, HasNot};
+ghost use Rattle.std.specs.Prelude.{◌-◌, ◌<◌, ◌≤◌, IfErr, IfOk, IfSome, IfNone};
+ghost use Rattle.shared_rows.specs.Index.{IsAt, IsCountBelow, IsRisingIndex, IsWindow, HasNot};
 
 use crate::number::Number;
 use std::collections::VecDeque;
@@ -19,42 +19,88 @@ pub(crate) struct Entry<N> {
     pub(crate) key: u32,
 }
 
-/// Where the entry with a number stands. Where no row between it and the first one was taken out, or
-/// none between it and the last one, it is as far from that one as their numbers differ.
+/// Where an entry can stand: from `low` on and before `high`, and most likely at `guess`.
+#[derive(Clone, Copy, Debug)]
+pub(crate) struct Window {
+    low: usize,
+    high: usize,
+    guess: usize,
+}
+
+/// Where the entry with a number stands. As numbers differ, it is no farther from another entry than
+/// their numbers are, and just as far where none between the two was taken out: the first entry gives a
+/// guess, and so does each one that is looked at. Every other look is at the middle of what is left.
 pub(crate) fn position<N: Number>(entries: &VecDeque<Entry<N>>, number: u64) -> Option<usize>
     requires { IsRisingIndex N.value entries.now.items }
     ensures found { IfSome result (IsAt N.value entries.now.items number) }
     ensures absent { IfNone result (HasNot N.value entries.now.items number) }
 {
     let first = entries.front()?.number.value();
-    let last = entries.back()?.number.value();
-    if number < first || last < number {
+    if number < first {
         return None;
     }
-    let ahead = (number - first) as usize;
-    if is_at(entries, ahead, number) {
-        return Some(ahead);
-    }
-    let behind = (last - number) as usize;
-    if behind < entries.len() {
-        let at = entries.len() - 1 - behind;
-        if is_at(entries, at, number) {
-            return Some(at);
+    let high = entries.len();
+    let mut window = Window {
+        low: 0,
+        high,
+        guess: (number - first).min((high - 1) as u64) as usize,
+    };
+    let mut is_guess = true;
+    'looks: while window.low < window.high {
+        let at = if is_guess {
+            window.guess
+        } else {
+            middle(window)
+        };
+        match look(entries, number, window, at) {
+            Ok(at) => return Some(at),
+            Err(rest) => window = rest,
         }
+        is_guess = !is_guess;
     }
-    entries
-        .binary_search_by_key(&number, |entry| entry.number.value())
-        .ok()
+    None
 }
 
-/// Whether an entry with a number stands at a position.
-fn is_at<N: Number>(entries: &VecDeque<Entry<N>>, at: usize, number: u64) -> bool
-    ensures { IsTrue result → IsAt N.value entries.now.items number at }
+/// The position in the middle of a window.
+fn middle(window: Window) -> usize
+    requires { window.low < window.high }
+    ensures { (window.low ≤ result) × (result < window.high) }
 {
-    match entries.get(at) {
-        Some(entry) => entry.number.value() == number,
-        None => false,
+    window.low + (window.high - window.low) / 2
+}
+
+/// Looks at a position of a window: it is the one of the number, or a narrower window is left.
+fn look<N: Number>(
+    entries: &VecDeque<Entry<N>>,
+    number: u64,
+    window: Window,
+    at: usize,
+) -> Result<usize, Window>
+    requires rising { IsRisingIndex N.value entries.now.items }
+    requires window { IsWindow N.value entries.now.items number window }
+    requires within { (window.low ≤ at) × (at < window.high) }
+    ensures found { IfOk result (IsAt N.value entries.now.items number) }
+    ensures rest { IfErr result (IsWindow N.value entries.now.items number) }
+    ensures less { IfErr result (λ rest. rest.high - rest.low < window.high - window.low) }
+{
+    let there = entries[at].number.value();
+    if there == number {
+        return Ok(at);
     }
+    if there < number {
+        let behind = (number - there).min((window.high - 1 - at) as u64) as usize;
+        return Err(Window {
+            low: at + 1,
+            high: at + behind + 1,
+            guess: at + behind,
+        });
+    }
+    let before = (there - number).min((at - window.low) as u64) as usize;
+    Err(Window {
+        low: at - before,
+        high: at,
+        guess: at - before,
+    })
 }
 
 /// How many entries have a number below this one, which is where its own would stand.

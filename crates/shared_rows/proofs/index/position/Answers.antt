@@ -1,29 +1,21 @@
-use Rattle.std.proofs.Common.{◌<◌, rules}
-use Rattle.std.proofs.lemmas.List.Sorted.{answers_always}
-use Rattle.shared_rows.specs.declared.index.Entry.{Entry}
-use Rattle.shared_rows.proofs.PositionLemmas.{none_before, none_behind, searched}
+use Rattle.std.proofs.Common.{◌-◌, ◌<◌, deque_len, arith, refl}
+use Rattle.shared_rows.proofs.PositionLemmas.{all_left, least_below, none_before}
 use Rattle.shared_rows.proofs.index.position.Goals as goal
-use Rattle.shared_rows.proofs.index.position.Goals.{then-number-first-via-then-number-first, then-number-first-via-else-number-first+then-last-number}
+use Rattle.shared_rows.proofs.index.position.Goals.{else-is_guess, then-is_guess}
 
 pub returns-then-number-first-clause-absent : goal.returns-then-number-first-clause-absent
-returns-then-number-first-clause-absent g c = elim c.then-number-first.branch [
-  | then-number-first-via-then-number-first w ↦
-      let low : c.args.number < g.N.Number.value c.in_ok-front.field-0.now.number = search rules in
-      none_before g.N.Number.value c.args.entries.now.items c.requires c.args.number c.in_ok-front.field-0.now c.in_ok-front.ensures.lookup low
-  | then-number-first-via-else-number-first+then-last-number w ↦
-      let low : g.N.Number.value c.in_ok-back.field-0.now.number < c.args.number = search rules in
-      none_behind g.N.Number.value c.args.entries.now.items c.requires c.args.number _ c.in_ok-back.field-0.now c.args.entries.now.ok.0 c.in_ok-back.ensures.lookup low
+returns-then-number-first-clause-absent g c =
+    let low : c.args.number < g.N.Number.value c.in_ok-front.field-0.now.number = omega (arith, c.if-number-first.true, c.value-first.ensures) in
+    none_before g.N.Number.value c.args.entries.now.items c.requires c.args.number c.in_ok-front.field-0.now c.in_ok-front.ensures.lookup low
+
+pub looks-init : goal.looks-init
+looks-init g c =
+    let some : 0 < deque_len c.args.entries.now = c.in_ok-front.ensures.variant.0 refl in
+    all_left g.N.Number.value c.args.entries.now.items c.requires c.args.number c.len-high.result c.min.result (omega (arith, c.len-high.ensures, c.args.entries.now.ok.0))
+    (least_below c.min.result (c.args.number - c.value-first.result) c.len-high.result c.min.ensures (omega (arith, some, c.len-high.ensures)))
+
+pub look-requires-clause-within : goal.look-requires-clause-within
+look-requires-clause-within g c = elim c.if-is_guess.branch [
+  | then-is_guess w ↦ rw w.at-is (c.looks.invariant.guess c.looks-test.true)
+  | else-is_guess w ↦ rw w.at-is w.middle-at.ensures
 ]
-
--- the closure gives an entry's number
-pub returns-clause-found : goal.returns-clause-found
-returns-clause-found g c =
-    let facts = c.binary_search_by_key.ensures in
-    let by_number = facts.position (λ (entry : Entry g.row.N.Denot). g.N.Number.value entry.number) (answers_always _ _ _ (λ f a r k called. search rules)) in
-    rw c.ok.ensures.value (searched g.N.Number.value c.args.entries.now.items c.requires c.args.number c.binary_search_by_key.result (rw c.args.entries.now.ok.0 at facts.bound) by_number).found
-
-pub returns-clause-absent : goal.returns-clause-absent
-returns-clause-absent g c =
-    let facts = c.binary_search_by_key.ensures in
-    let by_number = facts.position (λ (entry : Entry g.row.N.Denot). g.N.Number.value entry.number) (answers_always _ _ _ (λ f a r k called. search rules)) in
-    rw c.ok.ensures.value (searched g.N.Number.value c.args.entries.now.items c.requires c.args.number c.binary_search_by_key.result (rw c.args.entries.now.ok.0 at facts.bound) by_number).absent
