@@ -1,13 +1,11 @@
 -- What becomes of properties that are written, and what is to be sent for it.
-use Rattle.std.proofs.Common.{◌≡◌, ◌==◌, ◌<◌, ℕ, Bool, true, false, cond, List, [], ◌∷◌, Option, Some, None, Result, Ok, Err, OnErr, OnOk, find, map, set, length, get_or, slice_get, refl, sym, ap, subst, ◌∙◌, if◌then◌else◌}
+use Rattle.std.proofs.Common.{◌≡◌, ◌==◌, ◌<◌, ℕ, Bool, true, false, cond, List, [], ◌∷◌, Option, Some, None, Result, Ok, Err, OnErr, OnOk, find, set, length, slice_get, refl, sym, ap, subst, ◌∙◌, if◌then◌else◌}
 use Rattle.std.specs.Prelude.{option_map, option_and_then, not}
 use Rattle.std.specs.List.{filter_map}
 use Rattle.std.specs.Option.{ok_or, option_map_or}
-use Rattle.std.specs.Result.{result_err}
 use Rattle.std.proofs.lemmas.List.{get_or-set_same, length-set}
 use Rattle.std.proofs.lemmas.Option.{slice_get-get_or, slice_get_within}
 use Rattle.refusals.specs.Answers.{RefusedBy}
-use Rattle.refusals.specs.declared.code.Code.{Code}
 use Rattle.refusals.specs.declared.code.Code.TheVariants.{BadValue}
 use Rattle.refusals.specs.declared.fault.Fault.{Fault}
 use Rattle.refusals.specs.declared.fault.Fault.TheVariants.{Refused, Memory}
@@ -16,12 +14,14 @@ use Rattle.variant_value.specs.declared.value.Value.{Value}
 use Rattle.variant_value.specs.declared.value.Value.TheVariants as v
 use Rattle.variant_value.specs.Values.{converted, is_same}
 use Rattle.property_store.specs.Store.{Properties, Store, changed, dynamic_refusal, is_change, properties_of, value_at, with_value}
-use Rattle.object_tree.specs.Rows.{is_there}
+use Rattle.class_table.specs.Lookup.{properties}
+use Rattle.object_tree.specs.declared.row.Row.{Row}
+use Rattle.object_tree.specs.Rows.{is_there, row_of}
 use Rattle.term_core.specs.declared.action.Effect.TheVariants as e
 use Rattle.term_core.specs.declared.target.Target.{Target}
 use Rattle.term_core.specs.Term.{Term}
-use Rattle.thread_model.specs.Doing.{Doing, in_state}
-use Rattle.thread_model.specs.Items.{Emit, Item, puts}
+use Rattle.thread_model.specs.Doing.{in_state}
+use Rattle.thread_model.specs.Items.{Emit, puts}
 use Rattle.thread_model.specs.Methods.{Found, ◌>>=◌}
 use Rattle.thread_model.specs.Settings.{Settings}
 use Rattle.thread_model.specs.State.{State}
@@ -29,6 +29,7 @@ use Rattle.thread_model.specs.Targets.{evaluated, object_of}
 use Rattle.thread_model.proofs.ActionLemmas.{set_done, set_faulty}
 use Rattle.thread_model.specs.Writing.{Change, Declared, Dynamic, Place, Writing, acted_writing, changes, declared, dynamic_writing, notification, property_at, short, told_value, with_writing}
 use Rattle.session_tables.specs.declared.tables.Tables.{Tables}
+use Rattle.session_tables.specs.Classes.{HasClass}
 use Rattle.session_tables.specs.Refused.{OnRefused}
 use Rattle.session_tables.specs.Tables.{IsPlaced, state_at, with_state}
 use Rattle.session_tables.proofs.TablesLemmas.{state_with}
@@ -88,6 +89,18 @@ noticed object number signal = option_map (λ signal. record { object = object; 
 abbrev pub signal_of : Settings → State → ℕ → ℕ → Option ℕ
 signal_of settings state object number = option_and_then (λ property. property.notify) (property_at settings state object number)
 
+-- the signal that tells of changes of a property that a class declares
+abbrev pub signal_in : Settings → ℕ → ℕ → Option ℕ
+signal_in settings class number = option_and_then (λ property. property.notify) (slice_get (properties settings.classes class) number)
+
+-- an object has the signals that its class declares
+signal_by_class : (settings : Settings) (state : State) (object class number : ℕ) → HasClass state object class → signal_in settings class number ≡ signal_of settings state object number
+signal_by_class settings state object class number has = ap (option_and_then (λ property. property.notify)) (by (row_of state.forest.rows object) has)
+  where
+    by : (found : Option Row) → option_map (λ row. row.class) found ≡ Some class → slice_get (properties settings.classes class) number ≡ option_and_then (λ row. slice_get (properties settings.classes row.class) number) found
+    by None e = absurd (cc)
+    by (Some row) e = let same : class ≡ row.class = cc in ap (λ class. slice_get (properties settings.classes class) number) same
+
 -- what tells of one change is sent, where there is such a signal
 told_one : (settings : Settings) (state : State) (depth : ℕ) (change : Change) (signal : Option ℕ) → standing state change.object change.number ≡ Some change
     → items_of settings state depth (noticed change.object change.number signal)
@@ -120,13 +133,13 @@ module _ (caller : Caller) (object : ℕ) (old new : Tables) (placed : IsPlaced 
     writes_same same = writes_silently (Declared number value) (ap (λ (b : Bool). if b then change ∷ [] else []) same) e
 
     -- a declared property that has changed is told of
-    pub writes_change : is_change before.store object number value ≡ true → (told : Option Notice) → told ≡ noticed object number (signal_of (settings_of caller.setup.now) (state_at new caller.place) object number)
+    pub writes_change : is_change before.store object number value ≡ true → (class : ℕ) → HasClass before object class → (told : Option Notice) → told ≡ noticed object number (signal_in (settings_of caller.setup.now) class number)
         → Writes caller object (Declared number value) old told new
-    writes_change is told noted = λ depth doing.
+    writes_change is class has told noted = λ depth doing.
         let settings = settings_of caller.setup.now in
         let stood = changed_from (value_at before.store object number) _ is in
         let stands : standing after object number ≡ Some change = ap (option_map (λ value. record { object = object; number = number; value = value })) (value_written before.store object number stood.0 value stood.1) in
-        let wanted : told ≡ noticed object number (signal_of settings after object number) = noted ∙ ap (λ state. noticed object number (signal_of settings state object number)) is_after in
+        let wanted : told ≡ noticed object number (signal_of settings after object number) = noted ∙ ap (noticed object number) (signal_by_class settings after object class number has) in
         ap (λ (b : Bool). puts (filter_map (notification settings after depth) (if b then change ∷ [] else [])) (in_state doing after)) is
         ∙ ap (λ items. puts items (in_state doing after)) (sym (told_one settings after depth change (signal_of settings after object number) stands))
         ∙ ap (λ told. puts (items_of settings after depth told) (in_state doing after)) (sym wanted)

@@ -1,9 +1,11 @@
 //! Writing properties, and the signals that tell of it.
-ghost use Rattle.std.specs.Prelude.{◌≡◌, IfOk, None, Ok, Some, option_and_then, option_map};
+ghost use Rattle.std.specs.Prelude.{◌≡◌, IfOk, None, Ok, Some, option_and_then, option_map, slice_get};
 ghost use Rattle.term_core.specs.declared.action.Effect.TheVariants as e;
 ghost use Rattle.variant_value.specs.Values.{IsShort};
+ghost use Rattle.class_table.specs.Lookup.{properties};
 ghost use Rattle.property_store.specs.Store.{fitting};
-ghost use Rattle.thread_model.specs.Writing.{Declared, acted_writing, declared, dynamic_writing, property_at, short};
+ghost use Rattle.thread_model.specs.Writing.{Declared, acted_writing, declared, dynamic_writing, short};
+ghost use Rattle.session_tables.specs.Classes.{HasClass};
 ghost use Rattle.session_tables.specs.Refused.{OnRefused};
 ghost use Rattle.session_tables.specs.Tables.{IsPlaced, state_at};
 ghost use Rattle.session_effects.specs.Actions.{Keeps, Tries};
@@ -51,9 +53,9 @@ pub fn set(
 {
     let reader = reader(caller, tables, slot);
     let object = object_of(&reader, of)?;
-    tables.check_object(caller.place, object)?;
+    let class = tables.class_there(caller.place, object)?;
     let value = evaluated(caller.setup.alloc, &reader, slot.args, value)?;
-    write(caller, tables, object, property, value)
+    write(caller, tables, object, class, property, value)
 }
 
 /// Writes the value of an expression to a property: to a declared one as a value of its kind, and else to
@@ -62,10 +64,12 @@ fn write(
     caller: &Caller,
     tables: &mut Tables,
     object: u32,
+    class: u32,
     property: &Text,
     value: Value,
 ) -> Result<Option<Notice>, Fault>
-    requires { IsPlaced tables.old caller.now.place }
+    requires placed { IsPlaced tables.old caller.now.place }
+    requires class { HasClass (state_at tables.old caller.now.place) object class }
     ensures writes { TriesToWrite caller.now object (acted_writing (state_at tables.old caller.now.place) object property.now value) tables.old (λ told. told) tables.new result }
     ensures refused { OnRefused result (tables.new ≡ tables.old) }
     ensures keeps { Keeps caller.now.place tables.old tables.new }
@@ -77,7 +81,8 @@ fn write(
     let Ok(value) = value.convert(kind) else {
         return Err(Fault::Refused(Code::BadValue));
     };
-    Ok(write_declared(caller, tables, object, number, short(value)?))
+    let value = short(value)?;
+    Ok(write_declared(caller, tables, object, class, number, value))
 }
 
 /// The value, where it is no text that is too long.
@@ -99,17 +104,19 @@ pub fn write_declared(
     caller: &Caller,
     tables: &mut Tables,
     object: u32,
+    class: u32,
     number: usize,
     value: Value,
 ) -> Option<Notice>
     requires placed { IsPlaced tables.old caller.now.place }
+    requires class { HasClass (state_at tables.old caller.now.place) object class }
     requires short { IsShort value }
     requires fits { fitting (state_at tables.old caller.now.place).store object number value ≡ Some value }
     ensures writes { Writes caller.now object (Declared number value) tables.old result tables.new }
     ensures keeps { Keeps caller.now.place tables.old tables.new }
 {
     if tables.write(caller.place, object, number, value) {
-        notice_of(caller, tables, object, number)
+        notice_of(caller, object, class, number)
     } else {
         None
     }
@@ -138,13 +145,12 @@ pub fn write_dynamic(
     tables.set_dynamic(caller.place, object, name, value)
 }
 
-/// The signal that tells that a declared property has changed, where its class names one.
-fn notice_of(caller: &Caller, tables: &Tables, object: u32, number: usize) -> Option<Notice>
-    requires { IsPlaced tables.now caller.now.place }
+/// The signal of an object that tells that a declared property has changed, where its class names one.
+fn notice_of(caller: &Caller, object: u32, class: u32, number: usize) -> Option<Notice>
     ensures { result ≡ option_map (λ signal. record { object = object; property = number; signal = signal })
-        (option_and_then (λ property. property.notify) (property_at (settings_of caller.now.setup.now) (state_at tables.now caller.now.place) object number)) }
+        (option_and_then (λ property. property.notify) (slice_get (properties (settings_of caller.now.setup.now).classes class) number)) }
 {
-    let signal = notify_signal(caller, tables, object, number)?;
+    let signal = notify_signal(caller, class, number)?;
     Some(Notice {
         object,
         property: number,
@@ -152,13 +158,11 @@ fn notice_of(caller: &Caller, tables: &Tables, object: u32, number: usize) -> Op
     })
 }
 
-/// The index of the signal that tells of changes of a property.
-fn notify_signal(caller: &Caller, tables: &Tables, object: u32, number: usize) -> Option<u32>
-    requires { IsPlaced tables.now caller.now.place }
-    ensures { result ≡ option_and_then (λ property. property.notify) (property_at (settings_of caller.now.setup.now) (state_at tables.now caller.now.place) object number) }
+/// The index of the signal that tells of changes of a property that a class declares.
+fn notify_signal(caller: &Caller, class: u32, number: usize) -> Option<u32>
+    ensures { result ≡ option_and_then (λ property. property.notify) (slice_get (properties (settings_of caller.now.setup.now).classes class) number) }
 {
     let classes = &caller.setup.classes;
-    let class = tables.class_of(caller.place, object)?;
     if number >= classes.property_count(class) as usize {
         return None;
     }

@@ -28,7 +28,7 @@ pub fn set<F: Answering>(
     requires fresh { telling.old ≡ fresh_telling actor.now.caller.setup.now.turns }
     ensures { Performs actor.now.caller (Set object property.now (view value.now)) tables.old tables.new (reply_after telling.new.lines) result }
 {
-    tables.check_object(actor.caller.place, object)?;
+    let class = tables.class_there(actor.caller.place, object)?;
     let Some((number, kind)) = tables.declared(actor.caller.place, object, property.as_str()) else {
         let value = Value::infer(actor.caller.setup.alloc, value)?;
         write_dynamic(&actor.caller, tables, object, property, value)?;
@@ -38,7 +38,7 @@ pub fn set<F: Answering>(
         return Ok(Answer::Truth(false));
     }
     let value = Value::from_json(actor.caller.setup.alloc, kind, value)?;
-    let told = write_declared(&actor.caller, tables, object, number, value);
+    let told = write_declared(&actor.caller, tables, object, class, number, value);
     notify(actor, tables, telling, told, 0)?;
     Ok(Answer::Truth(true))
 }

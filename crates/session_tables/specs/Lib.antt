@@ -1,3 +1,4 @@
+pub mod Classes
 pub mod Session
 pub mod Refused
 pub mod Tables

@@ -11,6 +11,7 @@ ghost use Rattle.thread_model.specs.Agenda.{is_living};
 ghost use Rattle.thread_model.specs.State.{is_text, title_of, with_object, with_parent, without_object};
 ghost use Rattle.thread_model.specs.Absence.{absence, named_absence};
 ghost use Rattle.thread_model.specs.Trees.{has_title, is_of_class};
+ghost use Rattle.session_tables.specs.Classes.{HasClass};
 ghost use Rattle.session_tables.specs.Refused.{OnRefused};
 ghost use Rattle.session_tables.specs.Tables.{AreLaid, AreStored, ChangesOnly, IsPlaced, state_at, with_state};
 
@@ -128,6 +129,18 @@ impl Tables {
     {
         let row = self.forests.row(place, object)?;
         Some(row.class)
+    }
+
+    /// The index of an object's class, where an object that is not there is refused.
+    pub fn class_there(&self, place: usize, object: u32) -> Result<u32, Code>
+        requires { IsPlaced self.now place }
+        ensures refusal { result_err result ≡ absence (state_at self.now place) object }
+        ensures class { IfOk result (λ class. HasClass (state_at self.now place) object class) }
+    {
+        match self.class_of(place, object) {
+            Some(class) => Ok(class),
+            None => Err(Code::NoSuchObject),
+        }
     }
 
     /// Refuses an object that is not there or is dying.

@@ -1,8 +1,5 @@
 use Rattle.std.proofs.Common.{sym, ◌∙◌}
-use Rattle.thread_model.specs.Doing.{in_state}
 use Rattle.thread_model.specs.Targets.{evaluated, object_of}
-use Rattle.session_tables.specs.Tables.{state_at}
-use Rattle.session_effects.specs.Setup.{settings_of}
 use Rattle.session_effects.proofs.ActionLemmas.{is_there_by, read_as}
 use Rattle.session_effects.proofs.WritingLemmas.{sets_property}
 use Rattle.session_effects.proofs.writing.set.Goals as goal
@@ -13,6 +10,6 @@ returns-clause-tries c =
     let r = c.reader-reader.ensures in
     sets_property c.args.caller.now slot c.args.of.now c.args.property.now c.args.value.now c.args.tables.now c.write.new.tables c.write.result c.in_ok-object.object c.in_ok-value.value
     (c.in_ok-object.ensures ∙ read_as (λ state object sender. object_of state object sender c.args.of.now) r.tables r.place r.object r.sender)
-    (is_there_by _ c.in_ok-check_object.ensures)
+    (is_there_by _ c.in_ok-class.ensures.refusal)
     (sym (read_as (λ state object sender. evaluated state object sender slot.args.now c.args.value.now) r.tables r.place r.object r.sender) ∙ c.in_ok-value.ensures)
     c.write.ensures.writes

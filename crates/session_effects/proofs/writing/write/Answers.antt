@@ -11,8 +11,8 @@ returns-in_default-convert-clause-writes c =
 
 pub returns-clause-writes : goal.returns-clause-writes
 returns-clause-writes c = (
-  Declared c.in-Some.number c.in_ok-short-2.field-0,
+  Declared c.in-Some.number c.in_ok-value.value,
   acted_declared (state_at c.args.tables.now c.args.caller.now.place) c.args.object c.args.property.now c.args.value (record { number = c.in-Some.number; kind = c.in-Some.kind })
-      (place_is (c.in-Some.number, c.in-Some.kind) _ (rw c.as_str.ensures at c.in-Some.ensures)) c.in-Ok.value c.in_ok-short-2.field-0 (sym c.in-Ok.ensures.moved) (sym c.in_ok-short-2.ensures.value),
+      (place_is (c.in-Some.number, c.in-Some.kind) _ (rw c.as_str.ensures at c.in-Some.ensures)) c.in-Ok.value c.in_ok-value.value (sym c.in-Ok.ensures.moved) (sym c.in_ok-value.ensures.value),
   c.write_declared.ensures.writes,
 )
