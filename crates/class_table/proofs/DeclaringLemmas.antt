@@ -1,6 +1,7 @@
 -- What is declared is what was written.
 use Rattle.std.proofs.Common.{◌≡◌, ◌∙◌, ℕ, ◌+◌, ◌<◌, ◌≤◌, Bool, true, false, ◌&&◌, List, [], ◌∷◌, ◌++◌, Option, Some, None, Result, Ok, Err, length, map, position, slice_get, is_none, IsTrue, refl, sym, ap, subst, arith, length-append}
 use Rattle.std.specs.Prelude.{IfOk}
+use Rattle.std.specs.Result.{IsErrAnd}
 use Rattle.std.specs.List.{All}
 use Rattle.std.specs.Option.{ok_or, option_map, option_map_or}
 use Rattle.std.proofs.lemmas.List.{length-map, map-append}
@@ -18,12 +19,16 @@ use Rattle.class_table.specs.declared.class.TheConstants.{METHODS, PROPERTIES}
 use Rattle.class_table.specs.declared.class.Class.{Class}
 use Rattle.class_table.specs.declared.class.Method.{Method}
 use Rattle.class_table.specs.declared.class.Property.{Property}
+use Rattle.class_table.specs.declared.fault.ClassFaultKind.{ClassFaultKind}
 use Rattle.class_table.specs.declared.fault.ClassFaultKind.TheVariants.{BadNotify}
-use Rattle.class_table.specs.Declaring.{SignedMethod, are_signals, body_in, is_declared_once, is_signal_at, method_of, new_names, new_signatures, notify_of, number_of, property_of, signal_named, signal_of, slot_of, tells}
+use Rattle.class_table.specs.declared.fault.Stop.{Stop}
+use Rattle.class_table.specs.declared.fault.Stop.TheVariants as stop
+use Rattle.class_table.specs.Declaring.{SignedMethod, are_signals, body_in, class_below, is_declared_once, is_signal_at, may_stand, method_of, new_names, new_signatures, notify_of, number_of, property_of, signal_named, signal_of, signed_of, slot_of, tells}
+use Rattle.class_table.specs.Faults.{Gives}
 use Rattle.class_table.specs.Lookup.{is_same, methods, names, index_of, properties, signatures}
 use Rattle.class_table.specs.Sound.{IsMethod, is_told, is_told_by, FitsBehind}
 use Rattle.class_table.specs.Steps.{Read, ◌>>=◌, each, provided}
-use Rattle.class_table.specs.Written.{WrittenProperty}
+use Rattle.class_table.specs.Written.{WrittenClass, WrittenProperty}
 use Rattle.class_table.proofs.ListLemmas.{position_passes}
 use Rattle.class_table.proofs.OnceLemmas.{Decides-is_same}
 
@@ -214,3 +219,15 @@ fits_behind classes base name method_offset property_offset new written own_meth
       each_method = each-all method_of IsMethod method_sound new own_methods ms;
       each_property = each-all (property_of (methods classes base) new) (λ property. IsTrue (is_told (methods classes base ++ own_methods) property)) (property_told (methods classes base) new own_methods same_m same_s) written own_properties ps;
     }
+
+turned_away : {A : Type 0} (a b : Bool) (j k kind : ClassFaultKind) (next : Read A) → provided a j (provided b k (Ok (tt {0}))) ≡ Err kind → provided a j (provided b k next) ≡ Err kind
+turned_away true true j k kind next e = absurd (cc)
+turned_away true false j k kind next e = cc
+turned_away false b j k kind next e = cc
+
+-- a call that gives on why what is declared may not stand below the superclass answers as it should
+pub refused_below : (classes : List Class) (base : ℕ) (written : WrittenClass) (new : List SignedMethod) (stop : Stop) (result : Result Class Stop) → IsErrAnd result (λ given. given ≡ stop) → each signed_of written.methods ≡ Ok new → Gives {T = Unit {0}} (λ _. tt) (Err stop) (may_stand (methods classes base) new (properties classes base) written.properties) → Gives (λ class. class) result (class_below classes base written)
+unfolding class_below
+refused_below classes base written new stop (Ok class) given read refused = absurd given
+refused_below classes base written new (stop.Fault kind) (Err given) is read refused = rw (is, read) (turned_away _ _ _ _ kind _ refused)
+refused_below classes base written new stop.Memory (Err given) is read refused = rw is tt

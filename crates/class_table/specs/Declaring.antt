@@ -113,6 +113,12 @@ abbrev pub is_within_limits : List Method → List SignedMethod → List Propert
 is_within_limits base new held written =
     nat_le (length base + length new) METHODS && nat_le (length held + length written) PROPERTIES
 
+-- what is declared may stand below a superclass: nothing is declared twice, and not too much
+abbrev pub may_stand : List Method → List SignedMethod → List Property → List WrittenProperty → Read (Unit {0})
+may_stand base new held written =
+    provided (is_declared_once base new held written) DeclaredTwice (
+    provided (is_within_limits base new held written) Limit (Ok tt))
+
 -- the class that is declared below a superclass
 unfoldable pub class_below : List Class → ℕ → WrittenClass → Read Class
 class_below classes base written =

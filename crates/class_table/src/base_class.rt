@@ -3,8 +3,7 @@ ghost use Rattle.std.specs.Prelude.{◌≡◌, ◌∷◌, [], codes, IfOk};
 ghost use Rattle.signature_core.specs.declared.kind.Kind.TheVariants as kind;
 ghost use Rattle.class_table.specs.Declaring.{delete_later_body, q_object, signal_of, slot_of};
 
-use crate::class::{Class, Method, Property, normal_text};
-use crate::declare::empty_body;
+use crate::class::{Class, Method, Property};
 use plain_types::{Items, Text};
 use signature_core::{Kind, Signature};
 use std::alloc::{AllocError, Global};
@@ -14,17 +13,8 @@ use term_core::{Action, Body, Effect, Step, Target};
 pub(crate) fn q_object(alloc: Global) -> Result<Class, AllocError>
     ensures { IfOk result (λ class. class ≡ q_object) }
 {
-    let mut methods = Items::new(alloc);
-    methods.push(signal(alloc, "destroyed", Items::new(alloc))?)?;
-    methods.push(signal(alloc, "objectNameChanged", text_parameter(alloc)?)?)?;
-    methods.push(delete_later(alloc)?)?;
-    let mut properties = Items::new(alloc);
-    properties.push(Property {
-        name: Text::from_str(alloc, "objectName")?,
-        kind: Kind::Text,
-        notify: Some(1),
-        bindable: true,
-    })?;
+    let methods = object_methods(alloc)?;
+    let properties = object_properties(alloc)?;
     Ok(Class {
         name: Text::from_str(alloc, "QObject")?,
         superclass: None,
@@ -35,20 +25,36 @@ pub(crate) fn q_object(alloc: Global) -> Result<Class, AllocError>
     })
 }
 
+/// The methods of `QObject`: its signals, and then its slot.
+fn object_methods(alloc: Global) -> Result<Items<Method>, AllocError>
+    ensures { IfOk result (λ methods. methods ≡ q_object.methods) }
+{
+    let mut methods = Items::new(alloc);
+    methods.push(signal(alloc, "destroyed", Items::new(alloc))?)?;
+    methods.push(signal(alloc, "objectNameChanged", text_parameter(alloc)?)?)?;
+    methods.push(delete_later(alloc)?)?;
+    Ok(methods)
+}
+
+/// The one property of `QObject`, its name.
+fn object_properties(alloc: Global) -> Result<Items<Property>, AllocError>
+    ensures { IfOk result (λ properties. properties ≡ q_object.properties) }
+{
+    let mut properties = Items::new(alloc);
+    properties.push(Property {
+        name: Text::from_str(alloc, "objectName")?,
+        kind: Kind::Text,
+        notify: Some(1),
+        bindable: true,
+    })?;
+    Ok(properties)
+}
+
 fn signal(alloc: Global, name: &str, kinds: Items<Kind>) -> Result<Method, AllocError>
     ensures { IfOk result (λ method. method ≡ signal_of (record { name = name.now; kinds = kinds })) }
 {
-    let body = empty_body(alloc, kinds.len());
-    let signature = Signature {
-        name: Text::from_str(alloc, name)?,
-        kinds,
-    };
-    Ok(Method {
-        text: normal_text(alloc, &signature)?,
-        signature,
-        is_signal: true,
-        body,
-    })
+    let name = Text::from_str(alloc, name)?;
+    Method::signal(alloc, Signature { name, kinds })
 }
 
 fn text_parameter(alloc: Global) -> Result<Items<Kind>, AllocError>
@@ -71,10 +77,5 @@ fn delete_later(alloc: Global) -> Result<Method, AllocError>
         name: Text::from_str(alloc, "deleteLater")?,
         kinds: Items::new(alloc),
     };
-    Ok(Method {
-        text: normal_text(alloc, &signature)?,
-        signature,
-        is_signal: false,
-        body: Body { params: 0, actions },
-    })
+    Method::slot(alloc, signature, Body { params: 0, actions })
 }

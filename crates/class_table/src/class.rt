@@ -1,6 +1,7 @@
 //! Classes, their methods and their properties.
 ghost use Rattle.std.specs.Prelude.{◌≡◌, ◌+◌, ◌≤◌, ◌<◌, IfOk, IfSome, length};
 ghost use Rattle.std.specs.Option.{option_map};
+ghost use Rattle.class_table.specs.Declaring.{empty_body, signal_of, slot_of};
 ghost use Rattle.class_table.specs.Lookup.{is_same, method_number, property_number, text_of};
 
 use plain_types::{Items, Text};
@@ -26,6 +27,49 @@ pub struct Method {
     pub is_signal: bool,
     /// What a slot does; that of a signal is empty.
     pub body: Body,
+}
+
+impl Method {
+    /// The signal of this signature, which does nothing of itself.
+    pub(crate) fn signal(alloc: Global, signature: Signature) -> Result<Method, AllocError>
+        ensures { IfOk result (λ method. method ≡ signal_of signature) }
+    {
+        let text = normal_text(alloc, &signature)?;
+        let params = signature.kinds.len();
+        Ok(Method {
+            signature,
+            text,
+            is_signal: true,
+            body: empty_body(alloc, params),
+        })
+    }
+
+    /// The slot of this signature, which does this.
+    pub(crate) fn slot(
+        alloc: Global,
+        signature: Signature,
+        body: Body,
+    ) -> Result<Method, AllocError>
+        ensures { IfOk result (λ method. method ≡ slot_of signature body) }
+    {
+        let text = normal_text(alloc, &signature)?;
+        Ok(Method {
+            signature,
+            text,
+            is_signal: false,
+            body,
+        })
+    }
+}
+
+/// The body of a signal with so many parameters.
+fn empty_body(alloc: Global, params: usize) -> Body
+    ensures { result ≡ empty_body params }
+{
+    Body {
+        params,
+        actions: Items::new(alloc),
+    }
 }
 
 /// A declared property.

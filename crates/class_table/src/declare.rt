@@ -5,7 +5,7 @@ ghost use Rattle.std.specs.List.{All, list_all};
 ghost use Rattle.serde_json.specs.View.{view};
 ghost use Rattle.signature_core.specs.Reading.{IsNormal, signature_of};
 ghost use Rattle.term_core.specs.Bodies.{body_of};
-ghost use Rattle.class_table.specs.Declaring.{body_in, class_below, class_of, empty_body, is_declared_once, is_signal_at, method_of, new_names, new_signatures, notify_of, number_of, property_of, signal_named, signed_of, tells};
+ghost use Rattle.class_table.specs.Declaring.{body_in, class_below, class_of, is_declared_once, is_signal_at, may_stand, method_of, new_names, new_signatures, notify_of, number_of, property_of, signal_named, signed_of, tells};
 ghost use Rattle.class_table.specs.Faults.{Gives};
 ghost use Rattle.class_table.specs.Forms.{class_seen, method_seen, property_seen};
 ghost use Rattle.class_table.specs.Lookup.{is_same, is_distinct, are_distinct_methods, are_distinct_properties, method_number, methods, names, index_of, properties, property_number, signatures, text_of};
@@ -287,18 +287,13 @@ fn declared_method(alloc: Global, new: Signed) -> Result<Method, Stop>
     ensures { Gives (λ m. m) result (method_of (signed_seen new.entry)) }
 {
     let Signed { signature, body } = new;
-    let params = signature.kinds.len();
-    let is_signal = body.is_none();
-    let body = match body {
-        Some(json) => slot_body(alloc, json, params)?,
-        None => empty_body(alloc, params),
-    };
-    Ok(Method {
-        text: normal_text(alloc, &signature)?,
-        signature,
-        is_signal,
-        body,
-    })
+    match body {
+        Some(json) => {
+            let body = slot_body(alloc, json, signature.kinds.len())?;
+            Ok(Method::slot(alloc, signature, body)?)
+        }
+        None => Ok(Method::signal(alloc, signature)?),
+    }
 }
 
 fn slot_body(alloc: Global, json: &Value, params: usize) -> Result<Body, Stop>
@@ -309,16 +304,6 @@ fn slot_body(alloc: Global, json: &Value, params: usize) -> Result<Body, Stop>
         Err(Fault::Refused(Code::Limit)) => Err(Stop::Fault(ClassFaultKind::Limit)),
         Err(Fault::Refused(_)) => Err(Stop::Fault(ClassFaultKind::BadBody)),
         Err(Fault::Memory) => Err(Stop::Memory),
-    }
-}
-
-/// The body of a signal with so many parameters.
-pub(crate) fn empty_body(alloc: Global, params: usize) -> Body
-    ensures { result ≡ empty_body params }
-{
-    Body {
-        params,
-        actions: Items::new(alloc),
     }
 }
 
@@ -351,11 +336,42 @@ fn class_below(
     ensures fits { index_of form.now.name.now table.now ≡ None
         → IfOk result (λ class. FitsBehind table.now class) }
 {
-    let method_offset = table.method_count(base);
-    let property_offset = table.property_count(base);
     let signed = signed_methods(alloc, form.methods.as_slice())?;
     let forms = form.properties.as_slice();
-    if !is_declared_once(alloc, table, base, signed.as_slice(), forms)? {
+    check_declared(alloc, table, base, signed.as_slice(), forms)?;
+    let properties = declared_properties(alloc, table, base, signed.as_slice(), forms)?;
+    let methods = declared_methods(alloc, signed)?;
+    Ok(Class {
+        name: Text::from_str(alloc, form.name)?,
+        superclass: Some(base),
+        method_offset: table.method_count(base),
+        property_offset: table.property_count(base),
+        methods: Items::from_vec(methods),
+        properties: Items::from_vec(properties),
+    })
+}
+
+/// Checks that nothing is declared twice, and no more than a class may have.
+fn check_declared(
+    alloc: Global,
+    table: &ClassTable,
+    base: u32,
+    signed: &[Signed],
+    forms: &[PropertyForm],
+) -> Result<(), Stop>
+    requires normal { All (λ new. IsNormal new.signature) signed.now }
+    ensures exact { Gives (λ _. tt) result (may_stand
+        (methods table.now base) (map signed_seen signed.now)
+        (properties table.now base) (map property_seen forms.now)) }
+    ensures few_methods { IfOk result (λ _. length (methods table.now base) + length signed.now ≤ METHODS) }
+    ensures few_properties { IfOk result (λ _. length (properties table.now base) + length forms.now ≤ PROPERTIES) }
+    ensures once { IfOk result (λ _. IsTrue (is_declared_once
+        (methods table.now base) (map signed_seen signed.now)
+        (properties table.now base) (map property_seen forms.now))) }
+{
+    let method_offset = table.method_count(base);
+    let property_offset = table.property_count(base);
+    if !is_declared_once(alloc, table, base, signed, forms)? {
         return Err(Stop::Fault(ClassFaultKind::DeclaredTwice));
     }
     if method_offset as usize + signed.len() > METHODS
@@ -363,16 +379,7 @@ fn class_below(
     {
         return Err(Stop::Fault(ClassFaultKind::Limit));
     }
-    let properties = declared_properties(alloc, table, base, signed.as_slice(), forms)?;
-    let methods = declared_methods(alloc, signed)?;
-    Ok(Class {
-        name: Text::from_str(alloc, form.name)?,
-        superclass: Some(base),
-        method_offset,
-        property_offset,
-        methods: Items::from_vec(methods),
-        properties: Items::from_vec(properties),
-    })
+    Ok(())
 }
 
 /// Whether no method and no property is declared twice.

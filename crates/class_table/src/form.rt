@@ -125,8 +125,9 @@ fn slot_in(json: &Value) -> Result<MethodForm<'_>, Stop>
 fn properties_in<'j>(alloc: Global, json: &'j Value) -> Result<Vec<PropertyForm<'j>>, Stop>
     ensures { Gives (λ v. map property_seen v.items) result (properties_in (view json.now)) }
 {
+    let array = array_at(json, "properties")?;
     let mut properties = Vec::new(alloc);
-    for json in array_at(json, "properties")? {
+    for json in array {
         properties.push(property_in(json)?)?;
     }
     Ok(properties)
