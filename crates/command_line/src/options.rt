@@ -1,7 +1,7 @@
 //! The options that a command line gives.
-ghost use Rattle.std.specs.Prelude.{◌≡◌, IfOk, map, codes};
-ghost use Rattle.clap.specs.Words.{FailsBy, app_of, fault_of, first_of, matches_of, one_of};
-ghost use Rattle.command_line.specs.Program.{metad};
+ghost use Rattle.std.specs.Prelude.{◌≡◌, IfOk, false, map, codes};
+ghost use Rattle.clap.specs.Words.{FailsBy, app_of, fault_of, first_of, matches_of, one_of, rule_of};
+ghost use Rattle.command_line.specs.Program.{classes_rule, metad, turns_rule};
 ghost use Rattle.command_line.specs.Asked.{Gives, Reads, asked};
 
 use clap::{Arg, Command, Error, value_parser};
@@ -48,20 +48,34 @@ pub fn options_of<S: AsStr>(alloc: Global, words: &[S]) -> Result<Options, Error
 fn metad_command<'a>(alloc: Global) -> Result<Command<'a>, AllocError>
     ensures { IfOk result (λ command. app_of command ≡ metad) }
 {
-    let classes = Arg::new(alloc, "classes").value_name("CLASSES").help(
-        "A JSON class file; without it the demonstration classes are used",
-    );
-    let turns = Arg::new(alloc, "turns")
-        .long("turns")
-        .value_name("N")
-        .value_parser(value_parser!(u32).range(1..=1_000_000))
-        .help("How many turns each command has for its calls, from 1 to 1000000 [default: 10000]");
     Command::new(alloc, "metad")
         .no_binary_name(true)
         .about(ABOUT)
         .after_help(EXAMPLE)
-        .arg(classes)?
-        .arg(turns)
+        .arg(classes_argument(alloc))?
+        .arg(turns_argument(alloc))
+}
+
+/// The path of the class file.
+fn classes_argument<'a>(alloc: Global) -> Arg<'a>
+    ensures rule { rule_of result ≡ classes_rule }
+    ensures own { result.global ≡ false }
+{
+    Arg::new(alloc, "classes").value_name("CLASSES").help(
+        "A JSON class file; without it the demonstration classes are used",
+    )
+}
+
+/// The option with the number of turns.
+fn turns_argument<'a>(alloc: Global) -> Arg<'a>
+    ensures rule { rule_of result ≡ turns_rule }
+    ensures own { result.global ≡ false }
+{
+    Arg::new(alloc, "turns")
+        .long("turns")
+        .value_name("N")
+        .value_parser(value_parser!(u32).range(1..=1_000_000))
+        .help("How many turns each command has for its calls, from 1 to 1000000 [default: 10000]")
 }
 
 const ABOUT: &str = "metad 0.7.0, proved with rattle-kit-13b logic dac8208d650f15bf
