@@ -116,6 +116,7 @@ impl Expr {
     }
 
     /// An equal expression in memory of its own.
+    #[cycle(copy)]
     pub fn copy(&self, alloc: Global) -> Result<Expr, AllocError>
         ensures { IfOk result (λ expr. expr ≡ self.now) }
     {
@@ -125,15 +126,8 @@ impl Expr {
             Node::Prop(target, name) => {
                 Ok(Expr::property(target.copy(alloc)?, name.copy(alloc)?))
             }
-            Node::Binary(operator, a, b) => {
-                Expr::binary(alloc, *operator, a.copy(alloc)?, b.copy(alloc)?)
-            }
-            Node::Choice(test, a, b) => Expr::choice(
-                alloc,
-                test.copy(alloc)?,
-                a.copy(alloc)?,
-                b.copy(alloc)?,
-            ),
+            Node::Binary(operator, a, b) => copy_binary(alloc, *operator, a, b),
+            Node::Choice(test, a, b) => copy_choice(alloc, test, a, b),
         }
     }
 
@@ -170,6 +164,25 @@ impl Expr {
     {
         self.nodes() <= NODES && self.has_short_texts()
     }
+}
+
+#[cycle(copy)]
+fn copy_binary(alloc: Global, operator: Operator, a: &Expr, b: &Expr) -> Result<Expr, AllocError>
+    ensures { IfOk result (λ expr. expr ≡ binary operator a.now b.now) }
+{
+    let a = a.copy(alloc)?;
+    let b = b.copy(alloc)?;
+    Expr::binary(alloc, operator, a, b)
+}
+
+#[cycle(copy)]
+fn copy_choice(alloc: Global, test: &Expr, a: &Expr, b: &Expr) -> Result<Expr, AllocError>
+    ensures { IfOk result (λ expr. expr ≡ choice test.now a.now b.now) }
+{
+    let test = test.copy(alloc)?;
+    let a = a.copy(alloc)?;
+    let b = b.copy(alloc)?;
+    Expr::choice(alloc, test, a, b)
 }
 
 /// Two expressions, each in memory of its own.
