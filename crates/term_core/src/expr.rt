@@ -170,8 +170,7 @@ impl Expr {
 fn copy_binary(alloc: Global, operator: Operator, a: &Expr, b: &Expr) -> Result<Expr, AllocError>
     ensures { IfOk result (λ expr. expr ≡ binary operator a.now b.now) }
 {
-    let a = a.copy(alloc)?;
-    let b = b.copy(alloc)?;
+    let (a, b) = copies(alloc, a, b)?;
     Expr::binary(alloc, operator, a, b)
 }
 
@@ -180,9 +179,17 @@ fn copy_choice(alloc: Global, test: &Expr, a: &Expr, b: &Expr) -> Result<Expr, A
     ensures { IfOk result (λ expr. expr ≡ choice test.now a.now b.now) }
 {
     let test = test.copy(alloc)?;
-    let a = a.copy(alloc)?;
-    let b = b.copy(alloc)?;
+    let (a, b) = copies(alloc, a, b)?;
     Expr::choice(alloc, test, a, b)
+}
+
+#[cycle(copy)]
+fn copies(alloc: Global, a: &Expr, b: &Expr) -> Result<(Expr, Expr), AllocError>
+    ensures first { IfOk result (λ copies. copies.0 ≡ a.now) }
+    ensures second { IfOk result (λ copies. copies.1 ≡ b.now) }
+{
+    let a = a.copy(alloc)?;
+    Ok((a, b.copy(alloc)?))
 }
 
 /// Two expressions, each in memory of its own.
