@@ -20,7 +20,7 @@ pub(crate) struct Entry<N> {
 }
 
 /// Where an entry can stand: from `low` on and before `high`, and most likely at `guess`.
-#[derive(Clone, Copy, Debug)]
+#[derive(Clone, Copy)]
 pub(crate) struct Window {
     low: usize,
     high: usize,
@@ -29,7 +29,7 @@ pub(crate) struct Window {
 
 /// Where the entry with a number stands. As numbers differ, it is no farther from another entry than
 /// their numbers are, and just as far where none between the two was taken out: the first entry gives a
-/// guess, and so does each one that is looked at. Every other look is at the middle of what is left.
+/// guess, and so does each one that is looked at.
 pub(crate) fn position<N: Number>(entries: &VecDeque<Entry<N>>, number: u64) -> Option<usize>
     requires { IsRisingIndex N.value entries.now.items }
     ensures found { IfSome result (IsAt N.value entries.now.items number) }
@@ -40,11 +40,25 @@ pub(crate) fn position<N: Number>(entries: &VecDeque<Entry<N>>, number: u64) -> 
         return None;
     }
     let high = entries.len();
-    let mut window = Window {
+    let guess = (number - first).min((high - 1) as u64) as usize;
+    let window = Window {
         low: 0,
         high,
-        guess: (number - first).min((high - 1) as u64) as usize,
+        guess,
     };
+    match look(entries, number, window, guess) {
+        Ok(at) => Some(at),
+        Err(rest) => search(entries, number, rest),
+    }
+}
+
+/// Looks by turns at the guess and in the middle of what is left of a window.
+fn search<N: Number>(entries: &VecDeque<Entry<N>>, number: u64, mut window: Window) -> Option<usize>
+    requires rising { IsRisingIndex N.value entries.now.items }
+    requires window { IsWindow N.value entries.now.items number window }
+    ensures found { IfSome result (IsAt N.value entries.now.items number) }
+    ensures absent { IfNone result (HasNot N.value entries.now.items number) }
+{
     let mut is_guess = true;
     'looks: while window.low < window.high {
         let at = if is_guess {
