@@ -1,3 +1,4 @@
 pub mod DeletionLemmas
 pub mod AgendaLemmas
 pub mod FunctorLemmas
+mod HeardLemmas

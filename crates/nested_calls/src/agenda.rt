@@ -117,6 +117,7 @@ pub fn notify<F: Answering>(
 }
 
 /// Whether a connection stands that a notice's signal calls.
+#[tactic(auto, using(crate::proofs::HeardLemmas::unheard))]
 fn is_heard(tables: &Tables, place: usize, notice: Notice) -> bool
     requires { IsPlaced tables.now place }
     ensures heard { let connections = (state_at tables.now place).connections in
@@ -124,6 +125,9 @@ fn is_heard(tables: &Tables, place: usize, notice: Notice) -> bool
     ensures sound { IsSound (state_at tables.now place).connections }
 {
     let last = tables.last_connection(place);
+    if last == 0 {
+        return false;
+    }
     tables
         .next_connection(place, notice.object, notice.signal, 0, last)
         .is_some()
