@@ -60,6 +60,26 @@ impl Bench {
         }
     }
 
+    /// Whether all of this is answered so.
+    fn answers(&mut self, cases: &[Case]) -> Result<bool, AllocError> {
+        for (place, asked, wanted) in cases {
+            if self.ask(*place, *asked)? != *wanted {
+                return Ok(false);
+            }
+        }
+        Ok(true)
+    }
+
+    /// Whether the first place takes so many events and no more.
+    fn is_full_behind(&mut self, events: usize) -> Result<bool, AllocError> {
+        for _ in 0..events {
+            if self.ask(0, Deletion(5))? != 1 {
+                return Ok(false);
+            }
+        }
+        self.answers(&FULL)
+    }
+
     fn drop_object(&mut self, place: usize, object: u32) -> u64
         requires { place < length self.old.table.places }
     {
@@ -119,62 +139,70 @@ fn told(event: Option<Event>) -> u64 {
     }
 }
 
+/// A place, what is asked of it, and what is answered.
+type Case = (usize, Asked, u64);
+
+const IN_ORDER: [Case; 26] = [
+    (0, Take, 0),
+    (0, Call(3, 1), 1),
+    (1, Call(3, 2), 1),
+    (0, Deletion(2), 1),
+    (0, Call(2, 3), 1),
+    (0, Call(3, 0), 1),
+    (0, Counts, 400),
+    (1, Counts, 100),
+    (0, Take, 31),
+    // A call names its receiver, and not its sender.
+    (0, DropObject(1), 300),
+    (0, DropObject(2), 100),
+    (0, DropObject(2), 100),
+    (1, DropObject(2), 100),
+    (0, Take, 30),
+    (0, Take, 0),
+    (0, Deletion(3), 1),
+    (0, Lost, 110),
+    (0, Lost, 120),
+    (0, Mismatched, 121),
+    (1, Mismatched, 101),
+    (0, Clear, 0),
+    (0, DropObject(3), 0),
+    (0, Call(3, 4), 1),
+    (0, Take, 34),
+    (1, Take, 32),
+    (1, Counts, 1),
+];
+
+fn take_in_order(alloc: Global) -> Result<bool, AllocError> {
+    let mut bench = Bench::new(alloc)?;
+    bench.answers(&IN_ORDER)
+}
+
 #[test]
 fn events_are_taken_in_the_order_of_posting(rt: HostRuntime) -> Result<(), Fail> {
-    let cases = [
-        (0, Take, 0),
-        (0, Call(3, 1), 1),
-        (1, Call(3, 2), 1),
-        (0, Deletion(2), 1),
-        (0, Call(2, 3), 1),
-        (0, Call(3, 0), 1),
-        (0, Counts, 400),
-        (1, Counts, 100),
-        (0, Take, 31),
-        // A call names its receiver, and not its sender.
-        (0, DropObject(1), 300),
-        (0, DropObject(2), 100),
-        (0, DropObject(2), 100),
-        (1, DropObject(2), 100),
-        (0, Take, 30),
-        (0, Take, 0),
-        (0, Deletion(3), 1),
-        (0, Lost, 110),
-        (0, Lost, 120),
-        (0, Mismatched, 121),
-        (1, Mismatched, 101),
-        (0, Clear, 0),
-        (0, DropObject(3), 0),
-        (0, Call(3, 4), 1),
-        (0, Take, 34),
-        (1, Take, 32),
-        (1, Counts, 1),
-    ];
-    let mut bench = Bench::new(rt.alloc())?;
-    for (place, asked, wanted) in cases {
-        assert!(rt; bench.ask(place, asked)? == wanted);
-    }
+    assert!(rt; take_in_order(rt.alloc())?);
     Ok(())
+}
+
+/// What a place answers where it holds as many events as it may, all of object 5.
+const FULL: [Case; 9] = [
+    (0, Deletion(5), 0),
+    (1, Deletion(5), 1),
+    (0, Counts, 1638400),
+    (0, DropObject(4), 1638400),
+    (0, Take, 5),
+    (0, Deletion(6), 1),
+    (0, DropObject(5), 100),
+    (0, Take, 6),
+    (1, Take, 5),
+];
+
+fn take_so_many(alloc: Global) -> Result<bool, AllocError> {
+    let mut bench = Bench::new(alloc)?;
+    bench.is_full_behind(EVENTS)
 }
 
 #[test]
 fn a_place_takes_so_many_events(rt: HostRuntime) -> Result<(), Fail> {
-    let mut bench = Bench::new(rt.alloc())?;
-    for _ in 0..EVENTS {
-        assert!(rt; bench.ask(0, Deletion(5))? == 1);
-    }
-    for (place, asked, wanted) in [
-        (0, Deletion(5), 0),
-        (1, Deletion(5), 1),
-        (0, Counts, 1638400),
-        (0, DropObject(4), 1638400),
-        (0, Take, 5),
-        (0, Deletion(6), 1),
-        (0, DropObject(5), 100),
-        (0, Take, 6),
-        (1, Take, 5),
-    ] {
-        assert!(rt; bench.ask(place, asked)? == wanted);
-    }
+    assert!(rt; take_so_many(rt.alloc())?);
     Ok(())
 }

@@ -1,5 +1,5 @@
 //! Tests of the properties of objects.
-ghost use Rattle.std.specs.Prelude.{◌≡◌, ◌<◌, length};
+ghost use Rattle.std.specs.Prelude.{◌≡◌, ◌<◌, [], OnOk, length};
 
 use plain_types::{Items, Text};
 use property_store::{Field, Stores};
@@ -43,13 +43,18 @@ struct Bench {
 impl Bench {
     fn new(alloc: Global) -> Result<Bench, AllocError> {
         let mut table = Stores::new(alloc, layouts(alloc)?);
-        table.ready()?;
-        table.open();
-        table.add_object(0, 3, 0)?;
-        table.add_object(0, 5, 1)?;
-        table.ready()?;
-        table.open();
+        open_places(&mut table)?;
         Ok(Bench { table, alloc })
+    }
+
+    /// Whether all of this is answered so.
+    fn answers(&mut self, cases: &[Case]) -> Result<bool, AllocError> {
+        for (place, asked, wanted) in cases {
+            if self.ask(*place, *asked)? != *wanted {
+                return Ok(false);
+            }
+        }
+        Ok(true)
     }
 
     fn ask(&mut self, place: usize, asked: Asked) -> Result<u64, AllocError> {
@@ -110,6 +115,20 @@ impl Bench {
     }
 }
 
+/// Opens two places, of which the first has an object of each class.
+fn open_places(table: &mut Stores) -> Result<(), AllocError>
+    requires { table.old.table.places ≡ [] }
+    ensures { OnOk result (length table.new.table.places ≡ 2) }
+{
+    table.ready()?;
+    table.open();
+    table.add_object(0, 3, 0)?;
+    table.add_object(0, 5, 1)?;
+    table.ready()?;
+    table.open();
+    Ok(())
+}
+
 /// Class 0 has an int and a qlonglong, and class 1 has nothing.
 fn layouts(alloc: Global) -> Result<Items<Items<Field>>, AllocError> {
     let mut fields = Items::new(alloc);
@@ -135,41 +154,47 @@ fn told(value: Option<&Value>) -> u64 {
     }
 }
 
+/// A place, what is asked of it, and what is answered.
+type Case = (usize, Asked, u64);
+
+const AS_WRITTEN: [Case; 28] = [
+    (0, Fields, 2),
+    (1, Fields, 9),
+    (0, NumberOf("wide"), 1),
+    (0, NumberOf("width"), 9),
+    (0, ValueAt(0), 0),
+    (0, Write(0, 7), 1),
+    (0, Write(0, 7), 0),
+    (0, Write(0, 1 << 40), 2),
+    (0, Write(1, 1 << 40), 1),
+    (0, Write(2, 1), 0),
+    (0, ValueAt(1), 1 << 40),
+    (0, Read("level"), 7),
+    (0, SetDynamic("level", 4), 1),
+    (0, SetDynamic("extra", 5), 1),
+    (0, SetDynamic("extra", 6), 1),
+    (0, DynamicNames, 2),
+    (0, Read("level"), 7),
+    (0, Read("extra"), 6),
+    (0, RemoveDynamic("extra"), 0),
+    (0, Read("extra"), 0),
+    (0, DynamicNames, 1),
+    (0, Next(0), 3),
+    (0, Next(3), 5),
+    (0, Next(5), 0),
+    (1, Next(0), 0),
+    (0, DropObject, 1),
+    (0, Read("level"), 0),
+    (0, Clear, 0),
+];
+
+fn are_read_as_written(alloc: Global) -> Result<bool, AllocError> {
+    let mut bench = Bench::new(alloc)?;
+    bench.answers(&AS_WRITTEN)
+}
+
 #[test]
 fn properties_are_read_as_they_were_written(rt: HostRuntime) -> Result<(), Fail> {
-    let cases = [
-        (0, Fields, 2),
-        (1, Fields, 9),
-        (0, NumberOf("wide"), 1),
-        (0, NumberOf("width"), 9),
-        (0, ValueAt(0), 0),
-        (0, Write(0, 7), 1),
-        (0, Write(0, 7), 0),
-        (0, Write(0, 1 << 40), 2),
-        (0, Write(1, 1 << 40), 1),
-        (0, Write(2, 1), 0),
-        (0, ValueAt(1), 1 << 40),
-        (0, Read("level"), 7),
-        (0, SetDynamic("level", 4), 1),
-        (0, SetDynamic("extra", 5), 1),
-        (0, SetDynamic("extra", 6), 1),
-        (0, DynamicNames, 2),
-        (0, Read("level"), 7),
-        (0, Read("extra"), 6),
-        (0, RemoveDynamic("extra"), 0),
-        (0, Read("extra"), 0),
-        (0, DynamicNames, 1),
-        (0, Next(0), 3),
-        (0, Next(3), 5),
-        (0, Next(5), 0),
-        (1, Next(0), 0),
-        (0, DropObject, 1),
-        (0, Read("level"), 0),
-        (0, Clear, 0),
-    ];
-    let mut bench = Bench::new(rt.alloc())?;
-    for (place, asked, wanted) in cases {
-        assert!(rt; bench.ask(place, asked)? == wanted);
-    }
+    assert!(rt; are_read_as_written(rt.alloc())?);
     Ok(())
 }

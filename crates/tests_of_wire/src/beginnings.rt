@@ -2,7 +2,7 @@
 use crate::fakes::Troubled;
 use class_table::{ClassFault, ClassFaultKind};
 use program_start::{ClassFileError, MOST_BYTES, classes_in, classes_of, read_at_most};
-use std::alloc::Global;
+use std::alloc::{AllocError, Global};
 use std::io::ErrorKind;
 use std::test::Fail;
 use wire_devices::Counted;
@@ -32,22 +32,37 @@ fn refusal_behind(alloc: Global, kind: ErrorKind, times: u32) -> Option<ClassFil
     classes_of(alloc, Some(file)).err()
 }
 
-#[test]
-fn a_class_file_may_have_1048576_bytes(rt: HostRuntime) -> Result<(), Fail> {
-    let alloc = rt.alloc();
+/// A file of a class, and spaces behind it.
+fn long_file(alloc: Global) -> Result<Vec<u8>, AllocError> {
     let mut file = Vec::from_slice(alloc, LAMP.as_bytes())?;
     file.resize(1_100_000, b' ')?;
-    for (bytes, read, wanted) in [
-        (1_048_576, 1_048_576, None),
-        (1_048_577, 1_048_577, Some(TOO_LARGE)),
-        (1_100_000, 1_048_577, Some(TOO_LARGE)),
-    ] {
-        let front = file.as_slice().get(..bytes).unwrap_or(b"");
-        assert!(rt;
-            bytes_read(alloc, front) == Some(read) && refusal(alloc, front) == wanted,
-            "of {bytes}"
-        );
-    }
+    Ok(file)
+}
+
+/// Whether so many bytes are read of the front of a file, and it is refused so.
+fn is_read_so(
+    alloc: Global,
+    front: Option<&[u8]>,
+    read: usize,
+    wanted: Option<ClassFileError>,
+) -> bool {
+    let Some(front) = front else {
+        return false;
+    };
+    bytes_read(alloc, front) == Some(read) && refusal(alloc, front) == wanted
+}
+
+/// The same of fronts of a file that have as many bytes as a file may have, one more, and more.
+fn are_read_to_the_limit(alloc: Global, file: &[u8]) -> bool {
+    is_read_so(alloc, file.get(..1_048_576), 1_048_576, None)
+        && is_read_so(alloc, file.get(..1_048_577), 1_048_577, Some(TOO_LARGE))
+        && is_read_so(alloc, file.get(..1_100_000), 1_048_577, Some(TOO_LARGE))
+}
+
+#[test]
+fn a_class_file_may_have_1048576_bytes(rt: HostRuntime) -> Result<(), Fail> {
+    let file = long_file(rt.alloc())?;
+    assert!(rt; are_read_to_the_limit(rt.alloc(), file.as_slice()));
     Ok(())
 }
 

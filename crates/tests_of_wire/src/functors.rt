@@ -2,15 +2,13 @@
 ghost use Rattle.std.specs.Prelude.{◌≡◌, [], IfOk};
 
 use crate::lines::lamps;
+use crate::served::{answers, server_with};
 use plain_types::{Items, Text};
-use server_world::Server;
 use std::alloc::{AllocError, Global};
 use std::test::Fail;
 use stored_slots::{Closure, Functors};
 use term_core::{Action, Body};
 use variant_value::Value;
-use wire_devices::Counted;
-use wire_lines::run;
 
 /// In both sessions a signal calls the functor; it is sent in one of them alone.
 const LINES: &str = r#"{"class":"Switch","do":"new","session":"a"}
@@ -31,8 +29,9 @@ const TOLD: &str = r#"{"reply":1,"session":"a"}
 {"reply":"","session":"b"}
 "#;
 
-/// Whether a session whose functor finds no memory fails, and no other one.
-fn fails_alone(alloc: Global) -> Result<bool, AllocError> {
+/// A functor that is called with no argument, does nothing, and finds no memory for that.
+fn starving(alloc: Global) -> Result<Functors, AllocError> {
+    let name = Text::from_str(alloc, "starved")?;
     let starved: Closure = Box::new(
         alloc,
         |_alloc: Global, _args: &[Value]| -> Result<Vec<Action>, AllocError>
@@ -44,22 +43,17 @@ fn fails_alone(alloc: Global) -> Result<bool, AllocError> {
         actions: Items::new(alloc),
     };
     let mut functors = Functors::new(alloc);
-    let name = Text::from_str(alloc, "starved")?;
-    if functors
-        .add(name, Items::new(alloc), body, starved)
-        .is_err()
-    {
-        return Err(AllocError);
-    }
-    let mut server = Server::new(alloc, lamps(alloc)?, functors, 10)?;
-    let mut reader = Counted::new(LINES.as_bytes());
-    let mut writer = Counted::new(Vec::new(alloc));
-    match run(alloc, &mut reader, &mut writer, &mut server) {
-        Ok(summary) => {
-            Ok(summary.memory_refused && writer.into_inner().as_slice() == TOLD.as_bytes())
-        }
+    match functors.add(name, Items::new(alloc), body, starved) {
+        Ok(_) => Ok(functors),
         Err(_) => Err(AllocError),
     }
+}
+
+/// Whether a session whose functor finds no memory fails, and no other one.
+fn fails_alone(alloc: Global) -> Result<bool, AllocError> {
+    let mut server = server_with(alloc, lamps(alloc)?, starving(alloc)?)?;
+    let (wrote, summary) = answers(alloc, &mut server, LINES.as_bytes())?;
+    Ok(summary.memory_refused && wrote.as_slice() == TOLD.as_bytes())
 }
 
 #[test]

@@ -18,6 +18,8 @@ mod lines;
 #[cfg(test)]
 mod runs;
 #[cfg(test)]
+mod served;
+#[cfg(test)]
 mod server;
 #[cfg(test)]
 mod sessions;

@@ -5,18 +5,14 @@ ghost use Rattle.stored_slots.specs.Functors.{AreArguments};
 ghost use Rattle.term_evaluation.specs.Unfolding.{unfolded_body};
 ghost use Rattle.program_start.specs.Clamp.{clamp_body};
 
+use crate::served::{answers, server_with};
 use class_table::ClassTable;
 use program_start::{DEMONSTRATION, clamped, with_clamp};
-use server_world::Server;
 use std::alloc::{AllocError, Global};
 use std::test::Fail;
+use stored_slots::Functors;
 use term_core::{Action, Expr, Node};
 use variant_value::Value;
-use wire_devices::Counted;
-use wire_lines::{Summary, run};
-
-/// The turns of a command where the command line does not say.
-const TURNS: u32 = 10_000;
 
 /// Lines and what is answered to them, line by line.
 type Session = (&'static str, &'static str);
@@ -393,20 +389,6 @@ const SESSIONS: [Session; 21] = [
     CLAMPED,
 ];
 
-/// What a server writes for an input, and how the run ended.
-fn answers(
-    alloc: Global,
-    server: &mut Server,
-    input: &[u8],
-) -> Result<(Vec<u8>, Summary), AllocError> {
-    let mut reader = Counted::new(input);
-    let mut writer = Counted::new(Vec::new(alloc));
-    match run(alloc, &mut reader, &mut writer, server) {
-        Ok(summary) => Ok((writer.into_inner(), summary)),
-        Err(_) => Err(AllocError),
-    }
-}
-
 fn demonstration(alloc: Global) -> Result<ClassTable, AllocError> {
     match ClassTable::from_text(alloc, DEMONSTRATION.as_bytes()) {
         Ok(classes) => Ok(classes),
@@ -414,9 +396,8 @@ fn demonstration(alloc: Global) -> Result<ClassTable, AllocError> {
     }
 }
 
-/// Whether a fresh server with the demonstration classes answers a session so, and no memory is refused.
-fn is_answered(alloc: Global, session: Session) -> Result<bool, AllocError> {
-    let (given, wanted) = session;
+/// The functors of the program: `clamp` between 0 and 100.
+fn clamps(alloc: Global) -> Result<Functors, AllocError> {
     let (least, most) = (0, 100);
     let clamp = Box::new(
         alloc,
@@ -428,18 +409,33 @@ fn is_answered(alloc: Global, session: Session) -> Result<bool, AllocError> {
             clamped(alloc, least, most, &Expr { node })
         },
     )?;
-    let Ok(functors) = with_clamp(alloc, least, most, clamp) else {
-        return Err(AllocError);
-    };
-    let mut server = Server::new(alloc, demonstration(alloc)?, functors, TURNS)?;
+    match with_clamp(alloc, least, most, clamp) {
+        Ok(functors) => Ok(functors),
+        Err(_) => Err(AllocError),
+    }
+}
+
+/// Whether a fresh server with the demonstration classes answers a session so, and no memory is refused.
+fn is_answered(alloc: Global, session: Session) -> Result<bool, AllocError> {
+    let (given, wanted) = session;
+    let mut server = server_with(alloc, demonstration(alloc)?, clamps(alloc)?)?;
     let (wrote, summary) = answers(alloc, &mut server, given.as_bytes())?;
     Ok(!summary.memory_refused && wrote.as_slice().trim_ascii_end() == wanted.as_bytes())
 }
 
+/// The lines of the first session that is answered otherwise.
+fn first_wrong(alloc: Global, sessions: &[Session]) -> Result<Option<&'static str>, AllocError> {
+    for session in sessions {
+        if !is_answered(alloc, *session)? {
+            return Ok(Some(session.0));
+        }
+    }
+    Ok(None)
+}
+
 #[test]
 fn sessions_are_answered(rt: HostRuntime) -> Result<(), Fail> {
-    for session in SESSIONS {
-        assert!(rt; is_answered(rt.alloc(), session)?, "{}", session.0);
-    }
+    let wrong = first_wrong(rt.alloc(), &SESSIONS)?;
+    assert!(rt; wrong.is_none(), "{}", wrong.unwrap_or(""));
     Ok(())
 }
