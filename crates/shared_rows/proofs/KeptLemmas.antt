@@ -1,6 +1,6 @@
 -- The rows of all places.
-use Rattle.std.proofs.Common.{◌≡◌, ◌≢◌, ◌∙◌, ℕ, suc, ◌+◌, ◌<◌, ◌≤◌, ◌↔◌, List, [], ◌∷◌, ◌++◌, Option, Some, None, nat_lt, filter, length, map, take, drop, count_by, is_some, IfNone, IfSome, IsSome, OnSome, OnErr, Result, Ok, Err, cond, get_or, deque_len, set, refl, sym, ap, subst, arith, ⊎_elim}
-use Rattle.std.specs.declared.collections.VecDeque.{VecDeque}
+use Rattle.std.proofs.Common.{◌≡◌, ◌≢◌, ◌∙◌, ℕ, suc, ◌+◌, ◌<◌, ◌≤◌, List, [], ◌∷◌, ◌++◌, Option, Some, None, nat_lt, filter, length, map, take, drop, count_by, is_some, IfNone, IfSome, IsSome, OnErr, Result, Ok, Err, cond, get_or, set, refl, sym, ap, subst, arith, ⊎_elim}
+use Rattle.gap_buffer.specs.Gapped.{Gapped}
 use Rattle.std.specs.List.{All, insert, remove}
 use Rattle.std.specs.Option.{option_map, unwrap_or}
 use Rattle.std.proofs.lemmas.Bool.{cases_eq, cases_lt, le-ltb, lt-ltb}
@@ -16,7 +16,7 @@ use Rattle.shared_rows.specs.declared.index.Entry.{Entry}
 use Rattle.shared_rows.specs.declared.index.Slot.{Slot}
 use Rattle.shared_rows.specs.Rows.{IsAtPosition, IsSound, Keyed, added, inserted, key_of, row_under, rows_at, with_row, without}
 use Rattle.shared_rows.specs.Index.{HasNot, IsAt, IsCountBelow, IsEntry, IsIndex, IsKept, keyed_by, rows_of}
-use Rattle.shared_rows.proofs.LinkLemmas.{filter_back, filter_front, on_some}
+use Rattle.shared_rows.proofs.LinkLemmas.{filter_back, filter_front}
 use Rattle.shared_rows.proofs.PositionLemmas.{inserted_rises, strictly_above}
 use Rattle.shared_rows.proofs.RowsLemmas.{some_mapped}
 use Rattle.shared_rows.proofs.EntryLemmas.{Apart, SameElsewhere, apart_place, apart_removed, apart_vacant, key_absent, key_found, keys_apart, length-rows, row_at, row_found, row_none, row_stands, rows_filtered, rows_same, rows_with, rows_without, slot_at, sound_rows, Stands}
@@ -34,30 +34,30 @@ pub on_err : {T E : Type 0} {P : Type 0} (r : Result T E) → P → OnErr r P
 on_err (Ok value) holds = tt
 on_err (Err error) holds = holds
 
-module _ {R N A : Type 0} where
-  abbrev pub shown : List (Option (Slot R)) → List (VecDeque (Entry N) A) → List (List (Keyed R))
+module _ {R N : Type 0} where
+  abbrev pub shown : List (Option (Slot R)) → List (Gapped (Entry N)) → List (List (Keyed R))
   shown slots indexes = map (λ index. rows_of slots index.items) indexes
 
   -- what contracts see
-  abbrev pub table_of : List (Option (Slot R)) → List (VecDeque (Entry N) A) → ℕ → Table (List (Keyed R))
+  abbrev pub table_of : List (Option (Slot R)) → List (Gapped (Entry N)) → ℕ → Table (List (Keyed R))
   table_of slots indexes room = record { places = shown slots indexes; room = room }
 
   -- the index stands at the place, and contracts see the rows that it shows
-  pub record IsSeen (number : R → ℕ) (value : N → ℕ) (slots : List (Option (Slot R))) (indexes : List (VecDeque (Entry N) A)) (table : Table (List (Keyed R))) (place : ℕ) (index : VecDeque (Entry N) A) : Type 0 where
-    pub is : (d : VecDeque (Entry N) A) → index ≡ get_or indexes place d
+  pub record IsSeen (number : R → ℕ) (value : N → ℕ) (slots : List (Option (Slot R))) (indexes : List (Gapped (Entry N))) (table : Table (List (Keyed R))) (place : ℕ) (index : Gapped (Entry N)) : Type 0 where
+    pub is : (d : Gapped (Entry N)) → index ≡ get_or indexes place d
     pub within : place < length indexes
     pub entries : IsIndex number value slots place index.items
     pub rows : rows_at table place ≡ rows_of slots index.items
     pub sound : IsSound number (rows_at table place)
-    pub count : length (rows_at table place) ≡ deque_len index
+    pub count : length (rows_at table place) ≡ length index.items
 
-  module _ {number : R → ℕ} {value : N → ℕ} {slots : List (Option (Slot R))} {indexes : List (VecDeque (Entry N) A)} (kept : IsKept number value slots indexes) (room : ℕ) (table : Table (List (Keyed R))) (view_is : table_of slots indexes room ≡ table) (place : ℕ) (is_place : IsPlace table place) where
+  module _ {number : R → ℕ} {value : N → ℕ} {slots : List (Option (Slot R))} {indexes : List (Gapped (Entry N))} (kept : IsKept number value slots indexes) (room : ℕ) (table : Table (List (Keyed R))) (view_is : table_of slots indexes room ≡ table) (place : ℕ) (is_place : IsPlace table place) where
     has_index : place < length indexes
     has_index = omega (arith, ap (λ (t : Table (List (Keyed R))). length t.places) view_is, length-map indexes (λ index. rows_of slots index.items))
 
-    pub seen_by : (index : VecDeque (Entry N) A) → ((d : VecDeque (Entry N) A) → index ≡ get_or indexes place d) → IsSeen number value slots indexes table place index
+    pub seen_by : (index : Gapped (Entry N)) → ((d : Gapped (Entry N)) → index ≡ get_or indexes place d) → IsSeen number value slots indexes table place index
     seen_by index is =
-        let entries : IsIndex number value slots place index.items = subst (λ (i : VecDeque (Entry N) A). IsIndex number value slots place i.items) (sym (is index)) (kept.each place index has_index) in
+        let entries : IsIndex number value slots place index.items = subst (λ (i : Gapped (Entry N)). IsIndex number value slots place i.items) (sym (is index)) (kept.each place index has_index) in
         let rows : rows_at table place ≡ rows_of slots index.items =
         ap (λ (t : Table (List (Keyed R))). get_or t.places place []) (sym view_is)
         ∙ (get_or-map (λ i. rows_of slots i.items) indexes place index [] has_index ∙ ap (λ i. rows_of slots i.items) (sym (is index))) in
@@ -67,17 +67,17 @@ module _ {R N A : Type 0} where
           entries = entries;
           rows = rows;
           sound = subst (IsSound number) (sym rows) (sound_rows number value slots place index.items entries);
-          count = ap length rows ∙ (length-rows number value slots place index.items entries.stand ∙ sym index.ok.0);
+          count = ap length rows ∙ (length-rows number value slots place index.items entries.stand);
         }
 
-    index_at : (list : List (VecDeque (Entry N) A)) → place < length list → (index : VecDeque (Entry N) A) × ((d : VecDeque (Entry N) A) → index ≡ get_or list place d)
+    index_at : (list : List (Gapped (Entry N))) → place < length list → (index : Gapped (Entry N)) × ((d : Gapped (Entry N)) → index ≡ get_or list place d)
     index_at [] within = absurd (omega arith)
     index_at (head ∷ rest) within = (get_or (head ∷ rest) place head, λ d. get_or_default (head ∷ rest) place head d within)
 
-    pub seen_at : (index : VecDeque (Entry N) A) × IsSeen number value slots indexes table place index
+    pub seen_at : (index : Gapped (Entry N)) × IsSeen number value slots indexes table place index
     seen_at = let at = index_at indexes has_index in (at.0, seen_by at.0 at.1)
 
-  module _ {number : R → ℕ} {value : N → ℕ} {slots : List (Option (Slot R))} {indexes : List (VecDeque (Entry N) A)} {table : Table (List (Keyed R))} {place : ℕ} {index : VecDeque (Entry N) A} (seen : IsSeen number value slots indexes table place index) where
+  module _ {number : R → ℕ} {value : N → ℕ} {slots : List (Option (Slot R))} {indexes : List (Gapped (Entry N))} {table : Table (List (Keyed R))} {place : ℕ} {index : Gapped (Entry N)} (seen : IsSeen number value slots indexes table place index) where
     -- a row that contracts see under a key stands there in the slab
     pub record IsUnder (key : ℕ) : Type 0 where
       pub row : R
@@ -107,13 +107,13 @@ module _ {R N A : Type 0} where
     -- each entry shows the row of its slot
     pub entry_some : (at : ℕ) (entry : Entry N) → at < length (rows_at table place) → entry ≡ get_or index.items at entry → IsSome (slot_at slots entry.key)
     entry_some at entry within is =
-        let inner : at < length index.items = omega (arith, seen.count, index.ok.0) in
+        let inner : at < length index.items = omega (arith, seen.count) in
         let stands = (seen.entries.stand at entry inner).stands in
         subst (λ (e : Entry N). IsSome (slot_at slots e.key)) (sym is) (rw stands refl)
 
     pub entry_shown : (at : ℕ) (entry : Entry N) (slot : Slot R) → at < length (rows_at table place) → entry ≡ get_or index.items at entry → slot_at slots entry.key ≡ Some slot → IsAtPosition (rows_at table place) at entry.key slot.row
     entry_shown at entry slot within is stands default =
-        let inner : at < length index.items = omega (arith, seen.count, index.ok.0) in
+        let inner : at < length index.items = omega (arith, seen.count) in
         let there = seen.entries.stand at entry inner in
         let same = sym there.stands ∙ (ap (λ (e : Entry N). slot_at slots e.key) (sym is) ∙ stands) in
         ap (λ rows. get_or rows at default) seen.rows
@@ -162,19 +162,16 @@ module _ {R N A : Type 0} where
       pub numbered : number slot.row ≡ n
       pub stood : slot_at slots entry.key ≡ Some (record { place = place; row = slot.row })
 
-    entry_of : (o : Option (Entry N)) (entry : Entry N) (at : ℕ) → IfSome o (λ y. y ≡ get_or index.items at y) → o ≡ Some entry → entry ≡ get_or index.items at entry
-    entry_of o entry at value_is is = MatchOption-at_some (Unit {0}) (λ y. y ≡ get_or index.items at y) entry is value_is
+    pub key_some : (at n : ℕ) (entry : Entry N) → IsAt value index.items n at → entry ≡ get_or index.items at entry → option_map number (row_under (rows_at table place) entry.key) ≡ Some n
+    key_some at n entry is entry_is = ap (λ (e : Entry N). option_map number (row_under (rows_at table place) e.key)) entry_is ∙ number_stands at n entry is
 
-    pub key_some : (at n : ℕ) (o : Option (Entry N)) (entry : Entry N) → IsAt value index.items n at → IfSome o (λ y. y ≡ get_or index.items at y) → o ≡ Some entry → option_map number (row_under (rows_at table place) entry.key) ≡ Some n
-    key_some at n o entry is value_is entry_is = ap (λ (e : Entry N). option_map number (row_under (rows_at table place) e.key)) (entry_of o entry at value_is entry_is) ∙ number_stands at n entry is
-
-    pub row_of_number : (at n : ℕ) (o : Option (Entry N)) (entry : Entry N) (slot : Slot R) → IsAt value index.items n at → IfSome o (λ y. y ≡ get_or index.items at y) → o ≡ Some entry → slot_at slots entry.key ≡ Some slot → IsRowOf n entry slot
-    row_of_number at n o entry slot is value_is entry_is stands =
-        let numbers = key_some at n o entry is value_is entry_is in
+    pub row_of_number : (at n : ℕ) (entry : Entry N) (slot : Slot R) → IsAt value index.items n at → entry ≡ get_or index.items at entry → slot_at slots entry.key ≡ Some slot → IsRowOf n entry slot
+    row_of_number at n entry slot is entry_is stands =
+        let numbers = key_some at n entry is entry_is in
         let some = some_mapped number (row_under (rows_at table place) entry.key) n numbers in
         let under = slot_under entry.key slot some stands in
         record {
-          key = sym (ap (λ (e : Entry N). Some e.key) (entry_of o entry at value_is entry_is) ∙ number_found at n entry is);
+          key = sym (ap (λ (e : Entry N). Some e.key) entry_is ∙ number_found at n entry is);
           some = some;
           row = under.1;
           numbered = same_Some (number slot.row) n (sym (ap (option_map number) under.1) ∙ numbers);
@@ -182,7 +179,7 @@ module _ {R N A : Type 0} where
         }
 
     pub none_there : rows_at table place ≡ [] → index.items ≡ []
-    none_there empty = nil_from_length index.items (omega (arith, seen.count, index.ok.0, ap length empty))
+    none_there empty = nil_from_length index.items (omega (arith, seen.count, ap length empty))
 
 module _ {R N : Type 0} (number : R → ℕ) (value : N → ℕ) where
   -- only the slot of one key differs, which is of no entry of another place
@@ -196,12 +193,12 @@ module _ {R N : Type 0} (number : R → ℕ) (value : N → ℕ) where
     stand = λ k d within. let is = index.stand k d within in record { row = is.row; stands = same (get_or entries k d).key (apart k d within) ∙ is.stands; numbered = is.numbered };
   }
 
-  module _ {A : Type 0} (slots slots' : List (Option (Slot R))) (indexes : List (VecDeque (Entry N) A)) (kept : IsKept number value slots indexes) (key place : ℕ) (change : IsChange slots slots' key place) (is_place : place < length indexes) where
-    others_apart : (other : ℕ) (d : VecDeque (Entry N) A) → other < length indexes → other ≢ place → Apart key (get_or indexes other d).items
+  module _ (slots slots' : List (Option (Slot R))) (indexes : List (Gapped (Entry N))) (kept : IsKept number value slots indexes) (key place : ℕ) (change : IsChange slots slots' key place) (is_place : place < length indexes) where
+    others_apart : (other : ℕ) (d : Gapped (Entry N)) → other < length indexes → other ≢ place → Apart key (get_or indexes other d).items
     others_apart other d within differ = λ k e inner. change.mine other (get_or (get_or indexes other d).items k e) differ ((kept.each other d within).stand k e inner)
 
     -- the other places keep their rows
-    pub changed_rows : (room : ℕ) (table : Table (List (Keyed R))) (index : VecDeque (Entry N) A) (rows : List (Keyed R)) → table_of slots indexes room ≡ table → rows_of slots' index.items ≡ rows → table_of slots' (set indexes place index) room ≡ with_place table place rows
+    pub changed_rows : (room : ℕ) (table : Table (List (Keyed R))) (index : Gapped (Entry N)) (rows : List (Keyed R)) → table_of slots indexes room ≡ table → rows_of slots' index.items ≡ rows → table_of slots' (set indexes place index) room ≡ with_place table place rows
     changed_rows room table index rows view_is rows_are =
         ap (λ places. record { places = places; room = room }) lists
         ∙ ap (λ (t : Table (List (Keyed R))). with_place t place rows) view_is
@@ -215,9 +212,9 @@ module _ {R N : Type 0} (number : R → ℕ) (value : N → ℕ) where
             let long = length-map indexes (λ i. rows_of slots i.items) in
             ⊎_elim
             (λ (here : other ≡ place).
-            rw here (rw here at left ∙ (ap (λ (i : VecDeque (Entry N) A). rows_of slots' i.items) (get_or-set_same indexes place index index is_place) ∙ (rows_are ∙ sym (get_or-set_same (shown slots indexes) place rows d (omega arith))))))
+            rw here (rw here at left ∙ (ap (λ (i : Gapped (Entry N)). rows_of slots' i.items) (get_or-set_same indexes place index index is_place) ∙ (rows_are ∙ sym (get_or-set_same (shown slots indexes) place rows d (omega arith))))))
             (λ (differ : other ≢ place).
-            left ∙ (ap (λ (i : VecDeque (Entry N) A). rows_of slots' i.items) (get_or-set_other indexes place other index index differ)
+            left ∙ (ap (λ (i : Gapped (Entry N)). rows_of slots' i.items) (get_or-set_other indexes place other index index differ)
             ∙ (rows_same slots slots' key change.same (get_or indexes other index).items (others_apart other index inner differ)
             ∙ (sym right ∙ sym (get_or-set_other (shown slots indexes) place other rows d differ)))))
             (cases_eq other place)
@@ -227,7 +224,7 @@ module _ {R N : Type 0} (number : R → ℕ) (value : N → ℕ) where
             (omega (arith, length-map (set indexes place index) (λ i. rows_of slots' i.items), length-set indexes place index, length-set (shown slots indexes) place rows, length-map indexes (λ i. rows_of slots i.items))) at
 
     -- and their indexes
-    pub changed_kept : (index : VecDeque (Entry N) A) → IsIndex number value slots' place index.items → count_by is_some slots' + length (get_or indexes place index).items ≡ count_by is_some slots + length index.items → IsKept number value slots' (set indexes place index)
+    pub changed_kept : (index : Gapped (Entry N)) → IsIndex number value slots' place index.items → count_by is_some slots' + length (get_or indexes place index).items ≡ count_by is_some slots + length index.items → IsKept number value slots' (set indexes place index)
     changed_kept index is count = record {
       each = λ other d within. ⊎_elim
           (λ (here : other ≡ place). subst (λ i. IsIndex number value slots' other i.items) (sym (ap (λ k. get_or (set indexes place index) k d) here ∙ get_or-set_same indexes place index d is_place)) (rw here is))
@@ -236,7 +233,7 @@ module _ {R N : Type 0} (number : R → ℕ) (value : N → ℕ) where
           subst (λ i. IsIndex number value slots' other i.items) (sym (get_or-set_other indexes place other index d differ))
           (index_same slots slots' key other (get_or indexes other d).items change.same (others_apart other d inner differ) (kept.each other d inner)))
           (cases_eq other place);
-      total = omega (arith, count, kept.total, sum_by-set (λ (i : VecDeque (Entry N) A). length i.items) indexes place index index is_place);
+      total = omega (arith, count, kept.total, sum_by-set (λ (i : Gapped (Entry N)). length i.items) indexes place index index is_place);
     }
 
   module _ (slots slots' : List (Option (Slot R))) (place key : ℕ) (row : R) (entries : List (Entry N)) (index : IsIndex number value slots place entries) (same : SameElsewhere slots slots' key) where
@@ -342,15 +339,15 @@ module _ {R N : Type 0} (number : R → ℕ) (value : N → ℕ) where
             (cases_eq (get_or entries k d).key key);
       }
 
-module _ {R N A : Type 0} {number : R → ℕ} {value : N → ℕ} {slots : List (Option (Slot R))} {indexes : List (VecDeque (Entry N) A)} {table : Table (List (Keyed R))} {place : ℕ} {index : VecDeque (Entry N) A}
-    (old : IsKept number value slots indexes) (seen : IsSeen number value slots indexes table place index) (room : ℕ) (view_is : table_of slots indexes room ≡ table) (slots' : List (Option (Slot R))) (new : VecDeque (Entry N) A) where
+module _ {R N : Type 0} {number : R → ℕ} {value : N → ℕ} {slots : List (Option (Slot R))} {indexes : List (Gapped (Entry N))} {table : Table (List (Keyed R))} {place : ℕ} {index : Gapped (Entry N)}
+    (old : IsKept number value slots indexes) (seen : IsSeen number value slots indexes table place index) (room : ℕ) (view_is : table_of slots indexes room ≡ table) (slots' : List (Option (Slot R))) (new : Gapped (Entry N)) where
   -- the rows after a change at the place, kept and seen
   pub record IsAfter (rows : List (Keyed R)) : Type 0 where
     pub kept : IsKept number value slots' (set indexes place new)
     pub view : table_of slots' (set indexes place new) room ≡ with_place table place rows
 
   old_length : length (get_or indexes place new).items ≡ length index.items
-  old_length = ap (λ (i : VecDeque (Entry N) A). length i.items) (sym (seen.is new))
+  old_length = ap (λ (i : Gapped (Entry N)). length i.items) (sym (seen.is new))
 
   after : (key : ℕ) (rows : List (Keyed R)) → IsChange number value slots slots' key place → IsIndex number value slots' place new.items → rows_of slots' new.items ≡ rows → count_by is_some slots' + length index.items ≡ count_by is_some slots + length new.items → IsAfter rows
   after key rows change is rows_are count = record {
@@ -368,7 +365,7 @@ module _ {R N A : Type 0} {number : R → ℕ} {value : N → ℕ} {slots : List
       (omega (arith, count, ap length items, length_push index.items (record { number = n; key = key })))
 
   -- the same, as the calls of a slab say it
-  pub pushed_by : (reserved inserted : Slab (Slot R)) (grown : VecDeque (Entry N) A) (key used short : ℕ) (row : R) (n : N) → slots' ≡ inserted.slots → reserved.slots ≡ slots → key ≡ reserved.vacant_key → used ≡ reserved.vacant_key → short ≡ key
+  pub pushed_by : (reserved inserted : Slab (Slot R)) (grown : Gapped (Entry N)) (key used short : ℕ) (row : R) (n : N) → slots' ≡ inserted.slots → reserved.slots ≡ slots → key ≡ reserved.vacant_key → used ≡ reserved.vacant_key → short ≡ key
       → slot_at reserved.slots key ≡ None → Updates reserved inserted used (Some (record { place = place; row = row })) → slab_len inserted ≡ slab_len reserved + 1
       → grown.items ≡ index.items → new.items ≡ grown.items ++ record { number = n; key = short } ∷ [] → value n ≡ number row → All (λ keyed. number keyed.row < number row) (rows_at table place) → IsAfter (added (rows_at table place) key row)
   pushed_by reserved inserted grown key used short row n after before key_is used_is short_is vacant updates len grown_is items is below =
@@ -415,9 +412,8 @@ module _ {R N A : Type 0} {number : R → ℕ} {value : N → ℕ} {slots : List
       (cases_lt i j)
 
   pub removed : (at key : ℕ) (row : R) → IsAt value index.items (number row) at → IsSome (row_under (rows_at table place) key) → slot_at slots key ≡ Some (record { place = place; row = row }) → SameElsewhere slots slots' key → count_by is_some slots' + 1 ≡ count_by is_some slots
-      → (gone : Option (Entry N)) → (IsSome gone ↔ (at < deque_len index)) → OnSome gone (new.items ≡ remove index.items at) → IsAfter (without (rows_at table place) key)
-  removed at key row is some stood same count gone there gone_items =
-      let items : new.items ≡ remove index.items at = on_some gone (there.1 (omega (arith, is.in_range, index.ok.0))) gone_items in
+      → new.items ≡ remove index.items at → IsAfter (without (rows_at table place) key)
+  removed at key row is some stood same count items =
       let stands = (under_seen seen key some).stands in
       let d = some_entry index.items at is.in_range in
       let found = seen.entries.stand stands.at d stands.within in
@@ -440,21 +436,21 @@ module _ {R N A : Type 0} {number : R → ℕ} {value : N → ℕ} {slots : List
       (ap (λ s. rows_of s new.items) same ∙ (ap (rows_of slots) items ∙ sym seen.rows))
       (omega (arith, ap (count_by is_some) same, ap length items))
 
-module _ {R N A : Type 0} {number : R → ℕ} {value : N → ℕ} {slots : List (Option (Slot R))} {indexes : List (VecDeque (Entry N) A)} (kept : IsKept number value slots indexes) where
-  pub kept_open : (index : VecDeque (Entry N) A) → index.items ≡ [] → IsKept number value slots (indexes ++ index ∷ [])
+module _ {R N : Type 0} {number : R → ℕ} {value : N → ℕ} {slots : List (Option (Slot R))} {indexes : List (Gapped (Entry N))} (kept : IsKept number value slots indexes) where
+  pub kept_open : (index : Gapped (Entry N)) → index.items ≡ [] → IsKept number value slots (indexes ++ index ∷ [])
   kept_open index items = record {
     each = λ place d within. ⊎_elim
-        (λ (below : place < length indexes). subst (λ (i : VecDeque (Entry N) A). IsIndex number value slots place i.items) (sym (get_or_append_left indexes (index ∷ []) d place below)) (kept.each place d below))
+        (λ (below : place < length indexes). subst (λ (i : Gapped (Entry N)). IsIndex number value slots place i.items) (sym (get_or_append_left indexes (index ∷ []) d place below)) (kept.each place d below))
         (λ (above : length indexes ≤ place).
         let last : length indexes ≡ place = omega (arith, length_push indexes index) in
-        subst (λ (i : VecDeque (Entry N) A). IsIndex number value slots place i.items) (sym (get_or_push indexes index d place last))
+        subst (λ (i : Gapped (Entry N)). IsIndex number value slots place i.items) (sym (get_or_push indexes index d place last))
         (rw items (record { rising = λ i j e lt inner. absurd (omega arith); stand = λ k e inner. absurd (omega arith) })))
         (cases_lt place (length indexes));
-    total = omega (arith, kept.total, sum_by_push (λ (i : VecDeque (Entry N) A). length i.items) indexes index, ap length items);
+    total = omega (arith, kept.total, sum_by_push (λ (i : Gapped (Entry N)). length i.items) indexes index, ap length items);
   }
 
   -- a row makes way for another of its number
-  pub replaced : {table : Table (List (Keyed R))} {place : ℕ} {index : VecDeque (Entry N) A} → IsSeen number value slots indexes table place index → (room : ℕ) → table_of slots indexes room ≡ table → (key : ℕ) (row : R)
+  pub replaced : {table : Table (List (Keyed R))} {place : ℕ} {index : Gapped (Entry N)} → IsSeen number value slots indexes table place index → (room : ℕ) → table_of slots indexes room ≡ table → (key : ℕ) (row : R)
       → option_map number (row_under (rows_at table place) key) ≡ Some (number row)
       → IsKept number value (set slots key (Some (record { place = place; row = row }))) indexes × (table_of (set slots key (Some (record { place = place; row = row }))) indexes room ≡ with_place table place (with_row (rows_at table place) key row))
   replaced {table = table} {place = place} {index = index} seen room view_is key row numbers =
@@ -478,7 +474,7 @@ module _ {R N A : Type 0} {number : R → ℕ} {value : N → ℕ} {slots : List
       slot_within slots key slot stood = grind (arith, get_or_past)
 
   -- a row is changed where it stands, and keeps its number
-  pub updated : {table : Table (List (Keyed R))} {place : ℕ} {index : VecDeque (Entry N) A} → IsSeen number value slots indexes table place index → (room : ℕ) → table_of slots indexes room ≡ table → (key : ℕ) (slot : Slot R) (row : R)
+  pub updated : {table : Table (List (Keyed R))} {place : ℕ} {index : Gapped (Entry N)} → IsSeen number value slots indexes table place index → (room : ℕ) → table_of slots indexes room ≡ table → (key : ℕ) (slot : Slot R) (row : R)
       → IsSome (row_under (rows_at table place) key) → slot_at slots key ≡ Some slot → number row ≡ number slot.row
       → IsKept number value (set slots key (Some (record { place = slot.place; row = row }))) indexes × (table_of (set slots key (Some (record { place = slot.place; row = row }))) indexes room ≡ with_place table place (with_row (rows_at table place) key row))
   updated {table = table} {place = place} seen room view_is key slot row some stands same =

@@ -1,10 +1,9 @@
 -- Links in order.
-use Rattle.std.proofs.Common.{◌≡◌, ◌∙◌, ℕ, zero, suc, ◌+◌, ◌-◌, ◌<◌, ◌≤◌, Bool, true, false, not, List, [], ◌∷◌, ◌++◌, Some, None, Option, IsSome, OnSome, Result, Ok, Err, OnOk, OnErr, ◌↔◌, deque_len, length, filter, find, get_or, take, drop, set, slice_get, refl, subst, sym, ap, arith, ⊎_elim}
-use Rattle.std.specs.VecDeque.{deque_capacity}
-use Rattle.std.specs.declared.collections.VecDeque.{VecDeque}
+use Rattle.std.proofs.Common.{◌≡◌, ◌∙◌, ℕ, zero, suc, ◌+◌, ◌-◌, ◌<◌, ◌≤◌, Bool, true, false, not, List, [], ◌∷◌, ◌++◌, Some, Ok, Err, length, filter, find, get_or, take, drop, set, slice_get, refl, subst, sym, ap, arith, ⊎_elim}
+use Rattle.gap_buffer.specs.Gapped.{Gapped}
 use Rattle.std.specs.Cmp.{IsTotalOrder, alike_right}
-use Rattle.std.specs.List.{AllWithin, insert, remove}
-use Rattle.std.specs.List.Sorted.{IsBinarySearchResult, IsSearchInRange, IsSortedBy}
+use Rattle.std.specs.List.{AllWithin, HoldsAt, insert, remove}
+use Rattle.std.specs.List.Sorted.{IsPartitionPoint, IsPartitionedBy}
 use Rattle.std.specs.Ordering.{is_eq, is_lt, ordering_reverse}
 use Rattle.std.specs.declared.cmp.Ordering.{Ordering}
 use Rattle.std.specs.declared.cmp.Ordering.TheVariants.{Less, Equal, Greater}
@@ -12,7 +11,6 @@ use Rattle.std.proofs.lemmas.Bool.{cases_lt}
 use Rattle.std.proofs.lemmas.List.{get_or_default, set_split, take_all}
 use Rattle.std.proofs.lemmas.List.Edits.{length-remove}
 use Rattle.std.proofs.lemmas.List.Quantifiers.{all_pairs_remove}
-use Rattle.std.proofs.lemmas.List.Sorted.{searchable_from_sorted}
 use Rattle.std.proofs.lemmas.Option.{slice_get-get_or}
 use Rattle.shared_rows.specs.Links.{HasMemory, HasRoom, IsBetween, Linked, IsInOrder, IsSeat, first_from, with_link, without_link}
 
@@ -61,6 +59,16 @@ less_from Less low = refl
 less_from Equal low = absurd (cc)
 less_from Greater low = absurd (cc)
 
+pub equal_from : (o : Ordering) → is_eq o ≡ true → o ≡ Equal
+equal_from Less same = absurd (cc)
+equal_from Equal same = refl
+equal_from Greater same = absurd (cc)
+
+greater_from : (o : Ordering) → is_lt o ≡ false → is_eq o ≡ false → o ≡ Greater
+greater_from Less low same = absurd (cc)
+greater_from Equal low same = absurd (cc)
+greater_from Greater low same = refl
+
 module _ {K : Type 0} {cmp : K → K → Ordering} (total : IsTotalOrder cmp) where
   below_back : (x y : K) → cmp x y ≡ Less → cmp y x ≡ Greater
   below_back x y e = total.antisymm y x ∙ ap ordering_reverse e
@@ -69,12 +77,9 @@ module _ {K : Type 0} {cmp : K → K → Ordering} (total : IsTotalOrder cmp) wh
   above_back x y e = total.antisymm y x ∙ ap ordering_reverse e
 
   module _ (links : List K) (order : IsInOrder cmp links) (link : K) where
-    in_sorted : IsSortedBy (λ a b. is_lt (cmp a b)) links
-    in_sorted = λ k d low high. ap is_lt (below_back (get_or links k d) (get_or links (k + 1) d) (order k (k + 1) d (omega arith) high))
-
-    -- what a binary search finds
-    pub seat_found : (r : Result ℕ ℕ) → IsSearchInRange r (length links) → IsBinarySearchResult (λ other. cmp other link) links r → IsSeat cmp links link r
-    seat_found (Ok at) within equal = (
+    -- a link that is equal stands where it is looked for
+    pub seat_found : (at : ℕ) → at < length links → HoldsAt (λ other. cmp other link ≡ Equal) links at → IsSeat cmp links link (Ok at)
+    seat_found at within equal = (
       within,
       equal,
       record {
@@ -82,9 +87,30 @@ module _ {K : Type 0} {cmp : K → K → Ordering} (total : IsTotalOrder cmp) wh
         above = λ k d low high. sym (total.congr (get_or links at d) link (get_or links k d) (equal d)) ∙ order at k d (omega arith) high;
       },
     )
-    seat_found (Err at) within parted =
-        let parts = parted (searchable_from_sorted total (λ (other : K). other) links link in_sorted) in
-        (within, record { below = parts.0; above = λ k d low high. above_back (get_or links k d) link (parts.1 k d low high) })
+
+    -- those below stand before the others
+    pub below_parted : IsPartitionedBy (λ other. is_lt (cmp other link)) links
+    below_parted i j d upto within low = ⊎_elim
+        (λ (front : i < j). ap is_lt (total.trans (get_or links i d) (get_or links j d) link (order i j d front within) (less_from (cmp (get_or links j d) link) low)))
+        (λ (at : j ≤ i). let same : i ≡ j = omega arith in ap (λ n. is_lt (cmp (get_or links n d) link)) same ∙ low)
+        (cases_lt i j)
+
+    -- and where they end, the link would stand, if it does not stand there
+    pub seat_between : (at : ℕ) → at ≤ length links → IsPartitionPoint (λ other. is_lt (cmp other link) ≡ true) (λ other. is_lt (cmp other link) ≡ false) links at
+        → ((d : K) → at < length links → is_eq (cmp (get_or links at d) link) ≡ false) → IsSeat cmp links link (Err at)
+    seat_between at within point differs = (
+      within,
+      record {
+        below = λ k d low high. less_from (cmp (get_or links k d) link) (point.0 k d low high);
+        above = λ k d low high.
+            let there : at < length links = omega (arith, low, high) in
+            let above : cmp link (get_or links at d) ≡ Less = above_back (get_or links at d) link (greater_from (cmp (get_or links at d) link) (point.1 at d (omega arith) there) (differs d there)) in
+            ⊎_elim
+            (λ (behind : at < k). total.trans link (get_or links at d) (get_or links k d) above (order at k d behind high))
+            (λ (here : k ≤ at). let same : k ≡ at = omega arith in ap (λ n. cmp link (get_or links n d)) same ∙ above)
+            (cases_lt at k);
+      },
+    )
 
     -- behind all others where the last one is below
     pub seat_behind : (count : ℕ) (last : K) → count ≡ length links → 0 < count → last ≡ get_or links (count - 1) last → is_lt (cmp last link) ≡ true → IsSeat cmp links link (Err count)
@@ -186,27 +212,14 @@ relinked {K} change old links new capacity size view_is new_is same =
     ap (λ (list : List K). linked list size) new_is
     ∙ (ap (λ (c : ℕ). linked (change links) c) same ∙ ap (λ (l : Linked K). linked (change l.links) l.capacity) view_is)
 
--- a queue with memory for so many has room for one more than it holds, if those are more
-pub has_room : {K A : Type 0} (items : VecDeque K A) (capacity : ℕ) (old : Linked K) → linked items.items capacity ≡ old → HasMemory capacity items → HasRoom old → deque_len items < deque_capacity items
-has_room {K} items capacity old view_is memory room = omega (arith, items.ok.0, memory.1, ap (λ (l : Linked K). length l.links) view_is, ap (λ (l : Linked K). l.capacity) view_is, room)
-
--- where there is room an insertion is done
-pub inserted_items : {T E : Type 0} {P : Type 0} {size capacity : ℕ} (result : Result T E) → size < capacity → OnErr result (capacity ≤ size) → OnOk result P → P
-inserted_items (Ok done) room full items = items
-inserted_items (Err error) room full items = absurd (omega (arith, room, full))
-
-pub on_some : {X : Type 0} {P : Type 0} (o : Option X) → IsSome o → OnSome o P → P
-on_some None none holds = absurd (cc)
-on_some (Some x) some holds = holds
-
--- and what stands in a queue is taken out
-pub removed_items : {K A : Type 0} {P : Type 0} (gone : Option K) (items : VecDeque K A) (at : ℕ) → (IsSome gone ↔ (at < deque_len items)) → at < length items.items → OnSome gone P → P
-removed_items gone items at there within same = on_some gone (there.1 (omega (arith, within, items.ok.0))) same
+-- links with memory for so many have room for one more than they are, if those are more
+pub has_room : {K : Type 0} (items : Gapped K) (capacity : ℕ) (old : Linked K) → linked items.items capacity ≡ old → HasMemory capacity items → HasRoom old → length items.items < items.capacity
+has_room {K} items capacity old view_is memory room = omega (arith, memory.1, ap (λ (l : Linked K). length l.links) view_is, ap (λ (l : Linked K). l.capacity) view_is, room)
 
 -- and the others stay in order
 pub order_kept : {K : Type 0} (cmp : K → K → Ordering) (links : List K) (at : ℕ) → at < length links → IsInOrder cmp links → (left : List K) → left ≡ remove links at → IsInOrder cmp left
 order_kept {K} cmp links at within ordered left same = subst (λ (list : List K). IsInOrder cmp list) (sym same) (all_pairs_remove (λ (x y : K). cmp x y ≡ Less) links at within ordered)
 
 -- and so does what memory there is
-pub memory_kept : {K A : Type 0} (capacity : ℕ) (items : VecDeque K A) (at : ℕ) → at < length items.items → HasMemory capacity items → (left : VecDeque K A) → left.items ≡ remove items.items at → deque_capacity left ≡ deque_capacity items → HasMemory capacity left
-memory_kept {K} capacity items at within memory left same size = (omega (arith, memory.0, ap (λ (list : List K). length list) same, length-remove items.items at within), omega (arith, memory.1, size))
+pub memory_kept : {K : Type 0} (capacity : ℕ) (items : Gapped K) (at : ℕ) → at < length items.items → HasMemory capacity items → (left : Gapped K) → left ≡ record items { items = remove items.items at } → HasMemory capacity left
+memory_kept {K} capacity items at within memory left same = (omega (arith, memory.0, ap (λ (list : Gapped K). length list.items) same, length-remove items.items at within), omega (arith, memory.1, ap (λ (list : Gapped K). list.capacity) same))

@@ -1,6 +1,6 @@
 -- How the rows of the places stand in one slab. No public clause cites this module.
 use Rattle.std.specs.Prelude.{◌≡◌, ◌≢◌, ℕ, ◌<◌, ◌≤◌, List, length, Option, None, Some, count_by, is_some, slice_index_or}
-use Rattle.std.specs.declared.collections.VecDeque.{VecDeque}
+use Rattle.gap_buffer.specs.Gapped.{Gapped}
 use Rattle.std.specs.List.{All, AllPairs, AllWithin, filter_map, sum_by}
 use Rattle.std.specs.Option.{option_map}
 use Rattle.shared_rows.specs.Rows.{Keyed}
@@ -54,6 +54,6 @@ module _ {R N : Type 0} (number : R → ℕ) (value : N → ℕ) where
     pub stand : All (IsEntry slots place) entries
 
   -- each place has its index, and no slot holds a row that is in none
-  pub record IsKept {A : Type 0} (slots : List (Option (Slot R))) (indexes : List (VecDeque (Entry N) A)) : Type 0 where
-    pub each : (place : ℕ) (default : VecDeque (Entry N) A) → place < length indexes → IsIndex slots place (slice_index_or indexes place default).items
+  pub record IsKept (slots : List (Option (Slot R))) (indexes : List (Gapped (Entry N))) : Type 0 where
+    pub each : (place : ℕ) (default : Gapped (Entry N)) → place < length indexes → IsIndex slots place (slice_index_or indexes place default).items
     pub total : count_by is_some slots ≡ sum_by (λ index. length index.items) indexes

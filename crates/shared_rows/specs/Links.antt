@@ -1,7 +1,6 @@
 -- What contracts see of links: keys of a type that has a total order.
 use Rattle.std.specs.Prelude.{◌≡◌, ℕ, ◌<◌, ◌≤◌, ◌+◌, not, List, ◌∷◌, ◌++◌, Option, Result, Ok, Err, filter, find, length, refl}
-use Rattle.std.specs.VecDeque.{deque_capacity}
-use Rattle.std.specs.declared.collections.VecDeque.{VecDeque}
+use Rattle.gap_buffer.specs.Gapped.{Gapped}
 use Rattle.std.specs.Coded.{Coded, code_by, coded×, coded_list, coded_ℕ}
 use Rattle.std.specs.List.{All, AllPairs, AllWithin, Any, Contains, HoldsAt}
 use Rattle.std.specs.Ordering.{is_eq, is_lt}
@@ -18,8 +17,8 @@ abbrev pub linked_code : {K : Type 0} → Coded K → Coded (Linked K)
 linked_code {K} code = code_by (List K × ℕ) (coded× (coded_list code) coded_ℕ) (λ l. (l.links, l.capacity)) (λ p. record { links = p.0; capacity = p.1 }) (λ _. refl)
 
 -- there is memory for so many, and no more are there
-abbrev pub HasMemory : {K A : Type 0} → ℕ → VecDeque K A → Type 0
-HasMemory count items = (length items.items ≤ count) × (count ≤ deque_capacity items)
+abbrev pub HasMemory : {K : Type 0} → ℕ → Gapped K → Type 0
+HasMemory count items = (length items.items ≤ count) × (count ≤ items.capacity)
 
 -- one more link takes no memory
 abbrev pub HasRoom : {K : Type 0} → Linked K → Type 0

@@ -3,7 +3,7 @@ ghost use Rattle.std.specs.Prelude.{◌-◌, ◌<◌, ◌≤◌, IfErr, IfOk, If
 ghost use Rattle.shared_rows.specs.Index.{IsAt, IsCountBelow, IsRisingIndex, IsWindow, HasNot};
 
 use crate::number::Number;
-use std::collections::VecDeque;
+use gap_buffer::GapBuffer;
 
 /// A row, and the place that it belongs to.
 #[derive(Drop)]
@@ -30,12 +30,12 @@ pub(crate) struct Window {
 /// Where the entry with a number stands. As numbers differ, it is no farther from another entry than
 /// their numbers are, and just as far where none between the two was taken out: the first entry gives a
 /// guess, and so does each one that is looked at.
-pub(crate) fn position<N: Number>(entries: &VecDeque<Entry<N>>, number: u64) -> Option<usize>
+pub(crate) fn position<N: Number>(entries: &GapBuffer<Entry<N>>, number: u64) -> Option<usize>
     requires { IsRisingIndex N.value entries.now.items }
     ensures found { IfSome result (IsAt N.value entries.now.items number) }
     ensures absent { IfNone result (HasNot N.value entries.now.items number) }
 {
-    let first = entries.front()?.number.value();
+    let first = entries.first()?.number.value();
     if number < first {
         return None;
     }
@@ -53,7 +53,7 @@ pub(crate) fn position<N: Number>(entries: &VecDeque<Entry<N>>, number: u64) -> 
 }
 
 /// Looks by turns at the guess and in the middle of what is left of a window.
-fn search<N: Number>(entries: &VecDeque<Entry<N>>, number: u64, mut window: Window) -> Option<usize>
+fn search<N: Number>(entries: &GapBuffer<Entry<N>>, number: u64, mut window: Window) -> Option<usize>
     requires rising { IsRisingIndex N.value entries.now.items }
     requires window { IsWindow N.value entries.now.items number window }
     ensures found { IfSome result (IsAt N.value entries.now.items number) }
@@ -85,7 +85,7 @@ fn middle(window: Window) -> usize
 
 /// Looks at a position of a window: it is the one of the number, or a narrower window is left.
 fn look<N: Number>(
-    entries: &VecDeque<Entry<N>>,
+    entries: &GapBuffer<Entry<N>>,
     number: u64,
     window: Window,
     at: usize,
@@ -97,7 +97,7 @@ fn look<N: Number>(
     ensures rest { IfErr result (IsWindow N.value entries.now.items number) }
     ensures less { IfErr result (λ rest. rest.high - rest.low < window.high - window.low) }
 {
-    let there = entries[at].number.value();
+    let there = entries.get(at).number.value();
     if there == number {
         return Ok(at);
     }
@@ -118,11 +118,11 @@ fn look<N: Number>(
 }
 
 /// How many entries have a number below this one, which is where its own would stand.
-pub(crate) fn count_below<N: Number>(entries: &VecDeque<Entry<N>>, number: u64) -> usize
+pub(crate) fn count_below<N: Number>(entries: &GapBuffer<Entry<N>>, number: u64) -> usize
     requires { IsRisingIndex N.value entries.now.items }
     ensures { IsCountBelow N.value entries.now.items number result }
 {
-    match entries.back() {
+    match entries.last() {
         Some(last) if last.number.value() < number => entries.len(),
         _ => entries.partition_point(|entry| entry.number.value() < number),
     }

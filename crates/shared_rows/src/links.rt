@@ -1,17 +1,16 @@
 //! Small keys in order, which lead to rows from another side.
 ghost use Rattle.std.specs.Prelude.{◌≡◌, ◌≤◌, ◌↔◌, [], IsTrue, OnOk, OnErr, length};
-ghost use Rattle.std.specs.List.{Contains};
+ghost use Rattle.std.specs.List.{Contains, slice_get};
 ghost use Rattle.shared_rows.specs.Links.{HasRoom, IsInOrder, IsSeat, first_from, with_link, without_link};
 
+use gap_buffer::GapBuffer;
 use std::alloc::{AllocError, Global};
-use std::collections::VecDeque;
 use std::marker::Model;
 
-/// Keys by rising order, each once. Where one comes in or goes out, the shorter side of the others
-/// moves.
+/// Keys by rising order, each once. Where one comes in or goes out, others move as in a gap buffer.
 #[derive(Drop)]
 pub struct Links<K: Ord + Copy> {
-    items: VecDeque<K>,
+    items: GapBuffer<K>,
     /// For so many at least there is memory.
     capacity: usize,
 }
@@ -34,7 +33,7 @@ impl<K: Ord + Copy> Links<K> {
         ensures { result.links ≡ [] }
     {
         Links {
-            items: VecDeque::new(alloc),
+            items: GapBuffer::new(alloc),
             capacity: 0,
         }
     }
@@ -58,7 +57,7 @@ impl<K: Ord + Copy> Links<K> {
         ensures kept { self.old.capacity ≤ self.new.capacity }
         ensures err { OnErr result (self.new ≡ self.old) }
     {
-        self.items.reserve(1)?;
+        self.items.reserve()?;
         self.capacity = self.capacity.max(self.items.len() + 1);
         Ok(())
     }
@@ -79,12 +78,8 @@ impl<K: Ord + Copy> Links<K> {
         ensures { self.new ≡ record self.old { links = with_link K.cmp self.old.links link } }
     {
         match seat(&self.items, link) {
-            Ok(at) => self.items[at] = link,
-            Err(at) => {
-                if self.items.insert(at, link).is_err() {
-                    unreachable!()
-                }
-            }
+            Ok(at) => self.items.set(at, link),
+            Err(at) => self.items.insert_reserved(at, link),
         }
     }
 
@@ -109,7 +104,7 @@ impl<K: Ord + Copy> Links<K> {
     }
 
     /// The links in their order.
-    pub fn as_deque(&self) -> &VecDeque<K>
+    pub fn as_buffer(&self) -> &GapBuffer<K>
         ensures links { result.now.items ≡ self.now.links }
         ensures sound { IsInOrder K.cmp self.now.links }
     {
@@ -122,8 +117,8 @@ impl<K: Ord + Copy> Links<K> {
         ensures sound { IsInOrder K.cmp self.now.links }
     {
         match seat(&self.items, link) {
-            Ok(at) => Some(self.items[at]),
-            Err(at) => self.items.get(at).copied(),
+            Ok(at) => Some(self.items.get(at)),
+            Err(at) => link_at(&self.items, at),
         }
     }
 
@@ -135,25 +130,52 @@ impl<K: Ord + Copy> Links<K> {
     }
 }
 
+/// The link at a position, where there is one.
+fn link_at<K: Copy>(links: &GapBuffer<K>, at: usize) -> Option<K>
+    ensures { result ≡ slice_get links.now.items at }
+{
+    if at < links.len() {
+        Some(links.get(at))
+    } else {
+        None
+    }
+}
+
 /// Where a link stands, or where it would stand: most that come in do so behind all others or before
 /// them, where no search is needed.
-fn seat<K: Ord + Copy>(links: &VecDeque<K>, link: K) -> Result<usize, usize>
+fn seat<K: Ord + Copy>(links: &GapBuffer<K>, link: K) -> Result<usize, usize>
     requires { IsInOrder K.cmp links.now.items }
     ensures { IsSeat K.cmp links.now.items link result }
 {
-    match links.back() {
+    match links.last() {
         Some(last) if last.cmp(&link).is_lt() => Err(links.len()),
         _ => seat_from_front(links, link),
     }
 }
 
 /// The same, with the look at the first link alone.
-fn seat_from_front<K: Ord + Copy>(links: &VecDeque<K>, link: K) -> Result<usize, usize>
+fn seat_from_front<K: Ord + Copy>(links: &GapBuffer<K>, link: K) -> Result<usize, usize>
     requires { IsInOrder K.cmp links.now.items }
     ensures { IsSeat K.cmp links.now.items link result }
 {
-    match links.front() {
-        Some(first) if link.cmp(first).is_lt() => Err(0),
-        _ => links.binary_search(&link),
+    match links.first() {
+        Some(first) if link.cmp(&first).is_lt() => Err(0),
+        _ => seat_by_halves(links, link),
+    }
+}
+
+/// The same, by a search of all of them.
+fn seat_by_halves<K: Ord + Copy>(links: &GapBuffer<K>, link: K) -> Result<usize, usize>
+    requires { IsInOrder K.cmp links.now.items }
+    ensures { IsSeat K.cmp links.now.items link result }
+{
+    let at = links.partition_point(|other| other.cmp(&link).is_lt());
+    if at == links.len() {
+        return Err(at);
+    }
+    if links.get(at).cmp(&link).is_eq() {
+        Ok(at)
+    } else {
+        Err(at)
     }
 }

@@ -8,10 +8,10 @@ ghost use Rattle.shared_rows.specs.Rows.{IsSound, added, inserted, key_of, row_u
 
 use crate::index::{Entry, Slot, count_below, position};
 use crate::number::{Number, Numbered};
+use gap_buffer::GapBuffer;
 use places::Places;
 use slab::Slab;
 use std::alloc::{AllocError, Global};
-use std::collections::VecDeque;
 use std::marker::Model;
 use std::mem;
 
@@ -19,7 +19,7 @@ use std::mem;
 #[derive(Drop)]
 pub struct SharedRows<R: Numbered> {
     slab: Slab<Slot<R>>,
-    indexes: Places<VecDeque<Entry<R::Number>>>,
+    indexes: Places<GapBuffer<Entry<R::Number>>>,
     alloc: Global,
 }
 
@@ -72,7 +72,7 @@ impl<R: Numbered> SharedRows<R> {
         ensures place { result ≡ length self.old.places }
         ensures opened { self.new ≡ opened self.old [] }
     {
-        self.indexes.open(VecDeque::new(self.alloc))
+        self.indexes.open(GapBuffer::new(self.alloc))
     }
 
     /// The key of the row with a number.
@@ -84,7 +84,7 @@ impl<R: Numbered> SharedRows<R> {
     {
         let entries = self.indexes.get(place);
         match position(entries, number) {
-            Some(at) => Some(entries[at].key as usize),
+            Some(at) => Some(entries.get(at).key as usize),
             None => None,
         }
     }
@@ -116,7 +116,7 @@ impl<R: Numbered> SharedRows<R> {
         requires stands { position < length (rows_at self.now place) }
         ensures { IsAtPosition (rows_at self.now place) position result.0 result.1.now }
     {
-        let key = self.indexes.get(place)[position].key as usize;
+        let key = self.indexes.get(place).get(position).key as usize;
         (key, &self.slab[key].row)
     }
 
@@ -138,8 +138,8 @@ impl<R: Numbered> SharedRows<R> {
             return Err(AllocError);
         };
         let index = self.indexes.get_mut(place);
-        index.reserve(1)?;
-        index.push_back_reserved(Entry {
+        index.reserve()?;
+        index.push_reserved(Entry {
             number: row.number(),
             key: short,
         });
@@ -166,8 +166,9 @@ impl<R: Numbered> SharedRows<R> {
         };
         let number = row.number();
         let index = self.indexes.get_mut(place);
+        index.reserve()?;
         let at = count_below(index, number.value());
-        index.insert(at, Entry { number, key: short })?;
+        index.insert_reserved(at, Entry { number, key: short });
         self.slab.insert_reserved(Slot { place, row });
         Ok(key)
     }
@@ -225,7 +226,7 @@ impl<R: Numbered> SharedRows<R> {
     {
         let index = self.indexes.get_mut(place);
         let at = position(index, number)?;
-        let entry = index.remove(at).unwrap();
+        let entry = index.remove(at);
         let Slot { place: _, row } = self.slab.remove(entry.key as usize);
         Some(row)
     }
@@ -251,6 +252,6 @@ impl<R: Numbered> SharedRows<R> {
         requires empty { rows_at self.old place ≡ [] }
         ensures { self.new ≡ self.old }
     {
-        *self.indexes.get_mut(place) = VecDeque::new(self.alloc);
+        *self.indexes.get_mut(place) = GapBuffer::new(self.alloc);
     }
 }

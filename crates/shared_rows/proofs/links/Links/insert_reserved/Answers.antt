@@ -6,21 +6,20 @@ use Rattle.std.proofs.lemmas.Bool.{cases_eq, cases_order}
 use Rattle.std.proofs.lemmas.List.{get_or-set_same, get_or-set_other, length-set}
 use Rattle.std.proofs.lemmas.List.Edits.{length-insert, get_or-insert_above, get_or-insert_at, get_or-insert_below}
 use Rattle.shared_rows.specs.Links.{IsInOrder, IsSeat, Linked, with_link}
-use Rattle.shared_rows.proofs.LinkLemmas.{has_room, insert_link, inserted_items, relinked, set_link}
+use Rattle.shared_rows.proofs.LinkLemmas.{insert_link, relinked, set_link}
 use Rattle.shared_rows.proofs.links.Links.insert_reserved.Goals as goal
 
 pub returns-in-Ok : goal.returns-in-Ok
 returns-in-Ok g c =
     let seat : IsSeat g.K.Ord.cmp c.self.inside.items.items c.args.link (Ok c.in-Ok.at) = c.in-Ok.ensures in
     relinked (λ links. with_link g.K.Ord.cmp links c.args.link) c.args.self.now c.self.inside.items.items _ _ _ c.self.view_is
-    (set_link g.met.K.Ord.total c.self.inside.items.items c.self.invariant.0 c.args.link c.in-Ok.at seat) refl
+    (ap (λ buffer. buffer.items) c.set.ensures ∙ set_link g.met.K.Ord.total c.self.inside.items.items c.self.invariant.0 c.args.link c.in-Ok.at seat) refl
 
-pub returns-else-is_err : goal.returns-else-is_err
-returns-else-is_err g c =
+pub returns-in-Err : goal.returns-in-Err
+returns-in-Err g c =
     let seat : IsSeat g.K.Ord.cmp c.self.inside.items.items c.args.link (Err c.in-Err.at) = c.in-Err.ensures in
-    let room = has_room c.self.inside.items c.self.inside.capacity c.args.self.now c.self.view_is c.self.invariant.1 c.requires in
     relinked (λ links. with_link g.K.Ord.cmp links c.args.link) c.args.self.now c.self.inside.items.items _ _ _ c.self.view_is
-    (inserted_items c.insert.result room c.insert.ensures.full c.insert.ensures.items ∙ insert_link g.met.K.Ord.total c.self.inside.items.items c.self.invariant.0 c.args.link c.in-Err.at seat)
+    (c.insert_reserved.ensures.items ∙ insert_link g.met.K.Ord.total c.self.inside.items.items c.self.invariant.0 c.args.link c.in-Err.at seat)
     refl
 
 -- with a link in its place the links stay in order
@@ -58,18 +57,18 @@ insert_order {K} {cmp} links link at seat order = λ i j d low high.
 
 pub invariant_of-self : goal.invariant_of-self
 invariant_of-self g c =
-    let seat : IsSeat g.K.Ord.cmp c.self.inside.items.items c.args.link (Ok c.in-Ok.at) = c.in-Ok.ensures in (
+    let seat : IsSeat g.K.Ord.cmp c.self.inside.items.items c.args.link (Ok c.in-Ok.at) = c.in-Ok.ensures in
+    rw c.set.ensures (
       set_order c.self.inside.items.items c.args.link c.in-Ok.at seat c.self.invariant.0,
       (omega (arith, length-set c.self.inside.items.items c.in-Ok.at c.args.link, c.self.invariant.1.0), c.self.invariant.1.1),
     )
 
-pub invariant_of-self-else-is_err : goal.invariant_of-self-else-is_err
-invariant_of-self-else-is_err g c =
+pub invariant_of-self-in-Err : goal.invariant_of-self-in-Err
+invariant_of-self-in-Err g c =
     let seat : IsSeat g.K.Ord.cmp c.self.inside.items.items c.args.link (Err c.in-Err.at) = c.in-Err.ensures in
-    let room = has_room c.self.inside.items c.self.inside.capacity c.args.self.now c.self.view_is c.self.invariant.1 c.requires in
-    let items : c.insert.new.self.items ≡ insert c.self.inside.items.items c.in-Err.at c.args.link = inserted_items c.insert.result room c.insert.ensures.full c.insert.ensures.items in
+    let items : c.insert_reserved.new.self.items ≡ insert c.self.inside.items.items c.in-Err.at c.args.link = c.insert_reserved.ensures.items in
     let size = length-insert c.self.inside.items.items c.in-Err.at c.args.link seat.0 in
     let view : length c.self.inside.items.items < c.self.inside.capacity = omega (arith, ap (λ (l : Linked g.row.K.Denot). length l.links) c.self.view_is, ap (λ (l : Linked g.row.K.Denot). l.capacity) c.self.view_is, c.requires) in (
       subst (IsInOrder g.K.Ord.cmp) (sym items) (insert_order c.self.inside.items.items c.args.link c.in-Err.at seat c.self.invariant.0),
-      (omega (arith, size, view, ap length items), omega (arith, c.self.invariant.1.1, c.insert.ensures.capacity)),
+      (omega (arith, size, view, ap length items), omega (arith, c.self.invariant.1.1, c.insert_reserved.ensures.kept)),
     )

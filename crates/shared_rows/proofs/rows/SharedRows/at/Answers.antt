@@ -2,17 +2,17 @@ use Rattle.std.proofs.Common.{arith}
 use Rattle.shared_rows.proofs.KeptLemmas.{entry_shown, entry_some, seen_by}
 use Rattle.shared_rows.proofs.rows.SharedRows.at.Goals as goal
 
-pub index-requires : goal.index-requires
-index-requires g c =
+pub get-requires-2 : goal.get-requires-2
+get-requires-2 g c =
     let seen = seen_by c.self.invariant c.self.inside.indexes.room c.args.self.now c.self.view_is c.args.place c.requires.place c.get.result.now c.get.ensures in
     omega (arith, seen.count, c.requires.stands)
 
-pub index-requires-2 : goal.index-requires-2
-index-requires-2 g c =
+pub index-requires : goal.index-requires
+index-requires g c =
     let seen = seen_by c.self.invariant c.self.inside.indexes.room c.args.self.now c.self.view_is c.args.place c.requires.place c.get.result.now c.get.ensures in
-    entry_some seen c.args.position c.index.result.now c.requires.stands c.index.ensures
+    entry_some seen c.args.position c.get-2.result c.requires.stands (c.get-2.ensures c.get-2.result)
 
 pub returns : goal.returns
 returns g c =
     let seen = seen_by c.self.invariant c.self.inside.indexes.room c.args.self.now c.self.view_is c.args.place c.requires.place c.get.result.now c.get.ensures in
-    entry_shown seen c.args.position c.index.result.now c.index-2.result.now c.requires.stands c.index.ensures c.index-2.ensures
+    entry_shown seen c.args.position c.get-2.result c.index.result.now c.requires.stands (c.get-2.ensures c.get-2.result) c.index.ensures

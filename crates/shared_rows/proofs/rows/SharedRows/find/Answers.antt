@@ -13,8 +13,8 @@ pub returns-in-Some : goal.returns-in-Some
 returns-in-Some g c =
     let seen = seen_by c.self.invariant c.self.inside.indexes.room c.args.self.now c.self.view_is c.args.place c.requires c.get-entries.result.now c.get-entries.ensures in
     record {
-      found = ap (λ entry. Some entry.key) c.index.ensures ∙ number_found seen c.in-Some.at c.args.number c.index.result.now c.in-Some.ensures.found;
-      stands = ap (λ entry. option_map g.R.Numbered.number (row_under (rows_at c.args.self.now c.args.place) entry.key)) c.index.ensures ∙ number_stands seen c.in-Some.at c.args.number c.index.result.now c.in-Some.ensures.found;
+      found = ap (λ entry. Some entry.key) (c.get.ensures c.get.result) ∙ number_found seen c.in-Some.at c.args.number c.get.result c.in-Some.ensures.found;
+      stands = ap (λ entry. option_map g.R.Numbered.number (row_under (rows_at c.args.self.now c.args.place) entry.key)) (c.get.ensures c.get.result) ∙ number_stands seen c.in-Some.at c.args.number c.get.result c.in-Some.ensures.found;
       sound = seen.sound;
     }
 

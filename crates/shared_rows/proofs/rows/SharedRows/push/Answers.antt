@@ -20,19 +20,19 @@ pub invariant_of-self-2 : goal.invariant_of-self-2
 invariant_of-self-2 g c =
     let seen = seen_by c.self.invariant c.self.inside.indexes.room c.args.self.now c.self.view_is c.args.place c.requires.place c.get_mut-index.result.now c.get_mut-index.ensures.value in
     let short : c.in-Ok.short ≡ c.vacant_key-key.result = search rules in
-    (pushed_by c.self.invariant seen c.self.inside.indexes.room c.self.view_is c.insert_reserved.new.self.slots c.push_back_reserved.new.self
+    (pushed_by c.self.invariant seen c.self.inside.indexes.room c.self.view_is c.insert_reserved.new.self.slots c.push_reserved.new.self
     c.reserve.new.self c.insert_reserved.new.self c.reserve-2.new.self c.vacant_key-key.result c.insert_reserved.result c.in-Ok.short c.args.row c.number.result
     refl (ap (λ slab. slab.slots) c.reserve.ensures.rest_kept) c.vacant_key-key.ensures.value c.insert_reserved.ensures.key short c.vacant_key-key.ensures.vacant c.insert_reserved.ensures.updates c.insert_reserved.ensures.len
-    c.reserve-2.ensures.items c.push_back_reserved.ensures.items c.number.ensures c.requires.number).kept
+    c.reserve-2.ensures.items (ap (λ index. index.items) c.push_reserved.ensures) c.number.ensures c.requires.number).kept
 
 pub returns-clause-added : goal.returns-clause-added
 returns-clause-added g c =
     let seen = seen_by c.self.invariant c.self.inside.indexes.room c.args.self.now c.self.view_is c.args.place c.requires.place c.get_mut-index.result.now c.get_mut-index.ensures.value in
     let short : c.in-Ok.short ≡ c.vacant_key-key.result = search rules in
-    (pushed_by c.self.invariant seen c.self.inside.indexes.room c.self.view_is c.insert_reserved.new.self.slots c.push_back_reserved.new.self
+    (pushed_by c.self.invariant seen c.self.inside.indexes.room c.self.view_is c.insert_reserved.new.self.slots c.push_reserved.new.self
     c.reserve.new.self c.insert_reserved.new.self c.reserve-2.new.self c.vacant_key-key.result c.insert_reserved.result c.in-Ok.short c.args.row c.number.result
     refl (ap (λ slab. slab.slots) c.reserve.ensures.rest_kept) c.vacant_key-key.ensures.value c.insert_reserved.ensures.key short c.vacant_key-key.ensures.vacant c.insert_reserved.ensures.updates c.insert_reserved.ensures.len
-    c.reserve-2.ensures.items c.push_back_reserved.ensures.items c.number.ensures c.requires.number).view
+    c.reserve-2.ensures.items (ap (λ index. index.items) c.push_reserved.ensures) c.number.ensures c.requires.number).view
 
 pub returns-clause-vacant : goal.returns-clause-vacant
 returns-clause-vacant g c =
