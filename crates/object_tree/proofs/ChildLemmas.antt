@@ -2,7 +2,7 @@
 use Rattle.std.proofs.Common.{◌≡◌, ◌≢◌, ◌⊎◌, ℕ, zero, suc, ◌+◌, ◌-◌, ◌<◌, ◌≤◌, ◌==◌, ◌∙◌, Bool, true, false, not, cond, List, [], ◌∷◌, Option, Some, None, length, map, filter, get_or, take, drop, refl, sym, ap, subst, arith, ⊎_elim, inl, inr, nat_le, nat_lt, nat_eq}
 use Rattle.std.specs.Cmp.{IsTotalOrder}
 use Rattle.std.specs.Option.{is_some, option_and_then, option_map}
-use Rattle.std.specs.List.{All, AllByRecursion, Any, Contains, IsDistinct}
+use Rattle.std.specs.List.{All, AllByRecursion, Any, Contains, IsDistinct, slice_range}
 use Rattle.std.specs.List.Sorted.{IsPartitionedBy}
 use Rattle.std.specs.Ordering.{is_lt, nat_cmp, ordering_reverse, ordering_then}
 use Rattle.std.specs.declared.cmp.Ordering.{Ordering}
@@ -10,6 +10,7 @@ use Rattle.std.specs.declared.cmp.Ordering.TheVariants.{Less, Equal, Greater}
 use Rattle.std.proofs.lemmas.Bool.{cases_Bool, cases_eq, cases_lt, cond-true, cond-false, eqb-true, eqb-false, eq-eqb, ne_eqb, leb-true, le-leb, ltb-true, ltb-false, false≢true}
 use Rattle.std.proofs.lemmas.Bool.Decides.{nat_tests}
 use Rattle.std.proofs.lemmas.Cmp.{back_total, nat_cmp_total, on_total, then_total}
+use Rattle.std.proofs.Math.Seq.{drop-cons}
 use Rattle.std.proofs.lemmas.List.{get_or_default}
 use Rattle.std.proofs.lemmas.List.Elements.{All-contains, All-contains_itself, All-from_recursion, All-weaker, recursion_from_All}
 use Rattle.std.proofs.lemmas.List.Kept.{AllPairs-cons, AllPairs-filter}
@@ -348,6 +349,20 @@ module _ (list : List Child) (parent from to : ℕ) (within : to ≤ length list
       (λ k d lt. ne_eqb (get_or list k d).parent parent (λ same. absurd (omega (arith, before k d lt, same))))
       (λ k d ge lt. eq-eqb (get_or list k d).parent parent (omega (arith, behind k d ge (omega arith), before_end k d lt)))
       (λ k d ge lt. ne_eqb (get_or list k d).parent parent (λ same. absurd (omega (arith, behind_end k d ge lt, same)))))
+
+-- the first of a stretch, and the rest
+pub stretch_next : {X : Type 0} (list : List X) (from to : ℕ) (d : X) → from < to → to ≤ length list → slice_range list from to ≡ get_or list from d ∷ slice_range list (from + 1) to
+stretch_next list from to d less within =
+    let one : to - from ≡ suc (to - (from + 1)) = omega (arith, less) in
+    let next : suc from ≡ from + 1 = omega arith in
+    ap (λ n. take n (drop from list)) one
+    ∙ (ap (take (suc (to - (from + 1)))) (drop-cons list from d (omega (arith, less, within)))
+    ∙ ap (λ k. get_or list from d ∷ take (to - (from + 1)) (drop k list)) next)
+
+-- nothing stands behind its end
+pub stretch_ends : {X : Type 0} (list : List X) (from to : ℕ) → to ≤ from → slice_range list from to ≡ []
+stretch_ends list from to past =
+    let none : to - from ≡ 0 = omega (arith, past) in ap (λ n. take n (drop from list)) none
 
 -- no parent is 0
 pub parents_begin : (forest : Forest) → IsSound forest → All (λ (r : Row). has_parent (Some 0) r ≡ false) forest.rows

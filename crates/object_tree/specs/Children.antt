@@ -1,5 +1,6 @@
 -- How the objects of the places are kept. No public clause cites this module.
-use Rattle.std.specs.Prelude.{ℕ, ◌≡◌, ◌<◌, List, Option, None, Some, length, map, slice_index_or}
+use Rattle.std.specs.Prelude.{ℕ, ◌≡◌, ◌<◌, ◌≤◌, List, Option, None, Some, length, map, slice_index_or}
+use Rattle.std.specs.List.{slice_range}
 use Rattle.std.specs.Ordering.{flip_args, nat_cmp, on, then_cmp}
 use Rattle.std.specs.declared.cmp.Ordering.{Ordering}
 use Rattle.places.specs.Table.{Table}
@@ -7,6 +8,7 @@ use Rattle.shared_rows.specs.Rows.{Keyed, rows_at}
 use Rattle.shared_rows.specs.Links.{AreLinked}
 use Rattle.object_tree.specs.declared.row.Row.{Row}
 use Rattle.object_tree.specs.declared.child.Child.{Child}
+use Rattle.object_tree.specs.declared.child.Kids.{Kids}
 use Rattle.object_tree.specs.declared.objects.Kinship.{Kinship}
 use Rattle.object_tree.specs.Forest.{Forest, IsSound}
 use Rattle.object_tree.specs.Table.{forest_at}
@@ -23,6 +25,15 @@ child_of row = record { stamp = row.stamp; parent = order_of row.parent; number 
 -- the children of later parents first, the roots last, and by age those of one parent
 abbrev pub child_cmp : Child → Child → Ordering
 child_cmp = then_cmp (then_cmp (on (λ child. child.parent) (flip_args nat_cmp)) (on (λ child. child.stamp) nat_cmp)) (on (λ child. child.number) nat_cmp)
+
+-- the children from the first place on and before the last one
+abbrev pub kids_of : Kids → List Child
+kids_of kids = slice_range kids.all.now.items kids.start kids.end
+
+-- both places are within all children, in their order
+pub record AreWithin (kids : Kids) : Type 0 where
+  pub order : kids.start ≤ kids.end
+  pub within : kids.end ≤ length kids.all.now.items
 
 -- rows, whatever their keys
 abbrev pub rows_of : List (Keyed Row) → List Row

@@ -1,25 +1,20 @@
 //! The children of all parents in one order: later parents first, and the children of one by age.
 ghost use Rattle.std.specs.Prelude.{◌≡◌, ◌<◌, ◌≤◌, ◌==◌, ℕ, filter, length, slice_index_or};
-ghost use Rattle.std.specs.VecDeque.Iter.{deque_iter_rest};
 ghost use Rattle.std.proofs.Common.{rules};
 ghost use Rattle.std.specs.Cmp.{partial_order_from_own_ties};
 ghost use Rattle.std.specs.Cmp.Rules.{comparing};
 ghost use Rattle.std.specs.Ordering.{as_partial_cmp};
 ghost use Rattle.shared_rows.specs.Links.{IsInOrder};
-ghost use Rattle.object_tree.specs.Children.{child_cmp, child_of, order_of};
+ghost use Rattle.object_tree.specs.Children.{AreWithin, child_cmp, child_of, kids_of, order_of};
 
 use crate::row::Row;
+use gap_buffer::GapBuffer;
 use std::cmp::Ordering;
-use std::collections::VecDeque;
-use std::collections::vec_deque::Iter;
 
 /// A child, with its parent and its age. The fields stand in this order so that they fill 16 bytes,
 /// which a removal moves fast.
 ///
-/// In order, those of later parents stand first and the roots last. Where a child goes, the shorter side
-/// of the others moves: those behind it in blocks, those before it one by one. Most parents that lose a
-/// child in a deletion are recent, so that few stand before it; before the children of the others stand
-/// more than behind them.
+/// In order, those of later parents stand first and the roots last.
 #[derive(Clone, Copy, PartialEq, Eq)]
 pub(crate) struct Child {
     pub(crate) stamp: u64,
@@ -74,20 +69,31 @@ pub(crate) fn child_of(row: Row) -> Child
     }
 }
 
-/// The children of a parent, by age.
-pub(crate) fn group(children: &VecDeque<Child>, parent: u32) -> Iter<'_, Child>
-    requires { IsInOrder child_cmp children.now.items }
-    ensures { deque_iter_rest result ≡ filter (λ child. child.parent == parent) children.now.items }
+/// The children of a parent, by age: those of all from `start` on and before `end`.
+#[derive(Clone, Copy)]
+pub(crate) struct Kids<'a> {
+    pub(crate) all: &'a GapBuffer<Child>,
+    pub(crate) start: usize,
+    pub(crate) end: usize,
+}
+
+/// The children of a parent.
+pub(crate) fn group(all: &GapBuffer<Child>, parent: u32) -> Kids<'_>
+    requires { IsInOrder child_cmp all.now.items }
+    ensures kids { kids_of result ≡ filter (λ child. child.parent == parent) all.now.items }
+    ensures within { AreWithin result }
 {
     let low = parent as u64;
-    let start = count_from(children, low + 1);
-    let end = count_from(children, low);
-    children.range(start..end)
+    Kids {
+        all,
+        start: count_from(all, low + 1),
+        end: count_from(all, low),
+    }
 }
 
 /// How many have this parent or a later one: they stand before all others. A parent above all that have
 /// children, as a new object is, needs no search, nor does 0, which none is below.
-fn count_from(children: &VecDeque<Child>, parent: u64) -> usize
+fn count_from(children: &GapBuffer<Child>, parent: u64) -> usize
     requires { IsInOrder child_cmp children.now.items }
     ensures within { result ≤ length children.now.items }
     ensures before { (k : ℕ) (d : Child) → k < result → parent ≤ (slice_index_or children.now.items k d).parent }
@@ -97,7 +103,7 @@ fn count_from(children: &VecDeque<Child>, parent: u64) -> usize
     if parent == 0 {
         return children.len();
     }
-    match children.front() {
+    match children.first() {
         Some(first) if (first.parent as u64) < parent => 0,
         _ => children.partition_point(|child| parent <= child.parent as u64),
     }

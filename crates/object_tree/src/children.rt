@@ -1,17 +1,16 @@
 //! The children of objects, the search among them, and how many levels hang at them.
 ghost use Rattle.std.specs.Prelude.{◌≡◌, ◌++◌, ◌≤◌, IfOk, OnOk, ℕ, Bool, find, length, map};
-ghost use Rattle.std.specs.VecDeque.Iter.{deque_iter_rest};
 ghost use Rattle.places.specs.Table.{IsPlace};
+ghost use Rattle.object_tree.specs.Children.{AreWithin, kids_of};
 ghost use Rattle.object_tree.specs.Rows.{children};
 ghost use Rattle.object_tree.specs.Forest.{IsSound};
 ghost use Rattle.object_tree.specs.Lines.{height, levels_within};
 ghost use Rattle.object_tree.specs.Finding.{AnswersBy, children_of, found_below};
 ghost use Rattle.object_tree.specs.Table.{forest_at};
 
-use crate::child::Child;
+use crate::child::Kids;
 use crate::objects::Objects;
 use std::alloc::{AllocError, Global};
-use std::collections::vec_deque::Iter;
 
 impl Objects {
     /// The children of a parent, by age.
@@ -104,7 +103,8 @@ impl Objects {
         }
         let kids = self.kids(place, Some(number));
         let mut below = 0;
-        'kids: for child in kids {
+        'kids: for at in kids.start..kids.end {
+            let child = kids.all.get(at);
             below = below.max(self.levels_within(place, most - 1, child.number));
         }
         1 + below
@@ -112,12 +112,13 @@ impl Objects {
 }
 
 /// Appends the numbers of some children.
-fn append_numbers(found: &mut Vec<u32>, kids: Iter<'_, Child>) -> Result<(), AllocError>
-    ensures { OnOk result (found.new.items ≡ found.old.items ++ map (λ child. child.number) (deque_iter_rest kids.entry)) }
+fn append_numbers(found: &mut Vec<u32>, kids: Kids<'_>) -> Result<(), AllocError>
+    requires { AreWithin kids }
+    ensures { OnOk result (found.new.items ≡ found.old.items ++ map (λ child. child.number) (kids_of kids.entry)) }
 {
-    found.reserve(kids.len())?;
-    'kids: for child in kids {
-        found.push(child.number)?;
+    found.reserve(kids.end - kids.start)?;
+    'kids: for at in kids.start..kids.end {
+        found.push(kids.all.get(at).number)?;
     }
     Ok(())
 }

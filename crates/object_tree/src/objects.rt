@@ -1,21 +1,20 @@
 //! The objects of all places, and an index of the children of each parent.
 ghost use Rattle.std.specs.Prelude.{◌≡◌, ◌+◌, ◌<◌, ◌≤◌, ◌-◌, ◌^◌, [], ℕ, IfNone, IfSome, IfOk, OnOk, OnErr, Some, None, false, length, map};
-ghost use Rattle.std.specs.VecDeque.Iter.{deque_iter_rest};
 ghost use Rattle.std.specs.List.Sorted.{IsStrictlySortedBy};
 ghost use Rattle.std.specs.Option.{option_map, option_map_or};
 ghost use Rattle.std.specs.Ordering.{nat_cmp};
 ghost use Rattle.places.specs.Table.{IsPlace, opened};
+ghost use Rattle.object_tree.specs.Children.{AreWithin, kids_of};
 ghost use Rattle.object_tree.specs.Rows.{children, numbers, parent_of, row_of};
 ghost use Rattle.object_tree.specs.Forest.{IsSound, empty_forest};
 ghost use Rattle.object_tree.specs.Changes.{added, changed, marked, moved, orphaned, removed, with_blocked};
 ghost use Rattle.object_tree.specs.Table.{forest_at, with_forest};
 
-use crate::child::{Child, child_of, group, order_of};
+use crate::child::{Child, Kids, child_of, group, order_of};
 use crate::row::Row;
 use places::Places;
 use shared_rows::{Links, SharedRows};
 use std::alloc::{AllocError, Global};
-use std::collections::vec_deque::Iter;
 use std::marker::Model;
 
 /// What a place has beside its rows.
@@ -118,14 +117,19 @@ impl Objects {
     }
 
     /// The children of a parent, by age.
-    pub(crate) fn kids(&self, place: usize, parent: Option<u32>) -> Iter<'_, Child>
+    pub(crate) fn kids(&self, place: usize, parent: Option<u32>) -> Kids<'_>
         requires place { IsPlace self.now place }
         requires sound { IsSound (forest_at self.now place) }
-        ensures { map (λ child. child.number) (deque_iter_rest result) ≡ children (forest_at self.now place).rows parent }
+        ensures kids { map (λ child. child.number) (kids_of result) ≡ children (forest_at self.now place).rows parent }
+        ensures within { AreWithin result }
     {
-        let all = self.kinships.get(place).children.as_deque();
+        let all = self.kinships.get(place).children.as_buffer();
         if parent == Some(0) {
-            return all.range(0..0);
+            return Kids {
+                all,
+                start: 0,
+                end: 0,
+            };
         }
         group(all, order_of(parent))
     }

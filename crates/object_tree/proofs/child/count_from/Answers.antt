@@ -7,8 +7,8 @@ use Rattle.object_tree.proofs.child.count_from.Goals as goal
 
 pub returns-in-Some-clause-behind : goal.returns-in-Some-clause-behind
 returns-in-Some-clause-behind c = λ k d ge within.
-    let low : c.in-Some.first.now.parent < c.args.parent = search rules in
-    all_below c.args.children.now.items c.requires c.args.parent c.in-Some.first.now c.in-Some.ensures.lookup low k d within
+    let low : c.in-Some.first.parent < c.args.parent = search rules in
+    all_below c.args.children.now.items c.requires c.args.parent c.in-Some.first c.in-Some.ensures.lookup low k d within
 
 pub returns-in_default-clause-before : goal.returns-in_default-clause-before
 returns-in_default-clause-before c = λ k d lt.

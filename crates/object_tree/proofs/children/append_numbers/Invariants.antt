@@ -1,7 +1,8 @@
 use Rattle.std.proofs.Common.{◌≡◌, ◌++◌, map}
-use Rattle.std.specs.VecDeque.Iter.{deque_iter_rest}
+use Rattle.std.specs.List.{slice_range}
 use Rattle.object_tree.specs.declared.child.Child.{Child}
+use Rattle.object_tree.specs.Children.{kids_of}
 use Rattle.object_tree.proofs.children.append_numbers.Given as goal
 
 abbrev pub invariant-kids : goal.invariant-kids
-invariant-kids l = l.found.items ++ map (λ (child : Child). child.number) (deque_iter_rest l.child-iterator) ≡ l.fn.found.items ++ map (λ (child : Child). child.number) (deque_iter_rest l.fn.kids)
+invariant-kids l = l.found.items ++ map (λ (child : Child). child.number) (slice_range l.kids.all.now.items l.at l.kids.end) ≡ l.fn.found.items ++ map (λ (child : Child). child.number) (kids_of l.kids)
