@@ -1,1 +1,2 @@
+pub mod Gap
 pub mod Gapped

@@ -1,72 +1,93 @@
 //! The list.
-ghost use Rattle.std.specs.Prelude.{◌≡◌, ◌∷◌, ◌++◌, ◌-◌, ◌^◌, ◌<◌, ◌≤◌, ◌↔◌, [], Bool, true, false, IfSome, IsSome, IsTrue, OnOk, OnErr, length, set, slice_index_or};
+ghost use Rattle.std.specs.Prelude.{◌≡◌, ◌-◌, ◌^◌, ◌<◌, ◌≤◌, ◌↔◌, ◌++◌, ◌∷◌, [], Bool, IfSome, IsSome, IsTrue, OnErr, OnOk, false, length, set, slice_index_or, true};
+ghost use Rattle.std.specs.Fn.{ComputesKey};
 ghost use Rattle.std.specs.List.{insert, remove};
 ghost use Rattle.std.specs.List.Sorted.{IsPartitionPoint, IsPartitionedBy};
-ghost use Rattle.std.specs.Fn.{ComputesKey};
 
+use crate::gap::{Gap, count, inserted, pushed, read, removed, reserved, write};
+use crate::search::point;
 use std::alloc::{AllocError, Global};
 use std::collections::VecDeque;
 use std::marker::Model;
 
-/// A list.
+/// A list that is changed mostly where it was changed last. Where an element goes out it leaves a gap,
+/// and the next change there moves but the elements between. Memory for one more element is asked for
+/// by `reserve`, and no other call takes any.
 #[derive(Drop)]
 pub struct GapBuffer<T: Copy> {
+    /// The elements before the gap, the places of the gap, which are not of the list, and the elements
+    /// behind it.
     ring: VecDeque<T>,
+    gap: Gap,
 }
 
 impl<T: Copy> Model for GapBuffer<T> {
+    ghost use Rattle.std.specs.Prelude.{min};
     ghost use Rattle.std.specs.VecDeque.{deque_capacity};
     ghost use Rattle.gap_buffer.specs.Gapped.{Gapped, gapped_code};
+    ghost use Rattle.gap_buffer.specs.Gap.{IsGapOf, listed};
 
     ghost Value = { Gapped T };
 
     ghost coded = { gapped_code T.code };
 
-    ghost view = { λ list. record { items = list.ring.items; capacity = deque_capacity list.ring } };
+    ghost view = { λ buffer. record { items = listed buffer.ring.items buffer.gap; capacity = min (deque_capacity buffer.ring) 4294967295 } };
+
+    ghost invariant = { λ buffer. IsGapOf buffer.ring.items buffer.gap };
 }
 
 impl<T: Copy> GapBuffer<T> {
+    /// No element, which takes no memory yet.
     pub fn new(alloc: Global) -> GapBuffer<T>
         ensures { result.items ≡ [] }
     {
         GapBuffer {
             ring: VecDeque::new(alloc),
+            gap: Gap { start: 0, gone: 0 },
         }
     }
 
     pub fn len(&self) -> usize
         ensures { result ≡ length self.now.items }
     {
-        self.ring.len()
+        count(&self.ring, self.gap)
     }
 
     pub fn is_empty(&self) -> bool
         ensures { IsTrue result ↔ (self.now.items ≡ []) }
     {
-        self.ring.is_empty()
+        self.len() == 0
     }
 
     pub fn get(&self, at: usize) -> T
         requires { at < length self.now.items }
         ensures { (default : T) → result ≡ slice_index_or self.now.items at default }
     {
-        self.ring[at]
+        *read(&self.ring, self.gap, at)
     }
 
     pub fn first(&self) -> Option<T>
         ensures variant { IsSome result ↔ (0 < length self.now.items) }
         ensures lookup { IfSome result (λ x. x ≡ slice_index_or self.now.items 0 x) }
     {
-        self.ring.front().copied()
+        if self.is_empty() {
+            return None;
+        }
+        Some(self.get(0))
     }
 
     pub fn last(&self) -> Option<T>
         ensures variant { IsSome result ↔ (0 < length self.now.items) }
         ensures lookup { IfSome result (λ x. x ≡ slice_index_or self.now.items (length self.now.items - 1) x) }
     {
-        self.ring.back().copied()
+        let len = self.len();
+        if len == 0 {
+            return None;
+        }
+        Some(self.get(len - 1))
     }
 
+    /// Makes room for one more element, in the gap where that is large.
     pub fn reserve(&mut self) -> Result<(), AllocError>
         ensures items { self.new.items ≡ self.old.items }
         ensures room { OnOk result (length self.new.items < self.new.capacity) }
@@ -74,57 +95,60 @@ impl<T: Copy> GapBuffer<T> {
         ensures kept { self.old.capacity ≤ self.new.capacity }
         ensures err { OnErr result (self.new ≡ self.old) }
     {
-        if self.ring.len() >= u32::MAX as usize {
-            return Err(AllocError);
-        }
-        let more = self.ring.len().max(2);
-        self.ring.reserve_exact(more)
+        self.gap = reserved(&mut self.ring, self.gap)?;
+        Ok(())
     }
 
+    /// Adds an element at the end where there is room.
     pub fn push_reserved(&mut self, element: T)
         requires { length self.old.items < self.old.capacity }
         ensures { self.new ≡ record self.old { items = self.old.items ++ element ∷ [] } }
     {
-        self.ring.push_back_reserved(element);
+        self.gap = pushed(&mut self.ring, self.gap, element);
     }
 
+    /// Puts an element in where there is room.
     pub fn insert_reserved(&mut self, at: usize, element: T)
         requires room { length self.old.items < self.old.capacity }
         requires within { at ≤ length self.old.items }
-        ensures items { self.new.items ≡ insert self.old.items at element }
-        ensures kept { self.old.capacity ≤ self.new.capacity }
+        ensures { self.new ≡ record self.old { items = insert self.old.items at element } }
     {
-        if self.ring.insert(at, element).is_err() {
-            unreachable!()
-        }
+        self.gap = inserted(&mut self.ring, self.gap, at, element);
     }
 
+    /// Puts another element in place of one.
     pub fn set(&mut self, at: usize, element: T)
         requires { at < length self.old.items }
         ensures { self.new ≡ record self.old { items = set self.old.items at element } }
     {
-        self.ring[at] = element;
+        write(&mut self.ring, self.gap, at, element);
     }
 
+    /// Takes an element out, which leaves a gap there.
     pub fn remove(&mut self, at: usize) -> T
         requires { at < length self.old.items }
         ensures element { (default : T) → result ≡ slice_index_or self.old.items at default }
-        ensures rest { self.new ≡ record self.old { items = remove self.old.items at } }
+        ensures others { self.new ≡ record self.old { items = remove self.old.items at } }
     {
-        self.ring.remove(at).unwrap()
+        let element = *read(&self.ring, self.gap, at);
+        self.gap = removed(&mut self.ring, self.gap, at);
+        element
     }
 
+    /// Takes out all elements, and keeps the memory for others.
     pub fn clear(&mut self)
         ensures { self.new ≡ record self.old { items = [] } }
     {
         self.ring.clear();
+        self.gap = Gap { start: 0, gone: 0 };
     }
 
+    /// How many elements pass, where those that do stand before those that do not.
     pub fn partition_point<P: FnMut(&T) -> bool>(&self, pred: P) -> usize
         requires { P.IsAlwaysCallable pred }
         ensures bound { result ≤ length self.now.items }
         ensures partitioned { (p : T → Bool) → ComputesKey P.FnMut p pred → IsPartitionedBy p self.now.items → IsPartitionPoint (λ y. p y ≡ true) (λ y. p y ≡ false) self.now.items result }
     {
-        self.ring.partition_point(pred)
+        point(&self.ring, self.gap, pred)
     }
 }

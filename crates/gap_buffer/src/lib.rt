@@ -1,6 +1,12 @@
-//! A list that is changed mostly where it was changed last.
+//! A list that is changed mostly where it was changed last: a gap moves to where elements come in and
+//! go out, so that the others stay where they are.
 #![tactic(auto)]
 
 mod buffer;
+mod gap;
+mod moves;
+mod search;
+#[cfg(test)]
+mod tests;
 
 pub use buffer::GapBuffer;

@@ -53,7 +53,11 @@ pub(crate) fn position<N: Number>(entries: &GapBuffer<Entry<N>>, number: u64) ->
 }
 
 /// Looks by turns at the guess and in the middle of what is left of a window.
-fn search<N: Number>(entries: &GapBuffer<Entry<N>>, number: u64, mut window: Window) -> Option<usize>
+fn search<N: Number>(
+    entries: &GapBuffer<Entry<N>>,
+    number: u64,
+    mut window: Window,
+) -> Option<usize>
     requires rising { IsRisingIndex N.value entries.now.items }
     requires window { IsWindow N.value entries.now.items number window }
     ensures found { IfSome result (IsAt N.value entries.now.items number) }

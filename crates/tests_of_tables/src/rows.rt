@@ -242,8 +242,17 @@ fn places_see_their_own_rows(rt: HostRuntime) -> Result<(), Fail> {
 /// Puts a link for the least one.
 fn replace_first(links: &mut Links<(u32, u32)>, link: (u32, u32)) {
     if !links.is_empty() {
-        let first = links.as_deque()[0];
+        let first = links.as_buffer().get(0);
         links.replace(first, link);
+    }
+}
+
+/// The link at a position, where there is one.
+fn link_at(links: &Links<(u32, u32)>, at: usize) -> Option<(u32, u32)> {
+    if at < links.len() {
+        Some(links.as_buffer().get(at))
+    } else {
+        None
     }
 }
 
@@ -273,7 +282,7 @@ fn links_stand_in_order_and_once(rt: HostRuntime) -> Result<(), Fail> {
     replace_first(&mut links, (2, 4));
     assert!(rt; links.len() == 4);
     for (at, wanted) in [(0, (2, 1)), (1, (2, 2)), (2, (2, 3)), (3, (2, 4))] {
-        assert!(rt; links.as_deque().get(at).copied() == Some(wanted));
+        assert!(rt; link_at(&links, at) == Some(wanted));
     }
     links.clear();
     assert!(rt; links.is_empty());

@@ -19,7 +19,7 @@ pub returns-in-Err : goal.returns-in-Err
 returns-in-Err g c =
     let seat : IsSeat g.K.Ord.cmp c.self.inside.items.items c.args.link (Err c.in-Err.at) = c.in-Err.ensures in
     relinked (λ links. with_link g.K.Ord.cmp links c.args.link) c.args.self.now c.self.inside.items.items _ _ _ c.self.view_is
-    (c.insert_reserved.ensures.items ∙ insert_link g.met.K.Ord.total c.self.inside.items.items c.self.invariant.0 c.args.link c.in-Err.at seat)
+    (ap (λ buffer. buffer.items) c.insert_reserved.ensures ∙ insert_link g.met.K.Ord.total c.self.inside.items.items c.self.invariant.0 c.args.link c.in-Err.at seat)
     refl
 
 -- with a link in its place the links stay in order
@@ -66,9 +66,9 @@ invariant_of-self g c =
 pub invariant_of-self-in-Err : goal.invariant_of-self-in-Err
 invariant_of-self-in-Err g c =
     let seat : IsSeat g.K.Ord.cmp c.self.inside.items.items c.args.link (Err c.in-Err.at) = c.in-Err.ensures in
-    let items : c.insert_reserved.new.self.items ≡ insert c.self.inside.items.items c.in-Err.at c.args.link = c.insert_reserved.ensures.items in
+    let items : c.insert_reserved.new.self.items ≡ insert c.self.inside.items.items c.in-Err.at c.args.link = ap (λ buffer. buffer.items) c.insert_reserved.ensures in
     let size = length-insert c.self.inside.items.items c.in-Err.at c.args.link seat.0 in
     let view : length c.self.inside.items.items < c.self.inside.capacity = omega (arith, ap (λ (l : Linked g.row.K.Denot). length l.links) c.self.view_is, ap (λ (l : Linked g.row.K.Denot). l.capacity) c.self.view_is, c.requires) in (
       subst (IsInOrder g.K.Ord.cmp) (sym items) (insert_order c.self.inside.items.items c.args.link c.in-Err.at seat c.self.invariant.0),
-      (omega (arith, size, view, ap length items), omega (arith, c.self.invariant.1.1, c.insert_reserved.ensures.kept)),
+      (omega (arith, size, view, ap length items), omega (arith, c.self.invariant.1.1, ap (λ buffer. buffer.capacity) c.insert_reserved.ensures)),
     )

@@ -28,7 +28,7 @@ invariant_of-self-2 g c =
     (inserted_by c.self.invariant seen c.self.inside.indexes.room c.self.view_is c.insert_reserved-2.new.self.slots c.insert_reserved.new.self
     c.reserve.new.self c.insert_reserved-2.new.self c.vacant_key-key.result c.insert_reserved-2.result c.in-Ok.short c.count_below-at.result c.value.result c.args.row c.number-number.result
     refl (ap (λ slab. slab.slots) c.reserve.ensures.rest_kept) c.vacant_key-key.ensures.value c.insert_reserved-2.ensures.key short c.vacant_key-key.ensures.vacant c.insert_reserved-2.ensures.updates c.insert_reserved-2.ensures.len
-    (c.insert_reserved.ensures.items ∙ ap (λ items. insert items c.count_below-at.result (record { number = c.number-number.result; key = c.in-Ok.short })) c.reserve-2.ensures.items) c.value.ensures c.number-number.ensures (subst (λ items. IsCountBelow g.R.Number.Number.value items c.value.result c.count_below-at.result) c.reserve-2.ensures.items c.count_below-at.ensures) c.requires.absent).kept
+    (ap (λ index. index.items) c.insert_reserved.ensures ∙ ap (λ items. insert items c.count_below-at.result (record { number = c.number-number.result; key = c.in-Ok.short })) c.reserve-2.ensures.items) c.value.ensures c.number-number.ensures (subst (λ items. IsCountBelow g.R.Number.Number.value items c.value.result c.count_below-at.result) c.reserve-2.ensures.items c.count_below-at.ensures) c.requires.absent).kept
 
 pub returns-clause-added : goal.returns-clause-added
 returns-clause-added g c =
@@ -37,7 +37,7 @@ returns-clause-added g c =
     (inserted_by c.self.invariant seen c.self.inside.indexes.room c.self.view_is c.insert_reserved-2.new.self.slots c.insert_reserved.new.self
     c.reserve.new.self c.insert_reserved-2.new.self c.vacant_key-key.result c.insert_reserved-2.result c.in-Ok.short c.count_below-at.result c.value.result c.args.row c.number-number.result
     refl (ap (λ slab. slab.slots) c.reserve.ensures.rest_kept) c.vacant_key-key.ensures.value c.insert_reserved-2.ensures.key short c.vacant_key-key.ensures.vacant c.insert_reserved-2.ensures.updates c.insert_reserved-2.ensures.len
-    (c.insert_reserved.ensures.items ∙ ap (λ items. insert items c.count_below-at.result (record { number = c.number-number.result; key = c.in-Ok.short })) c.reserve-2.ensures.items) c.value.ensures c.number-number.ensures (subst (λ items. IsCountBelow g.R.Number.Number.value items c.value.result c.count_below-at.result) c.reserve-2.ensures.items c.count_below-at.ensures) c.requires.absent).view
+    (ap (λ index. index.items) c.insert_reserved.ensures ∙ ap (λ items. insert items c.count_below-at.result (record { number = c.number-number.result; key = c.in-Ok.short })) c.reserve-2.ensures.items) c.value.ensures c.number-number.ensures (subst (λ items. IsCountBelow g.R.Number.Number.value items c.value.result c.count_below-at.result) c.reserve-2.ensures.items c.count_below-at.ensures) c.requires.absent).view
 
 pub returns-clause-vacant : goal.returns-clause-vacant
 returns-clause-vacant g c =

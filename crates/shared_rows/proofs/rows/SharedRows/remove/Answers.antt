@@ -21,7 +21,7 @@ invariant_of-self g c =
     let is = found_at seen c.value.result (g.R.Numbered.number c.remove-row.result.row) c.unwrap-at.result c.position.result c.position.ensures.found c.unwrap-at.ensures (c.value.ensures ∙ c.number.ensures) in
     let slot = slot_under seen c.args.key c.remove-row.result c.requires.stands c.remove-row.ensures.value in
     let stood = c.remove-row.ensures.value ∙ ap (λ place. Some (record { place = place; row = c.remove-row.result.row })) slot.0 in
-    (removed c.self.invariant seen c.self.inside.indexes.room c.self.view_is c.remove-row.new.self.slots c.remove.new.self c.unwrap-at.result c.args.key c.remove-row.result.row is c.requires.stands stood c.remove-row.ensures.updates.others c.remove-row.ensures.len (ap (λ index. index.items) c.remove.ensures.rest)).kept
+    (removed c.self.invariant seen c.self.inside.indexes.room c.self.view_is c.remove-row.new.self.slots c.remove.new.self c.unwrap-at.result c.args.key c.remove-row.result.row is c.requires.stands stood c.remove-row.ensures.updates.others c.remove-row.ensures.len (ap (λ index. index.items) c.remove.ensures.others)).kept
 
 pub returns-clause-row : goal.returns-clause-row
 returns-clause-row g c = (slot_under (seen_at c.self.invariant c.self.inside.indexes.room c.args.self.now c.self.view_is c.args.place c.requires.place).1 c.args.key c.remove-row.result c.requires.stands c.remove-row.ensures.value).1
@@ -32,4 +32,4 @@ returns-clause-rest g c =
     let is = found_at seen c.value.result (g.R.Numbered.number c.remove-row.result.row) c.unwrap-at.result c.position.result c.position.ensures.found c.unwrap-at.ensures (c.value.ensures ∙ c.number.ensures) in
     let slot = slot_under seen c.args.key c.remove-row.result c.requires.stands c.remove-row.ensures.value in
     let stood = c.remove-row.ensures.value ∙ ap (λ place. Some (record { place = place; row = c.remove-row.result.row })) slot.0 in
-    (removed c.self.invariant seen c.self.inside.indexes.room c.self.view_is c.remove-row.new.self.slots c.remove.new.self c.unwrap-at.result c.args.key c.remove-row.result.row is c.requires.stands stood c.remove-row.ensures.updates.others c.remove-row.ensures.len (ap (λ index. index.items) c.remove.ensures.rest)).view
+    (removed c.self.invariant seen c.self.inside.indexes.room c.self.view_is c.remove-row.new.self.slots c.remove.new.self c.unwrap-at.result c.args.key c.remove-row.result.row is c.requires.stands stood c.remove-row.ensures.updates.others c.remove-row.ensures.len (ap (λ index. index.items) c.remove.ensures.others)).view

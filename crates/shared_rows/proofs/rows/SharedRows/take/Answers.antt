@@ -41,14 +41,14 @@ invariant_of-self-2 g c =
     let seen = seen_by c.self.invariant c.self.inside.indexes.room c.args.self.now c.self.view_is c.args.place c.requires c.get_mut-index.result.now c.get_mut-index.ensures.value in
     let row = row_of_number seen c.in_ok-at.at c.args.number c.remove-entry.result c.remove-row.result c.in_ok-at.ensures.found (c.remove-entry.ensures.element c.remove-entry.result) c.remove-row.ensures.value in
     let is = subst (λ n. IsAt g.R.Number.Number.value c.get_mut-index.result.now.items n c.in_ok-at.at) (sym row.numbered) c.in_ok-at.ensures.found in
-    (removed c.self.invariant seen c.self.inside.indexes.room c.self.view_is c.remove-row.new.self.slots c.remove-entry.new.self c.in_ok-at.at c.remove-entry.result.key c.remove-row.result.row is row.some row.stood c.remove-row.ensures.updates.others c.remove-row.ensures.len (ap (λ index. index.items) c.remove-entry.ensures.rest)).kept
+    (removed c.self.invariant seen c.self.inside.indexes.room c.self.view_is c.remove-row.new.self.slots c.remove-entry.new.self c.in_ok-at.at c.remove-entry.result.key c.remove-row.result.row is row.some row.stood c.remove-row.ensures.updates.others c.remove-row.ensures.len (ap (λ index. index.items) c.remove-entry.ensures.others)).kept
 
 pub returns-clause-taken : goal.returns-clause-taken
 returns-clause-taken g c =
     let seen = seen_by c.self.invariant c.self.inside.indexes.room c.args.self.now c.self.view_is c.args.place c.requires c.get_mut-index.result.now c.get_mut-index.ensures.value in
     let row = row_of_number seen c.in_ok-at.at c.args.number c.remove-entry.result c.remove-row.result c.in_ok-at.ensures.found (c.remove-entry.ensures.element c.remove-entry.result) c.remove-row.ensures.value in
     let is = subst (λ n. IsAt g.R.Number.Number.value c.get_mut-index.result.now.items n c.in_ok-at.at) (sym row.numbered) c.in_ok-at.ensures.found in
-    let done = removed c.self.invariant seen c.self.inside.indexes.room c.self.view_is c.remove-row.new.self.slots c.remove-entry.new.self c.in_ok-at.at c.remove-entry.result.key c.remove-row.result.row is row.some row.stood c.remove-row.ensures.updates.others c.remove-row.ensures.len (ap (λ index. index.items) c.remove-entry.ensures.rest) in
+    let done = removed c.self.invariant seen c.self.inside.indexes.room c.self.view_is c.remove-row.new.self.slots c.remove-entry.new.self c.in_ok-at.at c.remove-entry.result.key c.remove-row.result.row is row.some row.stood c.remove-row.ensures.updates.others c.remove-row.ensures.len (ap (λ index. index.items) c.remove-entry.ensures.others) in
     (c.remove-entry.result.key, row.key, row.row, row.numbered, done.view)
 
 pub returns-clause-sound : goal.returns-clause-sound
