@@ -6,7 +6,5 @@ mod buffer;
 mod gap;
 mod moves;
 mod search;
-#[cfg(test)]
-mod tests;
 
 pub use buffer::GapBuffer;

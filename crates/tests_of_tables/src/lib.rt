@@ -9,6 +9,8 @@ mod connections;
 #[cfg(test)]
 mod events;
 #[cfg(test)]
+mod gaps;
+#[cfg(test)]
 mod properties;
 #[cfg(test)]
 mod rows;

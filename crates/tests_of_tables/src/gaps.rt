@@ -1,6 +1,6 @@
-//! What no clause says: that calls succeed where memory is found, that a gap takes no more than two
+//! What no clause of gap buffers says: that calls succeed where memory is found, that a gap takes no more than two
 //! numbers, and that a long run of changes goes as on a plain list.
-use crate::GapBuffer;
+use gap_buffer::GapBuffer;
 use std::collections::VecDeque;
 use std::mem::size_of;
 use std::test::Fail;
