@@ -1,14 +1,16 @@
 //! A body with its arguments put in.
-ghost use Rattle.std.specs.Prelude.{◌≡◌, IfOk, Ok, map};
-ghost use Rattle.term_core.specs.Term.{arg, choice};
+ghost use Rattle.std.specs.Prelude.{◌≡◌, IfOk, map};
+ghost use Rattle.term_core.specs.Act.{acts_of, when};
+ghost use Rattle.term_core.specs.Term.{arg, binary, choice};
 ghost use Rattle.term_core.specs.declared.action.Effect.TheVariants as effects;
 ghost use Rattle.term_evaluation.specs.Unfolding.{unfolded_term, unfolded_effect, unfolded, unfolded_body};
 
+use crate::both::both;
 use connection_types::ConnectionType;
 use plain_types::{Items, Text};
 use signature_core::Signature;
 use std::alloc::{AllocError, Global};
-use term_core::{Action, Body, Effect, Expr, Node, Step, Target};
+use term_core::{Action, Body, Effect, Expr, Node, Operator, Step, Target};
 use variant_value::Value;
 
 /// The body's actions with the arguments put in: each `Node::Arg`, at every depth of every expression,
@@ -35,19 +37,39 @@ fn unfolded_actions(
 }
 
 #[cycle(unfold)]
-#[tactic(auto, using(crate::proofs::Branches::branch_unfolded))]
 fn unfolded_action(alloc: Global, action: &Action, args: &[Value]) -> Result<Action, AllocError>
     ensures { IfOk result (λ found. found ≡ unfolded args.now action.now) }
 {
-    let step = match &action.step {
-        Step::Effect(effect) => Step::Effect(unfolded_effect(alloc, effect, args)?),
-        Step::When(test, held, failed) => Step::When(
-            unfolded_expr(alloc, test, args)?,
-            unfolded_actions(alloc, held, args)?,
-            unfolded_actions(alloc, failed, args)?,
-        ),
-    };
-    Ok(Action { step })
+    match &action.step {
+        Step::Effect(effect) => {
+            let effect = unfolded_effect(alloc, effect, args)?;
+            Ok(Action {
+                step: Step::Effect(effect),
+            })
+        }
+        Step::When(test, held, failed) => unfolded_when(alloc, test, held, failed, args),
+    }
+}
+
+#[cycle(unfold)]
+#[tactic(auto, using(crate::proofs::Branches::branch_unfolded))]
+fn unfolded_when(
+    alloc: Global,
+    test: &Expr,
+    held: &[Action],
+    failed: &[Action],
+    args: &[Value],
+) -> Result<Action, AllocError>
+    ensures { IfOk result (λ found. found ≡ unfolded args.now (when test.now (acts_of held.now) (acts_of failed.now))) }
+{
+    let branches = both(
+        unfolded_actions(alloc, held, args),
+        unfolded_actions(alloc, failed, args),
+    );
+    let (test, (held, failed)) = both(unfolded_expr(alloc, test, args), branches)?;
+    Ok(Action {
+        step: Step::When(test, held, failed),
+    })
 }
 
 fn unfolded_effect(alloc: Global, effect: &Effect, args: &[Value]) -> Result<Effect, AllocError>
@@ -202,12 +224,7 @@ fn unfolded_expr(alloc: Global, expr: &Expr, args: &[Value]) -> Result<Expr, All
     match &expr.node {
         Node::Const(_) | Node::Prop(_, _) => expr.copy(alloc),
         Node::Arg(place) => unfolded_arg(alloc, *place, args),
-        Node::Binary(operator, a, b) => {
-            let (a, b) = unfolded_operands(alloc, a, b, args)?;
-            Ok(Expr {
-                node: Node::Binary(*operator, a, b),
-            })
-        }
+        Node::Binary(operator, a, b) => unfolded_binary(alloc, *operator, a, b, args),
         Node::Choice(test, held, failed) => unfolded_choice(alloc, test, held, failed, args),
     }
 }
@@ -223,6 +240,23 @@ fn unfolded_arg(alloc: Global, place: usize, args: &[Value]) -> Result<Expr, All
 }
 
 #[cycle(unfolded_expr)]
+fn unfolded_binary(
+    alloc: Global,
+    operator: Operator,
+    a: &Expr,
+    b: &Expr,
+    args: &[Value],
+) -> Result<Expr, AllocError>
+    ensures { IfOk result (λ found. found ≡ unfolded_term args.now (binary operator a.now b.now)) }
+{
+    let a = unfolded_operand(alloc, a, args);
+    let (a, b) = both(a, unfolded_operand(alloc, b, args))?;
+    Ok(Expr {
+        node: Node::Binary(operator, a, b),
+    })
+}
+
+#[cycle(unfolded_expr)]
 fn unfolded_choice(
     alloc: Global,
     test: &Expr,
@@ -232,25 +266,14 @@ fn unfolded_choice(
 ) -> Result<Expr, AllocError>
     ensures { IfOk result (λ found. found ≡ unfolded_term args.now (choice test.now held.now failed.now)) }
 {
-    let test = unfolded_operand(alloc, test, args)?;
-    let (held, failed) = unfolded_operands(alloc, held, failed, args)?;
+    let branches = both(
+        unfolded_operand(alloc, held, args),
+        unfolded_operand(alloc, failed, args),
+    );
+    let (test, (held, failed)) = both(unfolded_operand(alloc, test, args), branches)?;
     Ok(Expr {
         node: Node::Choice(test, held, failed),
     })
-}
-
-#[cycle(unfolded_expr)]
-fn unfolded_operands(
-    alloc: Global,
-    a: &Expr,
-    b: &Expr,
-    args: &[Value],
-) -> Result<(Box<Expr>, Box<Expr>), AllocError>
-    ensures first { IfOk result (λ found. found.0.value ≡ unfolded_term args.now a.now) }
-    ensures second { IfOk result (λ found. found.1.value ≡ unfolded_term args.now b.now) }
-{
-    let a = unfolded_operand(alloc, a, args)?;
-    Ok((a, unfolded_operand(alloc, b, args)?))
 }
 
 #[cycle(unfolded_expr)]
@@ -260,24 +283,14 @@ fn unfolded_operand(alloc: Global, expr: &Expr, args: &[Value]) -> Result<Box<Ex
     Ok(Box::new(alloc, unfolded_expr(alloc, expr, args)?)?)
 }
 
-/// The two values, or the want of memory that there was at one of them.
-fn both<A: Drop, B: Drop>(
-    a: Result<A, AllocError>,
-    b: Result<B, AllocError>,
-) -> Result<(A, B), AllocError>
-    ensures first { IfOk result (λ both. a ≡ Ok both.0) }
-    ensures second { IfOk result (λ both. b ≡ Ok both.1) }
-{
-    let a = a?;
-    Ok((a, b?))
-}
-
 fn copy_signature(alloc: Global, signature: &Signature) -> Result<Signature, AllocError>
     ensures { IfOk result (λ copy. copy ≡ signature.now) }
 {
+    let kinds = Vec::from_slice(alloc, signature.kinds.as_slice());
+    let (name, kinds) = both(signature.name.copy(alloc), kinds)?;
     Ok(Signature {
-        name: signature.name.copy(alloc)?,
-        kinds: Items::from_vec(Vec::from_slice(alloc, signature.kinds.as_slice())?),
+        name,
+        kinds: Items::from_vec(kinds),
     })
 }
 
