@@ -1,5 +1,5 @@
 -- A list whose elements are seen by a part of each.
-use Rattle.std.proofs.Common.{◌≡◌, ℕ, zero, suc, ◌+◌, List, [], ◌∷◌, Some, Bool, not, cond, ap, refl, sym, subst, map, get_or}
+use Rattle.std.proofs.Common.{◌≡◌, ℕ, zero, suc, ◌+◌, ◌<◌, ◌≤◌, List, [], ◌∷◌, Some, None, Bool, not, cond, ap, refl, sym, subst, map, length, get_or, arith}
 use Rattle.std.specs.Prelude.{IsSomeAnd, IfOk, Result, Ok, Err}
 use Rattle.std.specs.List.{position, position_or_len, slice_get}
 use Rattle.std.proofs.lemmas.List.{length-map}
@@ -18,6 +18,18 @@ module _ {A B : Type 0} (part : A → B) where
   part_at P [] i x known is = absurd known
   part_at P (y ∷ ys) zero x known is = (subst (λ z. P (part z)) (sym is) known, ap (λ z. Some (part z)) (sym is))
   part_at P (y ∷ ys) (suc i) x known is = part_at P ys i x known is
+
+  -- the part at an index where an element was read, and where there is none
+  pub part_read : (xs : List A) (i : ℕ) (x : A) → i < length xs → x ≡ get_or xs i x → slice_get (map part xs) i ≡ Some (part x)
+  part_read [] i x within is = absurd (omega (arith, within))
+  part_read (y ∷ ys) zero x within is = ap (λ z. Some (part z)) (sym is)
+  part_read (y ∷ ys) (suc i) x within is = part_read ys i x (omega (arith, within)) is
+
+  pub none_beyond : (xs : List A) (i : ℕ) → length xs ≤ i → slice_get (map part xs) i ≡ None
+  none_beyond [] zero beyond = refl
+  none_beyond [] (suc i) beyond = refl
+  none_beyond (y ∷ ys) zero beyond = absurd (omega (arith, beyond))
+  none_beyond (y ∷ ys) (suc i) beyond = none_beyond ys i (omega (arith, beyond))
 
 -- what follows of an answer that is there
 pub if_ok : {T E : Type 0} (P Q : T → Type 0) (r : Result T E) → ((x : T) → P x → Q x) → IfOk r P → IfOk r Q

@@ -33,7 +33,7 @@ fn number_of(stored: &[StoredFunctor], name: &str) -> Option<usize>
 }
 
 impl Functors {
-    ghost use Rattle.std.specs.Prelude.{◌++◌, ◌∷◌, [], Some, IfOk, OnOk, OnErr, slice_get};
+    ghost use Rattle.std.specs.Prelude.{◌++◌, ◌∷◌, [], Some, None, IfOk, OnOk, OnErr, slice_get};
     ghost use Rattle.std.specs.Option.{option_copied};
     ghost use Rattle.refusals.specs.Answers.{RefusedBy};
     ghost use Rattle.stored_slots.specs.Closures.{MayBeCalled, GivesBody};
@@ -71,15 +71,26 @@ impl Functors {
             ≡ functors_of self.old ++ record { name = name; params = params; body = body } ∷ []) }
         ensures err { OnErr result (functors_of self.new ≡ functors_of self.old) }
     {
-        if self.find(name.as_str()).is_some() {
-            return Err(Fault::Refused(Code::NameTaken));
-        }
-        if self.stored.len() >= FUNCTORS {
-            return Err(Fault::Refused(Code::Limit));
+        if let Some(code) = self.refusal(name.as_str()) {
+            return Err(Fault::Refused(code));
         }
         let functor = Functor { name, params, body };
         self.stored.push(StoredFunctor { functor, run })?;
         Ok(())
+    }
+
+    /// Why a functor of this name cannot be added.
+    fn refusal(&self, name: &str) -> Option<Code>
+        ensures refusal { result ≡ add_refusal (functors_of self.now) name.now }
+        ensures room { result ≡ None → vec_len self.now.stored < FUNCTORS }
+    {
+        if self.find(name).is_some() {
+            return Some(Code::NameTaken);
+        }
+        if self.stored.len() >= FUNCTORS {
+            return Some(Code::Limit);
+        }
+        None
     }
 
     /// The index of the functor of this name.

@@ -66,8 +66,8 @@ pub fn evaluate<R: Reads>(
             Ok(apply(alloc, *operator, &a, &b)?)
         }
         Node::Choice(test, held, failed) => {
-            let test = evaluate(alloc, test, args, reader)?;
-            match truth(&test) {
+            let truth = truth(&evaluate(alloc, test, args, reader)?);
+            match truth {
                 Some(true) => evaluate(alloc, held, args, reader),
                 Some(false) => evaluate(alloc, failed, args, reader),
                 None => Err(Halt::Refused(Code::BadValue)),

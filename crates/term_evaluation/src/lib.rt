@@ -2,6 +2,7 @@
 //! what is read, and a body with its arguments put in.
 #![tactic(auto)]
 
+mod both;
 mod evaluation;
 mod halt;
 mod laws;

@@ -1,11 +1,16 @@
 //! A body with its arguments put in.
 ghost use Rattle.std.specs.Prelude.{◌≡◌, IfOk, map};
+ghost use Rattle.term_core.specs.Act.{acts_of, when};
+ghost use Rattle.term_core.specs.Term.{arg, binary, choice};
+ghost use Rattle.term_core.specs.declared.action.Effect.TheVariants as effects;
 ghost use Rattle.term_evaluation.specs.Unfolding.{unfolded_term, unfolded_effect, unfolded, unfolded_body};
 
-use plain_types::Items;
+use crate::both::both;
+use connection_types::ConnectionType;
+use plain_types::{Items, Text};
 use signature_core::Signature;
 use std::alloc::{AllocError, Global};
-use term_core::{Action, Body, Effect, Expr, Node, Step, Target};
+use term_core::{Action, Body, Effect, Expr, Node, Operator, Step, Target};
 use variant_value::Value;
 
 /// The body's actions with the arguments put in: each `Node::Arg`, at every depth of every expression,
@@ -32,43 +37,55 @@ fn unfolded_actions(
 }
 
 #[cycle(unfold)]
-#[tactic(auto, using(crate::proofs::Branches::branch_unfolded))]
 fn unfolded_action(alloc: Global, action: &Action, args: &[Value]) -> Result<Action, AllocError>
     ensures { IfOk result (λ found. found ≡ unfolded args.now action.now) }
 {
-    let step = match &action.step {
-        Step::Effect(effect) => Step::Effect(unfolded_effect(alloc, effect, args)?),
-        Step::When(test, held, failed) => Step::When(
-            unfolded_expr(alloc, test, args)?,
-            unfolded_actions(alloc, held, args)?,
-            unfolded_actions(alloc, failed, args)?,
-        ),
-    };
-    Ok(Action { step })
+    match &action.step {
+        Step::Effect(effect) => {
+            let effect = unfolded_effect(alloc, effect, args)?;
+            Ok(Action {
+                step: Step::Effect(effect),
+            })
+        }
+        Step::When(test, held, failed) => unfolded_when(alloc, test, held, failed, args),
+    }
+}
+
+#[cycle(unfold)]
+#[tactic(auto, using(crate::proofs::Branches::branch_unfolded))]
+fn unfolded_when(
+    alloc: Global,
+    test: &Expr,
+    held: &[Action],
+    failed: &[Action],
+    args: &[Value],
+) -> Result<Action, AllocError>
+    ensures { IfOk result (λ found. found ≡ unfolded args.now (when test.now (acts_of held.now) (acts_of failed.now))) }
+{
+    let branches = both(
+        unfolded_actions(alloc, held, args),
+        unfolded_actions(alloc, failed, args),
+    );
+    let (test, (held, failed)) = both(unfolded_expr(alloc, test, args), branches)?;
+    Ok(Action {
+        step: Step::When(test, held, failed),
+    })
 }
 
 fn unfolded_effect(alloc: Global, effect: &Effect, args: &[Value]) -> Result<Effect, AllocError>
     ensures { IfOk result (λ found. found ≡ unfolded_effect args.now effect.now) }
 {
-    Ok(match effect {
+    match effect {
         Effect::Set {
             of,
             property,
             value,
-        } => Effect::Set {
-            of: of.copy(alloc)?,
-            property: property.copy(alloc)?,
-            value: unfolded_expr(alloc, value, args)?,
-        },
+        } => unfolded_set(alloc, of, property, value, args),
         Effect::Emit {
             of,
             signal,
             args: sent,
-        } => Effect::Emit {
-            of: of.copy(alloc)?,
-            signal: copy_signature(alloc, signal)?,
-            args: unfolded_exprs(alloc, sent.as_slice(), args)?,
-        },
+        } => unfolded_emit(alloc, of, signal, sent.as_slice(), args),
         Effect::Connect {
             of,
             signal,
@@ -77,37 +94,117 @@ fn unfolded_effect(alloc: Global, effect: &Effect, args: &[Value]) -> Result<Eff
             mode,
             unique,
             single,
-        } => Effect::Connect {
-            of: of.copy(alloc)?,
-            signal: copy_signature(alloc, signal)?,
-            to: to.copy(alloc)?,
-            method: copy_signature(alloc, method)?,
-            mode: *mode,
-            unique: *unique,
-            single: *single,
-        },
+        } => copy_connect(alloc, of, signal, to, method, *mode, *unique, *single),
         Effect::Disconnect {
             of,
             signal,
             to,
             method,
-        } => Effect::Disconnect {
-            of: of.copy(alloc)?,
-            signal: copy_optional_signature(alloc, signal)?,
-            to: copy_optional_target(alloc, to)?,
-            method: copy_optional_signature(alloc, method)?,
-        },
-        Effect::Delete(target) => Effect::Delete(target.copy(alloc)?),
-        Effect::DeleteLater(target) => Effect::DeleteLater(target.copy(alloc)?),
-        Effect::Block { of, on } => Effect::Block {
-            of: of.copy(alloc)?,
-            on: *on,
-        },
-        Effect::SetParent { of, parent } => Effect::SetParent {
-            of: of.copy(alloc)?,
-            parent: copy_optional_target(alloc, parent)?,
-        },
+        } => copy_disconnect(alloc, of, signal, to, method),
+        Effect::Delete(target) => target.copy(alloc).map(Effect::Delete),
+        Effect::DeleteLater(target) => target.copy(alloc).map(Effect::DeleteLater),
+        Effect::Block { of, on } => copy_block(alloc, of, *on),
+        Effect::SetParent { of, parent } => copy_set_parent(alloc, of, parent),
+    }
+}
+
+fn unfolded_set(
+    alloc: Global,
+    of: &Target,
+    property: &Text,
+    value: &Expr,
+    args: &[Value],
+) -> Result<Effect, AllocError>
+    ensures { IfOk result (λ found. found ≡ effects.Set of.now property.now (unfolded_term args.now value.now)) }
+{
+    let place = both(of.copy(alloc), property.copy(alloc));
+    let ((of, property), value) = both(place, unfolded_expr(alloc, value, args))?;
+    Ok(Effect::Set {
+        of,
+        property,
+        value,
     })
+}
+
+fn unfolded_emit(
+    alloc: Global,
+    of: &Target,
+    signal: &Signature,
+    sent: &[Expr],
+    args: &[Value],
+) -> Result<Effect, AllocError>
+    ensures { IfOk result (λ found. found ≡ effects.Emit of.now signal.now (map (unfolded_term args.now) sent.now)) }
+{
+    let sender = both(of.copy(alloc), copy_signature(alloc, signal));
+    let ((of, signal), args) = both(sender, unfolded_exprs(alloc, sent, args))?;
+    Ok(Effect::Emit { of, signal, args })
+}
+
+fn copy_connect(
+    alloc: Global,
+    of: &Target,
+    signal: &Signature,
+    to: &Target,
+    method: &Signature,
+    mode: ConnectionType,
+    unique: bool,
+    single: bool,
+) -> Result<Effect, AllocError>
+    ensures { IfOk result (λ copy. copy ≡ effects.Connect of.now signal.now to.now method.now mode unique single) }
+{
+    let sender = both(of.copy(alloc), copy_signature(alloc, signal));
+    let receiver = both(to.copy(alloc), copy_signature(alloc, method));
+    let ((of, signal), (to, method)) = both(sender, receiver)?;
+    Ok(Effect::Connect {
+        of,
+        signal,
+        to,
+        method,
+        mode,
+        unique,
+        single,
+    })
+}
+
+fn copy_disconnect(
+    alloc: Global,
+    of: &Target,
+    signal: &Option<Signature>,
+    to: &Option<Target>,
+    method: &Option<Signature>,
+) -> Result<Effect, AllocError>
+    ensures { IfOk result (λ copy. copy ≡ effects.Disconnect of.now signal.now to.now method.now) }
+{
+    let sender = both(of.copy(alloc), copy_optional_signature(alloc, signal));
+    let receiver = both(
+        copy_optional_target(alloc, to),
+        copy_optional_signature(alloc, method),
+    );
+    let ((of, signal), (to, method)) = both(sender, receiver)?;
+    Ok(Effect::Disconnect {
+        of,
+        signal,
+        to,
+        method,
+    })
+}
+
+fn copy_block(alloc: Global, of: &Target, on: bool) -> Result<Effect, AllocError>
+    ensures { IfOk result (λ copy. copy ≡ effects.Block of.now on) }
+{
+    let of = of.copy(alloc)?;
+    Ok(Effect::Block { of, on })
+}
+
+fn copy_set_parent(
+    alloc: Global,
+    of: &Target,
+    parent: &Option<Target>,
+) -> Result<Effect, AllocError>
+    ensures { IfOk result (λ copy. copy ≡ effects.SetParent of.now parent.now) }
+{
+    let (of, parent) = both(of.copy(alloc), copy_optional_target(alloc, parent))?;
+    Ok(Effect::SetParent { of, parent })
 }
 
 fn unfolded_exprs(alloc: Global, exprs: &[Expr], args: &[Value]) -> Result<Items<Expr>, AllocError>
@@ -120,36 +217,80 @@ fn unfolded_exprs(alloc: Global, exprs: &[Expr], args: &[Value]) -> Result<Items
     Ok(Items::from_vec(found))
 }
 
+#[cycle(unfolded_expr)]
 fn unfolded_expr(alloc: Global, expr: &Expr, args: &[Value]) -> Result<Expr, AllocError>
     ensures { IfOk result (λ found. found ≡ unfolded_term args.now expr.now) }
 {
-    let node = match &expr.node {
-        Node::Const(value) => Node::Const(value.copy(alloc)?),
-        Node::Arg(place) => match args.get(*place) {
-            Some(value) => Node::Const(value.copy(alloc)?),
-            None => Node::Arg(*place),
-        },
-        Node::Prop(target, name) => Node::Prop(target.copy(alloc)?, name.copy(alloc)?),
-        Node::Binary(operator, a, b) => Node::Binary(
-            *operator,
-            Box::new(alloc, unfolded_expr(alloc, a, args)?)?,
-            Box::new(alloc, unfolded_expr(alloc, b, args)?)?,
-        ),
-        Node::Choice(test, held, failed) => Node::Choice(
-            Box::new(alloc, unfolded_expr(alloc, test, args)?)?,
-            Box::new(alloc, unfolded_expr(alloc, held, args)?)?,
-            Box::new(alloc, unfolded_expr(alloc, failed, args)?)?,
-        ),
+    match &expr.node {
+        Node::Const(_) | Node::Prop(_, _) => expr.copy(alloc),
+        Node::Arg(place) => unfolded_arg(alloc, *place, args),
+        Node::Binary(operator, a, b) => unfolded_binary(alloc, *operator, a, b, args),
+        Node::Choice(test, held, failed) => unfolded_choice(alloc, test, held, failed, args),
+    }
+}
+
+fn unfolded_arg(alloc: Global, place: usize, args: &[Value]) -> Result<Expr, AllocError>
+    ensures { IfOk result (λ found. found ≡ unfolded_term args.now (arg place)) }
+{
+    let node = match args.get(place) {
+        Some(value) => Node::Const(value.copy(alloc)?),
+        None => Node::Arg(place),
     };
     Ok(Expr { node })
+}
+
+#[cycle(unfolded_expr)]
+fn unfolded_binary(
+    alloc: Global,
+    operator: Operator,
+    a: &Expr,
+    b: &Expr,
+    args: &[Value],
+) -> Result<Expr, AllocError>
+    ensures { IfOk result (λ found. found ≡ unfolded_term args.now (binary operator a.now b.now)) }
+{
+    let a = unfolded_operand(alloc, a, args);
+    let (a, b) = both(a, unfolded_operand(alloc, b, args))?;
+    Ok(Expr {
+        node: Node::Binary(operator, a, b),
+    })
+}
+
+#[cycle(unfolded_expr)]
+fn unfolded_choice(
+    alloc: Global,
+    test: &Expr,
+    held: &Expr,
+    failed: &Expr,
+    args: &[Value],
+) -> Result<Expr, AllocError>
+    ensures { IfOk result (λ found. found ≡ unfolded_term args.now (choice test.now held.now failed.now)) }
+{
+    let branches = both(
+        unfolded_operand(alloc, held, args),
+        unfolded_operand(alloc, failed, args),
+    );
+    let (test, (held, failed)) = both(unfolded_operand(alloc, test, args), branches)?;
+    Ok(Expr {
+        node: Node::Choice(test, held, failed),
+    })
+}
+
+#[cycle(unfolded_expr)]
+fn unfolded_operand(alloc: Global, expr: &Expr, args: &[Value]) -> Result<Box<Expr>, AllocError>
+    ensures { IfOk result (λ found. found.value ≡ unfolded_term args.now expr.now) }
+{
+    Ok(Box::new(alloc, unfolded_expr(alloc, expr, args)?)?)
 }
 
 fn copy_signature(alloc: Global, signature: &Signature) -> Result<Signature, AllocError>
     ensures { IfOk result (λ copy. copy ≡ signature.now) }
 {
+    let kinds = Vec::from_slice(alloc, signature.kinds.as_slice());
+    let (name, kinds) = both(signature.name.copy(alloc), kinds)?;
     Ok(Signature {
-        name: signature.name.copy(alloc)?,
-        kinds: Items::from_vec(Vec::from_slice(alloc, signature.kinds.as_slice())?),
+        name,
+        kinds: Items::from_vec(kinds),
     })
 }
 
