@@ -33,6 +33,29 @@ fn less(alloc: Global, a: Expr, b: Expr) -> Result<Expr, AllocError>
     })
 }
 
+/// Whether a number is above the most.
+fn is_above(alloc: Global, most: i32, given: &Expr) -> Result<Expr, AllocError>
+    ensures { IfOk result (λ expr. expr ≡ binary Less (const (v.Int most)) given.now) }
+{
+    let given = given.copy(alloc)?;
+    less(alloc, number(most), given)
+}
+
+/// Whether a number is below the least.
+fn is_below(alloc: Global, least: i32, given: &Expr) -> Result<Expr, AllocError>
+    ensures { IfOk result (λ expr. expr ≡ binary Less given.now (const (v.Int least))) }
+{
+    let given = given.copy(alloc)?;
+    less(alloc, given, number(least))
+}
+
+/// One action, and nothing behind it.
+fn alone(alloc: Global, action: Action) -> Result<Vec<Action>, AllocError>
+    ensures { IfOk result (λ actions. actions.items ≡ action ∷ []) }
+{
+    Ok(vec![in alloc; action]?)
+}
+
 fn set_x(alloc: Global, value: Expr) -> Result<Vec<Action>, AllocError>
     ensures { IfOk result (λ actions. acts_of actions.items ≡ sets_x value) }
 {
@@ -44,7 +67,20 @@ fn set_x(alloc: Global, value: Expr) -> Result<Vec<Action>, AllocError>
     let action = Action {
         step: Step::Effect(effect),
     };
-    Ok(vec![in alloc; action]?)
+    alone(alloc, action)
+}
+
+fn set_x_to_number(alloc: Global, value: i32) -> Result<Vec<Action>, AllocError>
+    ensures { IfOk result (λ actions. acts_of actions.items ≡ sets_x (const (v.Int value))) }
+{
+    set_x(alloc, number(value))
+}
+
+fn set_x_to_given(alloc: Global, given: &Expr) -> Result<Vec<Action>, AllocError>
+    ensures { IfOk result (λ actions. acts_of actions.items ≡ sets_x given.now) }
+{
+    let value = given.copy(alloc)?;
+    set_x(alloc, value)
 }
 
 /// One action that is done in one of two ways.
@@ -60,10 +96,21 @@ fn when(test: Expr, held: Vec<Action>, failed: Vec<Action>) -> Action
 fn at_most(alloc: Global, most: i32, given: &Expr) -> Result<Action, AllocError>
     ensures { IfOk result (λ action. action ≡ at_most most given.now) }
 {
-    let is_above = less(alloc, number(most), given.copy(alloc)?)?;
-    let above = set_x(alloc, number(most))?;
-    let between = set_x(alloc, given.copy(alloc)?)?;
+    let above = set_x_to_number(alloc, most)?;
+    let between = set_x_to_given(alloc, given)?;
+    let is_above = is_above(alloc, most, given)?;
     Ok(when(is_above, above, between))
+}
+
+/// Sets `x` to a number, but to the least where the number is below that.
+fn at_least(alloc: Global, least: i32, given: &Expr, not_below: Action) -> Result<Action, AllocError>
+    ensures { IfOk result (λ action. action ≡ when (binary Less given.now (const (v.Int least)))
+        (sets_x (const (v.Int least))) (acts_of (not_below ∷ []))) }
+{
+    let not_below = alone(alloc, not_below)?;
+    let below = set_x_to_number(alloc, least)?;
+    let is_below = is_below(alloc, least, given)?;
+    Ok(when(is_below, below, not_below))
 }
 
 /// Sets `x` to a number, kept between the bounds.
@@ -75,10 +122,9 @@ pub fn clamped(
 ) -> Result<Vec<Action>, AllocError>
     ensures { IfOk result (λ actions. actions.items ≡ clamped least most given.now) }
 {
-    let is_below = less(alloc, given.copy(alloc)?, number(least))?;
-    let below = set_x(alloc, number(least))?;
-    let not_below = vec![in alloc; at_most(alloc, most, given)?]?;
-    Ok(vec![in alloc; when(is_below, below, not_below)]?)
+    let not_below = at_most(alloc, most, given)?;
+    let action = at_least(alloc, least, given, not_below)?;
+    alone(alloc, action)
 }
 
 /// What `clamp` does with its argument.
