@@ -4,9 +4,11 @@ ghost use Rattle.signature_core.specs.declared.kind.Kind.TheVariants.{Int};
 ghost use Rattle.stored_slots.specs.Closures.{GivesBody, MayBeCalled};
 ghost use Rattle.stored_slots.specs.Table.{functors_of};
 ghost use Rattle.variant_value.specs.declared.value.Value.TheVariants as v;
-ghost use Rattle.term_core.specs.Act.{acts_of, when};
-ghost use Rattle.term_core.specs.Term.{const, binary};
+ghost use Rattle.term_core.specs.Act.{acts_of, effect, more, nothing, when};
+ghost use Rattle.term_core.specs.Term.{arg, const, binary};
+ghost use Rattle.term_core.specs.declared.action.Effect.TheVariants.{Set};
 ghost use Rattle.term_core.specs.declared.operator.Operator.TheVariants.{Less};
+ghost use Rattle.term_core.specs.declared.target.Target.TheVariants.{Itself};
 ghost use Rattle.program_start.specs.Clamp.{at_most, clamp, clamped, clamp_body, sets_x};
 
 use plain_types::{Items, Text};
@@ -22,6 +24,14 @@ fn number(number: i32) -> Expr
 {
     Expr {
         node: Node::Const(Value::Int(number)),
+    }
+}
+
+fn argument(place: usize) -> Expr
+    ensures { result ≡ arg place }
+{
+    Expr {
+        node: Node::Arg(place),
     }
 }
 
@@ -56,16 +66,16 @@ fn alone(alloc: Global, action: Action) -> Result<Vec<Action>, AllocError>
     Ok(vec![in alloc; action]?)
 }
 
-fn set_x(alloc: Global, value: Expr) -> Result<Vec<Action>, AllocError>
-    ensures { IfOk result (λ actions. acts_of actions.items ≡ sets_x value) }
+/// Sets a property of the context object.
+fn set(alloc: Global, property: Text, value: Expr) -> Result<Vec<Action>, AllocError>
+    ensures { IfOk result (λ actions. acts_of actions.items ≡ more (effect (Set Itself property value)) nothing) }
 {
-    let effect = Effect::Set {
-        of: Target::Itself,
-        property: Text::from_str(alloc, "x")?,
-        value,
-    };
     let action = Action {
-        step: Step::Effect(effect),
+        step: Step::Effect(Effect::Set {
+            of: Target::Itself,
+            property,
+            value,
+        }),
     };
     alone(alloc, action)
 }
@@ -73,14 +83,16 @@ fn set_x(alloc: Global, value: Expr) -> Result<Vec<Action>, AllocError>
 fn set_x_to_number(alloc: Global, value: i32) -> Result<Vec<Action>, AllocError>
     ensures { IfOk result (λ actions. acts_of actions.items ≡ sets_x (const (v.Int value))) }
 {
-    set_x(alloc, number(value))
+    let x = Text::from_str(alloc, "x")?;
+    set(alloc, x, number(value))
 }
 
 fn set_x_to_given(alloc: Global, given: &Expr) -> Result<Vec<Action>, AllocError>
     ensures { IfOk result (λ actions. acts_of actions.items ≡ sets_x given.now) }
 {
+    let x = Text::from_str(alloc, "x")?;
     let value = given.copy(alloc)?;
-    set_x(alloc, value)
+    set(alloc, x, value)
 }
 
 /// One action that is done in one of two ways.
@@ -103,7 +115,12 @@ fn at_most(alloc: Global, most: i32, given: &Expr) -> Result<Action, AllocError>
 }
 
 /// Sets `x` to a number, but to the least where the number is below that.
-fn at_least(alloc: Global, least: i32, given: &Expr, not_below: Action) -> Result<Action, AllocError>
+fn at_least(
+    alloc: Global,
+    least: i32,
+    given: &Expr,
+    not_below: Action,
+) -> Result<Action, AllocError>
     ensures { IfOk result (λ action. action ≡ when (binary Less given.now (const (v.Int least)))
         (sets_x (const (v.Int least))) (acts_of (not_below ∷ []))) }
 {
@@ -127,14 +144,22 @@ pub fn clamped(
     alone(alloc, action)
 }
 
+/// Sets `x` to the first argument, kept between the bounds.
+fn clamped_argument(alloc: Global, least: i32, most: i32) -> Result<Vec<Action>, AllocError>
+    ensures { IfOk result (λ actions. actions.items ≡ clamped least most (arg 0)) }
+{
+    let argument = argument(0);
+    clamped(alloc, least, most, &argument)
+}
+
 /// What `clamp` does with its argument.
 pub fn clamp_body(alloc: Global, least: i32, most: i32) -> Result<Body, AllocError>
     ensures { IfOk result (λ body. body ≡ clamp_body least most) }
 {
-    let argument = Expr { node: Node::Arg(0) };
+    let actions = clamped_argument(alloc, least, most)?;
     Ok(Body {
         params: 1,
-        actions: Items::from_vec(clamped(alloc, least, most, &argument)?),
+        actions: Items::from_vec(actions),
     })
 }
 
