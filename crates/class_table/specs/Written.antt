@@ -80,13 +80,23 @@ signal_in json = do
   signature ← text_in json
   Ok (record { signature = signature; body = None })
 
+-- the keys that a slot, a property and a class may have
+abbrev pub slot_keys : List (List ℕ)
+slot_keys = codes "sig" ∷ codes "body" ∷ []
+
+abbrev pub property_keys : List (List ℕ)
+property_keys = codes "name" ∷ codes "type" ∷ codes "notify" ∷ codes "bindable" ∷ []
+
+abbrev pub class_keys : List (List ℕ)
+class_keys = codes "name" ∷ codes "super" ∷ codes "signals" ∷ codes "slots" ∷ codes "properties" ∷ []
+
 -- a slot has a signature and a body
 unfoldable pub slot_in : Data → Read WrittenMethod
 slot_in json = do
   signature ← member_text (codes "sig") json
   body ← at_key (codes "body") json
   actions ← array_in body
-  provided (has_only (codes "sig" ∷ codes "body" ∷ []) json) BadForm (Ok (record { signature = signature; body = Some body }))
+  provided (has_only slot_keys json) BadForm (Ok (record { signature = signature; body = Some body }))
 
 unfoldable pub property_in : Data → Read WrittenProperty
 property_in json = do
@@ -94,7 +104,7 @@ property_in json = do
   kind ← kind_at (codes "type") json
   notify ← optional some_text_in None (codes "notify") json
   bindable ← optional truth_in false (codes "bindable") json
-  provided (has_only (codes "name" ∷ codes "type" ∷ codes "notify" ∷ codes "bindable" ∷ []) json) BadForm (Ok (record { name = name; kind = kind; notify = notify; bindable = bindable }))
+  provided (has_only property_keys json) BadForm (Ok (record { name = name; kind = kind; notify = notify; bindable = bindable }))
 
 -- the methods of a class: its signals, and then its slots
 unfoldable pub methods_in : Data → Read (List WrittenMethod)
@@ -115,4 +125,4 @@ class_in json = do
   base ← name_at (codes "super") json
   methods ← methods_in json
   properties ← properties_in json
-  provided (has_only (codes "name" ∷ codes "super" ∷ codes "signals" ∷ codes "slots" ∷ codes "properties" ∷ []) json) BadForm (Ok (record { name = name; base = base; methods = methods; properties = properties }))
+  provided (has_only class_keys json) BadForm (Ok (record { name = name; base = base; methods = methods; properties = properties }))

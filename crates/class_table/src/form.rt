@@ -8,7 +8,7 @@ ghost use Rattle.term_core.specs.Json.{has_only};
 ghost use Rattle.class_table.specs.Faults.{Gives};
 ghost use Rattle.class_table.specs.Forms.{class_seen, method_seen, property_seen};
 ghost use Rattle.class_table.specs.Steps.{each, in_front};
-ghost use Rattle.class_table.specs.Written.{array_in, at_key, class_in, kind_at, member_text, methods_in, name_at, optional, properties_in, property_in, signal_in, slot_in, some_text_in, text_in, truth_in};
+ghost use Rattle.class_table.specs.Written.{array_in, at_key, class_in, class_keys, kind_at, member_text, methods_in, name_at, optional, properties_in, property_in, property_keys, signal_in, slot_in, slot_keys, some_text_in, text_in, truth_in};
 
 use crate::fault::{ClassFaultKind, Stop};
 use plain_types::is_name;
@@ -56,7 +56,7 @@ impl<'j> ClassForm<'j> {
         let base = name_at(json, "super")?;
         let methods = methods_in(alloc, json)?;
         let properties = properties_in(alloc, json)?;
-        if !has_only(json, &["name", "super", "signals", "slots", "properties"]) {
+        if !has_class_keys(json) {
             return Err(BAD_FORM);
         }
         Ok(ClassForm {
@@ -113,7 +113,7 @@ fn slot_in(json: &Value) -> Result<MethodForm<'_>, Stop>
     let signature = member_text(json, "sig")?;
     let body = member(json, "body")?;
     array_in(body)?;
-    if !has_only(json, &["sig", "body"]) {
+    if !has_slot_keys(json) {
         return Err(BAD_FORM);
     }
     Ok(MethodForm {
@@ -149,7 +149,7 @@ fn property_in(json: &Value) -> Result<PropertyForm<'_>, Stop>
     let kind = kind_at(json, "type")?;
     let notify = text_at(json, "notify")?;
     let bindable = truth_at(json, "bindable")?;
-    if !has_only(json, &["name", "type", "notify", "bindable"]) {
+    if !has_property_keys(json) {
         return Err(BAD_FORM);
     }
     Ok(PropertyForm {
@@ -158,6 +158,27 @@ fn property_in(json: &Value) -> Result<PropertyForm<'_>, Stop>
         notify,
         bindable,
     })
+}
+
+/// Whether the JSON is an object with no keys but those of a class.
+fn has_class_keys(json: &Value) -> bool
+    ensures { result ≡ has_only class_keys (view json.now) }
+{
+    has_only(json, &["name", "super", "signals", "slots", "properties"])
+}
+
+/// Whether the JSON is an object with no keys but those of a slot.
+fn has_slot_keys(json: &Value) -> bool
+    ensures { result ≡ has_only slot_keys (view json.now) }
+{
+    has_only(json, &["sig", "body"])
+}
+
+/// Whether the JSON is an object with no keys but those of a property.
+fn has_property_keys(json: &Value) -> bool
+    ensures { result ≡ has_only property_keys (view json.now) }
+{
+    has_only(json, &["name", "type", "notify", "bindable"])
 }
 
 /// Whether the JSON is an object with no keys but these.
