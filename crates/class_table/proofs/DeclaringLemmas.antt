@@ -1,11 +1,12 @@
 -- What is declared is what was written.
-use Rattle.std.proofs.Common.{◌≡◌, ◌∙◌, ℕ, ◌+◌, ◌<◌, ◌≤◌, Bool, true, false, ◌&&◌, List, [], ◌∷◌, ◌++◌, Option, Some, None, Result, Ok, Err, length, map, position, slice_get, is_none, IsTrue, refl, sym, ap, subst, arith, length-append}
+use Rattle.std.proofs.Common.{◌≡◌, ◌∙◌, ℕ, ◌+◌, ◌<◌, ◌≤◌, Bool, true, false, ◌&&◌, List, [], ◌∷◌, ◌++◌, Option, Some, None, Result, Ok, Err, length, map, position, slice_get, nat_le, is_none, IsTrue, refl, sym, ap, subst, arith, length-append}
 use Rattle.std.specs.Prelude.{IfOk}
 use Rattle.std.specs.Result.{IsErrAnd}
 use Rattle.std.specs.List.{All}
 use Rattle.std.specs.Option.{ok_or, option_map, option_map_or}
 use Rattle.std.proofs.lemmas.List.{length-map, map-append}
 use Rattle.std.proofs.lemmas.List.Elements.{All-nil, All-cons}
+use Rattle.std.proofs.lemmas.Bool.{leb-true}
 use Rattle.std.proofs.lemmas.Option.{slice_get-map}
 use Rattle.refusals.specs.declared.code.Code.{Code}
 use Rattle.signature_core.specs.declared.kind.Kind.{Kind}
@@ -20,10 +21,10 @@ use Rattle.class_table.specs.declared.class.Class.{Class}
 use Rattle.class_table.specs.declared.class.Method.{Method}
 use Rattle.class_table.specs.declared.class.Property.{Property}
 use Rattle.class_table.specs.declared.fault.ClassFaultKind.{ClassFaultKind}
-use Rattle.class_table.specs.declared.fault.ClassFaultKind.TheVariants.{BadNotify}
+use Rattle.class_table.specs.declared.fault.ClassFaultKind.TheVariants.{BadNotify, DeclaredTwice, Limit}
 use Rattle.class_table.specs.declared.fault.Stop.{Stop}
 use Rattle.class_table.specs.declared.fault.Stop.TheVariants as stop
-use Rattle.class_table.specs.Declaring.{SignedMethod, are_signals, body_in, class_below, is_declared_once, is_signal_at, may_stand, method_of, new_names, new_signatures, notify_of, number_of, property_of, signal_named, signal_of, signed_of, slot_of, tells}
+use Rattle.class_table.specs.Declaring.{SignedMethod, are_signals, body_in, class_below, class_with, is_declared_once, is_signal_at, is_within_limits, may_stand, method_of, new_names, new_signatures, notify_of, number_of, property_of, signal_named, signal_of, signed_of, slot_of, tells}
 use Rattle.class_table.specs.Faults.{Gives}
 use Rattle.class_table.specs.Lookup.{is_same, methods, names, index_of, properties, signatures}
 use Rattle.class_table.specs.Sound.{IsMethod, is_told, is_told_by, FitsBehind}
@@ -188,7 +189,7 @@ module _ (base : List Method) (new : List SignedMethod) (own : List Method) (sam
       by (Some text) h = of (signal_named base new written.kind text) (named written.kind text) h
 
 -- a class that was checked may stand behind the others
-pub fits_behind : (classes : List Class) (base : ℕ) (name : List ℕ) (method_offset property_offset : ℕ) (new : List SignedMethod) (written : List WrittenProperty) (own_methods : List Method) (own_properties : List Property)
+fits_behind : (classes : List Class) (base : ℕ) (name : List ℕ) (method_offset property_offset : ℕ) (new : List SignedMethod) (written : List WrittenProperty) (own_methods : List Method) (own_properties : List Property)
     → base < length classes
     → index_of name classes ≡ None
     → method_offset ≡ length (methods classes base)
@@ -219,6 +220,38 @@ fits_behind classes base name method_offset property_offset new written own_meth
       each_method = each-all method_of IsMethod method_sound new own_methods ms;
       each_property = each-all (property_of (methods classes base) new) (λ property. IsTrue (is_told (methods classes base ++ own_methods) property)) (property_told (methods classes base) new own_methods same_m same_s) written own_properties ps;
     }
+
+-- a class that is declared below a superclass may stand behind the others
+module _ (classes : List Class) (base : ℕ) (written : WrittenClass) (there : base < length classes) (free : index_of written.name classes ≡ None) where
+  fits_with : (new : List SignedMethod) (class : Class) → is_declared_once (methods classes base) new (properties classes base) written.properties ≡ true → is_within_limits (methods classes base) new (properties classes base) written.properties ≡ true → class_with classes base written new ≡ Ok class → FitsBehind classes class
+  fits_with new class once within e = first (each (property_of (methods classes base) new) written.properties) refl (each method_of new) refl e
+    where
+      few : IsTrue (nat_le (length (methods classes base) + length new) METHODS) × IsTrue (nat_le (length (properties classes base) + length written.properties) PROPERTIES)
+      few = both_true (nat_le (length (methods classes base) + length new) METHODS) (nat_le (length (properties classes base) + length written.properties) PROPERTIES) within
+
+      first : (ps : Read (List Property)) → each (property_of (methods classes base) new) written.properties ≡ ps → (ms : Read (List Method)) → each method_of new ≡ ms → (ps >>= λ own_properties. ms >>= λ own_methods. Ok (record { name = written.name; superclass = Some base; method_offset = length (methods classes base); property_offset = length (properties classes base); methods = own_methods; properties = own_properties })) ≡ Ok class → FitsBehind classes class
+      first (Err k) a ms b h = absurd (cc)
+      first (Ok ps) a (Err k) b h = absurd (cc)
+      first (Ok ps) a (Ok ms) b h =
+          let is : (record { name = written.name; superclass = Some base; method_offset = length (methods classes base); property_offset = length (properties classes base); methods = ms; properties = ps }) ≡ class = cc in
+          subst (FitsBehind classes) is (fits_behind classes base written.name (length (methods classes base)) (length (properties classes base)) new written.properties ms ps there free refl refl once (leb-true _ _ few.0) (leb-true _ _ few.1) b a)
+
+  fits_below : (class : Class) → class_below classes base written ≡ Ok class → FitsBehind classes class
+  unfolding class_below
+  fits_below class e = first (each signed_of written.methods) e
+    where
+      second : (new : List SignedMethod) (once : Bool) → is_declared_once (methods classes base) new (properties classes base) written.properties ≡ once → (within : Bool) → is_within_limits (methods classes base) new (properties classes base) written.properties ≡ within → provided once DeclaredTwice (provided within Limit (class_with classes base written new)) ≡ Ok class → FitsBehind classes class
+      second new false a within b h = absurd (cc)
+      second new true a false b h = absurd (cc)
+      second new true a true b h = fits_with new class a b h
+
+      first : (r : Read (List SignedMethod)) → (r >>= λ new. provided (is_declared_once (methods classes base) new (properties classes base) written.properties) DeclaredTwice (provided (is_within_limits (methods classes base) new (properties classes base) written.properties) Limit (class_with classes base written new))) ≡ Ok class → FitsBehind classes class
+      first (Err k) h = absurd (cc)
+      first (Ok new) h = second new (is_declared_once (methods classes base) new (properties classes base) written.properties) refl (is_within_limits (methods classes base) new (properties classes base) written.properties) refl h
+
+  pub fits_where_given : (result : Result Class Stop) → Gives (λ class. class) result (class_below classes base written) → IfOk result (λ class. FitsBehind classes class)
+  fits_where_given (Ok class) e = fits_below class e
+  fits_where_given (Err stop) e = tt
 
 turned_away : {A : Type 0} (a b : Bool) (j k kind : ClassFaultKind) (next : Read A) → provided a j (provided b k (Ok (tt {0}))) ≡ Err kind → provided a j (provided b k next) ≡ Err kind
 turned_away true true j k kind next e = absurd (cc)

@@ -5,3 +5,4 @@ pub mod FormLemmas
 pub mod OnceLemmas
 pub mod SignalLemmas
 pub mod DeclaringLemmas
+pub mod EachLemmas

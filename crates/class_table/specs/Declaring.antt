@@ -119,15 +119,20 @@ may_stand base new held written =
     provided (is_declared_once base new held written) DeclaredTwice (
     provided (is_within_limits base new held written) Limit (Ok tt))
 
+-- the class that has these methods, and the properties that are written
+abbrev pub class_with : List Class → ℕ → WrittenClass → List SignedMethod → Read Class
+class_with classes base written new =
+    each (property_of (methods classes base) new) written.properties >>= λ own_properties.
+    each method_of new >>= λ own_methods.
+    Ok (record { name = written.name; superclass = Some base; method_offset = length (methods classes base); property_offset = length (properties classes base); methods = own_methods; properties = own_properties })
+
 -- the class that is declared below a superclass
 unfoldable pub class_below : List Class → ℕ → WrittenClass → Read Class
 class_below classes base written =
     each signed_of written.methods >>= λ new.
     provided (is_declared_once (methods classes base) new (properties classes base) written.properties) DeclaredTwice (
     provided (is_within_limits (methods classes base) new (properties classes base) written.properties) Limit (
-    each (property_of (methods classes base) new) written.properties >>= λ own_properties.
-    each method_of new >>= λ own_methods.
-    Ok (record { name = written.name; superclass = Some base; method_offset = length (methods classes base); property_offset = length (properties classes base); methods = own_methods; properties = own_properties })))
+    class_with classes base written new))
 
 -- the class that is written
 unfoldable pub class_of : List Class → Data → Read Class

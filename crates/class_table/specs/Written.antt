@@ -47,14 +47,22 @@ optional read absent key json = option_map_or read (get key json) (Ok absent)
 abbrev pub text_in : Data → Read (List ℕ)
 text_in json = ok_or (as_str json) BadForm
 
-abbrev pub name_in : Data → Read (List ℕ)
-name_in json = do
-  text ← text_in json
+-- the text behind a key that must be there
+abbrev pub member_text : List ℕ → Data → Read (List ℕ)
+member_text key json = do
+  found ← at_key key json
+  text_in found
+
+-- the name behind such a key
+abbrev pub name_at : List ℕ → Data → Read (List ℕ)
+name_at key json = do
+  text ← member_text key json
   provided (is_name text) BadForm (Ok text)
 
-abbrev pub kind_in : Data → Read Kind
-kind_in json = do
-  text ← text_in json
+-- the kind whose name stands behind such a key
+abbrev pub kind_at : List ℕ → Data → Read Kind
+kind_at key json = do
+  text ← member_text key json
   ok_or (kind_named text) BadForm
 
 abbrev pub truth_in : Data → Read Bool
@@ -72,24 +80,31 @@ signal_in json = do
   signature ← text_in json
   Ok (record { signature = signature; body = None })
 
+-- the keys that a slot, a property and a class may have
+abbrev pub slot_keys : List (List ℕ)
+slot_keys = codes "sig" ∷ codes "body" ∷ []
+
+abbrev pub property_keys : List (List ℕ)
+property_keys = codes "name" ∷ codes "type" ∷ codes "notify" ∷ codes "bindable" ∷ []
+
+abbrev pub class_keys : List (List ℕ)
+class_keys = codes "name" ∷ codes "super" ∷ codes "signals" ∷ codes "slots" ∷ codes "properties" ∷ []
+
 -- a slot has a signature and a body
 unfoldable pub slot_in : Data → Read WrittenMethod
 slot_in json = do
-  found ← at_key (codes "sig") json
-  signature ← text_in found
+  signature ← member_text (codes "sig") json
   body ← at_key (codes "body") json
   actions ← array_in body
-  provided (has_only (codes "sig" ∷ codes "body" ∷ []) json) BadForm (Ok (record { signature = signature; body = Some body }))
+  provided (has_only slot_keys json) BadForm (Ok (record { signature = signature; body = Some body }))
 
 unfoldable pub property_in : Data → Read WrittenProperty
 property_in json = do
-  called ← at_key (codes "name") json
-  name ← name_in called
-  typed ← at_key (codes "type") json
-  kind ← kind_in typed
+  name ← name_at (codes "name") json
+  kind ← kind_at (codes "type") json
   notify ← optional some_text_in None (codes "notify") json
   bindable ← optional truth_in false (codes "bindable") json
-  provided (has_only (codes "name" ∷ codes "type" ∷ codes "notify" ∷ codes "bindable" ∷ []) json) BadForm (Ok (record { name = name; kind = kind; notify = notify; bindable = bindable }))
+  provided (has_only property_keys json) BadForm (Ok (record { name = name; kind = kind; notify = notify; bindable = bindable }))
 
 -- the methods of a class: its signals, and then its slots
 unfoldable pub methods_in : Data → Read (List WrittenMethod)
@@ -106,10 +121,8 @@ properties_in json = do
 
 unfoldable pub class_in : Data → Read WrittenClass
 class_in json = do
-  called ← at_key (codes "name") json
-  name ← name_in called
-  above ← at_key (codes "super") json
-  base ← name_in above
+  name ← name_at (codes "name") json
+  base ← name_at (codes "super") json
   methods ← methods_in json
   properties ← properties_in json
-  provided (has_only (codes "name" ∷ codes "super" ∷ codes "signals" ∷ codes "slots" ∷ codes "properties" ∷ []) json) BadForm (Ok (record { name = name; base = base; methods = methods; properties = properties }))
+  provided (has_only class_keys json) BadForm (Ok (record { name = name; base = base; methods = methods; properties = properties }))

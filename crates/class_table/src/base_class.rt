@@ -1,5 +1,5 @@
 //! The class that all others are below.
-ghost use Rattle.std.specs.Prelude.{◌≡◌, ◌∷◌, [], codes, IfOk};
+ghost use Rattle.std.specs.Prelude.{◌≡◌, ◌∷◌, ◌++◌, [], codes, IfOk};
 ghost use Rattle.signature_core.specs.declared.kind.Kind.TheVariants as kind;
 ghost use Rattle.class_table.specs.Declaring.{delete_later_body, q_object, signal_of, slot_of};
 
@@ -29,11 +29,28 @@ pub(crate) fn q_object(alloc: Global) -> Result<Class, AllocError>
 fn object_methods(alloc: Global) -> Result<Items<Method>, AllocError>
     ensures { IfOk result (λ methods. methods ≡ q_object.methods) }
 {
-    let mut methods = Items::new(alloc);
-    methods.push(signal(alloc, "destroyed", Items::new(alloc))?)?;
-    methods.push(signal(alloc, "objectNameChanged", text_parameter(alloc)?)?)?;
-    methods.push(delete_later(alloc)?)?;
+    let destroyed = signal(alloc, "destroyed", Items::new(alloc))?;
+    let methods = with(Items::new(alloc), destroyed)?;
+    let name_changed = name_changed(alloc)?;
+    let methods = with(methods, name_changed)?;
+    let delete_later = delete_later(alloc)?;
+    with(methods, delete_later)
+}
+
+/// The methods and one more behind them.
+fn with(mut methods: Items<Method>, method: Method) -> Result<Items<Method>, AllocError>
+    ensures { IfOk result (λ more. more ≡ methods ++ method ∷ []) }
+{
+    methods.push(method)?;
     Ok(methods)
+}
+
+/// The signal that the name was changed, with the name.
+fn name_changed(alloc: Global) -> Result<Method, AllocError>
+    ensures { IfOk result (λ method. method ≡ signal_of (record { name = codes "objectNameChanged"; kinds = kind.Text ∷ [] })) }
+{
+    let kinds = text_parameter(alloc)?;
+    signal(alloc, "objectNameChanged", kinds)
 }
 
 /// The one property of `QObject`, its name.

@@ -5,7 +5,7 @@ ghost use Rattle.std.specs.List.{All, list_all};
 ghost use Rattle.serde_json.specs.View.{view};
 ghost use Rattle.signature_core.specs.Reading.{IsNormal, signature_of};
 ghost use Rattle.term_core.specs.Bodies.{body_of};
-ghost use Rattle.class_table.specs.Declaring.{body_in, class_below, class_of, is_declared_once, is_signal_at, may_stand, method_of, new_names, new_signatures, notify_of, number_of, property_of, signal_named, signed_of, tells};
+ghost use Rattle.class_table.specs.Declaring.{body_in, class_below, class_of, class_with, is_declared_once, is_signal_at, may_stand, method_of, new_names, new_signatures, notify_of, number_of, property_of, signal_named, signed_of, tells};
 ghost use Rattle.class_table.specs.Faults.{Gives};
 ghost use Rattle.class_table.specs.Forms.{class_seen, method_seen, property_seen};
 ghost use Rattle.class_table.specs.Lookup.{is_same, is_distinct, are_distinct_methods, are_distinct_properties, method_number, methods, names, index_of, properties, property_number, signatures, text_of};
@@ -278,7 +278,8 @@ fn declared_methods(alloc: Global, signed: Vec<Signed>) -> Result<Vec<Method>, S
 {
     let mut methods = Vec::new(alloc);
     for new in signed {
-        methods.push(declared_method(alloc, new)?)?;
+        let method = declared_method(alloc, new)?;
+        methods.push(method)?;
     }
     Ok(methods)
 }
@@ -308,7 +309,7 @@ fn slot_body(alloc: Global, json: &Value, params: usize) -> Result<Body, Stop>
 }
 
 /// The class that is written, behind the classes of the table.
-#[tactic(auto, unfolding(crate::specs::Declaring::class_of))]
+#[tactic(auto, using(crate::proofs::DeclaringLemmas::fits_where_given), unfolding(crate::specs::Declaring::class_of))]
 pub(crate) fn declared_class(alloc: Global, table: &ClassTable, json: &Value) -> Result<Class, Stop>
     ensures exact { Gives (λ class. class) result (class_of table.now (view json.now)) }
     ensures fits { IfOk result (λ class. FitsBehind table.now class) }
@@ -331,18 +332,31 @@ fn class_below(
     base: u32,
     form: &ClassForm,
 ) -> Result<Class, Stop>
-    requires base_is_there { base < length table.now }
-    ensures exact { Gives (λ class. class) result (class_below table.now base (class_seen form.now)) }
-    ensures fits { index_of form.now.name.now table.now ≡ None
-        → IfOk result (λ class. FitsBehind table.now class) }
+    ensures { Gives (λ class. class) result (class_below table.now base (class_seen form.now)) }
 {
     let signed = signed_methods(alloc, form.methods.as_slice())?;
+    check_declared(alloc, table, base, signed.as_slice(), form.properties.as_slice())?;
+    class_with(alloc, table, base, form, signed)
+}
+
+/// The class that has these methods, and the properties that are written.
+fn class_with(
+    alloc: Global,
+    table: &ClassTable,
+    base: u32,
+    form: &ClassForm,
+    signed: Vec<Signed>,
+) -> Result<Class, Stop>
+    requires { length (methods table.now base) + length signed.items ≤ METHODS }
+    ensures { Gives (λ class. class) result
+        (class_with table.now base (class_seen form.now) (map signed_seen signed.entry.items)) }
+{
+    let name = Text::from_str(alloc, form.name)?;
     let forms = form.properties.as_slice();
-    check_declared(alloc, table, base, signed.as_slice(), forms)?;
     let properties = declared_properties(alloc, table, base, signed.as_slice(), forms)?;
     let methods = declared_methods(alloc, signed)?;
     Ok(Class {
-        name: Text::from_str(alloc, form.name)?,
+        name,
         superclass: Some(base),
         method_offset: table.method_count(base),
         property_offset: table.property_count(base),
@@ -363,11 +377,7 @@ fn check_declared(
     ensures exact { Gives (λ _. tt) result (may_stand
         (methods table.now base) (map signed_seen signed.now)
         (properties table.now base) (map property_seen forms.now)) }
-    ensures few_methods { IfOk result (λ _. length (methods table.now base) + length signed.now ≤ METHODS) }
-    ensures few_properties { IfOk result (λ _. length (properties table.now base) + length forms.now ≤ PROPERTIES) }
-    ensures once { IfOk result (λ _. IsTrue (is_declared_once
-        (methods table.now base) (map signed_seen signed.now)
-        (properties table.now base) (map property_seen forms.now))) }
+    ensures few { IfOk result (λ _. length (methods table.now base) + length signed.now ≤ METHODS) }
 {
     let method_offset = table.method_count(base);
     let property_offset = table.property_count(base);

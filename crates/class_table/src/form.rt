@@ -8,7 +8,7 @@ ghost use Rattle.term_core.specs.Json.{has_only};
 ghost use Rattle.class_table.specs.Faults.{Gives};
 ghost use Rattle.class_table.specs.Forms.{class_seen, method_seen, property_seen};
 ghost use Rattle.class_table.specs.Steps.{each, in_front};
-ghost use Rattle.class_table.specs.Written.{array_in, at_key, class_in, kind_in, methods_in, name_in, optional, properties_in, property_in, signal_in, slot_in, some_text_in, text_in, truth_in};
+ghost use Rattle.class_table.specs.Written.{array_in, at_key, class_in, class_keys, kind_at, member_text, methods_in, name_at, optional, properties_in, property_in, property_keys, signal_in, slot_in, slot_keys, some_text_in, text_in, truth_in};
 
 use crate::fault::{ClassFaultKind, Stop};
 use plain_types::is_name;
@@ -52,11 +52,11 @@ impl<'j> ClassForm<'j> {
     pub(crate) fn read(alloc: Global, json: &'j Value) -> Result<ClassForm<'j>, Stop>
         ensures { Gives class_seen result (class_in (view json.now)) }
     {
-        let name = name_in(member(json, "name")?)?;
-        let base = name_in(member(json, "super")?)?;
+        let name = name_at(json, "name")?;
+        let base = name_at(json, "super")?;
         let methods = methods_in(alloc, json)?;
         let properties = properties_in(alloc, json)?;
-        if !has_only(json, &["name", "super", "signals", "slots", "properties"]) {
+        if !has_class_keys(json) {
             return Err(BAD_FORM);
         }
         Ok(ClassForm {
@@ -100,7 +100,8 @@ fn slots_in<'j>(
         (in_front (map method_seen methods.entry.items) (each slot_in (map view array.now))) }
 {
     for json in array {
-        methods.push(slot_in(json)?)?;
+        let slot = slot_in(json)?;
+        methods.push(slot)?;
     }
     Ok(methods)
 }
@@ -109,10 +110,10 @@ fn slots_in<'j>(
 fn slot_in(json: &Value) -> Result<MethodForm<'_>, Stop>
     ensures { Gives method_seen result (slot_in (view json.now)) }
 {
-    let signature = text_in(member(json, "sig")?)?;
+    let signature = member_text(json, "sig")?;
     let body = member(json, "body")?;
     array_in(body)?;
-    if !has_only(json, &["sig", "body"]) {
+    if !has_slot_keys(json) {
         return Err(BAD_FORM);
     }
     Ok(MethodForm {
@@ -121,14 +122,21 @@ fn slot_in(json: &Value) -> Result<MethodForm<'_>, Stop>
     })
 }
 
+/// The properties of a class.
 #[tactic(auto, unfolding(crate::specs::Written::properties_in))]
 fn properties_in<'j>(alloc: Global, json: &'j Value) -> Result<Vec<PropertyForm<'j>>, Stop>
     ensures { Gives (λ v. map property_seen v.items) result (properties_in (view json.now)) }
 {
-    let array = array_at(json, "properties")?;
+    each_property_in(alloc, array_at(json, "properties")?)
+}
+
+fn each_property_in<'j>(alloc: Global, array: &'j [Value]) -> Result<Vec<PropertyForm<'j>>, Stop>
+    ensures { Gives (λ v. map property_seen v.items) result (each property_in (map view array.now)) }
+{
     let mut properties = Vec::new(alloc);
     for json in array {
-        properties.push(property_in(json)?)?;
+        let property = property_in(json)?;
+        properties.push(property)?;
     }
     Ok(properties)
 }
@@ -137,11 +145,11 @@ fn properties_in<'j>(alloc: Global, json: &'j Value) -> Result<Vec<PropertyForm<
 fn property_in(json: &Value) -> Result<PropertyForm<'_>, Stop>
     ensures { Gives property_seen result (property_in (view json.now)) }
 {
-    let name = name_in(member(json, "name")?)?;
-    let kind = kind_in(member(json, "type")?)?;
+    let name = name_at(json, "name")?;
+    let kind = kind_at(json, "type")?;
     let notify = text_at(json, "notify")?;
     let bindable = truth_at(json, "bindable")?;
-    if !has_only(json, &["name", "type", "notify", "bindable"]) {
+    if !has_property_keys(json) {
         return Err(BAD_FORM);
     }
     Ok(PropertyForm {
@@ -150,6 +158,27 @@ fn property_in(json: &Value) -> Result<PropertyForm<'_>, Stop>
         notify,
         bindable,
     })
+}
+
+/// Whether the JSON is an object with no keys but those of a class.
+fn has_class_keys(json: &Value) -> bool
+    ensures { result ≡ has_only class_keys (view json.now) }
+{
+    has_only(json, &["name", "super", "signals", "slots", "properties"])
+}
+
+/// Whether the JSON is an object with no keys but those of a slot.
+fn has_slot_keys(json: &Value) -> bool
+    ensures { result ≡ has_only slot_keys (view json.now) }
+{
+    has_only(json, &["sig", "body"])
+}
+
+/// Whether the JSON is an object with no keys but those of a property.
+fn has_property_keys(json: &Value) -> bool
+    ensures { result ≡ has_only property_keys (view json.now) }
+{
+    has_only(json, &["name", "type", "notify", "bindable"])
 }
 
 /// Whether the JSON is an object with no keys but these.
@@ -235,10 +264,18 @@ fn text_in(json: &Value) -> Result<&str, Stop>
     }
 }
 
-fn name_in(json: &Value) -> Result<&str, Stop>
-    ensures { Gives (λ t. t.now) result (name_in (view json.now)) }
+/// The text behind a key that must be there.
+fn member_text<'j>(json: &'j Value, key: &str) -> Result<&'j str, Stop>
+    ensures { Gives (λ t. t.now) result (member_text key.now (view json.now)) }
 {
-    let text = text_in(json)?;
+    text_in(member(json, key)?)
+}
+
+/// The name behind a key that must be there.
+fn name_at<'j>(json: &'j Value, key: &str) -> Result<&'j str, Stop>
+    ensures { Gives (λ t. t.now) result (name_at key.now (view json.now)) }
+{
+    let text = member_text(json, key)?;
     if is_name(text) {
         Ok(text)
     } else {
@@ -246,10 +283,11 @@ fn name_in(json: &Value) -> Result<&str, Stop>
     }
 }
 
-fn kind_in(json: &Value) -> Result<Kind, Stop>
-    ensures { Gives (λ k. k) result (kind_in (view json.now)) }
+/// The kind whose name stands behind a key that must be there.
+fn kind_at(json: &Value, key: &str) -> Result<Kind, Stop>
+    ensures { Gives (λ k. k) result (kind_at key.now (view json.now)) }
 {
-    match Kind::from_name(text_in(json)?) {
+    match Kind::from_name(member_text(json, key)?) {
         Some(kind) => Ok(kind),
         None => Err(BAD_FORM),
     }

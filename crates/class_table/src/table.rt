@@ -4,6 +4,7 @@ ghost use Rattle.std.specs.Option.{option_copied};
 ghost use Rattle.class_table.specs.declared.fault.ClassError.TheVariants.{Memory};
 ghost use Rattle.class_table.specs.Declaring.{q_object};
 ghost use Rattle.class_table.specs.Lookup.{are_distinct_methods, are_distinct_properties, inherits, line, method_number, method_text, methods, names, index_of, properties, property_number, signatures};
+ghost use Rattle.indexmap.specs.IndexMap.{keys, values};
 ghost use Rattle.class_table.specs.Sound.{FitsBehind, IsClassAt, IsMethod, IsTable, is_told};
 
 use crate::base_class::q_object;
@@ -46,9 +47,8 @@ impl ClassTable {
         ensures err { IfErr result (λ error. error ≡ Memory) }
     {
         let class = q_object(alloc)?;
-        let name = String::from_str(alloc, class.name.as_str())?;
         let mut classes = IndexMap::new(alloc);
-        classes.insert(name, class)?;
+        insert(alloc, &mut classes, class)?;
         Ok(ClassTable { alloc, classes })
     }
 
@@ -67,8 +67,7 @@ impl ClassTable {
         ensures ok { OnOk result (self.new ≡ self.old ++ class ∷ []) }
         ensures err { IfErr result (λ error. error ≡ Memory) }
     {
-        let name = String::from_str(self.alloc, class.name.as_str())?;
-        self.classes.insert(name, class)?;
+        insert(self.alloc, &mut self.classes, class)?;
         Ok(())
     }
 
@@ -230,4 +229,21 @@ impl ClassTable {
         }
         None
     }
+}
+
+/// Puts a class behind those that are kept by their names.
+fn insert(
+    alloc: Global,
+    classes: &mut IndexMap<String, Class>,
+    class: Class,
+) -> Result<(), AllocError>
+    requires by_name { map (λ key. string_bytes key) (keys classes.old) ≡ map (λ class. class.name) (values classes.old) }
+    requires is_new { index_of class.name (values classes.old) ≡ None }
+    ensures kept { IfErr result (λ _. classes.new.entries ≡ classes.old.entries) }
+    ensures by_name { OnOk result (map (λ key. string_bytes key) (keys classes.new) ≡ map (λ class. class.name) (values classes.new)) }
+    ensures values { OnOk result (values classes.new ≡ values classes.old ++ class ∷ []) }
+{
+    let name = String::from_str(alloc, class.name.as_str())?;
+    classes.insert(name, class)?;
+    Ok(())
 }

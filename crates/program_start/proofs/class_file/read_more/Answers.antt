@@ -1,0 +1,24 @@
+use Rattle.std.proofs.Common.{◌≤◌, ℕ, List, [], length, take, arith}
+use Rattle.std.proofs.KnownBytes.{Consumes-kept, Consumes-nil}
+use Rattle.std.proofs.lemmas.Grind.{common_steps}
+use Rattle.program_start.proofs.class_file.read_more.Goals as goal
+
+-- a front is no longer than what was asked of it
+front_few : (n most : ℕ) (bytes : List ℕ) → n ≤ most → length (take n bytes) ≤ most
+front_few n most bytes few = grind (arith, common_steps)
+
+pub returns-in_err-count-clause-taken : goal.returns-in_err-count-clause-taken
+returns-in_err-count-clause-taken g c = ([], omega arith, Consumes-kept _ _ _ [] (Consumes-nil _) c.in_err-count.ensures.bytes)
+
+pub returns-in_err-extend_from_slice-clause-taken : goal.returns-in_err-extend_from_slice-clause-taken
+returns-in_err-extend_from_slice-clause-taken g c =
+    let came = take c.in_ok-count.count c.read.new.buffer in
+    (came, front_few _ _ c.read.new.buffer (grind (arith, common_steps, c.in_ok-count.ensures.bound)), c.in_ok-count.ensures.bytes.0)
+
+pub returns-clause-end : goal.returns-clause-end
+returns-clause-end g c none = c.in_ok-count.ensures.bytes.1 none (grind (arith, common_steps))
+
+pub returns-clause-taken : goal.returns-clause-taken
+returns-clause-taken g c =
+    let came = take c.in_ok-count.count c.read.new.buffer in
+    (came, front_few _ _ c.read.new.buffer (grind (arith, common_steps, c.in_ok-count.ensures.bound)), c.in_ok-count.ensures.bytes.0)
