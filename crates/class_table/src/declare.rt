@@ -335,7 +335,13 @@ fn class_below(
     ensures { Gives (λ class. class) result (class_below table.now base (class_seen form.now)) }
 {
     let signed = signed_methods(alloc, form.methods.as_slice())?;
-    check_declared(alloc, table, base, signed.as_slice(), form.properties.as_slice())?;
+    check_declared(
+        alloc,
+        table,
+        base,
+        signed.as_slice(),
+        form.properties.as_slice(),
+    )?;
     class_with(alloc, table, base, form, signed)
 }
 
