@@ -11,7 +11,7 @@ use refusals::Fault;
 use session_effects::{Caller, Setup};
 use session_tables::Tables;
 use std::alloc::{AllocError, Global};
-use thread_model::{Answer, MetaObject};
+use thread_model::{Answer, Boxed, MetaObject};
 
 /// What there is in the class of this name.
 pub fn describe(caller: &Caller, tables: &Tables, class: &Text) -> Result<Answer, Fault>
@@ -23,14 +23,15 @@ pub fn describe(caller: &Caller, tables: &Tables, class: &Text) -> Result<Answer
     let Some(row) = classes.class_row(index) else {
         unreachable!()
     };
-    Ok(Answer::Meta(MetaObject {
+    let meta = MetaObject {
         class: row.name.copy(alloc)?,
         method_offset: row.method_offset,
         methods: texts(alloc, classes.methods(index)?)?,
         properties: texts(alloc, classes.properties(index)?)?,
         property_offset: row.property_offset,
         superclass: superclass_name(caller.setup, row)?,
-    }))
+    };
+    Ok(Answer::Meta(Boxed::new(alloc, meta)?))
 }
 
 /// The name of the superclass, where there is one.

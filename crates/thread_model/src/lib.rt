@@ -7,12 +7,14 @@ ghost use Rattle.thread_model.specs.Machine.{IsMetadLawful};
 ghost use Rattle.thread_model.specs.Run.{RunsToItsEnd};
 ghost use Rattle.thread_model.specs.Laws.{ActsInPlace, KeepsDeclared, KeepsSound, KeepsUnderWay};
 
+mod boxed;
 mod call;
 mod command;
 mod line;
 mod meta;
 mod post;
 
+pub use boxed::Boxed;
 pub use call::{Call, DESTROYED, NESTED_SIGNALS, OBJECT_NAME};
 pub use command::{Command, Tagged};
 pub use line::{Answer, Line, Spin, Status};

@@ -1,4 +1,5 @@
 //! What clients are told.
+use crate::boxed::Boxed;
 use crate::call::Call;
 use crate::meta::MetaObject;
 use plain_types::{Items, Text};
@@ -18,8 +19,8 @@ pub enum Answer {
     Value(Value),
     /// The names of properties, in order.
     Names(Items<Text>),
-    /// What there is in a class.
-    Meta(MetaObject),
+    /// What there is in a class. It is the largest answer and the rarest.
+    Meta(Boxed<MetaObject>),
     Spun(Spin),
     Status(Status),
 }

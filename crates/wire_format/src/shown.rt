@@ -38,7 +38,7 @@ pub(crate) fn shown_as<'a>(answer: &'a Answer, digits: &'a mut Digits) -> Shown<
         Answer::Truth(truth) => Shown::Word(truth_word(*truth)),
         Answer::Value(value) => shown_value(value, digits),
         Answer::Names(names) => Shown::Names(names.as_slice()),
-        Answer::Meta(meta) => Shown::Meta(meta),
+        Answer::Meta(meta) => Shown::Meta(meta.get()),
         Answer::Spun(spin) => Shown::Spun(spin),
         Answer::Status(status) => Shown::Status(status),
     }

@@ -28,4 +28,4 @@ returns c =
     ∙ ap (λ index. replies state (a.Meta (described classes index))) (sym c.in_ok-index.ensures.index)
     ∙ ap (λ meta. replies state (a.Meta meta)) (described_at classes c.in_ok-index.index c.in-Some.row.now (sym c.in-Some.ensures.value)
     ∙ sym (described_is classes c.in_ok-index.index c.in-Some.row.now _ _ _ _ _ _ c.in_ok-copy.ensures c.in-Some.ensures.has.method_offset (c.in_ok-texts.ensures ∙ c.in_ok-methods.ensures)
-    (c.in_ok-texts-2.ensures ∙ c.in_ok-properties.ensures) c.in-Some.ensures.has.property_offset c.in_ok-superclass_name.ensures)))
+    (c.in_ok-texts-2.ensures ∙ c.in_ok-properties.ensures) c.in-Some.ensures.has.property_offset c.in_ok-superclass_name.ensures) ∙ sym c.in_ok-new.ensures))
