@@ -1,5 +1,5 @@
 //! The connections of all places.
-ghost use Rattle.std.specs.Prelude.{◌≡◌, ◌+◌, ◌≤◌, [], Contains, IfOk, IfSome, OnOk, OnErr, count_by, find, length};
+ghost use Rattle.std.specs.Prelude.{◌≡◌, ◌+◌, ◌≤◌, [], Contains, IfOk, IfSome, OnOk, OnErr, count_by, find, is_some, length};
 ghost use Rattle.std.specs.List.{list_any};
 ghost use Rattle.places.specs.Table.{IsPlace, opened};
 ghost use Rattle.refusals.specs.Answers.{RefusedBy};
@@ -197,6 +197,17 @@ impl Connections {
             .get(place)
             .next_sent(sender, signal, after, up_to)?;
         Some(*self.rows.get(place, key as usize))
+    }
+
+    /// Whether a connection stands that an emission of `sender`'s `signal` would call if it began now.
+    pub fn is_sent(&self, place: usize, sender: u32, signal: u32) -> bool
+        requires { IsPlace self.now place }
+        ensures sent { result ≡ is_some (find (is_next sender signal 0 (rows_at self.now place).last_number) (rows_at self.now place).rows) }
+        ensures sound { IsSound (rows_at self.now place) }
+    {
+        let routes = self.routes.get(place);
+        let key = routes.next_sent(sender, signal, 0, routes.last_number());
+        key.is_some()
     }
 
     /// The connection of the next number, where all that were made before it stand.

@@ -87,6 +87,14 @@ impl<T: Copy> GapBuffer<T> {
         Some(self.get(len - 1))
     }
 
+    /// Where the gap stands, mostly where an element went out last or behind the one that came in last: a
+    /// search may look there first.
+    pub fn last_change(&self) -> usize
+        ensures { result ≤ length self.now.items }
+    {
+        self.gap.start as usize
+    }
+
     /// Makes room for one more element, in the gap where that is large.
     pub fn reserve(&mut self) -> Result<(), AllocError>
         ensures items { self.new.items ≡ self.old.items }

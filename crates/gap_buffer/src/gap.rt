@@ -102,7 +102,9 @@ pub(crate) fn trimmed<T: Copy>(ring: &mut VecDeque<T>, gap: Gap) -> Gap
 }
 
 /// Gives up the gap, by way of the nearer end.
-pub(crate) fn closed<T: Copy>(ring: &mut VecDeque<T>, gap: Gap) -> Gap
+#[cold]
+#[inline(never)]
+fn closed<T: Copy>(ring: &mut VecDeque<T>, gap: Gap) -> Gap
     requires { IsGapOf ring.old.items gap }
     ensures items { listed ring.new.items result ≡ listed ring.old.items gap }
     ensures fits { IsGapOf ring.new.items result }
@@ -117,6 +119,12 @@ pub(crate) fn closed<T: Copy>(ring: &mut VecDeque<T>, gap: Gap) -> Gap
     };
     let gap = moved(ring, gap, to);
     trimmed(ring, gap)
+}
+
+/// Whether the gap stands so near that it is moved, one element a step, rather than so many others in
+/// one run: a step counts as eight of these.
+fn is_near(gap: Gap, at: usize, others: usize) -> bool {
+    at.abs_diff(gap.start as usize) <= 8 + others / 8
 }
 
 /// Makes room in a ring that has some, in its gap at least.
@@ -164,7 +172,7 @@ fn filled<T: Copy>(ring: &mut VecDeque<T>, gap: Gap, at: usize, element: T) -> G
     }
 }
 
-/// Puts an element in beside the gap, which stays.
+/// Puts an element in beside the gap, which stays; one with no place is counted behind the element.
 fn inserted_beside<T: Copy>(ring: &mut VecDeque<T>, gap: Gap, at: usize, element: T) -> Gap
     requires gap { IsGapOf ring.old.items gap }
     requires room { HasRoom ring.old (length ring.old.items) }
@@ -173,6 +181,13 @@ fn inserted_beside<T: Copy>(ring: &mut VecDeque<T>, gap: Gap, at: usize, element
     ensures fits { IsGapOf ring.new.items result }
     ensures capacity { deque_capacity ring.new ≡ deque_capacity ring.old }
 {
+    if gap.gone == 0 {
+        insert_in_room(ring, at, element);
+        return Gap {
+            start: at as u32 + 1,
+            gone: 0,
+        };
+    }
     if at < gap.start as usize {
         insert_in_room(ring, at, element);
         return Gap {
@@ -184,7 +199,7 @@ fn inserted_beside<T: Copy>(ring: &mut VecDeque<T>, gap: Gap, at: usize, element
     gap
 }
 
-/// Puts an element in, by the way that moves fewer others.
+/// Puts an element in, by the faster way.
 pub(crate) fn inserted<T: Copy>(ring: &mut VecDeque<T>, gap: Gap, at: usize, element: T) -> Gap
     requires gap { IsGapOf ring.old.items gap }
     requires room { HasRoom ring.old (length (listed ring.old.items gap)) }
@@ -197,7 +212,7 @@ pub(crate) fn inserted<T: Copy>(ring: &mut VecDeque<T>, gap: Gap, at: usize, ele
     if at == len {
         return pushed(ring, gap, element);
     }
-    if gap.gone > 0 && at.abs_diff(gap.start as usize) <= at.min(len - at) {
+    if gap.gone > 0 && is_near(gap, at, at.min(len - at)) {
         return filled(ring, gap, at, element);
     }
     if has_room(ring) {
@@ -240,7 +255,7 @@ fn widened<T: Copy>(ring: &mut VecDeque<T>, gap: Gap, at: usize) -> Gap
     }
 }
 
-/// Takes an element out, by the way that moves fewer others.
+/// Takes an element out, by the faster way.
 fn taken<T: Copy>(ring: &mut VecDeque<T>, gap: Gap, at: usize) -> Gap
     requires gap { IsGapOf ring.old.items gap }
     requires within { at < length (listed ring.old.items gap) }
@@ -249,7 +264,7 @@ fn taken<T: Copy>(ring: &mut VecDeque<T>, gap: Gap, at: usize) -> Gap
     ensures capacity { deque_capacity ring.new ≡ deque_capacity ring.old }
 {
     let behind = count(ring, gap) - 1 - at;
-    if gap.gone > 0 && at.min(behind) < at.abs_diff(gap.start as usize) {
+    if gap.gone > 0 && !is_near(gap, at, at.min(behind)) {
         return removed_beside(ring, gap, at);
     }
     widened(ring, gap, at)
@@ -267,8 +282,7 @@ pub(crate) fn removed<T: Copy>(ring: &mut VecDeque<T>, gap: Gap, at: usize) -> G
     trimmed(ring, gap)
 }
 
-/// Makes room for one more element: in the gap, where that has a quarter of the places, and in more
-/// memory otherwise.
+/// Makes room for one more element where there is none.
 pub(crate) fn reserved<T: Copy>(ring: &mut VecDeque<T>, gap: Gap) -> Result<Gap, AllocError>
     requires { IsGapOf ring.old.items gap }
     ensures ok { IfOk result (λ now. (listed ring.new.items now ≡ listed ring.old.items gap) × IsGapOf ring.new.items now × HasRoom ring.new (length (listed ring.new.items now))) }
@@ -278,6 +292,18 @@ pub(crate) fn reserved<T: Copy>(ring: &mut VecDeque<T>, gap: Gap) -> Result<Gap,
     if has_room(ring) {
         return Ok(gap);
     }
+    with_more_room(ring, gap)
+}
+
+/// Makes room in the gap, where that has a quarter of the places, and in more memory otherwise.
+#[cold]
+#[inline(never)]
+fn with_more_room<T: Copy>(ring: &mut VecDeque<T>, gap: Gap) -> Result<Gap, AllocError>
+    requires { IsGapOf ring.old.items gap }
+    ensures ok { IfOk result (λ now. (listed ring.new.items now ≡ listed ring.old.items gap) × IsGapOf ring.new.items now × HasRoom ring.new (length (listed ring.new.items now))) }
+    ensures err { OnErr result ((ring.new.items ≡ ring.old.items) × (deque_capacity ring.new ≡ deque_capacity ring.old)) }
+    ensures kept { deque_capacity ring.old ≤ deque_capacity ring.new }
+{
     let len = ring.len();
     if gap.gone as usize > len / 4 {
         return Ok(closed(ring, gap));

@@ -5,3 +5,4 @@ pub mod MemberLemmas
 pub mod Printing
 pub mod Standing
 pub mod CopyLemmas
+pub mod Together

@@ -1,18 +1,33 @@
 //! Reading one value without parts, byte by byte.
-ghost use Rattle.std.specs.Prelude.{◌≡◌, ◌+◌, ◌≤◌, ◌<◌, ◌^◌, length, drop, get_or, codes, decimal, true, IfOk, IfSome};
+ghost use Rattle.std.specs.Prelude.{◌≡◌, ◌+◌, ◌≤◌, ◌<◌, ◌^◌, length, drop, get_or, codes, decimal, map, true, IfOk, IfSome};
 ghost use Rattle.std.specs.List.{prefix_len};
-ghost use Rattle.json.specs.Run.{is_plain};
+ghost use Rattle.std.specs.Simd.Lanes.{mask_l};
+ghost use Rattle.json.specs.Run.{is_plain, is_stop};
 ghost use Rattle.json.specs.Print.{quoted, token_text};
 ghost use Rattle.json_reading.specs.Spelling.{scalar_token, Fits, StandsAt};
 
 use crate::field::Scalar;
 use crate::stop::Stop;
+use std::simd::prelude::*;
 
 /// The byte at a place, or 0 behind the end.
 pub(crate) fn byte_at(bytes: &[u8], at: usize) -> u8
     ensures { result ≡ get_or bytes.now at 0 }
 {
     if at < bytes.len() { bytes[at] } else { 0 }
+}
+
+/// How many bytes are looked at together.
+const TOGETHER: usize = 16;
+
+/// Which of the bytes are quotes, backslashes or control bytes, one bit for each.
+fn stops(bytes: u8x16) -> u64
+    ensures { result ≡ mask_l (map is_stop bytes) }
+{
+    let quotes = bytes.simd_eq(u8x16::splat(b'"'));
+    let backslashes = bytes.simd_eq(u8x16::splat(b'\\'));
+    let controls = bytes.simd_lt(u8x16::splat(b' '));
+    (quotes | backslashes | controls).to_bitmask()
 }
 
 /// Where the first quote, backslash or control byte is from a place on, or the end.
@@ -22,14 +37,34 @@ fn plain_end(bytes: &[u8], from: usize) -> usize
     ensures bounds { (from ≤ result) × (result ≤ length bytes.now) }
 {
     let mut end = from;
-    'plain: while end < bytes.len()
-        && bytes[end] != b'"'
-        && bytes[end] != b'\\'
-        && bytes[end] >= 0x20
-    {
+    'chunks: while bytes.len() - end >= TOGETHER {
+        let found = stops(u8x16::from_slice(&bytes[end..]));
+        if found != 0 {
+            return end + found.trailing_zeros() as usize;
+        }
+        end += TOGETHER;
+    }
+    last_plain_end(bytes, end)
+}
+
+/// The same, byte by byte: for the last bytes.
+fn last_plain_end(bytes: &[u8], from: usize) -> usize
+    requires { from ≤ length bytes.now }
+    ensures value { result ≡ from + prefix_len is_plain (drop from bytes.now) }
+    ensures bounds { (from ≤ result) × (result ≤ length bytes.now) }
+{
+    let mut end = from;
+    'plain: while end < bytes.len() && is_plain(bytes[end]) {
         end += 1;
     }
     end
+}
+
+/// Whether a byte stands for itself in a text. Most are above the backslash, which is asked first.
+fn is_plain(byte: u8) -> bool
+    ensures { result ≡ is_plain byte }
+{
+    byte > b'\\' || (byte >= b' ' && byte != b'"' && byte != b'\\')
 }
 
 /// The text in quotes that begins at a place and has no escapes, and where it ends.

@@ -8,15 +8,13 @@ ghost use Rattle.stored_slots.specs.Functors.{AreArguments};
 ghost use Rattle.term_evaluation.specs.Unfolding.{unfolded_body};
 ghost use Rattle.program_start.specs.Clamp.{clamp_body};
 
-mod status;
-
 use program_start::{Beginning, clamped, start, with_clamp};
 use server_world::Server;
 use std::alloc::{AllocError, Global};
 use std::process::ExitCode;
 use term_core::{Action, Expr, Node};
 use variant_value::Value;
-use wire_lines::{Counted, RunFault, Summary, run};
+use wire_lines::{Counted, RunFault, Summary, run, status_of};
 
 fn main(rt: HostRuntime) -> ExitCode {
     match start(&rt) {
@@ -59,7 +57,7 @@ fn serve(rt: &HostRuntime, beginning: Beginning) -> Result<Summary, RunFault> {
 
 /// Tells what a run came to, and gives the exit status.
 fn end_of_run(rt: &HostRuntime, run: &Result<Summary, RunFault>) -> ExitCode {
-    let (status, complaint) = status::status_of(run);
+    let (status, complaint) = status_of(run);
     if let Some(text) = complaint {
         // There is nobody left to tell where this fails too.
         let _ = eprintln!(rt; "{text}");

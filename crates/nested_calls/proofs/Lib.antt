@@ -1,4 +1,3 @@
 pub mod DeletionLemmas
 pub mod AgendaLemmas
 pub mod FunctorLemmas
-mod HeardLemmas

@@ -101,7 +101,7 @@ pub fn notify<F: Answering>(
     let Some(notice) = told else {
         return Ok(());
     };
-    if depth < NESTED_SIGNALS && !is_heard(tables, actor.caller.place, notice) {
+    if depth < NESTED_SIGNALS && !tables.is_sent(actor.caller.place, notice.object, notice.signal) {
         return Ok(());
     }
     let args = told_args(&actor.caller, tables, notice)?;
@@ -114,23 +114,6 @@ pub fn notify<F: Answering>(
         args.as_slice(),
         depth,
     )
-}
-
-/// Whether a connection stands that a notice's signal calls.
-#[tactic(auto, using(crate::proofs::HeardLemmas::unheard))]
-fn is_heard(tables: &Tables, place: usize, notice: Notice) -> bool
-    requires { IsPlaced tables.now place }
-    ensures heard { let connections = (state_at tables.now place).connections in
-        result ≡ is_some (find (is_next notice.object notice.signal 0 connections.last_number) connections.rows) }
-    ensures sound { IsSound (state_at tables.now place).connections }
-{
-    let last = tables.last_connection(place);
-    if last == 0 {
-        return false;
-    }
-    tables
-        .next_connection(place, notice.object, notice.signal, 0, last)
-        .is_some()
 }
 
 /// Calls what a connection calls, which stands: later, by an event, or at once. A single-shot connection

@@ -1,5 +1,5 @@
 -- What is written to the row of one object. No public clause cites this module.
-use Rattle.std.specs.Prelude.{◌≡◌, ℕ, Bool, false, not, is_some, if◌then◌else◌, IfOk, OnErr, OnOk, List, Option, Some, None, Result, option_and_then, slice_get, slice_set}
+use Rattle.std.specs.Prelude.{◌≡◌, ◌<◌, ℕ, Bool, false, not, is_some, if◌then◌else◌, IfOk, OnErr, OnOk, List, length, Option, Some, None, Result, Ok, Err, option_and_then, slice_get, slice_set}
 use Rattle.std.specs.Option.{option_map_or}
 use Rattle.std.specs.Result.{result_err}
 use Rattle.refusals.specs.Answers.{RefusedBy}
@@ -10,7 +10,9 @@ use Rattle.variant_value.specs.declared.value.Value.{Value}
 use Rattle.variant_value.specs.Values.{converted, is_same}
 use Rattle.property_store.specs.declared.field.Field.{Field}
 use Rattle.property_store.specs.declared.row.Row.{Row}
-use Rattle.property_store.specs.Store.{refusal_of_name, with_name, without_name}
+use Rattle.property_store.specs.declared.unwritten.Unwritten.{Unwritten}
+use Rattle.property_store.specs.declared.unwritten.Unwritten.TheVariants.{Refused, Undeclared}
+use Rattle.property_store.specs.Store.{field_number, refusal_of_name, with_name, without_name}
 
 -- the value as one of the property's kind
 abbrev pub fit_in : List Field → ℕ → Value → Option Value
@@ -31,6 +33,20 @@ pub record IsStored (fields : List Field) (number : ℕ) (value : Value) (old ne
   pub refused : result_err result ≡ refusal_in fields number value
   pub answer : IfOk result (λ answer. answer ≡ change_in fields old.values number value)
   pub stored : new ≡ record old { values = stored_in fields number value old.values }
+
+-- what a write to the property of a number comes to
+abbrev pub numbered : ℕ → Result Bool Code → Result (ℕ × Bool) Unwritten
+numbered number (Ok change) = Ok (number, change)
+numbered number (Err code) = Err (Refused code)
+
+-- a value was stored as that of the property whose number was found, or is not, and all else stays
+abbrev pub IsNumbered : List Field → Value → Row → Row → Result (ℕ × Bool) Unwritten → Option ℕ → Type 0
+IsNumbered fields value old new result None = (result ≡ Err (Undeclared value)) × (new ≡ old)
+IsNumbered fields value old new result (Some number) = (number < length fields) × ((done : Result Bool Code) × (result ≡ numbered number done) × IsStored fields number value old new done)
+
+-- and as that of the property of a name
+abbrev pub IsNamed : List Field → List ℕ → Value → Row → Row → Result (ℕ × Bool) Unwritten → Type 0
+IsNamed fields name value old new result = IsNumbered fields value old new result (field_number name fields)
 
 -- a value was given to the dynamic property of a name, or is refused as it is, and all else stays
 pub record IsSet (name : List ℕ) (value : Value) (old new : Row) (result : Result (Unit {0}) Fault) : Type 0 where

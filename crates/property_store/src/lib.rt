@@ -6,7 +6,9 @@ mod dynamic;
 mod field;
 mod row;
 mod stores;
+mod unwritten;
 
 pub use dynamic::DYNAMIC;
 pub use field::Field;
 pub use stores::Stores;
+pub use unwritten::Unwritten;

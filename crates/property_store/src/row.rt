@@ -5,10 +5,11 @@ ghost use Rattle.places.specs.Table.{IsPlace};
 ghost use Rattle.shared_rows.specs.Rows.{rows_at};
 ghost use Rattle.property_store.specs.Inside.{IsCountUpTo, next_number, row_of};
 ghost use Rattle.property_store.specs.Store.{AreDistinct, fields_in};
-ghost use Rattle.property_store.specs.Storing.{IsRemoved, IsSet, IsStored};
+ghost use Rattle.property_store.specs.Storing.{IsNamed, IsRemoved, IsSet, IsStored};
 
 use crate::dynamic::{self, Named};
-use crate::field::{Field, fields_in, store};
+use crate::field::{Field, field_number, fields_in, store};
+use crate::unwritten::Unwritten;
 use plain_types::{Items, Text};
 use refusals::{Code, Fault};
 use shared_rows::{Numbered, SharedRows};
@@ -40,6 +41,27 @@ impl Row {
     {
         let fields = fields_in(layouts, self.class);
         store(fields, &mut self.values, number, value)
+    }
+
+    /// Stores a value as one of the kind of the declared property of this name, and returns its number and
+    /// whether the value is another than the one that stood.
+    pub(crate) fn write_named(
+        &mut self,
+        layouts: &Items<Items<Field>>,
+        name: &str,
+        value: Value,
+    ) -> Result<(usize, bool), Unwritten>
+        requires { length self.old.values ≡ length (fields_in layouts.now self.old.class) }
+        ensures { IsNamed (fields_in layouts.now self.old.class) name.now value self.old self.new result }
+    {
+        let fields = fields_in(layouts, self.class);
+        let Some(number) = field_number(fields, name) else {
+            return Err(Unwritten::Undeclared(value));
+        };
+        match store(fields, &mut self.values, number, value) {
+            Ok(is_change) => Ok((number, is_change)),
+            Err(code) => Err(Unwritten::Refused(code)),
+        }
     }
 
     /// Gives the dynamic property of this name a value.

@@ -6,12 +6,14 @@ ghost use Rattle.places.specs.Table.{IsPlace, opened};
 ghost use Rattle.refusals.specs.Answers.{RefusedBy};
 ghost use Rattle.variant_value.specs.Values.{IsOfKind, IsShort};
 ghost use Rattle.property_store.specs.Store.{AreDistinct, IsSound, added, changed, declared_in, dynamic_names, dynamic_refusal, field_at, fields_in, is_change, named_value, next_object, properties_of, value_at, value_named, with_dynamic, without, without_dynamic, write_refusal, written};
-ghost use Rattle.property_store.specs.Storing.{IsRemoved, IsSet, IsStored};
+ghost use Rattle.property_store.specs.Named.{answer_named, written_named};
+ghost use Rattle.property_store.specs.Storing.{IsNamed, IsRemoved, IsSet, IsStored};
 ghost use Rattle.property_store.specs.Table.{fields_of, store_at, with_store};
 
 use crate::dynamic;
 use crate::field::{Field, declared_in, defaults, field_number, fields_in, value_at};
 use crate::row::{Row, first_above, row_of};
+use crate::unwritten::Unwritten;
 use plain_types::{Items, Text};
 use refusals::{Code, Fault};
 use shared_rows::SharedRows;
@@ -161,6 +163,32 @@ impl Stores {
             requires { length row.now.values ≡ length (fields_in layouts.now row.now.class) }
             ensures { IsStored (fields_in layouts.entry.now row.entry.now.class) number value row.entry.now row.exit.now result }
         { row.write(layouts, number, value) };
+        self.rows.update(place, key, write)
+    }
+
+    /// Gives the declared property of this name a value, as [`write`](Stores::write) does, and returns its
+    /// number and whether the value is another than the one that stood.
+    pub fn write_named(
+        &mut self,
+        place: usize,
+        object: u32,
+        name: &str,
+        value: Value,
+    ) -> Result<(usize, bool), Unwritten>
+        requires place { IsPlace self.old.table place }
+        requires short { IsShort value }
+        ensures answer { result ≡ answer_named (store_at self.old place) object name.now value }
+        ensures new { self.new ≡ with_store self.old place (written_named (store_at self.old place) object name.now value) }
+        ensures err { OnErr result (self.new ≡ self.old) }
+    {
+        let Some(key) = self.rows.find(place, object as u64) else {
+            return Err(Unwritten::Undeclared(value));
+        };
+        let layouts = &self.layouts;
+        let write = |row: &mut Row| -> Result<(usize, bool), Unwritten>
+            requires { length row.now.values ≡ length (fields_in layouts.now row.now.class) }
+            ensures { IsNamed (fields_in layouts.entry.now row.entry.now.class) name.entry.now value row.entry.now row.exit.now result }
+        { row.write_named(layouts, name, value) };
         self.rows.update(place, key, write)
     }
 

@@ -2,3 +2,4 @@ pub mod ActionLemmas
 pub mod FoundLemmas
 pub mod WritingLemmas
 pub mod FunctorLemmas
+mod NamedLemmas

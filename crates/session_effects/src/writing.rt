@@ -1,10 +1,11 @@
 //! Writing properties, and the signals that tell of it.
-ghost use Rattle.std.specs.Prelude.{◌≡◌, IfOk, None, Ok, Some, option_and_then, option_map, slice_get};
+ghost use Rattle.std.specs.Prelude.{◌≡◌, ◌<◌, ℕ, Err, IfOk, List, None, Some, length, option_and_then, option_map, slice_get};
 ghost use Rattle.term_core.specs.declared.action.Effect.TheVariants as e;
 ghost use Rattle.variant_value.specs.Values.{IsShort};
+ghost use Rattle.variant_value.specs.declared.value.Value.TheVariants as v;
 ghost use Rattle.class_table.specs.Lookup.{properties};
 ghost use Rattle.property_store.specs.Store.{fitting};
-ghost use Rattle.thread_model.specs.Writing.{Declared, acted_writing, declared, dynamic_writing, short};
+ghost use Rattle.thread_model.specs.Writing.{Declared, acted_writing, dynamic_writing};
 ghost use Rattle.session_tables.specs.Classes.{HasClass};
 ghost use Rattle.session_tables.specs.Refused.{OnRefused};
 ghost use Rattle.session_tables.specs.Tables.{IsPlaced, state_at};
@@ -18,8 +19,10 @@ use crate::evaluation::{evaluated, object_of};
 use crate::methods::kinds_at;
 use crate::slot::Slot;
 use plain_types::Text;
+use property_store::Unwritten;
 use refusals::{Code, Fault};
 use session_tables::Tables;
+use signature_core::Kind;
 use std::alloc::AllocError;
 use term_core::{Expr, Target};
 use variant_value::{Args, TEXT_BYTES, Value};
@@ -74,28 +77,33 @@ fn write(
     ensures refused { OnRefused result (tables.new ≡ tables.old) }
     ensures keeps { Keeps caller.now.place tables.old tables.new }
 {
-    let Some((number, kind)) = tables.declared(caller.place, object, property.as_str()) else {
-        write_dynamic(caller, tables, object, property, short(value)?)?;
-        return Ok(None);
-    };
-    let Ok(value) = value.convert(kind) else {
-        return Err(Fault::Refused(Code::BadValue));
-    };
-    let value = short(value)?;
-    Ok(write_declared(caller, tables, object, class, number, value))
-}
-
-/// The value, where it is no text that is too long.
-fn short(value: Value) -> Result<Value, Code>
-    ensures value { result ≡ short value }
-    ensures short { IfOk result IsShort }
-{
     if let Value::Text(text) = &value
         && text.as_str().len() > TEXT_BYTES
     {
-        return Err(Code::Limit);
+        let code = refusal_of_long(caller, tables, object, property);
+        return Err(Fault::Refused(code));
     }
-    Ok(value)
+    match tables.write_named(caller.place, object, property.as_str(), value) {
+        Ok((number, true)) => Ok(notice_of(caller, object, class, number)),
+        Ok((_, false)) => Ok(None),
+        Err(Unwritten::Undeclared(value)) => {
+            write_dynamic(caller, tables, object, property, value)?;
+            Ok(None)
+        }
+        Err(Unwritten::Refused(code)) => Err(Fault::Refused(code)),
+    }
+}
+
+/// Why a text that is too long is not written: it does not fit a declared property of another kind.
+fn refusal_of_long(caller: &Caller, tables: &Tables, object: u32, property: &Text) -> Code
+    requires { IsPlaced tables.now caller.now.place }
+    ensures { (text : List ℕ) → TEXT_BYTES < length text
+        → acted_writing (state_at tables.now caller.now.place) object property.now (v.Text text) ≡ Err result }
+{
+    match tables.declared(caller.place, object, property.as_str()) {
+        Some((_, Kind::Text)) | None => Code::Limit,
+        Some(_) => Code::BadValue,
+    }
 }
 
 /// Gives a declared property a value of its kind, and returns the signal that is to be sent for it, where
@@ -163,10 +171,12 @@ fn notify_signal(caller: &Caller, class: u32, number: usize) -> Option<u32>
     ensures { result ≡ option_and_then (λ property. property.notify) (slice_get (properties (settings_of caller.now.setup.now).classes class) number) }
 {
     let classes = &caller.setup.classes;
-    if number >= classes.property_count(class) as usize {
+    let Ok(short) = u32::try_from(number) else {
+        // The count is for the proof, which then knows that no class has so many.
+        let _count = classes.property_count(class);
         return None;
-    }
-    classes.property_row(class, number as u32)?.notify
+    };
+    classes.property_row(class, short)?.notify
 }
 
 /// What a notice is sent with: the value that its property has, where the signal takes one.

@@ -2,12 +2,14 @@
 ghost use Rattle.std.specs.Prelude.{◌≡◌, IfOk, OnOk, OnErr, Some, option_and_then, option_map};
 ghost use Rattle.refusals.specs.Answers.{RefusedBy};
 ghost use Rattle.variant_value.specs.Values.{IsShort};
+ghost use Rattle.property_store.specs.Named.{answer_named, written_named};
 ghost use Rattle.property_store.specs.Store.{dynamic_names, dynamic_refusal, fitting, is_change, named_value, properties_of, value_at, value_named};
 ghost use Rattle.thread_model.specs.Writing.{Declared, Dynamic, Removed, declared, with_writing};
 ghost use Rattle.session_tables.specs.Tables.{IsPlaced, state_at, with_state};
 
 use crate::tables::Tables;
 use plain_types::{Items, Text};
+use property_store::Unwritten;
 use refusals::Fault;
 use signature_core::Kind;
 use std::alloc::AllocError;
@@ -60,6 +62,25 @@ impl Tables {
         self.stores
             .write(place, object, number, value)
             .unwrap_or(false)
+    }
+
+    /// Gives the declared property of this name a value as one of its kind. The answer is that of
+    /// [`Stores::write_named`](property_store::Stores::write_named).
+    pub fn write_named(
+        &mut self,
+        place: usize,
+        object: u32,
+        name: &str,
+        value: Value,
+    ) -> Result<(usize, bool), Unwritten>
+        requires place { IsPlaced self.old place }
+        requires short { IsShort value }
+        ensures answer { result ≡ answer_named (state_at self.old place).store object name.now value }
+        ensures written { self.new ≡ with_state self.old place
+            (record (state_at self.old place) { store = written_named (state_at self.old place).store object name.now value }) }
+        ensures err { OnErr result (self.new ≡ self.old) }
+    {
+        self.stores.write_named(place, object, name, value)
     }
 
     /// Gives a dynamic property a value, and makes it where the object has none of this name. The

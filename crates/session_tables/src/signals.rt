@@ -1,5 +1,5 @@
 //! The connections between objects.
-ghost use Rattle.std.specs.Prelude.{◌≡◌, ◌+◌, IfOk, OnOk, OnErr, count_by, find, if◌then◌else◌};
+ghost use Rattle.std.specs.Prelude.{◌≡◌, ◌+◌, IfOk, OnOk, OnErr, count_by, find, if◌then◌else◌, is_some};
 ghost use Rattle.std.specs.List.{list_any};
 ghost use Rattle.refusals.specs.Answers.{RefusedBy};
 ghost use Rattle.connection_list.specs.Ends.{matches, touches};
@@ -70,6 +70,16 @@ impl Tables {
     {
         self.connections
             .next_after(place, sender, signal, after, up_to)
+    }
+
+    /// Whether a connection stands that an emission of `sender`'s `signal` would call if it began now.
+    pub fn is_sent(&self, place: usize, sender: u32, signal: u32) -> bool
+        requires { IsPlaced self.now place }
+        ensures sent { let connections = (state_at self.now place).connections in
+            result ≡ is_some (find (is_next sender signal 0 connections.last_number) connections.rows) }
+        ensures sound { IsSound (state_at self.now place).connections }
+    {
+        self.connections.is_sent(place, sender, signal)
     }
 
     /// Breaks a single-shot connection, as its callee is about to be called; another one stays.

@@ -4,14 +4,13 @@ use Rattle.gap_buffer.specs.Gapped.{Gapped}
 use Rattle.std.specs.Cmp.{IsTotalOrder, alike_right}
 use Rattle.std.specs.List.{AllWithin, HoldsAt, insert, remove}
 use Rattle.std.specs.List.Sorted.{IsPartitionPoint, IsPartitionedBy}
-use Rattle.std.specs.Ordering.{is_eq, is_lt, ordering_reverse}
+use Rattle.std.specs.Ordering.{is_eq, is_ge, is_lt, ordering_reverse}
 use Rattle.std.specs.declared.cmp.Ordering.{Ordering}
 use Rattle.std.specs.declared.cmp.Ordering.TheVariants.{Less, Equal, Greater}
 use Rattle.std.proofs.lemmas.Bool.{cases_lt}
 use Rattle.std.proofs.lemmas.List.{get_or_default, set_split, take_all}
 use Rattle.std.proofs.lemmas.List.Edits.{length-remove}
 use Rattle.std.proofs.lemmas.List.Quantifiers.{all_pairs_remove}
-use Rattle.std.proofs.lemmas.Option.{slice_get-get_or}
 use Rattle.shared_rows.specs.Links.{HasMemory, HasRoom, IsBetween, Linked, IsInOrder, IsSeat, first_from, with_link, without_link}
 
 -- a filter whose test the front passes and the rest fails
@@ -45,7 +44,12 @@ filter_out p (x ∷ xs) (suc n) d within before at behind =
     let here : p x ≡ true = before 0 x (omega arith) (omega arith) in
     rw here (ap (λ rest. x ∷ rest) (filter_out p xs n d (omega arith) (λ k e low high. before (suc k) e (omega arith) (omega arith)) at (λ k e low high. behind (suc k) e (omega arith) (omega arith))))
 
--- the first that passes, where those before fail
+-- the first that passes: the front one
+pub find_front : {X : Type 0} (p : X → Bool) (xs : List X) (first : X) → 0 < length xs → first ≡ get_or xs 0 first → p first ≡ true → Some first ≡ find p xs
+find_front p [] first some is passes = absurd (omega arith)
+find_front p (x ∷ xs) first some is passes = let here : p x ≡ true = ap p (sym is) ∙ passes in rw here (ap Some is)
+
+-- or the one before which all fail
 find_at : {X : Type 0} (p : X → Bool) (xs : List X) (n : ℕ) → AllWithin (λ x. p x ≡ false) xs 0 n → AllWithin (λ x. p x ≡ true) xs n (length xs) → find p xs ≡ slice_get xs n
 find_at p [] zero fails passes = refl
 find_at p [] (suc n) fails passes = refl
@@ -54,7 +58,12 @@ find_at p (x ∷ xs) (suc n) fails passes =
     let here : p x ≡ false = fails 0 x (omega arith) (omega arith) in
     rw here (find_at p xs n (λ k d low high. fails (suc k) d (omega arith) (omega arith)) (λ k d low high. passes (suc k) d (omega arith) (omega arith)))
 
-less_from : (o : Ordering) → is_lt o ≡ true → o ≡ Less
+pub not_less : (o : Ordering) → is_ge o ≡ true → not (is_lt o) ≡ true
+not_less Less high = absurd (cc)
+not_less Equal high = refl
+not_less Greater high = refl
+
+pub less_from : (o : Ordering) → is_lt o ≡ true → o ≡ Less
 less_from Less low = refl
 less_from Equal low = absurd (cc)
 less_from Greater low = absurd (cc)
@@ -144,6 +153,25 @@ module _ {K : Type 0} {cmp : K → K → Ordering} (total : IsTotalOrder cmp) wh
           },
         )
 
+    -- and between two that stand beside each other
+    pub seat_amid : (at : ℕ) → 0 < at → at < length links → HoldsAt (λ other. cmp other link ≡ Less) links (at - 1) → HoldsAt (λ other. cmp other link ≡ Greater) links at → IsSeat cmp links link (Err at)
+    seat_amid at some within low high = (
+      omega arith,
+      record {
+        below = λ k d from upto.
+            ⊎_elim
+            (λ (before : k < at - 1). total.trans (get_or links k d) (get_or links (at - 1) d) link (order k (at - 1) d before (omega arith)) (low d))
+            (λ (here : at - 1 ≤ k). let same : k ≡ at - 1 = omega arith in ap (λ n. cmp (get_or links n d) link) same ∙ low d)
+            (cases_lt k (at - 1));
+        above = λ k d from upto.
+            let over : cmp link (get_or links at d) ≡ Less = above_back (get_or links at d) link (high d) in
+            ⊎_elim
+            (λ (behind : at < k). total.trans link (get_or links at d) (get_or links k d) over (order at k d behind upto))
+            (λ (here : k ≤ at). let same : k ≡ at = omega arith in ap (λ n. cmp link (get_or links n d)) same ∙ over)
+            (cases_lt at k);
+      },
+    )
+
     module _ (before from : ℕ) (upto : before ≤ from) (within : from ≤ length links) (between : IsBetween cmp links link before from) (middle : AllWithin (λ other. cmp other link ≡ Equal) links before from) where
       not_below : AllWithin (λ other. is_lt (cmp other link) ≡ false) links before (length links)
       not_below = λ k d low high. ⊎_elim
@@ -189,14 +217,9 @@ module _ {K : Type 0} {cmp : K → K → Ordering} (total : IsTotalOrder cmp) wh
         (cases_lt k at))
         (λ k d low high. absurd (omega arith)) ∙ take_all (length links) links (omega arith))
 
-    pub first_there : (at : ℕ) (d : K) → IsSeat cmp links link (Ok at) → Some (get_or links at d) ≡ first_from cmp links link
-    first_there at d seat =
-        sym (find_at (λ other. not (is_lt (cmp other link))) links at (λ k e low high. ap (λ o. not (is_lt o)) (seat.2.below k e low high))
-        (λ k e low high. ⊎_elim
-        (λ (here : k < at + 1). let same : k ≡ at = omega arith in ap (λ o. not (is_lt o)) (ap (λ i. cmp (get_or links i e) link) same ∙ seat.1 e))
-        (λ (above : at + 1 ≤ k). ap (λ o. not (is_lt o)) (below_back link (get_or links k e) (seat.2.above k e above high)))
-        (cases_lt k (at + 1)))
-        ∙ slice_get-get_or links at d seat.0)
+    -- the least that is not below the link stands where those below end
+    pub first_at : (at : ℕ) → IsPartitionPoint (λ other. is_lt (cmp other link) ≡ true) (λ other. is_lt (cmp other link) ≡ false) links at → slice_get links at ≡ first_from cmp links link
+    first_at at point = sym (find_at (λ other. not (is_lt (cmp other link))) links at (λ k d low high. ap not (point.0 k d low high)) (λ k d low high. ap not (point.1 k d low high)))
 
     pub first_above : (at : ℕ) → IsSeat cmp links link (Err at) → slice_get links at ≡ first_from cmp links link
     first_above at seat =

@@ -5,6 +5,7 @@ ghost use Rattle.shared_rows.specs.Links.{HasRoom, IsInOrder, IsSeat, first_from
 
 use gap_buffer::GapBuffer;
 use std::alloc::{AllocError, Global};
+use std::cmp::Ordering;
 use std::marker::Model;
 
 /// Keys by rising order, each once. Where one comes in or goes out, others move as in a gap buffer.
@@ -116,9 +117,9 @@ impl<K: Ord + Copy> Links<K> {
         ensures first { result ≡ first_from K.cmp self.now.links link }
         ensures sound { IsInOrder K.cmp self.now.links }
     {
-        match seat(&self.items, link) {
-            Ok(at) => Some(self.items.get(at)),
-            Err(at) => link_at(&self.items, at),
+        match self.items.last() {
+            Some(last) if last.cmp(&link).is_lt() => None,
+            _ => first_from_front(&self.items, link),
         }
     }
 
@@ -127,6 +128,21 @@ impl<K: Ord + Copy> Links<K> {
         ensures { self.new ≡ record self.old { links = [] } }
     {
         self.items.clear();
+    }
+}
+
+/// The least link that is this one or above it: most that are looked for are below all others, where no
+/// search is needed.
+fn first_from_front<K: Ord + Copy>(links: &GapBuffer<K>, link: K) -> Option<K>
+    requires { IsInOrder K.cmp links.now.items }
+    ensures { result ≡ first_from K.cmp links.now.items link }
+{
+    match links.first() {
+        Some(first) if first.cmp(&link).is_ge() => Some(first),
+        _ => {
+            let at = links.partition_point(|other| other.cmp(&link).is_lt());
+            link_at(links, at)
+        }
     }
 }
 
@@ -141,8 +157,8 @@ fn link_at<K: Copy>(links: &GapBuffer<K>, at: usize) -> Option<K>
     }
 }
 
-/// Where a link stands, or where it would stand: most that come in do so behind all others or before
-/// them, where no search is needed.
+/// Where a link stands, or where it would stand: most that come in do so behind all others, before them
+/// or behind the one that came in last, where no search is needed.
 fn seat<K: Ord + Copy>(links: &GapBuffer<K>, link: K) -> Result<usize, usize>
     requires { IsInOrder K.cmp links.now.items }
     ensures { IsSeat K.cmp links.now.items link result }
@@ -153,13 +169,29 @@ fn seat<K: Ord + Copy>(links: &GapBuffer<K>, link: K) -> Result<usize, usize>
     }
 }
 
-/// The same, with the look at the first link alone.
+/// The same, with the look at the first link.
 fn seat_from_front<K: Ord + Copy>(links: &GapBuffer<K>, link: K) -> Result<usize, usize>
     requires { IsInOrder K.cmp links.now.items }
     ensures { IsSeat K.cmp links.now.items link result }
 {
     match links.first() {
         Some(first) if link.cmp(&first).is_lt() => Err(0),
+        _ => seat_near(links, link),
+    }
+}
+
+/// The same, with the look where the last change was, where the next one mostly is.
+fn seat_near<K: Ord + Copy>(links: &GapBuffer<K>, link: K) -> Result<usize, usize>
+    requires { IsInOrder K.cmp links.now.items }
+    ensures { IsSeat K.cmp links.now.items link result }
+{
+    let at = links.last_change();
+    if at == links.len() {
+        return seat_by_halves(links, link);
+    }
+    match links.get(at).cmp(&link) {
+        Ordering::Equal => Ok(at),
+        Ordering::Greater if at > 0 && links.get(at - 1).cmp(&link).is_lt() => Err(at),
         _ => seat_by_halves(links, link),
     }
 }

@@ -1,15 +1,17 @@
 //! The members of texts, by each way of reading.
 use json::Scratch;
 use json_reading::{
-    Field, Scalar, Stop, name_at, plain_members, scan_members, text_at, token_members,
+    Field, Member, Scalar, Stop, name_at, plain_members, scan_members, text_at, token_members,
     tree_members, value_at,
 };
 use serde_json::Value;
 use std::alloc::{AllocError, Global};
 use std::test::Fail;
 
-/// Texts, with what scanning and what reading tokens make of them.
-const TEXTS: [(&str, &str, &str); 33] = [
+/// A text, with what scanning and what reading tokens make of it.
+type Served = (&'static str, &'static str, &'static str);
+
+const TEXTS: [Served; 33] = [
     (r#"{"a":1}"#, "read", "read"),
     (
         r#"{"a":0,"b":"","c":null,"d":true,"e":false}"#,
@@ -58,17 +60,32 @@ fn outcome<T>(read: &Result<T, Stop>) -> &'static str {
     }
 }
 
+fn scanned(alloc: Global, text: &str) -> &'static str {
+    outcome(&scan_members(alloc, text))
+}
+
+fn by_tokens(alloc: Global, text: &str) -> &'static str {
+    let mut scratch = Scratch::new(alloc);
+    outcome(&token_members(alloc, text, &mut scratch))
+}
+
+/// The first text of which scanning or reading tokens makes something else.
+fn first_wrong(alloc: Global, texts: &[Served]) -> Option<&'static str> {
+    for (text, scans, reads) in texts {
+        if scanned(alloc, *text) != *scans || by_tokens(alloc, *text) != *reads {
+            return Some(*text);
+        }
+    }
+    None
+}
+
+fn first_wrong_text(alloc: Global) -> Option<&'static str> {
+    first_wrong(alloc, &TEXTS)
+}
+
 #[test]
 fn texts_are_served(rt: HostRuntime) -> Result<(), Fail> {
-    let alloc = rt.alloc();
-    for (text, scanned, by_tokens) in TEXTS {
-        let mut scratch = Scratch::new(alloc);
-        assert_eq!(rt; outcome(&scan_members(alloc, text)), scanned);
-        assert_eq!(rt;
-            outcome(&token_members(alloc, text, &mut scratch)),
-            by_tokens
-        );
-    }
+    assert_eq!(rt; first_wrong_text(rt.alloc()), None);
     Ok(())
 }
 
@@ -91,47 +108,139 @@ fn copied(alloc: Global, field: Option<&Field<'_>>) -> Result<usize, AllocError>
     }
 }
 
-fn is_seven_and_x(field: &Field<'_>) -> bool {
+fn is_null(field: Option<&Field<'_>>) -> bool {
+    field.is_some_and(|field| field.is_null())
+}
+
+fn is_list(field: Option<&Field<'_>>) -> bool {
+    field.is_some_and(|field| field.is_list())
+}
+
+fn is_seven_and_x(field: Option<&Field<'_>>) -> bool {
     match field {
-        Field::List(items) => {
+        Some(Field::List(items)) => {
             matches!(items.as_slice(), [Scalar::Number(7), Scalar::Text(text)] if *text == "x")
         }
         _ => false,
     }
 }
 
+/// What of the texts among the members of `TEXT` is not found as it stands there.
+fn text_missed(members: &[Member<'_>]) -> Option<&'static str> {
+    first_false(&[
+        ("a text", text_at(members, "text") == Some("é")),
+        ("no name", name_at(members, "text").is_none()),
+        ("a name", name_at(members, "name") == Some("x")),
+        ("no member", value_at(members, "b").is_none()),
+    ])
+}
+
+/// The same of its other values without parts.
+fn value_missed(members: &[Member<'_>]) -> Option<&'static str> {
+    first_false(&[
+        ("seven", members.len() == 7),
+        ("the last a", number(value_at(members, "a")) == Some(8)),
+        ("a truth", truth(value_at(members, "yes")) == Some(true)),
+        ("no truth", truth(value_at(members, "name")).is_none()),
+        ("null", is_null(value_at(members, "no"))),
+    ])
+}
+
+/// The same of its list.
+fn list_missed(
+    alloc: Global,
+    list: Option<&Field<'_>>,
+) -> Result<Option<&'static str>, AllocError> {
+    let copies = copied(alloc, list)?;
+    Ok(first_false(&[
+        ("a list", is_list(list)),
+        ("its elements", is_seven_and_x(list)),
+        ("their copies", copies == 2),
+    ]))
+}
+
+fn missed(alloc: Global, members: &[Member<'_>]) -> Result<Option<&'static str>, AllocError> {
+    let list = list_missed(alloc, value_at(members, "list"))?;
+    Ok(text_missed(members).or(value_missed(members)).or(list))
+}
+
+/// The name of the first that does not hold.
+fn first_false(facts: &[(&'static str, bool)]) -> Option<&'static str> {
+    for (name, holds) in facts {
+        if !*holds {
+            return Some(*name);
+        }
+    }
+    None
+}
+
+fn missed_in(alloc: Global, text: &str) -> Result<Option<&'static str>, AllocError> {
+    let mut scratch = Scratch::new(alloc);
+    match plain_members(alloc, text, &mut scratch)? {
+        Some(members) => missed(alloc, &members),
+        None => Ok(Some("members")),
+    }
+}
+
+fn missed_in_text(alloc: Global) -> Result<Option<&'static str>, AllocError> {
+    missed_in(alloc, TEXT)
+}
+
 #[test]
 fn members_are_found(rt: HostRuntime) -> Result<(), Fail> {
-    let alloc = rt.alloc();
-    let mut scratch = Scratch::new(alloc);
-    let members = plain_members(alloc, TEXT, &mut scratch)?.unwrap_or(Vec::new(alloc));
-    assert_eq!(rt; members.len(), 7);
-    assert_eq!(rt; number(value_at(&members, "a")), Some(8));
-    assert_eq!(rt; text_at(&members, "text"), Some("é"));
-    assert!(rt; name_at(&members, "text").is_none());
-    assert_eq!(rt; name_at(&members, "name"), Some("x"));
-    assert_eq!(rt; truth(value_at(&members, "yes")), Some(true));
-    assert_eq!(rt; truth(value_at(&members, "name")), None);
-    assert!(rt; value_at(&members, "no").is_some_and(|field| field.is_null()));
-    assert!(rt; value_at(&members, "b").is_none());
-    assert!(rt; value_at(&members, "list").is_some_and(is_seven_and_x));
-    assert!(rt; value_at(&members, "list").is_some_and(|field| field.is_list()));
-    assert_eq!(rt; copied(alloc, value_at(&members, "list"))?, 2);
+    assert_eq!(rt; missed_in_text(rt.alloc())?, None);
     Ok(())
+}
+
+/// The same of a tree.
+const TREE: &str = r#"{"a":1,"list":[1,[2]],"text":"x","yes":true}"#;
+
+fn tree_value_missed(members: &[Member<'_>]) -> Option<&'static str> {
+    first_false(&[
+        ("four", members.len() == 4),
+        ("a number", number(value_at(members, "a")) == Some(1)),
+        ("a name", name_at(members, "text") == Some("x")),
+        ("a truth", truth(value_at(members, "yes")) == Some(true)),
+    ])
+}
+
+fn tree_list_missed(
+    alloc: Global,
+    list: Option<&Field<'_>>,
+    text: Option<&Field<'_>>,
+) -> Result<Option<&'static str>, AllocError> {
+    let copies = copied(alloc, list)?;
+    let none = copied(alloc, text)?;
+    Ok(first_false(&[
+        ("no null", !is_null(list)),
+        ("a list", is_list(list)),
+        ("its copies", copies == 2),
+        ("no copies", none == 0),
+    ]))
+}
+
+fn missed_of_tree(
+    alloc: Global,
+    members: &[Member<'_>],
+) -> Result<Option<&'static str>, AllocError> {
+    let list = tree_list_missed(alloc, value_at(members, "list"), value_at(members, "text"))?;
+    Ok(tree_value_missed(members).or(list))
+}
+
+fn missed_in_tree(alloc: Global, tree: &Value) -> Result<Option<&'static str>, AllocError> {
+    match tree_members(alloc, tree)? {
+        Some(members) => missed_of_tree(alloc, &members),
+        None => Ok(Some("members")),
+    }
+}
+
+fn tree(alloc: Global) -> Result<Value, AllocError> {
+    Value::from_str(alloc, TREE).map_err(|_| AllocError)
 }
 
 #[test]
 fn members_of_a_tree_are_found(rt: HostRuntime) -> Result<(), Fail> {
-    let alloc = rt.alloc();
-    let value = Value::from_str(alloc, r#"{"a":1,"list":[1,[2]],"text":"x","yes":true}"#)?;
-    let members = tree_members(alloc, &value)?.unwrap_or(Vec::new(alloc));
-    assert_eq!(rt; members.len(), 4);
-    assert_eq!(rt; number(value_at(&members, "a")), Some(1));
-    assert_eq!(rt; name_at(&members, "text"), Some("x"));
-    assert_eq!(rt; truth(value_at(&members, "yes")), Some(true));
-    assert!(rt; value_at(&members, "list").is_some_and(|field| !field.is_null()));
-    assert!(rt; value_at(&members, "list").is_some_and(|field| field.is_list()));
-    assert_eq!(rt; copied(alloc, value_at(&members, "list"))?, 2);
-    assert_eq!(rt; copied(alloc, value_at(&members, "text"))?, 0);
+    let tree = tree(rt.alloc())?;
+    assert_eq!(rt; missed_in_tree(rt.alloc(), &tree)?, None);
     Ok(())
 }

@@ -156,35 +156,89 @@ fn value_of(alloc: Global, actions: &[Action], args: &[Value]) -> Result<String,
     }
 }
 
+/// Whether the first value of actions ends so.
+fn ends_so(
+    alloc: Global,
+    actions: &[Action],
+    args: &[Value],
+    wanted: &str,
+) -> Result<bool, AllocError> {
+    let found = value_of(alloc, actions, args)?;
+    Ok(found.as_str() == wanted)
+}
+
+/// The same where the arguments are put in first.
+fn ends_so_unfolded(
+    alloc: Global,
+    body: &Body,
+    args: &[Value],
+    wanted: &str,
+) -> Result<bool, AllocError> {
+    let unfolded = unfold(alloc, body, args)?;
+    ends_so(alloc, unfolded.as_slice(), &[], wanted)
+}
+
+fn is_valued(alloc: Global, body: &Body, wanted: &str) -> Result<bool, AllocError> {
+    let args = [Value::Uint(5), Value::Bool(true)];
+    Ok(
+        ends_so(alloc, body.actions.as_slice(), &args, wanted)?
+            && ends_so_unfolded(alloc, body, &args, wanted)?,
+    )
+}
+
+fn has_its_value(alloc: Global, case: &Json) -> Result<bool, Fault> {
+    let body = Body::from_json(alloc, part(case, 0), 3)?;
+    Ok(is_valued(alloc, &body, word(case, 1))?)
+}
+
+/// The place of the first case whose expression has another value.
+fn first_wrong_value(alloc: Global, cases: &[Json]) -> Result<Option<usize>, Fault> {
+    for (at, case) in cases.iter().enumerate() {
+        if !has_its_value(alloc, case)? {
+            return Ok(Some(at));
+        }
+    }
+    Ok(None)
+}
+
+fn values(alloc: Global) -> Result<Vec<Json>, AllocError> {
+    cases(alloc, VALUES)
+}
+
 #[test]
 fn expressions_have_their_values(rt: HostRuntime) -> Result<(), Fail> {
-    let alloc = rt.alloc();
-    let args = [Value::Uint(5), Value::Bool(true)];
-    let cases = cases(alloc, VALUES)?;
+    let cases = values(rt.alloc())?;
     assert_eq!(rt; cases.len(), 44);
-    for case in cases.as_slice() {
-        let body = Body::from_json(alloc, part(case, 0), 3)?;
-        let found = value_of(alloc, body.actions.as_slice(), &args)?;
-        assert!(rt; found.as_str() == word(case, 1));
-        // The same where the arguments are put in first.
-        let unfolded = unfold(alloc, &body, &args)?;
-        let found = value_of(alloc, unfolded.as_slice(), &[])?;
-        assert!(rt; found.as_str() == word(case, 1));
-    }
+    assert_eq!(rt; first_wrong_value(rt.alloc(), &cases)?, None);
     Ok(())
+}
+
+/// Whether 5 is put into the branch of a branch.
+fn is_put_into_branches(alloc: Global, body: &Body) -> Result<bool, AllocError> {
+    let args = [Value::Uint(5), Value::Bool(true)];
+    let actions = unfold(alloc, body, &args)?;
+    ends_so(alloc, branch(branch(actions.as_slice())), &[], "uint 5")
+}
+
+/// The body that a text spells, of a slot that takes two arguments.
+fn body_of(alloc: Global, text: &str) -> Result<Body, Fault> {
+    match Json::from_str(alloc, text) {
+        Ok(json) => Body::from_json(alloc, &json, 2),
+        Err(_) => Err(Fault::Memory),
+    }
+}
+
+fn branches(alloc: Global) -> Result<Body, Fault> {
+    body_of(
+        alloc,
+        r#"[{"when":{"const":true},"then":[{"when":{"arg":1},"then":[{"emit":"f(uint)","args":[{"arg":0}]}]}]}]"#,
+    )
 }
 
 #[test]
 fn arguments_are_put_into_branches(rt: HostRuntime) -> Result<(), Fail> {
-    let alloc = rt.alloc();
-    let json = Json::from_str(
-        alloc,
-        r#"[{"when":{"const":true},"then":[{"when":{"arg":1},"then":[{"emit":"f(uint)","args":[{"arg":0}]}]}]}]"#,
-    )?;
-    let args = [Value::Uint(5), Value::Bool(true)];
-    let actions = unfold(alloc, &Body::from_json(alloc, &json, 2)?, &args)?;
-    let inner = branch(branch(actions.as_slice()));
-    assert_eq!(rt; value_of(alloc, inner, &[])?.as_str(), "uint 5");
+    let body = branches(rt.alloc())?;
+    assert!(rt; is_put_into_branches(rt.alloc(), &body)?);
     Ok(())
 }
 
@@ -197,15 +251,30 @@ fn bound(alloc: Global, json: &Json) -> Result<String, AllocError> {
     }
 }
 
+fn is_bound(alloc: Global, json: &Json, wanted: &str) -> Result<bool, AllocError> {
+    let found = bound(alloc, json)?;
+    Ok(found.as_str() == wanted)
+}
+
+/// The place of the first case whose binding ends otherwise.
+fn first_wrong_binding(alloc: Global, cases: &[Json]) -> Result<Option<usize>, AllocError> {
+    for (at, case) in cases.iter().enumerate() {
+        if !is_bound(alloc, part(case, 0), word(case, 1))? {
+            return Ok(Some(at));
+        }
+    }
+    Ok(None)
+}
+
+fn bindings(alloc: Global) -> Result<Vec<Json>, AllocError> {
+    cases(alloc, BINDINGS)
+}
+
 #[test]
 fn bindings_have_their_forms(rt: HostRuntime) -> Result<(), Fail> {
-    let alloc = rt.alloc();
-    let cases = cases(alloc, BINDINGS)?;
+    let cases = bindings(rt.alloc())?;
     assert_eq!(rt; cases.len(), 33);
-    for case in cases.as_slice() {
-        let found = bound(alloc, part(case, 0))?;
-        assert!(rt; found.as_str() == word(case, 1));
-    }
+    assert_eq!(rt; first_wrong_binding(rt.alloc(), &cases)?, None);
     Ok(())
 }
 
@@ -217,23 +286,40 @@ fn sums(alloc: Global, count: usize, inner: &str) -> Result<Json, AllocError> {
     Json::from_str(alloc, &text).map_err(|_| AllocError)
 }
 
+/// So many sums, what stands in the innermost, and what they end with: 64 forms, 65, 65 of which one is
+/// none, and as deep as the reader of JSON goes.
+const SUMS: [(usize, &str, &str); 4] = [
+    (
+        30,
+        r#"{"if":[{"const":true},{"const":7},{"const":0}]}"#,
+        "int 37",
+    ),
+    (31, r#"{"+":[{"const":1},{"const":2}]}"#, "E14"),
+    (31, r#"{"+":[{"const":1},{"const":null}]}"#, "E22"),
+    (63, r#"{"const":1}"#, "E14"),
+];
+
+fn is_summed(alloc: Global, count: usize, inner: &str, wanted: &str) -> Result<bool, AllocError> {
+    let json = sums(alloc, count, inner)?;
+    is_bound(alloc, &json, wanted)
+}
+
+fn are_summed(alloc: Global, sums: &[(usize, &str, &str)]) -> Result<bool, AllocError> {
+    for (count, inner, wanted) in sums {
+        if !is_summed(alloc, *count, *inner, *wanted)? {
+            return Ok(false);
+        }
+    }
+    Ok(true)
+}
+
+fn all_are_summed(alloc: Global) -> Result<bool, AllocError> {
+    are_summed(alloc, &SUMS)
+}
+
 #[test]
 fn expressions_keep_to_their_limits(rt: HostRuntime) -> Result<(), Fail> {
-    let alloc = rt.alloc();
-    // 64 forms, 65, 65 of which one is none, and as deep as the reader of JSON goes.
-    for (count, inner, wanted) in [
-        (
-            30,
-            r#"{"if":[{"const":true},{"const":7},{"const":0}]}"#,
-            "int 37",
-        ),
-        (31, r#"{"+":[{"const":1},{"const":2}]}"#, "E14"),
-        (31, r#"{"+":[{"const":1},{"const":null}]}"#, "E22"),
-        (63, r#"{"const":1}"#, "E14"),
-    ] {
-        let found = bound(alloc, &sums(alloc, count, inner)?)?;
-        assert!(rt; found.as_str() == wanted);
-    }
+    assert!(rt; all_are_summed(rt.alloc())?);
     Ok(())
 }
 
@@ -251,18 +337,26 @@ fn reads(alloc: Global, expr: &Expr) -> Result<String, AllocError> {
     Ok(text)
 }
 
-#[test]
-fn reads_are_named_in_preorder(rt: HostRuntime) -> Result<(), Fail> {
-    let alloc = rt.alloc();
-    let json = Json::from_str(
+/// Whether the first value of a body has ten nodes, and reads this.
+fn reads_so(alloc: Global, body: &Body, wanted: &str) -> Result<bool, AllocError> {
+    let Some(expr) = first_value(body.actions.as_slice()) else {
+        return Ok(false);
+    };
+    let found = reads(alloc, expr)?;
+    Ok(expr.nodes() == 10 && found.as_str() == wanted)
+}
+
+fn reading_body(alloc: Global) -> Result<Body, Fault> {
+    body_of(
         alloc,
         r#"[{"set":"p","to":{"if":[{"<":[{"prop":"x"},{"prop":"y","of":"sender"}]},
         {"+":[{"prop":"z","of":{"child":"c"}},{"+":[{"arg":0},{"prop":"x"}]}]},{"prop":"w","of":2}]}}]"#,
-    )?;
-    let body = Body::from_json(alloc, &json, 1)?;
-    if let Some(expr) = first_value(body.actions.as_slice()) {
-        assert!(rt; expr.nodes() == 10);
-        assert_eq!(rt; reads(alloc, expr)?.as_str(), "x sender.y z x w ");
-    }
+    )
+}
+
+#[test]
+fn reads_are_named_in_preorder(rt: HostRuntime) -> Result<(), Fail> {
+    let body = reading_body(rt.alloc())?;
+    assert!(rt; reads_so(rt.alloc(), &body, "x sender.y z x w ")?);
     Ok(())
 }

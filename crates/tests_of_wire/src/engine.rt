@@ -58,25 +58,38 @@ fn is_refused(
     refuses(engine, &given, fails)
 }
 
-/// Whether those sessions refuse that have failed, and no other, and the memory is known to be wanted.
-fn only_failed_ones_refuse(alloc: Global, engine: &mut Engine) -> Result<bool, AllocError> {
+/// What holds of every session is for proofs alone, and left behind here.
+fn sound(engine: &Engine) {
     engine.sound();
-    for (line, fails) in SESSIONS {
-        if is_refused(alloc, engine, line, fails)? != fails {
+}
+
+/// Whether those sessions refuse that have failed, and no other, and the memory is known to be wanted.
+fn only_failed_ones_refuse(
+    alloc: Global,
+    engine: &mut Engine,
+    sessions: &[(&str, bool)],
+) -> Result<bool, AllocError> {
+    sound(engine);
+    for (line, fails) in sessions {
+        if is_refused(alloc, engine, line, *fails)? != *fails {
             return Ok(false);
         }
     }
     Ok(engine.memory_refused())
 }
 
+fn sessions_fail_alone(alloc: Global, engine: &mut Engine) -> Result<bool, AllocError> {
+    only_failed_ones_refuse(alloc, engine, &SESSIONS)
+}
+
 /// The same of an engine of its own.
-fn sessions_fail_alone(alloc: Global) -> Result<bool, AllocError> {
+fn fail_alone_on_fresh_engine(alloc: Global) -> Result<bool, AllocError> {
     let mut engine = fresh(alloc)?;
-    only_failed_ones_refuse(alloc, &mut engine)
+    sessions_fail_alone(alloc, &mut engine)
 }
 
 #[test]
 fn a_failed_session_refuses_and_no_other(rt: HostRuntime) -> Result<(), Fail> {
-    assert!(rt; sessions_fail_alone(rt.alloc())?);
+    assert!(rt; fail_alone_on_fresh_engine(rt.alloc())?);
     Ok(())
 }

@@ -15,11 +15,16 @@ const LAMPS: &str =
     {"sig":"drop()","body":[{"delete":"sender"},
     {"set":"objectName","of":"sender","to":{"const":"x"}}]}]}]}"#;
 
-pub fn lamps(alloc: Global) -> Result<ClassTable, AllocError> {
-    match ClassTable::from_text(alloc, LAMPS.as_bytes()) {
+/// The classes that a text declares. What that ensures is left behind here.
+pub fn classes_of(alloc: Global, text: &str) -> Result<ClassTable, AllocError> {
+    match ClassTable::from_text(alloc, text.as_bytes()) {
         Ok(classes) => Ok(classes),
         Err(_) => Err(AllocError),
     }
+}
+
+pub fn lamps(alloc: Global) -> Result<ClassTable, AllocError> {
+    classes_of(alloc, LAMPS)
 }
 
 /// The command that a line is.

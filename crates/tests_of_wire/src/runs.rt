@@ -47,13 +47,17 @@ fn end_of_run(
     run(alloc, reader, writer, server)
 }
 
+fn fresh(alloc: Global) -> Result<Server, AllocError> {
+    Server::new(alloc, lamps(alloc)?, Functors::new(alloc), 10)
+}
+
 /// How a run ends on a server of its own.
 fn end_of_fresh_run(
     alloc: Global,
     reader: &mut SlowSource<'_>,
     writer: &mut SlowSink,
 ) -> Result<Result<Summary, RunFault>, AllocError> {
-    let mut server = Server::new(alloc, lamps(alloc)?, Functors::new(alloc), 10)?;
+    let mut server = fresh(alloc)?;
     Ok(end_of_run(alloc, reader, writer, &mut server))
 }
 
@@ -142,20 +146,42 @@ fn is_answered(alloc: Global, input: &[u8], wanted: &[u8], lines: u64) -> Result
     Ok(true)
 }
 
+fn odd_lines(alloc: Global) -> Result<Vec<u8>, AllocError> {
+    joined(alloc, &ODD_LINES)
+}
+
+fn odd_lines_told(alloc: Global) -> Result<Vec<u8>, AllocError> {
+    joined(alloc, &ODD_LINES_TOLD)
+}
+
 fn odd_lines_are_answered(alloc: Global) -> Result<bool, AllocError> {
-    let odd = joined(alloc, &ODD_LINES)?;
-    let told = joined(alloc, &ODD_LINES_TOLD)?;
+    let odd = odd_lines(alloc)?;
+    let told = odd_lines_told(alloc)?;
     is_answered(alloc, odd.as_slice(), told.as_slice(), 3_010)
+}
+
+fn lamp_is_answered(alloc: Global) -> Result<bool, AllocError> {
+    let lamp = LAMP.trim_end().as_bytes();
+    is_answered(alloc, lamp, LAMP_TOLD.as_bytes(), 3)
 }
 
 #[test]
 fn inputs_are_answered_in_pieces_of_any_size(rt: HostRuntime) -> Result<(), Fail> {
     let alloc = rt.alloc();
     assert!(rt; is_answered(alloc, b"", b"", 0)?);
-    let lamp = LAMP.trim_end().as_bytes();
-    assert!(rt; is_answered(alloc, lamp, LAMP_TOLD.as_bytes(), 3)?);
+    assert!(rt; lamp_is_answered(alloc)?);
     assert!(rt; odd_lines_are_answered(alloc)?);
     Ok(())
+}
+
+/// So many bytes of what is told to three lines.
+fn front_of_told(bytes: usize) -> Option<&'static [u8]> {
+    LAMP_TOLD.as_bytes().get(..bytes)
+}
+
+/// The three lines, so many bytes at once, where the source fails at this call.
+fn lamp_source(at_once: usize, failing: u32) -> SlowSource<'static> {
+    SlowSource::new(LAMP.as_bytes(), at_once, failing)
 }
 
 /// Whether a run over three lines ends by a fault when it has written so many bytes, or by none when it
@@ -167,7 +193,7 @@ fn breaks_off(
     fault: Option<RunFault>,
     bytes: usize,
 ) -> Result<bool, AllocError> {
-    let Some(written) = LAMP_TOLD.as_bytes().get(..bytes) else {
+    let Some(written) = front_of_told(bytes) else {
         return Ok(false);
     };
     let ended = match fault {
@@ -185,7 +211,7 @@ fn reading_breaks_off(
     fault: Option<RunFault>,
     bytes: usize,
 ) -> Result<bool, AllocError> {
-    let source = SlowSource::new(LAMP.as_bytes(), 30, call);
+    let source = lamp_source(30, call);
     breaks_off(alloc, source, SlowSink::new(alloc, 0, 0), fault, bytes)
 }
 
@@ -197,7 +223,7 @@ fn writing_breaks_off(
     fault: Option<RunFault>,
     bytes: usize,
 ) -> Result<bool, AllocError> {
-    let source = SlowSource::new(LAMP.as_bytes(), 65_536, 0);
+    let source = lamp_source(65_536, 0);
     breaks_off(
         alloc,
         source,

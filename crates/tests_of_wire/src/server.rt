@@ -91,12 +91,20 @@ const TOLD: &str = r#"{"reply":1,"session":"a"}
 {"reply":false,"session":"a"}
 "#;
 
-fn report_all(alloc: Global, server: &mut Server) -> Result<String, AllocError> {
+fn report_runs(
+    alloc: Global,
+    server: &mut Server,
+    runs: &[&'static str],
+) -> Result<String, AllocError> {
     let mut text = String::new(alloc);
-    for lines in RUNS {
+    for lines in runs {
         text.push_str(reported(alloc, server, lines)?.as_str())?;
     }
     Ok(text)
+}
+
+fn report_all(alloc: Global, server: &mut Server) -> Result<String, AllocError> {
+    report_runs(alloc, server, &RUNS)
 }
 
 fn all_reported(alloc: Global) -> Result<String, AllocError> {
@@ -104,10 +112,14 @@ fn all_reported(alloc: Global) -> Result<String, AllocError> {
     report_all(alloc, &mut server)
 }
 
+fn is_told(text: &str) -> bool {
+    text == TOLD
+}
+
 #[test]
 fn runs_on_one_server_go_on(rt: HostRuntime) -> Result<(), Fail> {
     let told = all_reported(rt.alloc())?;
-    assert!(rt; told.as_str() == TOLD, "{told}");
+    assert!(rt; is_told(told.as_str()), "{told}");
     Ok(())
 }
 

@@ -5,9 +5,10 @@ ghost use Rattle.stored_slots.specs.Functors.{AreArguments};
 ghost use Rattle.term_evaluation.specs.Unfolding.{unfolded_body};
 ghost use Rattle.program_start.specs.Clamp.{clamp_body};
 
+use crate::lines::classes_of;
 use crate::served::{answers, server_with};
-use class_table::ClassTable;
 use program_start::{DEMONSTRATION, clamped, with_clamp};
+use server_world::Server;
 use std::alloc::{AllocError, Global};
 use std::test::Fail;
 use stored_slots::Functors;
@@ -389,13 +390,6 @@ const SESSIONS: [Session; 21] = [
     CLAMPED,
 ];
 
-fn demonstration(alloc: Global) -> Result<ClassTable, AllocError> {
-    match ClassTable::from_text(alloc, DEMONSTRATION.as_bytes()) {
-        Ok(classes) => Ok(classes),
-        Err(_) => Err(AllocError),
-    }
-}
-
 /// The functors of the program: `clamp` between 0 and 100.
 fn clamps(alloc: Global) -> Result<Functors, AllocError> {
     let (least, most) = (0, 100);
@@ -415,16 +409,25 @@ fn clamps(alloc: Global) -> Result<Functors, AllocError> {
     }
 }
 
-/// Whether a fresh server with the demonstration classes answers a session so, and no memory is refused.
-fn is_answered(alloc: Global, session: Session) -> Result<bool, AllocError> {
+fn fresh(alloc: Global) -> Result<Server, AllocError> {
+    server_with(alloc, classes_of(alloc, DEMONSTRATION)?, clamps(alloc)?)
+}
+
+/// Whether a server answers a session so, and no memory is refused.
+fn answers_so(alloc: Global, server: &mut Server, session: Session) -> Result<bool, AllocError> {
     let (given, wanted) = session;
-    let mut server = server_with(alloc, demonstration(alloc)?, clamps(alloc)?)?;
-    let (wrote, summary) = answers(alloc, &mut server, given.as_bytes())?;
+    let (wrote, summary) = answers(alloc, server, given.as_bytes())?;
     Ok(!summary.memory_refused && wrote.as_slice().trim_ascii_end() == wanted.as_bytes())
 }
 
-/// The lines of the first session that is answered otherwise.
-fn first_wrong(alloc: Global, sessions: &[Session]) -> Result<Option<&'static str>, AllocError> {
+/// The same of a fresh server with the demonstration classes.
+fn is_answered(alloc: Global, session: Session) -> Result<bool, AllocError> {
+    let mut server = fresh(alloc)?;
+    answers_so(alloc, &mut server, session)
+}
+
+/// The lines of the first of these sessions that is answered otherwise.
+fn wrong_among(alloc: Global, sessions: &[Session]) -> Result<Option<&'static str>, AllocError> {
     for session in sessions {
         if !is_answered(alloc, *session)? {
             return Ok(Some(session.0));
@@ -433,9 +436,14 @@ fn first_wrong(alloc: Global, sessions: &[Session]) -> Result<Option<&'static st
     Ok(None)
 }
 
+/// The lines of the first of all that is answered otherwise.
+fn first_wrong(alloc: Global) -> Result<Option<&'static str>, AllocError> {
+    wrong_among(alloc, &SESSIONS)
+}
+
 #[test]
 fn sessions_are_answered(rt: HostRuntime) -> Result<(), Fail> {
-    let wrong = first_wrong(rt.alloc(), &SESSIONS)?;
+    let wrong = first_wrong(rt.alloc())?;
     assert!(rt; wrong.is_none(), "{}", wrong.unwrap_or(""));
     Ok(())
 }

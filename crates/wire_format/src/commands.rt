@@ -1,5 +1,5 @@
 //! The commands.
-ghost use Rattle.std.specs.Prelude.{◌≡◌, IfOk, map, option_map};
+ghost use Rattle.std.specs.Prelude.{◌≡◌, ◌≤◌, IfOk, length, map, option_map};
 ghost use Rattle.std.specs.List.{find};
 ghost use Rattle.serde_json.specs.Data.{object};
 ghost use Rattle.json_reading.specs.Members.{members_in};
@@ -7,13 +7,14 @@ ghost use Rattle.thread_model.specs.Asked.{asked};
 ghost use Rattle.wire_format.specs.Commands.{asked_of, form_of, word_named};
 ghost use Rattle.wire_format.specs.Held.{held_seen};
 ghost use Rattle.wire_format.specs.Keys.{key_seen};
+ghost use Rattle.wire_format.specs.declared.keys.TheConstants.{MOST_KEYS};
 
 use crate::classes::{META, meta_of};
 use crate::events::{
     BLOCK, DELETE_LATER, SPIN, STATUS, block_of, delete_later_of, spin_of, status_of,
 };
 use crate::held::{Held, held_by};
-use crate::keys::Key;
+use crate::keys::{Key, MOST_KEYS};
 use crate::properties::{DYNAMIC_NAMES, GET, SET, dynamic_names_of, get_of, set_of};
 use crate::signals::{
     CONNECT, CONNECT_FUNCTOR, DISCONNECT, INVOKE, connect_functor_of, connect_of, disconnect_of,
@@ -75,7 +76,8 @@ fn word_named(name: &str) -> Option<Word>
 
 /// The keys of a command beside those that every command has.
 fn keys_of(word: Word) -> &'static [Key]
-    ensures { map key_seen result.now ≡ (form_of word).keys }
+    ensures keys { map key_seen result.now ≡ (form_of word).keys }
+    ensures few { length result.now ≤ MOST_KEYS }
 {
     match word {
         Word::New => &NEW,
@@ -141,8 +143,10 @@ pub(crate) fn command_in(
     let Some(word) = word_named(name) else {
         return Ok(None);
     };
-    match held_by(alloc, members, keys_of(word))? {
-        Some(held) => asked_with(alloc, word, held.as_slice()),
-        None => Ok(None),
+    let keys = keys_of(word);
+    let mut room = [Held::Absent; MOST_KEYS];
+    if !held_by(members, keys, &mut room) {
+        return Ok(None);
     }
+    asked_with(alloc, word, &room[..keys.len()])
 }

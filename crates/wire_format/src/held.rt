@@ -1,5 +1,5 @@
 //! What a line holds at the keys of its command.
-ghost use Rattle.std.specs.Prelude.{◌≡◌, ◌∷◌, ◌++◌, [], IfOk, OnOk, bytes_eq, map, option_map};
+ghost use Rattle.std.specs.Prelude.{◌≡◌, ◌≤◌, IfOk, None, Some, bytes_eq, if◌then◌else◌, length, map, option_map, take};
 ghost use Rattle.std.specs.List.{list_all, list_any};
 ghost use Rattle.serde_json.specs.Data.{object};
 ghost use Rattle.serde_json.specs.View.{view};
@@ -7,12 +7,11 @@ ghost use Rattle.json_reading.specs.Members.{data_of, members_in};
 ghost use Rattle.wire_format.specs.Keys.{Key, key_seen, key_word};
 ghost use Rattle.wire_format.specs.Held.{held_at, held_by, held_seen, has_only, is_known, json_of, list_of, mode_named, mode_of, number_in, number_of, reads, text_of, truth_of};
 
-use crate::keys::{Holds, Key, MOST_KEYS};
+use crate::keys::{Holds, Key};
 use connection_types::ConnectionType;
 use json_reading::{Field, Member, value_at};
 use plain_types::{Items, Text, is_name};
 use serde_json::Value;
-use smallvec::SmallVec;
 use std::alloc::{AllocError, Global};
 
 /// What a key holds.
@@ -92,38 +91,28 @@ impl Held<'_, '_> {
     }
 }
 
-/// What the members hold at each of the keys. None, where one is not held as it must be, or where
-/// there are further keys.
+/// Puts what the members hold at each of the keys into the front of the room. Answers whether each
+/// is held as it must be, and there are no further keys.
 pub(crate) fn held_by<'m, 'a>(
-    alloc: Global,
     members: &'m [Member<'a>],
     keys: &[Key],
-) -> Result<Option<SmallVec<Held<'m, 'a>, MOST_KEYS>>, AllocError>
-    ensures { IfOk result (λ found. option_map (λ held. map held_seen held.items) found
-        ≡ held_by (object (members_in members.now)) (map key_seen keys.now)) }
+    room: &mut [Held<'m, 'a>],
+) -> bool
+    requires { length keys.now ≤ length room.old }
+    ensures held { (if result then Some (map held_seen (take (length keys.now) room.new)) else None)
+        ≡ held_by (object (members_in members.now)) (map key_seen keys.now) }
+    ensures room { length room.new ≡ length room.old }
 {
     if !has_only(members, keys) {
-        return Ok(None);
+        return false;
     }
-    let mut all = SmallVec::new(alloc);
-    for key in keys {
+    for (place, key) in keys.iter().enumerate() {
         let Some(held) = held_at(members, key) else {
-            return Ok(None);
+            return false;
         };
-        put(&mut all, held)?;
+        room[place] = held;
     }
-    Ok(Some(all))
-}
-
-/// Puts what is held at one key behind the rest.
-fn put<'m, 'a>(
-    all: &mut SmallVec<Held<'m, 'a>, MOST_KEYS>,
-    held: Held<'m, 'a>,
-) -> Result<(), AllocError>
-    ensures { OnOk result (all.new.items ≡ all.old.items ++ held.entry ∷ []) }
-{
-    all.push(held)?;
-    Ok(())
+    true
 }
 
 /// What the members hold at a key. None, where it is not held as it must be.

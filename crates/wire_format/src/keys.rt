@@ -1,8 +1,7 @@
 //! Keys of commands, and what they hold.
 
-/// As many keys as a command has, beside those that every command has, are held without taking
-/// memory.
-pub(crate) const MOST_KEYS: usize = 8;
+/// The most keys that a command has, beside those that every command has.
+pub(crate) const MOST_KEYS: usize = 7;
 
 /// What a key holds.
 #[derive(Clone, Copy)]

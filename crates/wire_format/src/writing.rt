@@ -347,8 +347,9 @@ pub(crate) fn is_plain(text: &str) -> bool
     text.as_bytes().iter().all(|byte| is_plain_byte(*byte))
 }
 
+/// Whether JSON does not escape the byte. Most are above the backslash, which is asked first.
 fn is_plain_byte(byte: u8) -> bool
     ensures { result ≡ is_plain_byte byte }
 {
-    byte >= b' ' && byte != b'"' && byte != b'\\'
+    byte > b'\\' || (byte >= b' ' && byte != b'"' && byte != b'\\')
 }

@@ -1,14 +1,16 @@
 //! Runs of a server over bytes: lines are read from a source, each is answered by the server, and
-//! what is said is written to a sink.
+//! what is said is written to a sink; and how the end of a run is told.
 #![tactic(auto)]
 
 mod buffer;
 mod fault;
 mod lines;
 mod output;
+mod status;
 mod stream;
 
 pub use fault::RunFault;
+pub use status::status_of;
 pub use stream::{Summary, run};
 pub use wire_devices::{Counted, Failed, Sink, Source};
 pub use wire_format::{LINE_BYTES, LineFault, ReadError, line_text, read_line};

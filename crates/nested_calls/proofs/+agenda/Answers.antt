@@ -299,13 +299,13 @@ pub agenda::notify-returns-in_default-clause-does : goal.agenda::notify-returns-
 agenda::notify-returns-in_default-clause-does t g c =
     rw c.in_default.is (at_end (settings_of c.args.actor.now.caller.setup.now) (doing_at c.args.actor.now.caller.place c.args.tables.now c.args.telling.now))
 
-pub agenda::notify-returns-then-not-is_heard-clause-does : goal.agenda::notify-returns-then-not-is_heard-clause-does
-agenda::notify-returns-then-not-is_heard-clause-does t g c =
+pub agenda::notify-returns-then-not-is_sent-clause-does : goal.agenda::notify-returns-then-not-is_sent-clause-does
+agenda::notify-returns-then-not-is_sent-clause-does t g c =
     let settings = settings_of c.args.actor.now.caller.setup.now in
     let doing = doing_at c.args.actor.now.caller.place c.args.tables.now c.args.telling.now in
     let notice = c.in-Some.notice in
     let unheard : is_some (find (is_next notice.object notice.signal 0 doing.state.connections.last_number) doing.state.connections.rows) ≡ false = grind arith in
-    rw c.in-Some.is (emission_unheard settings notice.object notice.signal (notice_args settings doing.state notice) c.args.depth doing (omega arith) c.is_heard.ensures.sound unheard)
+    rw c.in-Some.is (emission_unheard settings notice.object notice.signal (notice_args settings doing.state notice) c.args.depth doing (omega arith) c.is_sent.ensures.sound unheard)
 
 pub agenda::call_functor-returns-in_default-clause-does : goal.agenda::call_functor-returns-in_default-clause-does
 agenda::call_functor-returns-in_default-clause-does t g c =

@@ -1,9 +1,14 @@
-use Rattle.std.proofs.Common.{◌∙◌}
+use Rattle.std.proofs.Common.{◌∙◌, take, arith}
+use Rattle.std.proofs.lemmas.List.{take_more_set}
 use Rattle.serde_json.specs.Data.{object}
 use Rattle.json_reading.specs.Members.{members_in}
 use Rattle.wire_format.proofs.HeldLemmas.{one_more}
 use Rattle.wire_format.proofs.held.held_by.Goals as goal
 
-pub loop-key-preserved : goal.loop-key-preserved
-loop-key-preserved c =
-    rw c.in_ok-put.ensures (one_more (object (members_in c.args.members.now)) c.loop-key.all.items c.in-Some.held c.args.keys.now c.loop-key.key-index _ c.loop-key-test.true c.in-Some.ensures ∙ c.loop-key.invariant)
+pub loop-place-preserved : goal.loop-place-preserved
+loop-place-preserved c =
+    let room = c.loop-place.room in
+    let place = c.loop-place.place in
+    let held = c.in-Some.held in
+    rw (take_more_set room place held (omega (arith, c.loop-place.auto.room)))
+    (one_more (object (members_in c.args.members.now)) (take place room) held c.args.keys.now place _ c.loop-place-test.true c.in-Some.ensures ∙ c.loop-place.invariant)

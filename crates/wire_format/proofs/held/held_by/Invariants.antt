@@ -1,4 +1,4 @@
-use Rattle.std.proofs.Common.{◌≡◌, drop, map}
+use Rattle.std.proofs.Common.{◌≡◌, drop, map, take}
 use Rattle.serde_json.specs.Data.{object}
 use Rattle.json_reading.specs.Members.{members_in}
 use Rattle.wire_format.specs.Held.{all_held, held_seen}
@@ -6,5 +6,5 @@ use Rattle.wire_format.specs.Keys.{key_seen}
 use Rattle.wire_format.proofs.HeldLemmas.{in_front}
 use Rattle.wire_format.proofs.held.held_by.Given as goal
 
-abbrev pub invariant-loop-key : goal.invariant-loop-key
-invariant-loop-key l = in_front (map held_seen l.all.items) (all_held (object (members_in l.members)) (map key_seen (drop l.key-index l.keys))) ≡ all_held (object (members_in l.members)) (map key_seen l.keys)
+abbrev pub invariant-loop-place : goal.invariant-loop-place
+invariant-loop-place l = in_front (map held_seen (take l.place l.room)) (all_held (object (members_in l.members)) (map key_seen (drop l.place l.keys))) ≡ all_held (object (members_in l.members)) (map key_seen l.keys)

@@ -1,14 +1,18 @@
-use Rattle.std.proofs.Common.{◌∙◌, Some, Ok, Err, ap}
-use Rattle.shared_rows.specs.Links.{IsSeat, first_from}
-use Rattle.shared_rows.proofs.LinkLemmas.{first_above, first_there}
+use Rattle.std.proofs.Common.{◌<◌, ◌≡◌, ◌∙◌, true, length, refl, ap, sym, arith, rules}
+use Rattle.std.specs.Ordering.{is_lt}
+use Rattle.std.proofs.lemmas.Option.{slice_get_past}
+use Rattle.shared_rows.specs.Links.{first_from}
+use Rattle.shared_rows.proofs.LinkLemmas.{first_above, seat_behind}
 use Rattle.shared_rows.proofs.links.Links.first_from.Goals as goal
 
-pub returns-in-Ok-clause-first : goal.returns-in-Ok-clause-first
-returns-in-Ok-clause-first g c =
-    let seat : IsSeat g.K.Ord.cmp c.self.inside.items.items c.args.link (Ok c.in-Ok.at) = c.in-Ok.ensures in
-    ap Some (c.get.ensures c.get.result) ∙ (first_there g.met.K.Ord.total c.self.inside.items.items c.self.invariant.0 c.args.link c.in-Ok.at c.get.result seat ∙ ap (λ list. first_from g.K.Ord.cmp list.links c.args.link) c.self.view_is)
+pub returns-in-Some-clause-first : goal.returns-in-Some-clause-first
+returns-in-Some-clause-first g c =
+    let links = c.self.inside.items.items in
+    let some : 0 < length links = c.in-Some.ensures.variant.0 refl in
+    let low : is_lt (g.K.Ord.cmp c.in-Some.last c.args.link) ≡ true = search rules in
+    let seat = seat_behind g.met.K.Ord.total links c.self.invariant.0 c.args.link (length links) c.in-Some.last refl some c.in-Some.ensures.lookup low in
+    sym (slice_get_past links (length links) (omega arith))
+    ∙ (first_above g.met.K.Ord.total links c.self.invariant.0 c.args.link (length links) seat ∙ ap (λ list. first_from g.K.Ord.cmp list.links c.args.link) c.self.view_is)
 
-pub returns-in-Err-clause-first : goal.returns-in-Err-clause-first
-returns-in-Err-clause-first g c =
-    let seat : IsSeat g.K.Ord.cmp c.self.inside.items.items c.args.link (Err c.in-Err.at) = c.in-Err.ensures in
-    c.link_at.ensures ∙ (first_above g.met.K.Ord.total c.self.inside.items.items c.self.invariant.0 c.args.link c.in-Err.at seat ∙ ap (λ list. first_from g.K.Ord.cmp list.links c.args.link) c.self.view_is)
+pub returns-in_default-clause-first : goal.returns-in_default-clause-first
+returns-in_default-clause-first g c = c.first_from_front.ensures ∙ ap (λ list. first_from g.K.Ord.cmp list.links c.args.link) c.self.view_is

@@ -1,4 +1,4 @@
--- How the program ends.
+-- How a run that is over is told.
 use Rattle.std.specs.Prelude.{ℕ, List, codes, Option, Some, None, Result, Ok, Err}
 use Rattle.wire_lines.specs.declared.stream.Summary.{Summary}
 use Rattle.wire_lines.specs.declared.fault.RunFault.{RunFault}

@@ -1,8 +1,9 @@
-//! How the program ends.
+//! How a run that is over is told.
 ghost use Rattle.std.specs.Prelude.{◌≡◌, option_map};
-ghost use Rattle.meta_main.specs.Status.{status_for, complaint_for};
+ghost use Rattle.wire_lines.specs.Status.{status_for, complaint_for};
 
-use wire_lines::{RunFault, Summary};
+use crate::fault::RunFault;
+use crate::stream::Summary;
 
 /// The exit status of a run, and what is then said on standard error, without its line end: 0 at the
 /// end of the input, 3 where it could not be read or had no end, 4 where the output could not be

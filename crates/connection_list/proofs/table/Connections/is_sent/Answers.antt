@@ -1,0 +1,29 @@
+use Rattle.std.proofs.Common.{◌≡◌, ◌∙◌, Option, Some, None, find, is_some, sym, refl, ap}
+use Rattle.std.specs.Option.{option_map}
+use Rattle.shared_rows.specs.Rows.{Keyed, rows_at}
+use Rattle.connection_list.specs.declared.connection.Connection.{Connection}
+use Rattle.connection_list.specs.Rows.{is_next}
+use Rattle.connection_list.proofs.KeyedLemmas.{find_map}
+use Rattle.connection_list.proofs.SeenLemmas.{routes_place, seen}
+use Rattle.connection_list.proofs.table.Connections.is_sent.Goals as goal
+
+pub get-routes-requires : goal.get-routes-requires
+get-routes-requires c = routes_place c.self.inside.rows c.self.inside.routes c.args.self.now c.self.invariant c.self.view_is c.args.place c.requires
+
+-- there is a key where there is a row
+as_row : (found : Option (Keyed Connection)) → is_some (option_map (λ keyed. keyed.key) found) ≡ is_some (option_map (λ keyed. keyed.row) found)
+as_row None = refl
+as_row (Some keyed) = refl
+
+pub returns-clause-sent : goal.returns-clause-sent
+returns-clause-sent c =
+    let at = seen c.self.inside.rows c.self.inside.routes c.args.self.now c.self.invariant c.self.view_is c.args.place c.requires c.get-routes.result.now c.get-routes.ensures in
+    let rows = rows_at c.self.inside.rows c.args.place in
+    let test = is_next c.args.sender c.args.signal 0 c.get-routes.result.now.last_number in
+    rw (at.shows, sym c.last_number.ensures)
+    (c.is_some.ensures ∙ (ap is_some (c.next_sent-key.ensures rows at.kept) ∙ (as_row (find (λ keyed. is_next c.args.sender c.args.signal 0 c.last_number.result keyed.row) rows) ∙ sym (ap is_some (find_map (is_next c.args.sender c.args.signal 0 c.last_number.result) rows)))))
+
+pub returns-clause-sound : goal.returns-clause-sound
+returns-clause-sound c =
+    let at = seen c.self.inside.rows c.self.inside.routes c.args.self.now c.self.invariant c.self.view_is c.args.place c.requires c.get-routes.result.now c.get-routes.ensures in
+    rw at.shows at.kept.sound
