@@ -85,6 +85,7 @@ pub fn emit<F: Answering>(
 /// Sends what tells of a change, where there is such a signal. Where nothing is connected to it, there is
 /// nothing to do below the level where nested signals are warned of.
 #[cycle(agenda)]
+#[inline(always)]
 pub fn notify<F: Answering>(
     actor: &Actor<F>,
     tables: &mut Tables,

@@ -1,7 +1,6 @@
 //! Declared properties.
-ghost use Rattle.std.specs.Prelude.{◌≡◌, ◌<◌, IfOk, IfSome, false, length, map, not, slice_get};
-ghost use Rattle.std.specs.Option.{option_map, option_map_or};
-ghost use Rattle.variant_value.specs.Values.{is_same};
+ghost use Rattle.std.specs.Prelude.{◌≡◌, ◌<◌, IfOk, IfSome, length, map, slice_get};
+ghost use Rattle.std.specs.Option.{option_map};
 ghost use Rattle.std.specs.Result.{result_err};
 ghost use Rattle.property_store.specs.Store.{declared_in, default_of, field_number, fields_in};
 ghost use Rattle.property_store.specs.Storing.{change_in, refusal_in, stored_in};
@@ -32,6 +31,7 @@ pub(crate) fn fields_in(layouts: &Items<Items<Field>>, class: u32) -> &[Field]
 }
 
 /// The number of the property of this name.
+#[inline(always)]
 pub(crate) fn field_number(fields: &[Field], name: &str) -> Option<usize>
     ensures number { result ≡ field_number name.now fields.now }
     ensures within { IfSome result (λ number. number < length fields.now) }
@@ -88,16 +88,6 @@ pub(crate) fn value_at(values: &Args, number: usize) -> Option<&Value>
     values.as_slice().get(number)
 }
 
-/// Whether this is another value than the one of this number.
-fn is_other(values: &Args, number: usize, value: &Value) -> bool
-    ensures { result ≡ option_map_or (λ stands. not (is_same stands value.now)) (slice_get values.now number) false }
-{
-    match value_at(values, number) {
-        Some(stands) => !stands.is_same(value),
-        None => false,
-    }
-}
-
 /// The kind of the property of this number.
 fn kind_at(fields: &[Field], number: usize) -> Option<Kind>
     ensures { result ≡ option_map (λ field. field.kind) (slice_get fields.now number) }
@@ -108,7 +98,31 @@ fn kind_at(fields: &[Field], number: usize) -> Option<Kind>
 
 /// Stores a value as one of the property's kind, and returns whether it is another than the one that
 /// stood. Where there is no such property nothing is stored; a value that does not fit is `BadValue`.
+#[inline(always)]
 pub(crate) fn store(
+    fields: &[Field],
+    values: &mut Args,
+    number: usize,
+    value: Value,
+) -> Result<bool, Code>
+    requires { length values.old ≡ length fields.now }
+    ensures refused { result_err result ≡ refusal_in fields.now number value }
+    ensures answer { IfOk result (λ answer. answer ≡ change_in fields.now values.old number value) }
+    ensures new { values.new ≡ stored_in fields.now number value values.old }
+{
+    let Some(kind) = kind_at(fields, number) else {
+        return Ok(false);
+    };
+    if value.kind() == Some(kind) {
+        return Ok(values.put(number, value));
+    }
+    store_converted(fields, values, number, value)
+}
+
+/// The same for a value of another kind, which is converted first.
+#[cold]
+#[inline(never)]
+fn store_converted(
     fields: &[Field],
     values: &mut Args,
     number: usize,
@@ -125,7 +139,5 @@ pub(crate) fn store(
     let Ok(value) = value.convert(kind) else {
         return Err(Code::BadValue);
     };
-    let is_change = is_other(values, number, &value);
-    values.replace(number, value);
-    Ok(is_change)
+    Ok(values.put(number, value))
 }

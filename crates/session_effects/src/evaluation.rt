@@ -10,7 +10,7 @@ use session_tables::Tables;
 use signature_core::Kind;
 use std::alloc::{AllocError, Global};
 use term_core::{Expr, Target};
-use term_evaluation::{Halt, Reads, evaluate};
+use term_evaluation::{Halt, Reads, evaluate, standing};
 use variant_value::Value;
 
 /// Where the expressions of a slot's body are evaluated: the session as it stands, the object whose slot
@@ -45,6 +45,7 @@ impl Reads for Reader<'_> {
 }
 
 /// The number of the object that a target is, or 0 where there is none.
+#[inline(always)]
 pub fn object_of(reader: &Reader, target: &Target) -> Result<u32, AllocError>
     ensures { IfOk result (λ object. object ≡ object_of (state_at reader.now.tables.now reader.now.place) reader.now.object reader.now.sender target.now) }
 {
@@ -80,6 +81,9 @@ pub fn evaluated(
 ) -> Result<Value, Fault>
     ensures { Answers result (evaluated (state_at reader.now.tables.now reader.now.place) reader.now.object reader.now.sender args.now expr.now) }
 {
+    if let Some(value) = standing(expr, args) {
+        return Ok(value.copy(alloc)?);
+    }
     match evaluate(alloc, expr, args, reader) {
         Ok(value) => Ok(value),
         Err(Halt::Refused(code)) => Err(Fault::Refused(code)),

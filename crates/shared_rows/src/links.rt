@@ -113,6 +113,7 @@ impl<K: Ord + Copy> Links<K> {
     }
 
     /// The least link that is this one or above it.
+    #[inline(always)]
     pub fn first_from(&self, link: K) -> Option<K>
         ensures first { result ≡ first_from K.cmp self.now.links link }
         ensures sound { IsInOrder K.cmp self.now.links }

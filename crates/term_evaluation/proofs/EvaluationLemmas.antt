@@ -17,7 +17,7 @@ use Rattle.term_core.specs.declared.operator.Operator.TheVariants.{Sum, Differen
 use Rattle.term_core.specs.declared.target.Target.{Target}
 use Rattle.term_core.specs.Term.{Term, const, arg, prop, binary, choice, is_short, has_short_texts}
 use Rattle.term_evaluation.specs.declared.reading.Read.{Read}
-use Rattle.term_evaluation.specs.Evaluation.{eval_by, chosen}
+use Rattle.term_evaluation.specs.Evaluation.{eval_by, chosen, standing}
 use Rattle.term_evaluation.specs.Laws.{AgreeOn}
 use Rattle.term_evaluation.specs.Operations.{of_two, are_equal, number_value, truth_value, text_value, applied}
 use Rattle.term_evaluation.specs.Outcomes.{Answer, ◌>>=◌, answer}
@@ -29,6 +29,14 @@ first_part P xs ys h k d lt = subst P (get_or_append_left xs ys d k lt) (h k d (
 
 last_part : {X : Type 0} (P : X → Type 0) (xs ys : List X) → All P (xs ++ ys) → All P ys
 last_part P xs ys h k d lt = subst P (get_or-append-add xs ys k d) (h (length xs + k) d (omega (arith, length-append xs ys)))
+
+-- what stands is the value, whatever is read
+pub stands : {O : Type 0} (args : List Value) (read : Target → List ℕ → Answer O) (term : Term) (value : Value) → standing args term ≡ Some value → eval_by args read term ≡ Ok value
+stands args read (const v) value is = cc
+stands args read (arg place) value is = ap (λ (found : Option Value). answer (ok_or found BadValue)) is
+stands args read (prop target name) value is = absurd (cc)
+stands args read (binary operator a b) value is = absurd (cc)
+stands args read (choice test a b) value is = absurd (cc)
 
 -- two readers answer the same at a property
 abbrev Agreed : {O : Type 0} → (Target → List ℕ → Answer O) → (Target → List ℕ → Answer O) → Read → Type 0

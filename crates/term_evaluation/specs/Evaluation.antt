@@ -1,5 +1,5 @@
 -- The value of an expression.
-use Rattle.std.specs.Prelude.{ℕ, Bool, List, Option, Result, Ok, Err, if◌then◌else◌, slice_get}
+use Rattle.std.specs.Prelude.{ℕ, Bool, List, Option, None, Some, Result, Ok, Err, if◌then◌else◌, slice_get}
 use Rattle.std.specs.Option.{ok_or, option_map_or}
 use Rattle.refusals.specs.declared.code.Code.{Code}
 use Rattle.refusals.specs.declared.code.Code.TheVariants.{BadValue}
@@ -26,3 +26,11 @@ eval_by args read (arg place) = answer (argument args place)
 eval_by args read (prop target name) = read target name
 eval_by args read (binary operator a b) = eval_by args read a >>= λ x. eval_by args read b >>= λ y. answer (applied operator x y)
 eval_by args read (choice test a b) = eval_by args read test >>= λ t. chosen (truth_in t) (eval_by args read a) (eval_by args read b)
+
+-- the value of an expression that is a constant or an argument that is given
+abbrev pub standing : List Value → Term → Option Value
+standing args (const value) = Some value
+standing args (arg place) = slice_get args place
+standing args (prop target name) = None
+standing args (binary operator a b) = None
+standing args (choice test a b) = None

@@ -1,8 +1,9 @@
 //! The value of an expression.
 ghost use Rattle.std.specs.Prelude.{◌≡◌, ℕ, List};
+ghost use Rattle.std.specs.Option.{option_map};
 ghost use Rattle.refusals.specs.Answers.{Answers};
 ghost use Rattle.term_core.specs.declared.target.Target.{Target};
-ghost use Rattle.term_evaluation.specs.Evaluation.{argument, eval_by};
+ghost use Rattle.term_evaluation.specs.Evaluation.{argument, eval_by, standing};
 ghost use Rattle.term_evaluation.specs.Outcomes.{Answer, Ends};
 
 use crate::halt::Halt;
@@ -73,6 +74,18 @@ pub fn evaluate<R: Reads>(
                 None => Err(Halt::Refused(Code::BadValue)),
             }
         }
+    }
+}
+
+/// The value of an expression that is a constant or an argument, where it stands; such a value needs no
+/// reader, and none other is told.
+pub fn standing<'a>(expr: &'a Expr, args: &'a [Value]) -> Option<&'a Value>
+    ensures { option_map (λ value. value.now) result ≡ standing args.now expr.now }
+{
+    match &expr.node {
+        Node::Const(value) => Some(value),
+        Node::Arg(place) => args.get(*place),
+        Node::Prop(..) | Node::Binary(..) | Node::Choice(..) => None,
     }
 }
 

@@ -10,7 +10,7 @@ mod operations;
 mod reading;
 mod substitution;
 
-pub use evaluation::{NoObjects, Reads, evaluate};
+pub use evaluation::{NoObjects, Reads, evaluate, standing};
 pub use halt::Halt;
 pub use laws::{
     evaluates_in_place, reads_suffice, unfolding_keeps_limits, unfolding_leaves_no_argument,

@@ -7,7 +7,7 @@ use serde_json::Value as Json;
 use std::alloc::{AllocError, Global};
 use std::test::Fail;
 use term_core::{Action, Body, Expr, Target};
-use term_evaluation::{Halt, NoObjects, Reads, evaluate, reads_of, unfold};
+use term_evaluation::{Halt, NoObjects, Reads, evaluate, reads_of, standing, unfold};
 use variant_value::Value;
 
 /// A fault of this reader's own.
@@ -167,6 +167,23 @@ fn ends_so(
     Ok(found.as_str() == wanted)
 }
 
+/// Whether the first value of actions, where it is a constant or an argument, stands so.
+fn stands_so(
+    alloc: Global,
+    actions: &[Action],
+    args: &[Value],
+    wanted: &str,
+) -> Result<bool, AllocError> {
+    let Some(expr) = first_value(actions) else {
+        return Ok(true);
+    };
+    let Some(value) = standing(expr, args) else {
+        return Ok(true);
+    };
+    let found = shown(alloc, value)?;
+    Ok(found.as_str() == wanted)
+}
+
 /// The same where the arguments are put in first.
 fn ends_so_unfolded(
     alloc: Global,
@@ -182,6 +199,7 @@ fn is_valued(alloc: Global, body: &Body, wanted: &str) -> Result<bool, AllocErro
     let args = [Value::Uint(5), Value::Bool(true)];
     Ok(
         ends_so(alloc, body.actions.as_slice(), &args, wanted)?
+            && stands_so(alloc, body.actions.as_slice(), &args, wanted)?
             && ends_so_unfolded(alloc, body, &args, wanted)?,
     )
 }

@@ -1,10 +1,11 @@
 //! The values of a slot's parameters.
-ghost use Rattle.std.specs.Prelude.{◌≡◌, ◌<◌, ◌∷◌, [], IfOk, length, slice_get, slice_set};
+ghost use Rattle.std.specs.Prelude.{◌≡◌, ◌<◌, ◌∷◌, [], IfOk, false, length, not, slice_get, slice_set};
+ghost use Rattle.std.specs.Option.{option_map_or};
+ghost use Rattle.variant_value.specs.Values.{is_same};
 
 use crate::value::Value;
 use std::alloc::{AllocError, Global};
 use std::marker::Model;
-use std::mem;
 
 /// One value is kept here itself, and takes no memory.
 #[derive(Drop)]
@@ -61,15 +62,17 @@ impl Args {
         }
     }
 
-    /// Puts a value at a position, and returns the one that stood there; this takes no memory.
-    pub fn replace(&mut self, at: usize, value: Value) -> Value
+    /// Puts a value at a position, and returns whether it is another than the one that stood there;
+    /// this takes no memory.
+    #[inline(always)]
+    pub fn put(&mut self, at: usize, value: Value) -> bool
         requires { at < length self.old }
-        ensures old { slice_get self.old at ≡ Some result }
+        ensures changed { result ≡ option_map_or (λ stands. not (is_same stands value)) (slice_get self.old at) false }
         ensures new { self.new ≡ slice_set self.old at value }
     {
         match &mut self.kept {
-            Kept::One(kept) => mem::replace(kept, value),
-            Kept::List(values) => mem::replace(&mut values[at], value),
+            Kept::One(kept) => kept.put(value),
+            Kept::List(values) => values[at].put(value),
         }
     }
 

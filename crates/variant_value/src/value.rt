@@ -1,5 +1,5 @@
 //! A value and its JSON.
-ghost use Rattle.std.specs.Prelude.{◌≡◌, ◌↔◌, Some, Ok, IfOk, IsTrue};
+ghost use Rattle.std.specs.Prelude.{◌≡◌, ◌↔◌, Some, Ok, IfOk, IsTrue, not};
 ghost use Rattle.std.specs.Option.{ok_or};
 ghost use Rattle.serde_json.specs.View.{view};
 ghost use Rattle.refusals.specs.Answers.{Answers};
@@ -10,6 +10,7 @@ use refusals::{Code, Fault};
 use serde_json::Number;
 use signature_core::Kind;
 use std::alloc::{AllocError, Global};
+use std::mem;
 
 /// The most bytes of UTF-8 that a text may have: a limit of our own.
 pub const TEXT_BYTES: usize = 4096;
@@ -142,6 +143,34 @@ impl Value {
         ensures decides { IsTrue result ↔ (self.now ≡ other.now) }
     {
         self == other
+    }
+
+    /// Puts a value in the place of this one, and returns whether it is another. A truth or a number is
+    /// stored in the place of one of its kind without a move of the whole value.
+    #[inline]
+    pub fn put(&mut self, value: Value) -> bool
+        ensures changed { result ≡ not (is_same self.old value) }
+        ensures new { self.new ≡ value }
+    {
+        match (&mut *self, &value) {
+            (Value::Bool(stands), &Value::Bool(new)) => mem::replace(stands, new) != new,
+            (Value::Int(stands), &Value::Int(new)) => mem::replace(stands, new) != new,
+            (Value::Uint(stands), &Value::Uint(new)) => mem::replace(stands, new) != new,
+            (Value::Longlong(stands), &Value::Longlong(new)) => mem::replace(stands, new) != new,
+            (Value::Ulonglong(stands), &Value::Ulonglong(new)) => mem::replace(stands, new) != new,
+            _ => self.put_whole(value),
+        }
+    }
+
+    /// The same for all other values.
+    #[inline(never)]
+    fn put_whole(&mut self, value: Value) -> bool
+        ensures changed { result ≡ not (is_same self.old value) }
+        ensures new { self.new ≡ value }
+    {
+        let is_change = !self.is_same(&value);
+        *self = value;
+        is_change
     }
 
     /// An equal value in memory of its own.

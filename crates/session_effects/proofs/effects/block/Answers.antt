@@ -1,4 +1,4 @@
-use Rattle.std.proofs.Common.{sym, ◌∙◌}
+use Rattle.std.proofs.Common.{◌∙◌}
 use Rattle.thread_model.specs.Doing.{blocking, in_state}
 use Rattle.thread_model.proofs.ActionLemmas.{block_done}
 use Rattle.thread_model.specs.Targets.{object_of}

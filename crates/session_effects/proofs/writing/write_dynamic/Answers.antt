@@ -1,9 +1,5 @@
-use Rattle.std.proofs.Common.{◌≡◌, refl, subst}
-use Rattle.variant_value.specs.declared.value.Value.{Value}
-use Rattle.thread_model.specs.State.{State}
-use Rattle.thread_model.specs.Writing.{Removed, with_writing}
-use Rattle.session_tables.specs.Tables.{state_at, with_state}
-use Rattle.session_tables.proofs.TablesLemmas.{changes_with}
+use Rattle.std.proofs.Common.{refl}
+use Rattle.thread_model.specs.Writing.{Removed}
 use Rattle.session_effects.proofs.WritingLemmas.{refused_as, set_keeps, writes_dynamic, writes_silently}
 use Rattle.session_effects.proofs.writing.write_dynamic.Goals as goal
 
