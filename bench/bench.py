@@ -435,17 +435,21 @@ def measure(name, lines, command, room, least=0):
     return not missed
 
 
-def seconds_beside(name, made, done, befores, command, room):
-    """How long some lines take behind those that make what they need, with each of these between; by the best run of each in some rounds."""
+def seconds_by_turns(name, inputs, command, room):
+    """How long some lines take behind those that make what they need, for each of these inputs; by the best run of each in some rounds."""
     best = {}
     for _ in range(BESIDE_ROUNDS):
-        for kind, before in befores.items():
-            for lines in (made + before, made + before + done):
+        for kind, (made, done) in inputs.items():
+            for lines in (made, made + done):
                 seconds = seconds_of_lines(name, command, lines, room, 1)
                 key = kind, len(lines)
                 best[key] = min(seconds, best.get(key, seconds))
-    ends = {kind: len(made + before) for kind, before in befores.items()}
-    return {kind: best[kind, end + len(done)] - best[kind, end] for kind, end in ends.items()}
+    return {kind: best[kind, len(made + done)] - best[kind, len(made)] for kind, (made, done) in inputs.items()}
+
+
+def seconds_beside(name, made, done, befores, command, room):
+    """The same of lines that are done with each of these before them."""
+    return seconds_by_turns(name, {kind: (made + before, done) for kind, before in befores.items()}, command, room)
 
 
 def show_beside(kind, seconds, alone):
@@ -479,11 +483,10 @@ def measure_events(command, room):
 
 def measure_full_queue(command, room):
     """Prints how much longer twice as many events take in a queue, up to a full one; answers whether that is within the mark."""
-    command, seconds = [*command, "--turns", str(ALL_EVENTS)], []
-    for count in (ALL_EVENTS // 2, ALL_EVENTS):
-        rings = ring_later("a", 1, [2] * count) * FILLINGS
-        seconds.append(seconds_beside("full queue", list(bell_and_one_ear(count)), rings, {"nothing": []}, command, room)["nothing"])
-    times = seconds[1] / seconds[0]
+    counts = ALL_EVENTS // 2, ALL_EVENTS
+    inputs = {count: (list(bell_and_one_ear(count)), ring_later("a", 1, [2] * count) * FILLINGS) for count in counts}
+    seconds = seconds_by_turns("full queue", inputs, [*command, "--turns", str(ALL_EVENTS)], room)
+    times = seconds[ALL_EVENTS] / seconds[ALL_EVENTS // 2]
     missed = f"; over its mark of {MOST_DOUBLED}" if times > MOST_DOUBLED else ""
     print(f"{ALL_EVENTS:,} events at once, posted and taken: {times:.2f} times as long as half as many{missed}")
     return not missed
@@ -491,10 +494,9 @@ def measure_full_queue(command, room):
 
 def measure_setters(command, room):
     """Prints how much longer calls take whose slots set a property, by NOTIFY of another one; answers whether that is within the mark."""
-    seconds = {}
-    for slot in ("hear(int)", "setX(int)"):
-        lines = [set_cell(slot, value) for value in range(1, RINGS + 1)]
-        seconds[slot] = seconds_beside("setters", list(cells(slot)), lines, {"nothing": []}, command, room)["nothing"]
+    slots = "hear(int)", "setX(int)"
+    inputs = {slot: (list(cells(slot)), [set_cell(slot, value) for value in range(1, RINGS + 1)]) for slot in slots}
+    seconds = seconds_by_turns("setters", inputs, command, room)
     times = seconds["setX(int)"] / seconds["hear(int)"]
     missed = f"; over its mark of {MOST_SETTING}" if times > MOST_SETTING else ""
     print(f"calls of {EARS:,} slots that set a property: {times:.2f} times as long as of slots that do nothing{missed}")
