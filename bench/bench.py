@@ -8,7 +8,8 @@ and `find` take for each object that they visit, among few and among many, and h
 program takes to start with a class file as large as one may be than with a tiny one (each the best of
 ten runs). Inputs and class files are the same in every run, and every reply is compared with what it
 must be. Events are posted by a signal that has so many queued connections, and taken by one `spin`, again and again;
-each is posted and taken once, and told by the line of its call. Twice as many of them in the queue may take 2.4 times
+each is posted and taken once, and told by the line of its call. What is compared
+is timed by turns, by the best run of each in many rounds. Twice as many of them in the queue may take 2.4 times
 as long, posted and taken. With an earlier program it also prints how many times as fast as that one the program is
 where no events are posted, by the best run of each in many rounds, since a machine's own speed changes: beside one
 from before, which built a tree of each line, and beside the last one, which none may fall behind. It ends with 1
@@ -17,6 +18,7 @@ machines of another pace do not compare. No mark goes by it.
 """
 
 import argparse
+import filecmp
 import json
 import os
 import shutil
@@ -28,7 +30,7 @@ from itertools import zip_longest
 from pathlib import Path
 
 RUNS = 3
-BESIDE_ROUNDS = 5
+BESIDE_ROUNDS = 20
 STARTS = 10
 LINES = 200_000
 METAS = 20_000
@@ -436,15 +438,24 @@ def measure(name, lines, command, room, least=0):
 
 
 def seconds_by_turns(name, inputs, command, room):
-    """How long some lines take behind those that make what they need, for each of these inputs; by the best run of each in some rounds."""
-    best = {}
+    """How long some lines take behind those that make what they need, for each of these inputs; by the best run of each in many rounds.
+    The replies of a first run are compared with what they must be, and what the others write with those."""
+    wrote, best = f"{room}/stdout", {}
+    for kind, (made, done) in inputs.items():
+        for part, lines in ((0, made), (1, made + done)):
+            best[kind, part] = seconds_of_lines(name, command, lines, room, 1)
+            for stream in ("stdin", "stdout"):
+                os.replace(f"{room}/{stream}", f"{room}/{kind}-{part}-{stream}")
     for _ in range(BESIDE_ROUNDS):
-        for kind, (made, done) in inputs.items():
-            for lines in (made, made + done):
-                seconds = seconds_of_lines(name, command, lines, room, 1)
-                key = kind, len(lines)
-                best[key] = min(seconds, best.get(key, seconds))
-    return {kind: best[kind, len(made + done)] - best[kind, len(made)] for kind, (made, done) in inputs.items()}
+        for kind, part in best:
+            file = f"{room}/{kind}-{part}"
+            best[kind, part] = min(best[kind, part], seconds_of(command, f"{file}-stdin", wrote))
+            if not filecmp.cmp(wrote, f"{file}-stdout", shallow=False):
+                sys.exit(f"{name}: two runs write not the same")
+    for kind, part in best:
+        for stream in ("stdin", "stdout"):
+            os.remove(f"{room}/{kind}-{part}-{stream}")
+    return {kind: best[kind, 1] - best[kind, 0] for kind in inputs}
 
 
 def seconds_beside(name, made, done, befores, command, room):
