@@ -8,9 +8,9 @@ and `find` take for each object that they visit, among few and among many, and h
 program takes to start with a class file as large as one may be than with a tiny one (each the best of
 ten runs). Inputs and class files are the same in every run, and every reply is compared with what it
 must be. Events are posted by a signal that has so many queued connections, and taken by one `spin`, again and again;
-each is posted and taken once, and told by the line of its call. What is compared
-is timed by turns, by the best run of each in many rounds. Twice as many of them in the queue may take 2.4 times
-as long, posted and taken. With an earlier program it also prints how many times as fast as that one the program is
+each is posted and taken once, and told by the line of its call. Twice as many of them in the queue may take 2.4 times
+as long, posted and taken. What is compared with one another is timed by turns, by the best run of each in many
+rounds. With an earlier program it also prints how many times as fast as that one the program is
 where no events are posted, by the best run of each in many rounds, since a machine's own speed changes: beside one
 from before, which built a tree of each line, and beside the last one, which none may fall behind. It ends with 1
 where a mark is missed. First it prints the machine's pace, by how fast Python reads and writes JSON on it: figures of
