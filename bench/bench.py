@@ -439,23 +439,21 @@ def measure(name, lines, command, room, least=0):
 
 def seconds_by_turns(name, inputs, command, room):
     """How long some lines take behind those that make what they need, for each of these inputs; by the best run of each in many rounds.
-    The replies of a first run are compared with what they must be, and what the others write with those."""
-    wrote, best = f"{room}/stdout", {}
-    for kind, (made, done) in inputs.items():
-        for part, lines in ((0, made), (1, made + done)):
-            best[kind, part] = seconds_of_lines(name, command, lines, room, 1)
-            for stream in ("stdin", "stdout"):
-                os.replace(f"{room}/{stream}", f"{room}/{kind}-{part}-{stream}")
-    for _ in range(BESIDE_ROUNDS):
-        for kind, part in best:
-            file = f"{room}/{kind}-{part}"
-            best[kind, part] = min(best[kind, part], seconds_of(command, f"{file}-stdin", wrote))
-            if not filecmp.cmp(wrote, f"{file}-stdout", shallow=False):
-                sys.exit(f"{name}: two runs write not the same")
-    for kind, part in best:
-        for stream in ("stdin", "stdout"):
-            os.remove(f"{room}/{kind}-{part}-{stream}")
-    return {kind: best[kind, 1] - best[kind, 0] for kind in inputs}
+    The replies of a first run are compared with what they must be, and those of the others with these."""
+    best = {}
+    with tempfile.TemporaryDirectory(dir=room) as folder:
+        for kind, (made, done) in inputs.items():
+            for part, lines in (("made", made), ("done", made + done)):
+                first = f"{folder}/{kind}-{part}"
+                os.mkdir(first)
+                best[kind, part] = seconds_of_lines(name, command, lines, first, 1)
+        for _ in range(BESIDE_ROUNDS):
+            for kind, part in best:
+                first, again = f"{folder}/{kind}-{part}", f"{folder}/again"
+                best[kind, part] = min(best[kind, part], seconds_of(command, f"{first}/stdin", again))
+                if not filecmp.cmp(again, f"{first}/stdout", shallow=False):
+                    sys.exit(f"{name}: two runs with the same lines answer differently")
+    return {kind: best[kind, "done"] - best[kind, "made"] for kind in inputs}
 
 
 def seconds_beside(name, made, done, befores, command, room):
