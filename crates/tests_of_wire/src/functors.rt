@@ -2,7 +2,7 @@
 ghost use Rattle.std.specs.Prelude.{◌≡◌, [], IfOk};
 
 use crate::lines::lamps;
-use crate::served::{answers, server_with};
+use crate::served::{Host, TURNS, answers};
 use plain_types::{Items, Text};
 use server_world::Server;
 use std::alloc::{AllocError, Global};
@@ -50,34 +50,23 @@ fn starving(alloc: Global) -> Result<Functors, AllocError> {
     }
 }
 
-fn fresh(alloc: Global) -> Result<Server, AllocError> {
-    server_with(alloc, lamps(alloc)?, starving(alloc)?)
+pub fn starving_server(alloc: Global) -> Result<Server, AllocError> {
+    Server::new(alloc, lamps(alloc)?, starving(alloc)?, TURNS)
 }
 
-/// Whether a server answers lines so, and memory is refused.
-fn answers_so(
-    alloc: Global,
-    server: &mut Server,
-    given: &str,
-    wanted: &str,
-) -> Result<bool, AllocError> {
-    let (wrote, summary) = answers(alloc, server, given.as_bytes())?;
-    Ok(summary.memory_refused && wrote.as_slice() == wanted.as_bytes())
+/// Whether these lines are answered so, and memory is refused.
+fn answers_so(alloc: Global, given: &str, wanted: &str) -> Result<bool, AllocError> {
+    let outcome = answers(alloc, Host::Starving, given)?;
+    Ok(outcome.tells(wanted, true))
 }
 
 /// Whether a session whose functor finds no memory fails, and no other one.
-fn fails_alone(alloc: Global, server: &mut Server) -> Result<bool, AllocError> {
-    answers_so(alloc, server, LINES, TOLD)
-}
-
-/// The same on a server of its own.
-fn fails_on_fresh_server(alloc: Global) -> Result<bool, AllocError> {
-    let mut server = fresh(alloc)?;
-    fails_alone(alloc, &mut server)
+fn fails_alone(alloc: Global) -> Result<bool, AllocError> {
+    answers_so(alloc, LINES, TOLD)
 }
 
 #[test]
 fn closures_may_find_no_memory(rt: HostRuntime) -> Result<(), Fail> {
-    assert!(rt; fails_on_fresh_server(rt.alloc())?);
+    assert!(rt; fails_alone(rt.alloc())?);
     Ok(())
 }

@@ -1,11 +1,9 @@
 //! Whole runs where memory is found, over sources and sinks that give, take or fail as they are told.
 use crate::fakes::{SlowSink, SlowSource};
-use crate::lines::lamps;
-use server_world::Server;
+use crate::served::{Host, outcome_of};
 use std::alloc::{AllocError, Global};
 use std::test::Fail;
-use stored_slots::Functors;
-use wire_lines::{RunFault, Summary, run};
+use wire_lines::{RunFault, Summary};
 
 const LAMP: &str = "{\"class\":\"QObject\",\"do\":\"new\",\"session\":\"a\"}\n\
     {\"do\":\"set\",\"object\":1,\"property\":\"objectName\",\"session\":\"a\",\"value\":\"lamp\"}\n\
@@ -20,59 +18,6 @@ const GET: &str = "{\"do\":\"get\",\"object\":1,\"property\":\"objectName\",\"se
 const NOT_THERE: &str = "{\"error\":\"E04\",\"session\":\"b\"}\n";
 
 const UNREADABLE: &str = "{\"error\":\"E01\",\"session\":\"-\"}\n";
-
-/// How a run ended, what it had written by then, and how often its devices failed.
-#[derive(Drop)]
-struct Outcome {
-    ended: Result<Summary, RunFault>,
-    written: Vec<u8>,
-    failures: u64,
-}
-
-impl Outcome {
-    fn is(&self, ended: Result<Summary, RunFault>, written: &[u8]) -> bool {
-        self.ended == ended
-            && self.written.as_slice() == written
-            && self.failures == u64::from(ended.is_err())
-    }
-}
-
-/// How a run ends. What it ensures is left behind here, since the tests look only at what it did.
-fn end_of_run(
-    alloc: Global,
-    reader: &mut SlowSource<'_>,
-    writer: &mut SlowSink,
-    server: &mut Server,
-) -> Result<Summary, RunFault> {
-    run(alloc, reader, writer, server)
-}
-
-fn fresh(alloc: Global) -> Result<Server, AllocError> {
-    Server::new(alloc, lamps(alloc)?, Functors::new(alloc), 10)
-}
-
-/// How a run ends on a server of its own.
-fn end_of_fresh_run(
-    alloc: Global,
-    reader: &mut SlowSource<'_>,
-    writer: &mut SlowSink,
-) -> Result<Result<Summary, RunFault>, AllocError> {
-    let mut server = fresh(alloc)?;
-    Ok(end_of_run(alloc, reader, writer, &mut server))
-}
-
-fn outcome_of(
-    alloc: Global,
-    mut reader: SlowSource<'_>,
-    mut writer: SlowSink,
-) -> Result<Outcome, AllocError> {
-    let ended = end_of_fresh_run(alloc, &mut reader, &mut writer)?;
-    Ok(Outcome {
-        ended,
-        written: writer.held,
-        failures: reader.failures.saturating_add(writer.failures),
-    })
-}
 
 fn counted(lines: u64) -> Result<Summary, RunFault> {
     Ok(Summary {
@@ -132,7 +77,7 @@ fn is_answered_at(
     lines: u64,
 ) -> Result<bool, AllocError> {
     let source = SlowSource::new(input, at_once, 0);
-    let outcome = outcome_of(alloc, source, SlowSink::new(alloc, 0, 0))?;
+    let outcome = outcome_of(alloc, Host::Lamps, source, SlowSink::new(alloc, 0, 0))?;
     Ok(outcome.is(counted(lines), wanted))
 }
 
@@ -200,7 +145,7 @@ fn breaks_off(
         Some(fault) => Err(fault),
         None => counted(3),
     };
-    let outcome = outcome_of(alloc, source, sink)?;
+    let outcome = outcome_of(alloc, Host::Lamps, source, sink)?;
     Ok(outcome.is(ended, written))
 }
 

@@ -107,20 +107,8 @@ fn report_all(alloc: Global, server: &mut Server) -> Result<String, AllocError> 
     report_runs(alloc, server, &RUNS)
 }
 
-fn all_reported(alloc: Global) -> Result<String, AllocError> {
-    let mut server = fresh(alloc)?;
-    report_all(alloc, &mut server)
-}
-
 fn is_told(text: &str) -> bool {
     text == TOLD
-}
-
-#[test]
-fn runs_on_one_server_go_on(rt: HostRuntime) -> Result<(), Fail> {
-    let told = all_reported(rt.alloc())?;
-    assert!(rt; is_told(told.as_str()), "{told}");
-    Ok(())
 }
 
 /// Whether a server says that memory was refused once that is noted, and not before.
@@ -130,14 +118,23 @@ fn notes(server: &mut Server) -> bool {
     !before && server.memory_refused()
 }
 
-fn fresh_one_notes(alloc: Global) -> Result<bool, AllocError> {
+/// What it reports to all runs, and then whether it notes.
+fn reports_and_notes(alloc: Global, server: &mut Server) -> Result<(String, bool), AllocError> {
+    let text = report_all(alloc, server)?;
+    Ok((text, notes(server)))
+}
+
+/// The same of a server of its own.
+fn fresh_one_reports_and_notes(alloc: Global) -> Result<(String, bool), AllocError> {
     let mut server = fresh(alloc)?;
-    Ok(notes(&mut server))
+    reports_and_notes(alloc, &mut server)
 }
 
 #[test]
-fn refused_memory_is_noted(rt: HostRuntime) -> Result<(), Fail> {
-    assert!(rt; fresh_one_notes(rt.alloc())?);
+fn runs_on_one_server_go_on_and_refused_memory_is_noted(rt: HostRuntime) -> Result<(), Fail> {
+    let (told, notes) = fresh_one_reports_and_notes(rt.alloc())?;
+    assert!(rt; is_told(told.as_str()), "{told}");
+    assert!(rt; notes);
     Ok(())
 }
 

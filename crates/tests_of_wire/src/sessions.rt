@@ -6,7 +6,7 @@ ghost use Rattle.term_evaluation.specs.Unfolding.{unfolded_body};
 ghost use Rattle.program_start.specs.Clamp.{clamp_body};
 
 use crate::lines::classes_of;
-use crate::served::{answers, server_with};
+use crate::served::{Host, TURNS, answers};
 use program_start::{DEMONSTRATION, clamped, with_clamp};
 use server_world::Server;
 use std::alloc::{AllocError, Global};
@@ -409,21 +409,21 @@ fn clamps(alloc: Global) -> Result<Functors, AllocError> {
     }
 }
 
-fn fresh(alloc: Global) -> Result<Server, AllocError> {
-    server_with(alloc, classes_of(alloc, DEMONSTRATION)?, clamps(alloc)?)
+/// A server as the program makes it: with the demonstration classes and `clamp`.
+pub fn clamping_server(alloc: Global) -> Result<Server, AllocError> {
+    Server::new(
+        alloc,
+        classes_of(alloc, DEMONSTRATION)?,
+        clamps(alloc)?,
+        TURNS,
+    )
 }
 
-/// Whether a server answers a session so, and no memory is refused.
-fn answers_so(alloc: Global, server: &mut Server, session: Session) -> Result<bool, AllocError> {
-    let (given, wanted) = session;
-    let (wrote, summary) = answers(alloc, server, given.as_bytes())?;
-    Ok(!summary.memory_refused && wrote.as_slice().trim_ascii_end() == wanted.as_bytes())
-}
-
-/// The same of a fresh server with the demonstration classes.
+/// Whether a session is answered so, and no memory is refused.
 fn is_answered(alloc: Global, session: Session) -> Result<bool, AllocError> {
-    let mut server = fresh(alloc)?;
-    answers_so(alloc, &mut server, session)
+    let (given, wanted) = session;
+    let outcome = answers(alloc, Host::Program, given)?;
+    Ok(outcome.tells(wanted, false))
 }
 
 /// The lines of the first of these sessions that is answered otherwise.
