@@ -1,5 +1,5 @@
 //! Objects of two places, call by call.
-ghost use Rattle.std.specs.Prelude.{◌≡◌, length};
+ghost use Rattle.std.specs.Prelude.{◌≡◌, ◌<◌, [], OnOk, length};
 
 use object_tree::Forests;
 use refusals::{Code, Fault};
@@ -45,58 +45,145 @@ struct Bed {
 impl Bed {
     fn new(alloc: Global) -> Result<Bed, AllocError> {
         let mut forests = Forests::new(alloc);
-        forests.ready()?;
-        forests.open();
-        forests.ready()?;
-        forests.open();
+        open_places(&mut forests)?;
         Ok(Bed { forests, last: 0 })
+    }
+
+    fn keeps_trees(&mut self) -> bool {
+        self.answers(CASES)
+    }
+
+    /// Whether all of this is answered so at last.
+    fn answers(&mut self, cases: &[Case]) -> bool {
+        for (times, place, call, wanted) in cases {
+            if !is_same(self.call_often(*times, *place, *call), *wanted) {
+                return false;
+            }
+        }
+        true
+    }
+
+    /// What is answered at last where something is asked so often.
+    fn call_often(&mut self, times: u32, place: usize, call: Call) -> Result<u64, Fault> {
+        for _ in 1..times {
+            let _answer = self.call(place, call);
+        }
+        self.call(place, call)
     }
 
     fn call(&mut self, place: usize, call: Call) -> Result<u64, Fault> {
         let place = place.min(1);
-        let forests = &mut self.forests;
-        forests.sound(place);
-        let answer = match call {
-            Add(parent) => {
-                self.last = forests.add(place, parent, 7)?;
-                self.last as u64
-            }
-            AddBelow => {
-                self.last = forests.add(place, Some(self.last), 7)?;
-                self.last as u64
-            }
-            SetParent(object, parent) => {
-                forests.set_parent(place, object, parent)?;
-                0
-            }
-            MarkDying(object) => {
-                forests.mark_dying(place, object);
-                0
-            }
-            SetBlocked(object, on) => forests.set_blocked(place, object, on) as u64,
-            Remove(object) => {
-                forests.remove(place, object);
-                0
-            }
-            Clear => {
-                forests.clear(place);
-                0
-            }
-            Children(parent) => digits(forests.children(place, parent)?.as_slice()),
-            FindChild(object, one, other) => {
-                let test = |number| Ok(number == one || number == other);
-                forests.find_child(place, object, test)?.unwrap_or(0) as u64
-            }
-            Row(object) => match forests.row(place, object) {
-                Some(row) => row.stamp,
-                None => 0,
-            },
-            ObjectRefusal(object) => unless(forests.object_refusal(place, object))?,
-            ParentRefusal(parent) => unless(forests.parent_refusal(place, parent))?,
-            Count => forests.count(place) as u64,
-        };
-        Ok(answer)
+        match call {
+            Add(parent) => self.add(place, parent),
+            AddBelow => self.add(place, Some(self.last)),
+            SetParent(object, parent) => self.set_parent(place, object, parent),
+            MarkDying(object) => Ok(self.mark_dying(place, object)),
+            SetBlocked(object, on) => Ok(self.set_blocked(place, object, on)),
+            Remove(object) => Ok(self.remove(place, object)),
+            Clear => Ok(self.clear(place)),
+            Children(parent) => self.children(place, parent),
+            FindChild(object, one, other) => self.find_child(place, object, one, other),
+            Row(object) => Ok(self.row(place, object)),
+            ObjectRefusal(object) => self.object_refusal(place, object),
+            ParentRefusal(parent) => self.parent_refusal(place, parent),
+            Count => Ok(self.count(place)),
+        }
     }
+
+    fn add(&mut self, place: usize, parent: Option<u32>) -> Result<u64, Fault>
+        requires { place < length self.old.forests.places }
+    {
+        self.last = self.forests.add(place, parent, 7)?;
+        Ok(self.last as u64)
+    }
+
+    fn set_parent(&mut self, place: usize, object: u32, parent: Option<u32>) -> Result<u64, Fault>
+        requires { place < length self.old.forests.places }
+    {
+        self.forests.set_parent(place, object, parent)?;
+        Ok(0)
+    }
+
+    fn mark_dying(&mut self, place: usize, object: u32) -> u64
+        requires { place < length self.old.forests.places }
+    {
+        self.forests.mark_dying(place, object);
+        0
+    }
+
+    fn set_blocked(&mut self, place: usize, object: u32, on: bool) -> u64
+        requires { place < length self.old.forests.places }
+    {
+        self.forests.set_blocked(place, object, on) as u64
+    }
+
+    fn remove(&mut self, place: usize, object: u32) -> u64
+        requires { place < length self.old.forests.places }
+    {
+        self.forests.remove(place, object);
+        0
+    }
+
+    fn clear(&mut self, place: usize) -> u64
+        requires { place < length self.old.forests.places }
+    {
+        self.forests.clear(place);
+        0
+    }
+
+    fn children(&self, place: usize, parent: Option<u32>) -> Result<u64, Fault>
+        requires { place < length self.now.forests.places }
+    {
+        let children = self.forests.children(place, parent)?;
+        Ok(digits(children.as_slice()))
+    }
+
+    fn find_child(&self, place: usize, object: u32, one: u32, other: u32) -> Result<u64, Fault>
+        requires { place < length self.now.forests.places }
+    {
+        let test = |number| Ok(number == one || number == other);
+        Ok(self.forests.find_child(place, object, test)?.unwrap_or(0) as u64)
+    }
+
+    fn row(&self, place: usize, object: u32) -> u64
+        requires { place < length self.now.forests.places }
+    {
+        match self.forests.row(place, object) {
+            Some(row) => row.stamp,
+            None => 0,
+        }
+    }
+
+    fn object_refusal(&self, place: usize, object: u32) -> Result<u64, Fault>
+        requires { place < length self.now.forests.places }
+    {
+        unless(self.forests.object_refusal(place, object))
+    }
+
+    fn parent_refusal(&self, place: usize, parent: Option<u32>) -> Result<u64, Fault>
+        requires { place < length self.now.forests.places }
+    {
+        unless(self.forests.parent_refusal(place, parent))
+    }
+
+    /// How many objects there are, of a forest that is sound.
+    fn count(&self, place: usize) -> u64
+        requires { place < length self.now.forests.places }
+    {
+        self.forests.sound(place);
+        self.forests.count(place) as u64
+    }
+}
+
+fn open_places(forests: &mut Forests) -> Result<(), AllocError>
+    requires { forests.old.places ≡ [] }
+    ensures { OnOk result (length forests.new.places ≡ 2) }
+{
+    forests.ready()?;
+    forests.open();
+    forests.ready()?;
+    forests.open();
+    Ok(())
 }
 
 fn digits(numbers: &[u32]) -> u64 {
@@ -107,9 +194,9 @@ fn digits(numbers: &[u32]) -> u64 {
     digits
 }
 
-fn unless(refusal: Option<Code>) -> Result<u64, Code> {
+fn unless(refusal: Option<Code>) -> Result<u64, Fault> {
     match refusal {
-        Some(code) => Err(code),
+        Some(code) => Err(Fault::Refused(code)),
         None => Ok(0),
     }
 }
@@ -123,7 +210,9 @@ fn is_same(answer: Result<u64, Fault>, wanted: Answer) -> bool {
 }
 
 /// How often something is asked in a place, what, and what is answered at last.
-const CASES: &[(u32, usize, Call, Answer)] = &[
+type Case = (u32, usize, Call, Answer);
+
+const CASES: &[Case] = &[
     (1, 1, Add(None), Ok(1)),
     // 1 above 2 and 3, 2 above 4, 3 above 5 and 6; and 7
     (1, 0, Add(None), Ok(1)),
@@ -209,15 +298,13 @@ const CASES: &[(u32, usize, Call, Answer)] = &[
     (1, 1, SetParent(66, Some(62)), Ok(0)),
 ];
 
+fn fresh_trees_are_kept(alloc: Global) -> Result<bool, AllocError> {
+    let mut bed = Bed::new(alloc)?;
+    Ok(bed.keeps_trees())
+}
+
 #[test]
 fn trees_are_kept(rt: HostRuntime) -> Result<(), Fail> {
-    let mut bed = Bed::new(rt.alloc())?;
-    for case in CASES {
-        let (times, place, call, wanted) = *case;
-        for _ in 1..times {
-            let _answer = bed.call(place, call);
-        }
-        assert!(rt; is_same(bed.call(place, call), wanted));
-    }
+    assert!(rt; fresh_trees_are_kept(rt.alloc())?);
     Ok(())
 }
