@@ -1,7 +1,8 @@
 //! The methods of objects, by index, by signature and by text.
-ghost use Rattle.std.specs.Prelude.{◌≡◌, IfSome};
+ghost use Rattle.std.specs.Prelude.{◌≡◌, Err, IfSome, Ok, if◌then◌else◌};
 ghost use Rattle.std.specs.Option.{option_copied};
 ghost use Rattle.refusals.specs.Answers.{Answers};
+ghost use Rattle.refusals.specs.declared.code.Code.TheVariants.{NoSuchMethod};
 ghost use Rattle.class_table.specs.Sound.{IsMethod};
 ghost use Rattle.thread_model.specs.Methods.{kinds_at, is_signal_at, method_at, method_named, method_with, signal_named, signal_with};
 ghost use Rattle.session_tables.specs.Tables.{IsPlaced, state_at};
@@ -71,6 +72,14 @@ pub fn signal_with(
     ensures { result ≡ signal_with (its_methods caller.now tables.now object) signature.now }
 {
     let index = method_with(caller, tables, object, signature)?;
+    signal_at(caller, tables, object, index)
+}
+
+/// The index itself, where the method of an object with this index is a signal.
+fn signal_at(caller: &Caller, tables: &Tables, object: u32, index: u32) -> Result<u32, Code>
+    requires { IsPlaced tables.now caller.now.place }
+    ensures { result ≡ (if is_signal_at (its_methods caller.now tables.now object) index then Ok index else Err NoSuchMethod) }
+{
     if is_signal(caller, tables, object, index) {
         Ok(index)
     } else {
@@ -100,7 +109,9 @@ pub fn method_named(
     ensures { Answers result (method_named (its_methods caller.now tables.now object) text.now) }
 {
     let signature = Signature::normalise(caller.setup.alloc, text.as_str())?;
-    Ok(method_with(caller, tables, object, &signature)?)
+    let found = method_with(caller, tables, object, &signature);
+    drop(signature);
+    Ok(found?)
 }
 
 /// The index of the signal of an object that a text names.
@@ -113,6 +124,6 @@ pub fn signal_named(
     requires { IsPlaced tables.now caller.now.place }
     ensures { Answers result (signal_named (its_methods caller.now tables.now object) text.now) }
 {
-    let signature = Signature::normalise(caller.setup.alloc, text.as_str())?;
-    Ok(signal_with(caller, tables, object, &signature)?)
+    let index = method_named(caller, tables, object, text)?;
+    Ok(signal_at(caller, tables, object, index)?)
 }
