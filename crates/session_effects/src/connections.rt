@@ -1,12 +1,12 @@
 //! The connections that commands and actions ask for, and those that they ask to be broken.
 ghost use Rattle.std.specs.Prelude.{◌≡◌, Some, None, if◌then◌else◌};
-ghost use Rattle.std.specs.Option.{option_map, option_transpose};
+ghost use Rattle.std.specs.Option.{option_map};
 ghost use Rattle.std.specs.Result.{result_err};
 ghost use Rattle.refusals.specs.Answers.{Answers};
 ghost use Rattle.refusals.specs.declared.code.Code.TheVariants.{DoesNotFit};
 ghost use Rattle.connection_types.specs.declared.callee.Callee.TheVariants.{Method};
 ghost use Rattle.thread_model.specs.Connecting.{fits_at, receiver_with};
-ghost use Rattle.thread_model.specs.Methods.{method_named, method_with, signal_named, signal_with};
+ghost use Rattle.thread_model.specs.Methods.{method_named, method_with};
 ghost use Rattle.thread_model.specs.Acts as acts;
 ghost use Rattle.thread_model.specs.Signals.{asked_connection, asked_functor_connection, asked_pattern};
 ghost use Rattle.session_tables.specs.Tables.{IsPlaced, state_at};
@@ -149,43 +149,16 @@ pub fn asked_pattern(
     requires { IsPlaced tables.now caller.now.place }
     ensures { Answers result (asked_pattern (settings_of caller.now.setup.now) (state_at tables.now caller.now.place) sender signal.now receiver method.now) }
 {
-    let signal = optional_signal(caller, tables, sender, signal)?;
+    let signal = match signal {
+        Some(text) => Some(signal_named(caller, tables, sender, text)?),
+        None => None,
+    };
     let receiver = asked_receiver(caller, tables, receiver, method)?;
     Ok(Pattern {
         sender,
         signal,
         receiver,
     })
-}
-
-fn optional_signal(
-    caller: &Caller,
-    tables: &Tables,
-    object: u32,
-    text: &Option<Text>,
-) -> Result<Option<u32>, Fault>
-    requires { IsPlaced tables.now caller.now.place }
-    ensures { Answers result (option_transpose (option_map (signal_named (its_methods caller.now tables.now object)) text.now)) }
-{
-    match text {
-        Some(text) => Ok(Some(signal_named(caller, tables, object, text)?)),
-        None => Ok(None),
-    }
-}
-
-fn optional_method(
-    caller: &Caller,
-    tables: &Tables,
-    object: u32,
-    text: &Option<Text>,
-) -> Result<Option<u32>, Fault>
-    requires { IsPlaced tables.now caller.now.place }
-    ensures { Answers result (option_transpose (option_map (method_named (its_methods caller.now tables.now object)) text.now)) }
-{
-    match text {
-        Some(text) => Ok(Some(method_named(caller, tables, object, text)?)),
-        None => Ok(None),
-    }
 }
 
 fn asked_receiver(
@@ -200,7 +173,10 @@ fn asked_receiver(
     let Some(object) = receiver else {
         return Ok(None);
     };
-    let method = optional_method(caller, tables, object, method)?;
+    let method = match method {
+        Some(text) => Some(method_named(caller, tables, object, text)?),
+        None => None,
+    };
     Ok(Some(Receiver { object, method }))
 }
 
@@ -216,43 +192,16 @@ pub fn pattern(
     requires { IsPlaced tables.now caller.now.place }
     ensures { result ≡ acts.pattern (settings_of caller.now.setup.now) (state_at tables.now caller.now.place) sender signal.now receiver method.now }
 {
-    let signal = given_signal(caller, tables, sender, signal)?;
+    let signal = match signal {
+        Some(signature) => Some(signal_with(caller, tables, sender, signature)?),
+        None => None,
+    };
     let receiver = given_receiver(caller, tables, receiver, method)?;
     Ok(Pattern {
         sender,
         signal,
         receiver,
     })
-}
-
-fn given_signal(
-    caller: &Caller,
-    tables: &Tables,
-    object: u32,
-    signature: &Option<Signature>,
-) -> Result<Option<u32>, Code>
-    requires { IsPlaced tables.now caller.now.place }
-    ensures { result ≡ option_transpose (option_map (signal_with (its_methods caller.now tables.now object)) signature.now) }
-{
-    match signature {
-        Some(signature) => Ok(Some(signal_with(caller, tables, object, signature)?)),
-        None => Ok(None),
-    }
-}
-
-fn given_method(
-    caller: &Caller,
-    tables: &Tables,
-    object: u32,
-    signature: &Option<Signature>,
-) -> Result<Option<u32>, Code>
-    requires { IsPlaced tables.now caller.now.place }
-    ensures { result ≡ option_transpose (option_map (method_with (its_methods caller.now tables.now object)) signature.now) }
-{
-    match signature {
-        Some(signature) => Ok(Some(method_with(caller, tables, object, signature)?)),
-        None => Ok(None),
-    }
 }
 
 fn given_receiver(
@@ -267,6 +216,9 @@ fn given_receiver(
     let Some(object) = receiver else {
         return Ok(None);
     };
-    let method = given_method(caller, tables, object, method)?;
+    let method = match method {
+        Some(signature) => Some(method_with(caller, tables, object, signature)?),
+        None => None,
+    };
     Ok(Some(Receiver { object, method }))
 }
