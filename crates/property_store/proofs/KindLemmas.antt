@@ -1,21 +1,20 @@
 -- Values of the kinds of their properties.
-use Rattle.std.proofs.Common.{◌≡◌, ◌∙◌, ℕ, ◌<◌, Bor, Bool, true, false, cond, ℤ, unsigned_abs, IfSome, List, Option, Some, None, Ok, Err, is_some, not, length, map, get_or, set, refl, sym, ap, subst, arith}
+use Rattle.std.proofs.Common.{◌≡◌, ◌∙◌, ℕ, Bor, Bool, true, false, cond, ℤ, unsigned_abs, IfSome, List, Option, Some, None, length, map, get_or, set, refl, sym, ap, subst, arith}
 use Rattle.std.specs.List.{slice_get}
-use Rattle.std.specs.Option.{ok_or, option_map, option_map_or}
+use Rattle.std.specs.Option.{option_map}
 use Rattle.std.specs.Prelude.{option_and_then}
 use Rattle.std.proofs.lemmas.List.{length-map, map-set, set-get_or}
 use Rattle.std.proofs.lemmas.List.Elements.{All-map, All-set}
 use Rattle.std.proofs.lemmas.Option.{get_or_from_slice_get, slice_get-map, slice_get_within}
 use Rattle.signature_core.specs.declared.kind.Kind.{Kind}
 use Rattle.signature_core.specs.declared.kind.Kind.TheVariants as k
-use Rattle.refusals.specs.declared.code.Code.TheVariants.{BadValue}
 use Rattle.variant_value.specs.declared.value.Value.{Value}
 use Rattle.variant_value.specs.declared.value.Value.TheVariants as v
-use Rattle.variant_value.specs.Values.{IsOfKind, IsShort, converted, is_same, kind_of, number_in, number_of, text_in, truth_in}
+use Rattle.variant_value.specs.Values.{IsOfKind, IsShort, converted, kind_of, number_in, number_of, text_in, truth_in}
 use Rattle.property_store.specs.declared.field.Field.{Field}
 use Rattle.property_store.specs.Store.{AreSound, Properties, default_of, fresh, with_value}
-use Rattle.property_store.specs.Storing.{change_in, fit_in, refusal_in, stored_in}
-use Rattle.property_store.proofs.ListLemmas.{IsMapped, map_at, map_over_map, mapped}
+use Rattle.property_store.specs.Storing.{fit_in, with_fit}
+use Rattle.property_store.proofs.ListLemmas.{map_at, map_over_map}
 
 default_kind : (kind : Kind) → kind_of (default_of kind) ≡ Some kind
 default_kind k.Bool = refl
@@ -112,45 +111,13 @@ pub as_many : (of : Properties) → AreSound of → length of.values ≡ length 
 as_many of sound = sym (length-map of.values kind_of) ∙ (ap length sound.kinds ∙ length-map of.fields (λ (field : Field). Some field.kind))
 
 -- what is stored leaves the properties sound
-pub stored_sound : (of : Properties) (number : ℕ) (value : Value) (values : List Value) → AreSound of → IsShort value → values ≡ stored_in of.fields number value of.values → AreSound (record of { values = values })
-stored_sound of number value values sound short e = subst (λ vs. AreSound (record of { values = vs })) (sym e) (by (slice_get of.fields number) refl)
+pub stored_sound : (of : Properties) (number : ℕ) (value : Value) → AreSound of → IsShort value → AreSound (record of { values = with_fit (fit_in of.fields number value) number of.values })
+stored_sound of number value sound short = by (slice_get of.fields number) refl
   where
-    by : (field : Option Field) → slice_get of.fields number ≡ field → AreSound (record of { values = stored_in of.fields number value of.values })
-    by None is = subst (λ o. AreSound (record of { values = option_map_or (λ fit. set of.values number fit) (option_and_then (λ (f : Field). converted f.kind value) o) of.values })) (sym is) sound
-    by (Some field) is = subst (λ o. AreSound (record of { values = option_map_or (λ fit. set of.values number fit) (option_and_then (λ (f : Field). converted f.kind value) o) of.values })) (sym is) (fits (converted field.kind value) refl)
+    by : (field : Option Field) → slice_get of.fields number ≡ field → AreSound (record of { values = with_fit (option_and_then (λ (f : Field). converted f.kind value) field) number of.values })
+    by None is = sound
+    by (Some field) is = fits (converted field.kind value) refl
       where
-        fits : (fit : Option Value) → converted field.kind value ≡ fit → AreSound (record of { values = option_map_or (λ fit. set of.values number fit) (converted field.kind value) of.values })
-        fits None none = subst (λ o. AreSound (record of { values = option_map_or (λ fit. set of.values number fit) o of.values })) (sym none) sound
-        fits (Some fit) some =
-            let kind = converted_fits field.kind value fit short some in
-            subst (λ o. AreSound (record of { values = option_map_or (λ fit. set of.values number fit) o of.values })) (sym some) (with_value_sound of sound number fit field is kind.0 kind.1)
-
--- what is converted where a property has this kind
-pub ok_or_none : {X E : Type 0} (o : Option X) (e d : E) → Err e ≡ ok_or o d → o ≡ None
-ok_or_none None e d is = refl
-ok_or_none (Some x) e d is = absurd (cc)
-
-pub ok_or_some : {X E : Type 0} (o : Option X) (x : X) (d : E) → Ok x ≡ ok_or o d → o ≡ Some x
-ok_or_some None x d is = absurd (cc)
-ok_or_some (Some y) x d is = let same : y ≡ x = cc in ap Some same
-
-module _ (fields : List Field) (number : ℕ) (kind : Kind) (value : Value) (is : Some kind ≡ option_map (λ (field : Field). field.kind) (slice_get fields number)) where
-  there : IsMapped (λ (field : Field). field.kind) (slice_get fields number) kind
-  there = mapped (λ (field : Field). field.kind) (slice_get fields number) kind (sym is)
-
-  pub within_at : number < length fields
-  within_at = slice_get_within fields number there.x there.is
-
-  pub fit_at : fit_in fields number value ≡ converted kind value
-  fit_at = ap (option_and_then (λ (field : Field). converted field.kind value)) there.is ∙ ap (λ k. converted k value) there.gives
-
-  pub refused_at : converted kind value ≡ None → Some BadValue ≡ refusal_in fields number value
-  refused_at none =
-      sym (ap (option_and_then (λ (field : Field). cond (is_some (converted field.kind value)) None (Some BadValue))) there.is
-      ∙ (ap (λ k. cond (is_some (converted k value)) None (Some BadValue)) there.gives ∙ ap (λ o. cond (is_some o) None (Some BadValue)) none))
-
-  pub not_stored : (values : List Value) → converted kind value ≡ None → values ≡ stored_in fields number value values
-  not_stored values none = sym (ap (λ o. option_map_or (λ fit. set values number fit) o values) (fit_at ∙ none))
-
-  pub change_at : (values : List Value) (fit : Value) → converted kind value ≡ Some fit → change_in fields values number value ≡ option_map_or (λ stands. not (is_same stands fit)) (slice_get values number) false
-  change_at values fit some = ap (λ o. option_map_or (λ f. option_map_or (λ stands. not (is_same stands f)) (slice_get values number) false) o false) (fit_at ∙ some)
+        fits : (fit : Option Value) → converted field.kind value ≡ fit → AreSound (record of { values = with_fit fit number of.values })
+        fits None none = sound
+        fits (Some fit) some = let kind = converted_fits field.kind value fit short some in with_value_sound of sound number fit field is kind.0 kind.1

@@ -5,5 +5,4 @@ pub mod DynamicLemmas
 pub mod SearchLemmas
 pub mod KindLemmas
 pub mod WriteLemmas
-mod NamedLemmas
 pub mod SoundLemmas

@@ -101,45 +101,55 @@ module _ (layouts : List (List Field)) (rows : Table (List (Keyed Row))) (seen :
         let there = store_there layouts rows seen view_is place is_place in
         unchanged_store seen place (changed change n (store_at seen place)) (ap (changed change n) there ∙ (absent_unchanged layouts (rows_at rows place) n none change ∙ sym there))
 
--- a row that is changed where it stands
-pub record IsUnder (layouts : List (List Field)) (rows : Table (List (Keyed Row))) (seen : Shelves) (place key n : ℕ) (old : Row) : Type 0 where
+-- the row of a number is lent to a call, which changes it where it stands
+pub record IsChanged (layouts : List (List Field)) (rows new : Table (List (Keyed Row))) (seen : Shelves) (place key n : ℕ) (old row : Row) : Type 0 where
   pub kept : AreKept layouts rows
   pub view_is : shelves_of layouts rows ≡ seen
   pub is_place : IsPlace seen.table place
   pub sound : table.IsSound number (rows_at rows place)
   pub found : key_of number (rows_at rows place) n ≡ Some key
-  pub under : row_under (rows_at rows place) key ≡ Some old
+  pub lent : Row
+  pub under : row_under (rows_at rows place) key ≡ Some lent
+  pub lends : old ≡ lent
+  pub left : Row
+  pub leaves : row ≡ left
+  pub new_is : new ≡ with_place rows place (with_row (rows_at rows place) key left)
 
-module _ (layouts : List (List Field)) (rows : Table (List (Keyed Row))) (seen : Shelves) (place key n : ℕ) (old : Row) (u : IsUnder layouts rows seen place key n old) where
-  open_rows : IsPlace rows place
-  open_rows = rows_open layouts rows seen u.view_is place u.is_place
+module _ {layouts : List (List Field)} {rows new : Table (List (Keyed Row))} {seen : Shelves} {place key n : ℕ} {old row : Row} (it : IsChanged layouts rows new seen place key n old row) where
+  under_old : row_under (rows_at rows place) key ≡ Some old
+  under_old = it.under ∙ ap Some (sym it.lends)
+
+  with_new : new ≡ with_place rows place (with_row (rows_at rows place) key row)
+  with_new = it.new_is ∙ ap (λ r. with_place rows place (with_row (rows_at rows place) key r)) (sym it.leaves)
+
+  each_sound : AreRows layouts (rows_at rows place)
+  each_sound = it.kept place [] (rows_open layouts rows seen it.view_is place it.is_place)
 
   is_row : IsRowOf (rows_at rows place) key n old
-  is_row = row_stands (rows_at rows place) u.sound key n old u.found u.under
+  is_row = row_stands (rows_at rows place) it.sound key n old it.found under_old
 
   pub old_there : properties_of (store_at seen place) n ≡ Some (shown layouts old)
-  old_there = ap (λ s. properties_of s n) (store_there layouts rows seen u.view_is place u.is_place) ∙ there layouts (rows_at rows place) key n old is_row
+  old_there = ap (λ s. properties_of s n) (store_there layouts rows seen it.view_is place it.is_place) ∙ there layouts (rows_at rows place) key n old is_row
 
   pub old_sound : AreSound (shown layouts old)
-  old_sound = under_sound layouts (rows_at rows place) (u.kept place [] open_rows) key old u.under
+  old_sound = under_sound layouts (rows_at rows place) each_sound key old under_old
 
-  module _ (new : Table (List (Keyed Row))) (row : Row) (is : new ≡ with_place rows place (with_row (rows_at rows place) key row)) where
-    pub kept_under : AreSound (shown layouts row) → AreKept layouts new
-    kept_under sound = kept_with layouts rows u.kept place new (with_row (rows_at rows place) key row) is (with_row_sound layouts (rows_at rows place) (u.kept place [] open_rows) key row sound)
+  pub kept_under : AreSound (shown layouts row) → AreKept layouts new
+  kept_under sound = kept_with layouts rows it.kept place new (with_row (rows_at rows place) key row) with_new (with_row_sound layouts (rows_at rows place) each_sound key row sound)
 
-    pub view_under : (change : Properties → Properties) → shown layouts row ≡ change (shown layouts old) → shelves_of layouts new ≡ with_store seen place (changed change n (store_at seen place))
-    view_under change e =
-        after layouts rows seen u.view_is place new (with_row (rows_at rows place) key row) (changed change n (store_at seen place)) is
-        (changed_shown layouts (rows_at rows place) key n old is_row row change e ∙ ap (changed change n) (sym (store_there layouts rows seen u.view_is place u.is_place)))
+  pub view_under : (change : Properties → Properties) → shown layouts row ≡ change (shown layouts old) → shelves_of layouts new ≡ with_store seen place (changed change n (store_at seen place))
+  view_under change e =
+      after layouts rows seen it.view_is place new (with_row (rows_at rows place) key row) (changed change n (store_at seen place)) with_new
+      (changed_shown layouts (rows_at rows place) key n old is_row row change e ∙ ap (changed change n) (sym (store_there layouts rows seen it.view_is place it.is_place)))
 
-    pub view_same : shown layouts row ≡ shown layouts old → shelves_of layouts new ≡ seen
-    view_same e =
-        view_under (λ of. of) e
-        ∙ sym (unchanged_store seen place (changed (λ of. of) n (store_at seen place)) (map_same (λ (of : Properties). cond (of.object == n) of of) (store_at seen place) (λ k d within. either ((get_or (store_at seen place) k d).object == n) (get_or (store_at seen place) k d))))
-      where
-        either : (b : Bool) (of : Properties) → cond b of of ≡ of
-        either true of = refl
-        either false of = refl
+  pub view_same : shown layouts row ≡ shown layouts old → shelves_of layouts new ≡ seen
+  view_same e =
+      view_under (λ of. of) e
+      ∙ sym (unchanged_store seen place (changed (λ of. of) n (store_at seen place)) (map_same (λ (of : Properties). cond (of.object == n) of of) (store_at seen place) (λ k d within. either ((get_or (store_at seen place) k d).object == n) (get_or (store_at seen place) k d))))
+    where
+      either : (b : Bool) (of : Properties) → cond b of of ≡ of
+      either true of = refl
+      either false of = refl
 
 -- a row that is found is one of the rows
 pub found_sound : (layouts : List (List Field)) (rows : List (Keyed Row)) → AreRows layouts rows → (n : ℕ) (row : Row) → Some row ≡ row_of rows n → AreSound (shown layouts row)

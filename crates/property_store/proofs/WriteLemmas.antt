@@ -1,77 +1,154 @@
--- What a write leaves.
-use Rattle.std.proofs.Common.{◌≡◌, ◌∙◌, ℕ, Bool, false, cond, is_some, not, List, OnErr, Option, Some, None, Result, Ok, Err, set, refl, sym, ap, subst}
+-- What a change of an object's properties leaves.
+use Rattle.std.proofs.Common.{◌≡◌, ◌∙◌, ℕ, zero, suc, ◌<◌, Bool, false, cond, is_some, List, [], ◌∷◌, IfOk, OnErr, OnOk, Option, Some, None, Result, Ok, Err, length, refl, sym, ap, subst, arith}
 use Rattle.std.specs.List.{slice_get}
-use Rattle.std.specs.Option.{option_map_or}
+use Rattle.std.specs.Option.{option_map, option_map_or}
 use Rattle.std.specs.Prelude.{option_and_then}
 use Rattle.std.specs.Result.{result_err}
-use Rattle.places.specs.Table.{Table, with_place}
-use Rattle.shared_rows.specs.Rows.{Keyed, rows_at, with_row}
+use Rattle.places.specs.Table.{Table}
+use Rattle.shared_rows.specs.Rows.{Keyed}
+use Rattle.refusals.specs.Answers.{RefusedBy}
 use Rattle.refusals.specs.declared.code.Code.{Code}
 use Rattle.refusals.specs.declared.code.Code.TheVariants.{BadValue}
 use Rattle.refusals.specs.declared.fault.Fault.{Fault}
 use Rattle.variant_value.specs.declared.value.Value.{Value}
-use Rattle.variant_value.specs.Values.{converted, is_same}
+use Rattle.variant_value.specs.Values.{IsShort, converted}
+use Rattle.property_store.specs.declared.dynamic.Named.{Named}
 use Rattle.property_store.specs.declared.field.Field.{Field}
 use Rattle.property_store.specs.declared.row.Row.{Row}
-use Rattle.property_store.specs.Inside.{shelves_of, shown}
-use Rattle.property_store.specs.Store.{Properties, changed, fields_in, properties_of, with_value, written}
-use Rattle.property_store.specs.Storing.{IsRemoved, IsSet, IsStored, fit_in, refusal_in, stored_in}
+use Rattle.property_store.specs.declared.unwritten.Unwritten.{Unwritten}
+use Rattle.property_store.specs.declared.unwritten.Unwritten.TheVariants.{Refused, Undeclared}
+use Rattle.property_store.specs.Inside.{AreKept, shelves_of, shown}
+use Rattle.property_store.specs.Named.{answer_named, declared_at, written_named}
+use Rattle.property_store.specs.Store.{AreSound, Properties, Store, changed, dynamic_refusal, field_number, fields_in, is_change, properties_of, with_dynamic, with_value, without_dynamic, write_refusal, written}
+use Rattle.property_store.specs.Storing.{IsNamed, IsNumbered, IsRemoved, IsSet, IsStored, fit_in, numbered, refusal_as, refusal_in, with_fit}
 use Rattle.property_store.specs.Table.{Shelves, store_at, with_store}
-use Rattle.property_store.proofs.PlaceLemmas.{IsUnder, old_there, unchanged_store, view_same, view_under}
+use Rattle.property_store.proofs.DynamicLemmas.{either_sound, on_err_same, on_ok_same, without_dynamic_sound}
+use Rattle.property_store.proofs.KindLemmas.{stored_sound}
+use Rattle.property_store.proofs.PlaceLemmas.{IsChanged, kept_under, old_sound, old_there, unchanged_store, view_same, view_under}
 
-module _ (number : ℕ) (value : Value) where
-  -- the definitions of a write, of the properties that the object has
-  abbrev pub refusal_of : Option Properties → Option Code
-  refusal_of of = option_and_then (λ (field : Field). cond (is_some (converted field.kind value)) None (Some BadValue)) (option_and_then (λ (o : Properties). slice_get o.fields number) of)
+-- a value was written to the property of a number
+pub record IsWritten (seen new : Shelves) (place n number : ℕ) (value : Value) (result : Result Bool Code) : Type 0 where
+  pub refused : result_err result ≡ write_refusal (store_at seen place) n number value
+  pub answer : IfOk result (λ answer. answer ≡ is_change (store_at seen place) n number value)
+  pub new_is : new ≡ with_store seen place (written (store_at seen place) n number value)
+  pub err : OnErr result (new ≡ seen)
 
-  abbrev pub fit_of : Option Properties → Option Value
-  fit_of of = option_and_then (λ (field : Field). converted field.kind value) (option_and_then (λ (o : Properties). slice_get o.fields number) of)
+-- and of a name
+pub record IsWrittenNamed (seen new : Shelves) (place n : ℕ) (name : List ℕ) (value : Value) (result : Result (ℕ × Bool) Unwritten) : Type 0 where
+  pub answer : result ≡ answer_named (store_at seen place) n name value
+  pub new_is : new ≡ with_store seen place (written_named (store_at seen place) n name value)
+  pub err : OnErr result (new ≡ seen)
 
-  abbrev pub answer_of : Option Properties → Bool
-  answer_of of = option_map_or (λ fit. option_map_or (λ stands. not (is_same stands fit)) (option_and_then (λ (o : Properties). slice_get o.values number) of) false) (fit_of of) false
+-- a value was given to the dynamic property of a name
+pub record IsDynamicSet (seen new : Shelves) (place n : ℕ) (name : List ℕ) (value : Value) (result : Result (Unit {0}) Fault) : Type 0 where
+  pub refused : RefusedBy (dynamic_refusal (store_at seen place) n name) result
+  pub ok : OnOk result (new ≡ with_store seen place (changed (with_dynamic name value) n (store_at seen place)))
+  pub err : OnErr result (new ≡ seen)
 
-pub written_nowhere : (seen : Shelves) (place n number : ℕ) (value : Value) → properties_of (store_at seen place) n ≡ None → seen ≡ with_store seen place (written (store_at seen place) n number value)
-written_nowhere seen place n number value none =
-    unchanged_store seen place (written (store_at seen place) n number value)
-    (ap (λ o. option_map_or (λ fit. changed (with_value number fit) n (store_at seen place)) (fit_of number value o) (store_at seen place)) none)
+-- where there is no object
+module _ (seen : Shelves) (place n : ℕ) (value : Value) (none : properties_of (store_at seen place) n ≡ None) where
+  pub nothing_written : (number : ℕ) → IsWritten seen seen place n number value (Ok false)
+  nothing_written number = record {
+    refused = rw none refl;
+    answer = rw none refl;
+    new_is = unchanged_store seen place _ (rw none refl);
+    err = tt;
+  }
 
-module _ (layouts : List (List Field)) (rows : Table (List (Keyed Row))) (seen : Shelves) (place key n : ℕ) (old : Row) (u : IsUnder layouts rows seen place key n old) (number : ℕ) (value : Value) (new : Table (List (Keyed Row))) (row : Row)
-    (is : new ≡ with_place rows place (with_row (rows_at rows place) key row)) (stored : row ≡ record old { values = stored_in (shown layouts old).fields number value old.values }) where
-  -- what the row shows, by what fits
-  shown_after : (fit : Option Value) → fit_in (shown layouts old).fields number value ≡ fit → shown layouts row ≡ record (shown layouts old) { values = option_map_or (λ f. set old.values number f) fit old.values }
-  shown_after fit e = ap (shown layouts) stored ∙ ap {B = Properties} (λ o. record (shown layouts old) { values = option_map_or (λ f. set old.values number f) o old.values }) e
+  pub nothing_named : (name : List ℕ) → IsWrittenNamed seen seen place n name value (Err (Undeclared value))
+  nothing_named name = record { answer = rw none refl; new_is = unchanged_store seen place _ (rw none refl); err = refl }
 
-  after_fit : (fit : Option Value) → fit_in (shown layouts old).fields number value ≡ fit → shelves_of layouts new ≡ with_store seen place (option_map_or (λ f. changed (with_value number f) n (store_at seen place)) fit (store_at seen place))
-  after_fit None none =
-      view_same layouts rows seen place key n old u new row is (shown_after None none)
-      ∙ unchanged_store seen place (store_at seen place) refl
-  after_fit (Some fit) some = view_under layouts rows seen place key n old u new row is (with_value number fit) (shown_after (Some fit) some)
+standing : {A : Type 0} (xs : List A) (i : ℕ) → i < length xs → (x : A) × (slice_get xs i ≡ Some x)
+standing [] i within = absurd (omega (arith, within))
+standing (x ∷ xs) zero within = (x, refl)
+standing (x ∷ xs) (suc i) within = standing xs i (omega (arith, within))
 
-  pub written_there : shelves_of layouts new ≡ with_store seen place (written (store_at seen place) n number value)
-  written_there =
-      after_fit (fit_in (shown layouts old).fields number value) refl
-      ∙ ap (λ o. with_store seen place (option_map_or (λ f. changed (with_value number f) n (store_at seen place)) (fit_of number value o) (store_at seen place))) (sym (old_there layouts rows seen place key n old u))
+numbered_err : (number : ℕ) (P : Type 0) (done : Result Bool Code) → OnErr done P → OnErr (numbered number done) P
+numbered_err number P (Ok change) h = tt
+numbered_err number P (Err code) h = h
 
-  pub refused_same : (done : Result Bool Code) → result_err done ≡ refusal_in (shown layouts old).fields number value → OnErr done (shelves_of layouts new ≡ seen)
-  refused_same (Ok answer) refused = tt
-  refused_same (Err code) refused = view_same layouts rows seen place key n old u new row is (shown_after None (no_fit (slice_get (shown layouts old).fields number) refused))
+module _ {layouts : List (List Field)} {rows new : Table (List (Keyed Row))} {seen : Shelves} {place key n : ℕ} {old row : Row} (it : IsChanged layouts rows new seen place key n old row) where
+  abbrev store : Store
+  store = store_at seen place
+
+  abbrev fields : List Field
+  fields = fields_in layouts old.class
+
+  pub row_written : {number : ℕ} {value : Value} {result : Result Bool Code} → IsStored fields number value old row result → IsWritten seen (shelves_of layouts new) place n number value result
+  row_written {number} {value} {result} said = record {
+    refused = rw (old_there it) said.refused;
+    answer = rw (old_there it) said.answer;
+    new_is = rw (old_there it) (by_fit (fit_in fields number value) (ap (shown layouts) said.stored));
+    err = by result said.refused;
+  }
     where
-      no_fit : (field : Option Field) → Some code ≡ option_and_then (λ (f : Field). cond (is_some (converted f.kind value)) None (Some BadValue)) field → option_and_then (λ (f : Field). converted f.kind value) field ≡ None
-      no_fit None e = refl
-      no_fit (Some field) e = by (converted field.kind value) e
+      by_fit : (fit : Option Value) → shown layouts row ≡ record (shown layouts old) { values = with_fit fit number old.values }
+          → shelves_of layouts new ≡ with_store seen place (option_map_or (λ f. changed (with_value number f) n store) fit store)
+      by_fit None e = view_same it e ∙ unchanged_store seen place store refl
+      by_fit (Some fit) e = view_under it (with_value number fit) e
+
+      unfit : (code : Code) (field : Option Field) → Some code ≡ option_and_then (λ (f : Field). refusal_as f.kind value) field → option_and_then (λ (f : Field). converted f.kind value) field ≡ None
+      unfit code None e = refl
+      unfit code (Some field) e = by (converted field.kind value) e
         where
-          by : (o : Option Value) → Some code ≡ cond (is_some o) None (Some BadValue) → o ≡ None
+          by : (fit : Option Value) → Some code ≡ cond (is_some fit) None (Some BadValue) → fit ≡ None
           by None e = refl
           by (Some fit) e = absurd (cc)
 
--- what a call left of a row, by what it was shown
-module _ (layouts : List (List Field)) (shown left old row : Row) (shows : shown ≡ old) (leaves : left ≡ row) where
-  pub stored_by : (number : ℕ) (value : Value) (result : Result Bool Code) → IsStored (fields_in layouts shown.class) number value shown left result → IsStored (fields_in layouts old.class) number value old row result
-  stored_by number value result is =
-      subst (λ (r : Row). IsStored (fields_in layouts r.class) number value r row result) shows (subst (λ (r : Row). IsStored (fields_in layouts shown.class) number value shown r result) leaves is)
+      by : (result : Result Bool Code) → result_err result ≡ refusal_in fields number value → OnErr result (shelves_of layouts new ≡ seen)
+      by (Ok answer) refused = tt
+      by (Err code) refused = view_same it (ap (shown layouts) said.stored ∙ ap {B = Properties} (λ fit. record (shown layouts old) { values = with_fit fit number old.values }) (unfit code (slice_get fields number) refused))
 
-  pub set_by : (name : List ℕ) (value : Value) (result : Result (Unit {0}) Fault) → IsSet name value shown left result → IsSet name value old row result
-  set_by name value result is = subst (λ (r : Row). IsSet name value r row result) shows (subst (λ (r : Row). IsSet name value shown r result) leaves is)
+  pub row_kept : {number : ℕ} {value : Value} {result : Result Bool Code} → IsStored fields number value old row result → IsShort value → AreKept layouts new
+  row_kept {number} {value} said short = kept_under it (subst AreSound (sym (ap (shown layouts) said.stored)) (stored_sound (shown layouts old) number value (old_sound it) short))
 
-  pub removed_by : (name : List ℕ) → IsRemoved name shown left → IsRemoved name old row
-  removed_by name is = subst (λ (r : Row). IsRemoved name r row) shows (subst (λ (r : Row). IsRemoved name shown r) leaves is)
+  pub name_written : (name : List ℕ) (value : Value) (result : Result (ℕ × Bool) Unwritten) → IsNamed fields name value old row result → IsWrittenNamed seen (shelves_of layouts new) place n name value result
+  name_written name value result = by (field_number name fields) refl
+    where
+      declared : (found : Option ℕ) → field_number name fields ≡ found → declared_at store n name ≡ option_and_then (λ number. option_map (λ (field : Field). (number, field.kind)) (slice_get fields number)) found
+      declared found e = rw (old_there it) (ap (option_and_then (λ number. option_map (λ (field : Field). (number, field.kind)) (slice_get fields number))) e)
+
+      answered : (number : ℕ) (done : Result Bool Code) → result_err done ≡ write_refusal store n number value → IfOk done (λ answer. answer ≡ is_change store n number value)
+          → numbered number done ≡ option_map_or (λ code. Err (Refused code)) (write_refusal store n number value) (Ok (number, is_change store n number value))
+      answered number (Ok change) refused answer = (λ i. option_map_or (λ code. Err (Refused code)) (refused i) (Ok (number, answer i)))
+      answered number (Err code) refused answer = (λ i. option_map_or (λ code. Err (Refused code)) (refused i) (Ok (number, is_change store n number value)))
+
+      by : (found : Option ℕ) → field_number name fields ≡ found → IsNumbered fields value old row result found → IsWrittenNamed seen (shelves_of layouts new) place n name value result
+      by None e said =
+          let none : declared_at store n name ≡ None = declared None e in
+          let same = view_same it (ap (shown layouts) said.1) in
+          subst (IsWrittenNamed seen (shelves_of layouts new) place n name value) (sym said.0) (record { answer = rw none refl; new_is = same ∙ unchanged_store seen place _ (rw none refl); err = same })
+      by (Some number) e said =
+          let there = standing fields number said.0 in
+          let some : declared_at store n name ≡ Some (number, there.0.kind) = declared (Some number) e ∙ ap (option_map (λ (field : Field). (number, field.kind))) there.1 in
+          let done = row_written said.1.2 in
+          subst (IsWrittenNamed seen (shelves_of layouts new) place n name value) (sym said.1.1)
+          (record { answer = rw some (answered number said.1.0 done.refused done.answer); new_is = rw some done.new_is; err = numbered_err number _ said.1.0 done.err })
+
+  pub name_kept : (name : List ℕ) (value : Value) (result : Result (ℕ × Bool) Unwritten) → IsNamed fields name value old row result → IsShort value → AreKept layouts new
+  name_kept name value result said short = by (field_number name fields) said
+    where
+      by : (found : Option ℕ) → IsNumbered fields value old row result found → AreKept layouts new
+      by None said = kept_under it (subst AreSound (sym (ap (shown layouts) said.1)) (old_sound it))
+      by (Some number) said = row_kept said.1.2 short
+
+  -- the dynamic properties alone are others
+  shown_dynamic : (items : List Named) → row ≡ record old { dynamic = row.dynamic } → row.dynamic.items ≡ items → shown layouts row ≡ record (shown layouts old) { dynamic = items }
+  shown_dynamic items rest is = ap (shown layouts) rest ∙ ap {B = Properties} (λ dynamic. record (shown layouts old) { dynamic = dynamic }) is
+
+  pub dynamic_set : {name : List ℕ} {value : Value} {result : Result (Unit {0}) Fault} → IsSet name value old row result → IsDynamicSet seen (shelves_of layouts new) place n name value result
+  dynamic_set {name} {value} {result} said = record {
+    refused = rw (old_there it) said.refused;
+    ok = on_ok_same result said.ok (λ is. view_under it (with_dynamic name value) (shown_dynamic _ said.rest is));
+    err = on_err_same result said.err (λ is. view_same it (shown_dynamic _ said.rest is));
+  }
+
+  pub set_kept : {name : List ℕ} {value : Value} {result : Result (Unit {0}) Fault} → IsSet name value old row result → IsShort value → AreKept layouts new
+  set_kept {name} {value} {result} said short =
+      kept_under it (subst AreSound (sym (ap (shown layouts) said.rest)) (either_sound (shown layouts old) name value (old_sound it) short row.dynamic.items result said.refused said.ok said.err))
+
+  pub dynamic_removed : {name : List ℕ} → IsRemoved name old row → shelves_of layouts new ≡ with_store seen place (changed (without_dynamic name) n store)
+  dynamic_removed {name} said = view_under it (without_dynamic name) (shown_dynamic _ said.rest said.removed)
+
+  pub removed_kept : {name : List ℕ} → IsRemoved name old row → AreKept layouts new
+  removed_kept {name} said = kept_under it (subst AreSound (sym (shown_dynamic _ said.rest said.removed)) (without_dynamic_sound (shown layouts old) name (old_sound it)))

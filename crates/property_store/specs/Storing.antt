@@ -2,6 +2,7 @@
 use Rattle.std.specs.Prelude.{◌≡◌, ◌<◌, ℕ, Bool, false, not, is_some, if◌then◌else◌, IfOk, OnErr, OnOk, List, length, Option, Some, None, Result, Ok, Err, option_and_then, slice_get, slice_set}
 use Rattle.std.specs.Option.{option_map_or}
 use Rattle.std.specs.Result.{result_err}
+use Rattle.signature_core.specs.declared.kind.Kind.{Kind}
 use Rattle.refusals.specs.Answers.{RefusedBy}
 use Rattle.refusals.specs.declared.code.Code.{Code}
 use Rattle.refusals.specs.declared.code.Code.TheVariants.{BadValue}
@@ -18,21 +19,26 @@ use Rattle.property_store.specs.Store.{field_number, refusal_of_name, with_name,
 abbrev pub fit_in : List Field → ℕ → Value → Option Value
 fit_in fields number value = option_and_then (λ field. converted field.kind value) (slice_get fields number)
 
+-- a value that does not fit is refused
+abbrev pub refusal_as : Kind → Value → Option Code
+refusal_as kind value = if is_some (converted kind value) then None else Some BadValue
+
 abbrev pub refusal_in : List Field → ℕ → Value → Option Code
-refusal_in fields number value = option_and_then (λ field. if is_some (converted field.kind value) then None else Some BadValue) (slice_get fields number)
+refusal_in fields number value = option_and_then (λ field. refusal_as field.kind value) (slice_get fields number)
 
-abbrev pub change_in : List Field → List Value → ℕ → Value → Bool
-change_in fields values number value =
-    option_map_or (λ fit. option_map_or (λ stands. not (is_same stands fit)) (slice_get values number) false) (fit_in fields number value) false
+-- is what fits another value than the one that stands
+abbrev pub is_other : Option Value → ℕ → List Value → Bool
+is_other fit number values = option_map_or (λ fit. option_map_or (λ stands. not (is_same stands fit)) (slice_get values number) false) fit false
 
-abbrev pub stored_in : List Field → ℕ → Value → List Value → List Value
-stored_in fields number value values = option_map_or (λ fit. slice_set values number fit) (fit_in fields number value) values
+-- with what fits
+abbrev pub with_fit : Option Value → ℕ → List Value → List Value
+with_fit fit number values = option_map_or (λ fit. slice_set values number fit) fit values
 
 -- a value was stored among those of a row, or is refused as it is, and all else stays
 pub record IsStored (fields : List Field) (number : ℕ) (value : Value) (old new : Row) (result : Result Bool Code) : Type 0 where
   pub refused : result_err result ≡ refusal_in fields number value
-  pub answer : IfOk result (λ answer. answer ≡ change_in fields old.values number value)
-  pub stored : new ≡ record old { values = stored_in fields number value old.values }
+  pub answer : IfOk result (λ answer. answer ≡ is_other (fit_in fields number value) number old.values)
+  pub stored : new ≡ record old { values = with_fit (fit_in fields number value) number old.values }
 
 -- what a write to the property of a number comes to
 abbrev pub numbered : ℕ → Result Bool Code → Result (ℕ × Bool) Unwritten

@@ -2,8 +2,9 @@
 ghost use Rattle.std.specs.Prelude.{◌≡◌, ◌<◌, IfOk, IfSome, length, map, slice_get};
 ghost use Rattle.std.specs.Option.{option_map};
 ghost use Rattle.std.specs.Result.{result_err};
+ghost use Rattle.variant_value.specs.Values.{converted};
 ghost use Rattle.property_store.specs.Store.{declared_in, default_of, field_number, fields_in};
-ghost use Rattle.property_store.specs.Storing.{change_in, refusal_in, stored_in};
+ghost use Rattle.property_store.specs.Storing.{fit_in, is_other, refusal_as, refusal_in, with_fit};
 
 use plain_types::{Items, Text};
 use refusals::Code;
@@ -88,14 +89,6 @@ pub(crate) fn value_at(values: &Args, number: usize) -> Option<&Value>
     values.as_slice().get(number)
 }
 
-/// The kind of the property of this number.
-fn kind_at(fields: &[Field], number: usize) -> Option<Kind>
-    ensures { result ≡ option_map (λ field. field.kind) (slice_get fields.now number) }
-{
-    let field = fields.get(number)?;
-    Some(field.kind)
-}
-
 /// Stores a value as one of the property's kind, and returns whether it is another than the one that
 /// stood. Where there is no such property nothing is stored; a value that does not fit is `BadValue`.
 #[inline(always)]
@@ -107,35 +100,28 @@ pub(crate) fn store(
 ) -> Result<bool, Code>
     requires { length values.old ≡ length fields.now }
     ensures refused { result_err result ≡ refusal_in fields.now number value }
-    ensures answer { IfOk result (λ answer. answer ≡ change_in fields.now values.old number value) }
-    ensures new { values.new ≡ stored_in fields.now number value values.old }
+    ensures answer { IfOk result (λ answer. answer ≡ is_other (fit_in fields.now number value) number values.old) }
+    ensures new { values.new ≡ with_fit (fit_in fields.now number value) number values.old }
 {
-    let Some(kind) = kind_at(fields, number) else {
+    let Some(field) = fields.get(number) else {
         return Ok(false);
     };
+    let kind = field.kind;
     if value.kind() == Some(kind) {
         return Ok(values.put(number, value));
     }
-    store_converted(fields, values, number, value)
+    store_converted(kind, values, number, value)
 }
 
-/// The same for a value of another kind, which is converted first.
+/// Stores a value of another kind, which is converted first.
 #[cold]
 #[inline(never)]
-fn store_converted(
-    fields: &[Field],
-    values: &mut Args,
-    number: usize,
-    value: Value,
-) -> Result<bool, Code>
-    requires { length values.old ≡ length fields.now }
-    ensures refused { result_err result ≡ refusal_in fields.now number value }
-    ensures answer { IfOk result (λ answer. answer ≡ change_in fields.now values.old number value) }
-    ensures new { values.new ≡ stored_in fields.now number value values.old }
+fn store_converted(kind: Kind, values: &mut Args, number: usize, value: Value) -> Result<bool, Code>
+    requires { number < length values.old }
+    ensures refused { result_err result ≡ refusal_as kind value }
+    ensures answer { IfOk result (λ answer. answer ≡ is_other (converted kind value) number values.old) }
+    ensures new { values.new ≡ with_fit (converted kind value) number values.old }
 {
-    let Some(kind) = kind_at(fields, number) else {
-        return Ok(false);
-    };
     let Ok(value) = value.convert(kind) else {
         return Err(Code::BadValue);
     };

@@ -1,19 +1,13 @@
 //! The properties of one object.
-ghost use Rattle.std.specs.Prelude.{◌≡◌, length};
+ghost use Rattle.std.specs.Prelude.{◌≡◌};
 ghost use Rattle.std.specs.Option.{option_map};
 ghost use Rattle.places.specs.Table.{IsPlace};
 ghost use Rattle.shared_rows.specs.Rows.{rows_at};
 ghost use Rattle.property_store.specs.Inside.{IsCountUpTo, next_number, row_of};
-ghost use Rattle.property_store.specs.Store.{AreDistinct, fields_in};
-ghost use Rattle.property_store.specs.Storing.{IsNamed, IsRemoved, IsSet, IsStored};
 
-use crate::dynamic::{self, Named};
-use crate::field::{Field, field_number, fields_in, store};
-use crate::unwritten::Unwritten;
-use plain_types::{Items, Text};
-use refusals::{Code, Fault};
+use crate::dynamic::Named;
 use shared_rows::{Numbered, SharedRows};
-use variant_value::{Args, Value};
+use variant_value::Args;
 
 /// An object with its properties.
 #[derive(Drop)]
@@ -25,59 +19,6 @@ pub(crate) struct Row {
     pub(crate) values: Args,
     /// The dynamic properties, that first set first.
     pub(crate) dynamic: Vec<Named>,
-}
-
-impl Row {
-    /// Stores a value as one of a property's kind, and returns whether it is another than the one that
-    /// stood.
-    pub(crate) fn write(
-        &mut self,
-        layouts: &Items<Items<Field>>,
-        number: usize,
-        value: Value,
-    ) -> Result<bool, Code>
-        requires { length self.old.values ≡ length (fields_in layouts.now self.old.class) }
-        ensures { IsStored (fields_in layouts.now self.old.class) number value self.old self.new result }
-    {
-        let fields = fields_in(layouts, self.class);
-        store(fields, &mut self.values, number, value)
-    }
-
-    /// Stores a value as one of the kind of the declared property of this name, and returns its number and
-    /// whether the value is another than the one that stood.
-    pub(crate) fn write_named(
-        &mut self,
-        layouts: &Items<Items<Field>>,
-        name: &str,
-        value: Value,
-    ) -> Result<(usize, bool), Unwritten>
-        requires { length self.old.values ≡ length (fields_in layouts.now self.old.class) }
-        ensures { IsNamed (fields_in layouts.now self.old.class) name.now value self.old self.new result }
-    {
-        let fields = fields_in(layouts, self.class);
-        let Some(number) = field_number(fields, name) else {
-            return Err(Unwritten::Undeclared(value));
-        };
-        match store(fields, &mut self.values, number, value) {
-            Ok(is_change) => Ok((number, is_change)),
-            Err(code) => Err(Unwritten::Refused(code)),
-        }
-    }
-
-    /// Gives the dynamic property of this name a value.
-    pub(crate) fn set_dynamic(&mut self, name: Text, value: Value) -> Result<(), Fault>
-        ensures { IsSet name value self.old self.new result }
-    {
-        dynamic::set(&mut self.dynamic, name, value)
-    }
-
-    /// Takes out the dynamic property of this name.
-    pub(crate) fn remove_dynamic(&mut self, name: &str)
-        requires { AreDistinct self.old.dynamic.items }
-        ensures { IsRemoved name.now self.old self.new }
-    {
-        dynamic::remove(&mut self.dynamic, name);
-    }
 }
 
 impl Numbered for Row {

@@ -11,7 +11,7 @@ ghost use Rattle.property_store.specs.Storing.{IsNamed, IsRemoved, IsSet, IsStor
 ghost use Rattle.property_store.specs.Table.{fields_of, store_at, with_store};
 
 use crate::dynamic;
-use crate::field::{Field, declared_in, defaults, field_number, fields_in, value_at};
+use crate::field::{Field, declared_in, defaults, field_number, fields_in, store, value_at};
 use crate::row::{Row, first_above, row_of};
 use crate::unwritten::Unwritten;
 use plain_types::{Items, Text};
@@ -162,7 +162,14 @@ impl Stores {
         let write = |row: &mut Row| -> Result<bool, Code>
             requires { length row.now.values ≡ length (fields_in layouts.now row.now.class) }
             ensures { IsStored (fields_in layouts.entry.now row.entry.now.class) number value row.entry.now row.exit.now result }
-        { row.write(layouts, number, value) };
+        {
+            store(
+                fields_in(layouts, row.class),
+                &mut row.values,
+                number,
+                value,
+            )
+        };
         self.rows.update(place, key, write)
     }
 
@@ -188,7 +195,16 @@ impl Stores {
         let write = |row: &mut Row| -> Result<(usize, bool), Unwritten>
             requires { length row.now.values ≡ length (fields_in layouts.now row.now.class) }
             ensures { IsNamed (fields_in layouts.entry.now row.entry.now.class) name.entry.now value row.entry.now row.exit.now result }
-        { row.write_named(layouts, name, value) };
+        {
+            let fields = fields_in(layouts, row.class);
+            let Some(number) = field_number(fields, name) else {
+                return Err(Unwritten::Undeclared(value));
+            };
+            match store(fields, &mut row.values, number, value) {
+                Ok(is_change) => Ok((number, is_change)),
+                Err(code) => Err(Unwritten::Refused(code)),
+            }
+        };
         self.rows.update(place, key, write)
     }
 
@@ -224,7 +240,7 @@ impl Stores {
         };
         let set = |row: &mut Row| -> Result<(), Fault>
             ensures { IsSet name value row.entry.now row.exit.now result }
-        { row.set_dynamic(name, value) };
+        { dynamic::set(&mut row.dynamic, name, value) };
         self.rows.update(place, key, set)
     }
 
@@ -239,7 +255,7 @@ impl Stores {
         let remove = |row: &mut Row|
             requires { AreDistinct row.now.dynamic.items }
             ensures { IsRemoved name.entry.now row.entry.now row.exit.now }
-        { row.remove_dynamic(name) };
+        { dynamic::remove(&mut row.dynamic, name) };
         self.rows.update(place, key, remove);
     }
 

@@ -1,65 +1,33 @@
-use Rattle.std.proofs.Common.{ap, sym}
-use Rattle.std.specs.Prelude.{option_and_then}
-use Rattle.property_store.specs.Inside.{shown}
-use Rattle.property_store.specs.Store.{Properties, declared_in}
+use Rattle.std.proofs.Common.{[], sym}
+use Rattle.shared_rows.specs.Rows.{rows_at}
 use Rattle.property_store.proofs.KindLemmas.{as_many}
-use Rattle.property_store.proofs.NamedLemmas.{answer_nowhere, named_answer, named_by, named_nowhere, named_same, named_sound, named_view}
-use Rattle.property_store.proofs.PlaceLemmas.{IsUnder, kept_under, nothing, old_sound}
+use Rattle.property_store.proofs.PlaceLemmas.{IsChanged, nothing, rows_open, under_sound}
+use Rattle.property_store.proofs.WriteLemmas.{name_kept, name_written, nothing_named}
 use Rattle.property_store.proofs.stores.Stores.write_named.Goals as goal
 
+-- the row of the object is changed
+changed : (c : goal.After-update) → IsChanged c.self.inside.layouts c.self.inside.rows c.update.new.self c.args.self.now c.args.place c.in-Some.key c.args.object c.update.ensures.3.shown.now c.update.ensures.3.left.now
+changed c =
+    let done = c.update.ensures in
+    record { kept = c.self.invariant; view_is = c.self.view_is; is_place = c.requires.place; sound = c.find.ensures.sound; found = sym c.in-Some.ensures.found; lent = done.0; under = done.2; lends = done.3.shows; left = done.1; leaves = done.3.leaves; new_is = done.4 }
+
 pub returns-in_default-clause-answer : goal.returns-in_default-clause-answer
-returns-in_default-clause-answer c =
-    answer_nowhere c.args.self.now c.args.place c.args.object c.args.name.now c.args.value
-    (ap (option_and_then (λ (of : Properties). declared_in c.args.name.now of.fields)) (nothing c.self.inside.layouts c.self.inside.rows c.args.self.now c.self.view_is c.args.place c.requires.place c.args.object (sym c.in_default.ensures.found)))
+returns-in_default-clause-answer c = (nothing_named c.args.self.now c.args.place c.args.object c.args.value (nothing c.self.inside.layouts c.self.inside.rows c.args.self.now c.self.view_is c.args.place c.requires.place c.args.object (sym c.in_default.ensures.found)) c.args.name.now).answer
 
 pub returns-in_default-clause-new : goal.returns-in_default-clause-new
-returns-in_default-clause-new c =
-    named_nowhere c.args.self.now c.args.place c.args.object c.args.name.now c.args.value
-    (ap (option_and_then (λ (of : Properties). declared_in c.args.name.now of.fields)) (nothing c.self.inside.layouts c.self.inside.rows c.args.self.now c.self.view_is c.args.place c.requires.place c.args.object (sym c.in_default.ensures.found)))
+returns-in_default-clause-new c = (nothing_named c.args.self.now c.args.place c.args.object c.args.value (nothing c.self.inside.layouts c.self.inside.rows c.args.self.now c.self.view_is c.args.place c.requires.place c.args.object (sym c.in_default.ensures.found)) c.args.name.now).new_is
 
 pub update-requires-clause-callable : goal.update-requires-clause-callable
-update-requires-clause-callable c = λ lent under.
-    let old = lent.now in
-    let u : IsUnder c.self.inside.layouts c.self.inside.rows c.args.self.now c.args.place c.in-Some.key c.args.object old =
-    record { kept = c.self.invariant; view_is = c.self.view_is; is_place = c.requires.place; sound = c.find.ensures.sound; found = sym c.in-Some.ensures.found; under = under } in
-    as_many (shown c.self.inside.layouts old) (old_sound c.self.inside.layouts c.self.inside.rows c.args.self.now c.args.place c.in-Some.key c.args.object old u)
+update-requires-clause-callable c = λ lent under. as_many _ (under_sound c.self.inside.layouts (rows_at c.self.inside.rows c.args.place) (c.self.invariant c.args.place [] (rows_open c.self.inside.layouts c.self.inside.rows c.args.self.now c.self.view_is c.args.place c.requires.place)) c.in-Some.key lent.now under)
 
 pub invariant_of-self : goal.invariant_of-self
-invariant_of-self c =
-    let done = c.update.ensures in
-    let old = done.0 in
-    let row = done.1 in
-    let u : IsUnder c.self.inside.layouts c.self.inside.rows c.args.self.now c.args.place c.in-Some.key c.args.object old =
-    record { kept = c.self.invariant; view_is = c.self.view_is; is_place = c.requires.place; sound = c.find.ensures.sound; found = sym c.in-Some.ensures.found; under = done.2 } in
-    let said = named_by c.self.inside.layouts done.3.shown.now done.3.left.now old row done.3.shows done.3.leaves c.args.name.now c.args.value c.update.result done.3.met in
-    kept_under c.self.inside.layouts c.self.inside.rows c.args.self.now c.args.place c.in-Some.key c.args.object old u c.update.new.self row done.4 (named_sound c.self.inside.layouts c.self.inside.rows c.args.self.now c.args.place c.in-Some.key c.args.object old u c.update.new.self row done.4 c.args.name.now c.args.value c.update.result said c.requires.short)
+invariant_of-self c = name_kept (changed c) c.args.name.now c.args.value c.update.result c.update.ensures.3.met c.requires.short
 
 pub returns-clause-answer : goal.returns-clause-answer
-returns-clause-answer c =
-    let done = c.update.ensures in
-    let old = done.0 in
-    let row = done.1 in
-    let u : IsUnder c.self.inside.layouts c.self.inside.rows c.args.self.now c.args.place c.in-Some.key c.args.object old =
-    record { kept = c.self.invariant; view_is = c.self.view_is; is_place = c.requires.place; sound = c.find.ensures.sound; found = sym c.in-Some.ensures.found; under = done.2 } in
-    let said = named_by c.self.inside.layouts done.3.shown.now done.3.left.now old row done.3.shows done.3.leaves c.args.name.now c.args.value c.update.result done.3.met in
-    named_answer c.self.inside.layouts c.self.inside.rows c.args.self.now c.args.place c.in-Some.key c.args.object old u c.update.new.self row done.4 c.args.name.now c.args.value c.update.result said
+returns-clause-answer c = (name_written (changed c) c.args.name.now c.args.value c.update.result c.update.ensures.3.met).answer
 
 pub returns-clause-new : goal.returns-clause-new
-returns-clause-new c =
-    let done = c.update.ensures in
-    let old = done.0 in
-    let row = done.1 in
-    let u : IsUnder c.self.inside.layouts c.self.inside.rows c.args.self.now c.args.place c.in-Some.key c.args.object old =
-    record { kept = c.self.invariant; view_is = c.self.view_is; is_place = c.requires.place; sound = c.find.ensures.sound; found = sym c.in-Some.ensures.found; under = done.2 } in
-    let said = named_by c.self.inside.layouts done.3.shown.now done.3.left.now old row done.3.shows done.3.leaves c.args.name.now c.args.value c.update.result done.3.met in
-    named_view c.self.inside.layouts c.self.inside.rows c.args.self.now c.args.place c.in-Some.key c.args.object old u c.update.new.self row done.4 c.args.name.now c.args.value c.update.result said
+returns-clause-new c = (name_written (changed c) c.args.name.now c.args.value c.update.result c.update.ensures.3.met).new_is
 
 pub returns-clause-err : goal.returns-clause-err
-returns-clause-err c =
-    let done = c.update.ensures in
-    let old = done.0 in
-    let row = done.1 in
-    let u : IsUnder c.self.inside.layouts c.self.inside.rows c.args.self.now c.args.place c.in-Some.key c.args.object old =
-    record { kept = c.self.invariant; view_is = c.self.view_is; is_place = c.requires.place; sound = c.find.ensures.sound; found = sym c.in-Some.ensures.found; under = done.2 } in
-    let said = named_by c.self.inside.layouts done.3.shown.now done.3.left.now old row done.3.shows done.3.leaves c.args.name.now c.args.value c.update.result done.3.met in
-    named_same c.self.inside.layouts c.self.inside.rows c.args.self.now c.args.place c.in-Some.key c.args.object old u c.update.new.self row done.4 c.args.name.now c.args.value c.update.result said
+returns-clause-err c = (name_written (changed c) c.args.name.now c.args.value c.update.result c.update.ensures.3.met).err
