@@ -1,7 +1,7 @@
 -- Values of the kinds of their properties.
-use Rattle.std.proofs.Common.{◌≡◌, ◌∙◌, ℕ, Bor, Bool, true, false, cond, ℤ, unsigned_abs, IfSome, List, Option, Some, None, length, map, get_or, set, refl, sym, ap, subst, arith}
+use Rattle.std.proofs.Common.{◌≡◌, ◌∙◌, ℕ, Bor, Bool, true, false, cond, ℤ, unsigned_abs, IfSome, List, Option, Some, None, Ok, Err, length, map, get_or, set, refl, sym, ap, subst, arith}
 use Rattle.std.specs.List.{slice_get}
-use Rattle.std.specs.Option.{option_map}
+use Rattle.std.specs.Option.{ok_or, option_map}
 use Rattle.std.specs.Prelude.{option_and_then}
 use Rattle.std.proofs.lemmas.List.{length-map, map-set, set-get_or}
 use Rattle.std.proofs.lemmas.List.Elements.{All-map, All-set}
@@ -121,3 +121,12 @@ stored_sound of number value sound short = by (slice_get of.fields number) refl
         fits : (fit : Option Value) → converted field.kind value ≡ fit → AreSound (record of { values = with_fit fit number of.values })
         fits None none = sound
         fits (Some fit) some = let kind = converted_fits field.kind value fit short some in with_value_sound of sound number fit field is kind.0 kind.1
+
+-- what is converted where a conversion is told
+pub ok_or_none : {X E : Type 0} (o : Option X) (e d : E) → Err e ≡ ok_or o d → o ≡ None
+ok_or_none None e d is = refl
+ok_or_none (Some x) e d is = absurd (cc)
+
+pub ok_or_some : {X E : Type 0} (o : Option X) (x : X) (d : E) → Ok x ≡ ok_or o d → o ≡ Some x
+ok_or_some None x d is = absurd (cc)
+ok_or_some (Some y) x d is = let same : y ≡ x = cc in ap Some same

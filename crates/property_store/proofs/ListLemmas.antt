@@ -2,7 +2,7 @@
 use Rattle.std.proofs.Common.{◌≡◌, ◌∙◌, ℕ, zero, suc, ◌+◌, ◌<◌, ◌≤◌, nat_lt, not, Bool, true, false, cond, List, [], ◌∷◌, Option, Some, None, filter, find, map, length, get_or, refl, sym, ap, arith, ⊎_elim}
 use Rattle.std.specs.List.{All, AllPairs, position, position_or_len, remove, slice_get}
 use Rattle.std.specs.Option.{option_map}
-use Rattle.std.proofs.lemmas.Bool.{cases_Bool, cases_lt, le-ltb, lt-ltb}
+use Rattle.std.proofs.lemmas.Bool.{cases_Bool, cases_lt, le-ltb, lt-ltb, ltb-true}
 use Rattle.std.proofs.lemmas.List.Folds.{find_at}
 use Rattle.std.proofs.lemmas.Option.{slice_get-get_or, slice_get_past}
 
@@ -95,6 +95,10 @@ mapped f (Some x) y e = let gives : f x ≡ y = cc in record { x = x; is = refl;
 pub unmapped : {X Y : Type 0} (f : X → Y) (o : Option X) → option_map f o ≡ None → o ≡ None
 unmapped f None e = refl
 unmapped f (Some x) e = absurd (cc)
+
+-- what a look-up tells
+pub looked_up : {X : Type 0} (xs : List X) (k : ℕ) (x : X) → true ≡ nat_lt k (length xs) → x ≡ get_or xs k x → slice_get xs k ≡ Some x
+looked_up xs k x within is = slice_get-get_or xs k x (ltb-true k (length xs) (sym within)) ∙ ap Some (sym is)
 
 -- where a test passes first
 module _ {X : Type 0} (p : X → Bool) (xs : List X) where
