@@ -1,7 +1,8 @@
 -- Lists of what is found, one after another.
-use Rattle.std.proofs.Common.{◌≡◌, ◌+◌, ◌<◌, ℕ, Option, Some, None, get_or, Bool, true, false, List, [], ◌∷◌, ◌++◌, Result, Ok, Err, IsErrAnd, subst, if◌then◌else◌, drop, length, refl, sym, ap, ◌∙◌, append_assoc}
-use Rattle.std.proofs.lemmas.List.{append-nil, drop_more}
-use Rattle.std.specs.Option.{ok_or}
+use Rattle.std.proofs.Common.{◌≡◌, ◌+◌, ◌<◌, ◌≤◌, ℕ, Bor, Option, Some, None, get_or, Bool, true, false, List, [], ◌∷◌, ◌++◌, Result, Ok, Err, IsErrAnd, subst, if◌then◌else◌, drop, length, refl, sym, ap, ◌∙◌, append_assoc, arith}
+use Rattle.std.proofs.lemmas.List.{append-nil, drop_all, drop_more}
+use Rattle.std.specs.List.{HoldsAt}
+use Rattle.std.specs.Option.{MatchOption, ok_or, option_copied, option_map_or}
 use Rattle.refusals.specs.declared.code.Code.{Code}
 use Rattle.refusals.specs.declared.code.Code.TheVariants.{BadValue, DoesNotFit}
 use Rattle.refusals.specs.Answers.{Answers}
@@ -52,33 +53,43 @@ module _ (state : State) (self sender : ℕ) (args : List Value) where
       ap (λ terms. behind done (all_evaluated state self sender args terms)) here
       ∙ ap (λ (first : Found Value). behind done (first >>= λ value. all_evaluated state self sender args after >>= λ values. Ok (value ∷ values))) is
 
--- one more value is converted
-pub converted_more : (done : List Value) (kind : Kind) (kinds kinds' : List Kind) (value new : Value) (values : List Value) → kinds ≡ kind ∷ kinds' → ok_or (converted kind value) value ≡ Ok new
-    → behind (done ++ new ∷ []) (all_converted kinds' values) ≡ behind done (all_converted kinds (value ∷ values))
-converted_more done kind kinds kinds' value new values here is =
-    behind_more done new (all_converted kinds' values)
-    ∙ ap (λ (first : Found Value). behind done (first >>= λ value. all_converted kinds' values >>= λ values. Ok (value ∷ values))) (sym (other_error (converted kind value) value new is))
-    ∙ ap (λ kinds. behind done (all_converted kinds (value ∷ values))) (sym here)
-  where
-    other_error : (found : Option Value) (value new : Value) → ok_or found value ≡ Ok new → ok_or found BadValue ≡ Ok new
-    other_error (Some x) value new is = cc
-    other_error None value new is = absurd (cc)
+-- a value as one of the kind that was found for it
+abbrev pub value_as : Option (Bor Kind) → Value → Found Value
+value_as found value = option_map_or (λ kind. ok_or (converted kind value) BadValue) (option_copied found) (Err BadValue)
 
--- a value that cannot be converted ends it
-pub converted_refused : (done : List Value) (kind : Kind) (kinds kinds' : List Kind) (value old : Value) (values : List Value) → kinds ≡ kind ∷ kinds' → ok_or (converted kind value) value ≡ Err old
-    → behind done (all_converted kinds (value ∷ values)) ≡ Err BadValue
-converted_refused done kind kinds kinds' value old values here is =
-    ap (λ kinds. behind done (all_converted kinds (value ∷ values))) here
-    ∙ ap (λ (first : Found Value). behind done (first >>= λ value. all_converted kinds' values >>= λ values. Ok (value ∷ values))) (other_error (converted kind value) value old is)
-  where
-    other_error : (found : Option Value) (value old : Value) → ok_or found value ≡ Err old → ok_or found BadValue ≡ Err BadValue
-    other_error (Some x) value old is = absurd (cc)
-    other_error None value old is = refl
+-- the kind at an index, where there is one
+abbrev pub IsKindAt : List Kind → ℕ → Option (Bor Kind) → Type 0
+IsKindAt kinds at found = MatchOption found (length kinds ≤ at) (λ kind. (at < length kinds) × HoldsAt (λ its. kind.now ≡ its) kinds at)
 
--- more values than kinds, or fewer
-pub converted_surplus : (done : List Value) (kinds : List Kind) (value : Value) (values : List Value) → kinds ≡ [] → behind done (all_converted kinds (value ∷ values)) ≡ Err BadValue
-converted_surplus done kinds value values none = ap (λ kinds. behind done (all_converted kinds (value ∷ values))) none
+module _ (done : List Value) (kinds : List Kind) (at : ℕ) (value : Value) (values : List Value) where
+  -- the next value is converted, and then those behind it
+  converted_next : (found : Option (Bor Kind)) → IsKindAt kinds at found
+      → behind done (all_converted (drop at kinds) (value ∷ values)) ≡ behind done (value_as found value >>= λ first. all_converted (drop (at + 1) kinds) values >>= λ rest. Ok (first ∷ rest))
+  converted_next None past = ap (λ kinds. behind done (all_converted kinds (value ∷ values))) (drop_all at kinds past)
+  converted_next (Some kind) met = ap (λ kinds. behind done (all_converted kinds (value ∷ values))) (item_at kinds at kind.now met.0 (met.1 kind.now))
 
+  -- one more value is converted
+  pub converted_more : (found : Option (Bor Kind)) → IsKindAt kinds at found → (new : Value) → Ok new ≡ value_as found value
+      → behind (done ++ new ∷ []) (all_converted (drop (at + 1) kinds) values) ≡ behind done (all_converted (drop at kinds) (value ∷ values))
+  converted_more found met new made =
+      behind_more done new (all_converted (drop (at + 1) kinds) values)
+      ∙ ap (λ (first : Found Value). behind done (first >>= λ value. all_converted (drop (at + 1) kinds) values >>= λ values. Ok (value ∷ values))) made
+      ∙ sym (converted_next found met)
+
+  -- a value that cannot be converted ends it
+  pub converted_refused : (found : Option (Bor Kind)) → IsKindAt kinds at found → (code : Code) → Err code ≡ value_as found value
+      → behind done (all_converted (drop at kinds) (value ∷ values)) ≡ Err code
+  converted_refused found met code refused =
+      converted_next found met
+      ∙ ap (λ (first : Found Value). behind done (first >>= λ value. all_converted (drop (at + 1) kinds) values >>= λ values. Ok (value ∷ values))) (sym refused)
+
+-- a kind that a value was found for stands before the end
+pub kind_within : (kinds : List Kind) (at : ℕ) (value new : Value) (found : Option (Bor Kind)) → IsKindAt kinds at found → Ok new ≡ value_as found value → at + 1 ≤ length kinds
+kind_within kinds at value new None past made = absurd (cc)
+kind_within kinds at value new (Some kind) met made = omega (arith, met.0)
+
+-- fewer values than kinds
+-- fewer values than kinds
 pub converted_short : (done : List Value) (kind : Kind) (kinds kinds' : List Kind) (values : List Value) → kinds ≡ kind ∷ kinds' → values ≡ [] → behind done (all_converted kinds values) ≡ Err BadValue
 converted_short done kind kinds kinds' values here none = ap (λ kinds. behind done (all_converted kinds values)) here ∙ ap (λ values. behind done (all_converted (kind ∷ kinds') values)) none
 

@@ -1,8 +1,11 @@
 //! The objects that actions name, and the values of their expressions.
-ghost use Rattle.std.specs.Prelude.{◌≡◌, IfOk};
+ghost use Rattle.std.specs.Prelude.{◌≡◌, Err, IfOk};
+ghost use Rattle.std.specs.Option.{ok_or, option_copied, option_map_or};
 ghost use Rattle.refusals.specs.Answers.{Answers};
+ghost use Rattle.refusals.specs.declared.code.Code.TheVariants.{BadValue};
 ghost use Rattle.thread_model.specs.Targets.{all_converted, all_evaluated, evaluated, named_object_of, object_of, truth_evaluated};
 ghost use Rattle.session_tables.specs.Tables.{IsPlaced, state_at};
+ghost use Rattle.variant_value.specs.Values.{converted};
 
 use plain_types::{Items, Text};
 use refusals::{Code, Fault};
@@ -134,17 +137,24 @@ pub fn all_converted(
     let mut converted = Items::new(alloc);
     let mut at = 0;
     for value in values.into_vec() {
-        let Some(kind) = kinds.get(at) else {
-            return Err(Fault::Refused(Code::BadValue));
-        };
-        let Ok(value) = value.convert(*kind) else {
-            return Err(Fault::Refused(Code::BadValue));
-        };
-        converted.push(value)?;
+        converted.push(value_as(value, kinds.get(at))?)?;
         at += 1;
     }
     if at < kinds.len() {
         return Err(Fault::Refused(Code::BadValue));
     }
     Ok(converted)
+}
+
+/// The value as one of this kind, where there is a kind.
+fn value_as(value: Value, kind: Option<&Kind>) -> Result<Value, Code>
+    ensures { result ≡ option_map_or (λ kind. ok_or (converted kind value) BadValue) (option_copied kind.entry) (Err BadValue) }
+{
+    let Some(kind) = kind else {
+        return Err(Code::BadValue);
+    };
+    match value.convert(*kind) {
+        Ok(value) => Ok(value),
+        Err(_) => Err(Code::BadValue),
+    }
 }
