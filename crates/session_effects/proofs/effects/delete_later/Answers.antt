@@ -1,4 +1,5 @@
-use Rattle.std.proofs.Common.{sym, ◌∙◌}
+use Rattle.std.proofs.Common.{sym, ◌∙◌, arith}
+use Rattle.std.proofs.lemmas.Grind.{common_steps}
 use Rattle.thread_model.specs.Doing.{in_state, posted}
 use Rattle.thread_model.proofs.ActionLemmas.{delete_later_done}
 use Rattle.thread_model.specs.Targets.{object_of}
@@ -15,3 +16,9 @@ returns-clause-tries c = λ doing.
     delete_later_done (settings_of c.args.caller.now.setup.now) slot.object slot.sender slot.args.now slot.depth (in_state doing (state_at c.args.tables.now c.args.caller.now.place)) c.args.target.now c.in_ok-receiver.receiver (c.in_ok-receiver.ensures ∙ read_as (λ state object sender. object_of state object sender c.args.target.now) r.tables r.place r.object r.sender)
     (sym c.in_ok-check_living.ensures) (room_by _ c.in_ok-check_room.ensures)
     ∙ put_at c.args.tables.now c.post.new.self c.args.caller.now.place _ doing c.requires c.in_ok-post.ensures.ok
+
+pub returns-in_err-check_living : goal.returns-in_err-check_living
+returns-in_err-check_living c = grind (arith, common_steps)
+
+pub returns-in_err-check_room : goal.returns-in_err-check_room
+returns-in_err-check_room c = grind (arith, common_steps)
