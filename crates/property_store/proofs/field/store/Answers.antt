@@ -1,13 +1,34 @@
-use Rattle.std.proofs.Common.{◌≡◌, Some, arith, slice_get}
-use Rattle.std.proofs.lemmas.Option.{slice_get_within}
+use Rattle.std.proofs.Common.{◌≡◌, Some, arith, length, refl, rules, slice_get, sym}
+use Rattle.std.proofs.lemmas.Bool.{ltb-true}
+use Rattle.variant_value.specs.Values.{converted}
 use Rattle.property_store.proofs.ListLemmas.{looked_up}
 use Rattle.property_store.proofs.field.store.Goals as goal
 
+pub put-requires : goal.put-requires
+put-requires c = omega (arith, c.requires, ltb-true c.args.number (length c.args.fields.now) (sym c.in-Some.ensures.lookup.0))
+
+pub store_converted-requires : goal.store_converted-requires
+store_converted-requires c = omega (arith, c.requires, ltb-true c.args.number (length c.args.fields.now) (sym c.in-Some.ensures.lookup.0))
+
+-- a value of the kind
+here : (c : goal.After-put) → slice_get c.args.fields.now c.args.number ≡ Some c.in-Some.field.now
+here c = looked_up c.args.fields.now c.args.number c.in-Some.field.now c.in-Some.ensures.lookup.0 c.in-Some.ensures.lookup.1
+
+fits : (c : goal.After-put) → converted c.in-Some.field.now.kind c.args.value ≡ Some c.args.value
+fits c = search rules
+
+pub returns-then-eq-clause-refused : goal.returns-then-eq-clause-refused
+returns-then-eq-clause-refused c = rw (here c, fits c) refl
+
+pub returns-then-eq-clause-answer : goal.returns-then-eq-clause-answer
+returns-then-eq-clause-answer c = rw (here c, fits c) c.put.ensures.changed
+
+pub returns-then-eq-clause-new : goal.returns-then-eq-clause-new
+returns-then-eq-clause-new c = rw (here c, fits c) c.put.ensures.new
+
+-- a value of another kind
 there : (c : goal.After-store_converted) → slice_get c.args.fields.now c.args.number ≡ Some c.in-Some.field.now
 there c = looked_up c.args.fields.now c.args.number c.in-Some.field.now c.in-Some.ensures.lookup.0 c.in-Some.ensures.lookup.1
-
-pub put-requires : goal.put-requires
-put-requires c = omega (arith, c.requires, slice_get_within c.args.fields.now c.args.number c.in-Some.field.now (looked_up c.args.fields.now c.args.number c.in-Some.field.now c.in-Some.ensures.lookup.0 c.in-Some.ensures.lookup.1))
 
 pub returns-clause-refused : goal.returns-clause-refused
 returns-clause-refused c = rw (there c) c.store_converted.ensures.refused
