@@ -18,7 +18,7 @@ use Rattle.property_store.proofs.ListLemmas.{found, map_same, mapped, unmapped}
 use Rattle.property_store.proofs.KindLemmas.{fresh_sound}
 use Rattle.property_store.proofs.StoreLemmas.{IsRowOf, absent_none, absent_unchanged, added_shown, changed_shown, number, properties_shown, row_stands, there}
 
-module _ (layouts : List (List Field)) (rows : Table (List (Keyed Row))) (seen : Shelves) (view_is : shelves_of layouts rows ≡ seen) (place : ℕ) where
+module _ {layouts : List (List Field)} (rows : Table (List (Keyed Row))) {seen : Shelves} (view_is : shelves_of layouts rows ≡ seen) (place : ℕ) where
   pub rows_open : IsPlace seen.table place → IsPlace rows place
   rows_open is_place = omega (arith, is_place, ap (λ (s : Shelves). length s.table.places) view_is, length-map rows.places (store_of layouts))
 
@@ -81,9 +81,9 @@ store_sound layouts rows sound each = record { rising = rising rows sound; each 
         omega (arith, rise, at_i, at_j)
 
 -- what is read of a place
-module _ (layouts : List (List Field)) (rows : Table (List (Keyed Row))) (seen : Shelves) (view_is : shelves_of layouts rows ≡ seen) (place : ℕ) (is_place : IsPlace seen.table place) (n : ℕ) where
+module _ {layouts : List (List Field)} (rows : Table (List (Keyed Row))) {seen : Shelves} (view_is : shelves_of layouts rows ≡ seen) (place : ℕ) (is_place : IsPlace seen.table place) (n : ℕ) where
   properties_there : properties_of (store_at seen place) n ≡ option_map (shown layouts) (row_of (rows_at rows place) n)
-  properties_there = ap (λ s. properties_of s n) (store_there layouts rows seen view_is place is_place) ∙ properties_shown layouts (rows_at rows place) n
+  properties_there = ap (λ s. properties_of s n) (store_there rows view_is place is_place) ∙ properties_shown layouts (rows_at rows place) n
 
   pub one_there : (row : Row) → Some row ≡ row_of (rows_at rows place) n → properties_of (store_at seen place) n ≡ Some (shown layouts row)
   one_there row e = properties_there ∙ ap (option_map (shown layouts)) (sym e)
@@ -94,11 +94,11 @@ module _ (layouts : List (List Field)) (rows : Table (List (Keyed Row))) (seen :
   -- no row has the number
   module _ (none : key_of number (rows_at rows place) n ≡ None) where
     pub nothing : properties_of (store_at seen place) n ≡ None
-    nothing = ap (λ s. properties_of s n) (store_there layouts rows seen view_is place is_place) ∙ absent_none layouts (rows_at rows place) n none
+    nothing = ap (λ s. properties_of s n) (store_there rows view_is place is_place) ∙ absent_none layouts (rows_at rows place) n none
 
     pub nothing_changed : (change : Properties → Properties) → seen ≡ with_store seen place (changed change n (store_at seen place))
     nothing_changed change =
-        let there = store_there layouts rows seen view_is place is_place in
+        let there = store_there rows view_is place is_place in
         unchanged_store seen place (changed change n (store_at seen place)) (ap (changed change n) there ∙ (absent_unchanged layouts (rows_at rows place) n none change ∙ sym there))
 
 -- the row of a number is lent to a call, which changes it where it stands
@@ -123,13 +123,13 @@ module _ {layouts : List (List Field)} {rows new : Table (List (Keyed Row))} {se
   with_new = it.new_is ∙ ap (λ r. with_place rows place (with_row (rows_at rows place) key r)) (sym it.leaves)
 
   each_sound : AreRows layouts (rows_at rows place)
-  each_sound = it.kept place [] (rows_open layouts rows seen it.view_is place it.is_place)
+  each_sound = it.kept place [] (rows_open rows it.view_is place it.is_place)
 
   is_row : IsRowOf (rows_at rows place) key n old
   is_row = row_stands (rows_at rows place) it.sound key n old it.found under_old
 
   pub old_there : properties_of (store_at seen place) n ≡ Some (shown layouts old)
-  old_there = ap (λ s. properties_of s n) (store_there layouts rows seen it.view_is place it.is_place) ∙ there layouts (rows_at rows place) key n old is_row
+  old_there = ap (λ s. properties_of s n) (store_there rows it.view_is place it.is_place) ∙ there layouts (rows_at rows place) key n old is_row
 
   pub old_sound : AreSound (shown layouts old)
   old_sound = under_sound layouts (rows_at rows place) each_sound key old under_old
@@ -139,8 +139,8 @@ module _ {layouts : List (List Field)} {rows new : Table (List (Keyed Row))} {se
 
   pub view_under : (change : Properties → Properties) → shown layouts row ≡ change (shown layouts old) → shelves_of layouts new ≡ with_store seen place (changed change n (store_at seen place))
   view_under change e =
-      after layouts rows seen it.view_is place new (with_row (rows_at rows place) key row) (changed change n (store_at seen place)) with_new
-      (changed_shown layouts (rows_at rows place) key n old is_row row change e ∙ ap (changed change n) (sym (store_there layouts rows seen it.view_is place it.is_place)))
+      after rows it.view_is place new (with_row (rows_at rows place) key row) (changed change n (store_at seen place)) with_new
+      (changed_shown layouts (rows_at rows place) key n old is_row row change e ∙ ap (changed change n) (sym (store_there rows it.view_is place it.is_place)))
 
   pub view_same : shown layouts row ≡ shown layouts old → shelves_of layouts new ≡ seen
   view_same e =
@@ -159,23 +159,23 @@ found_sound layouts rows sound n row e =
     subst (λ (r : Row). AreSound (shown layouts r)) there.gives (subst (λ (keyed : Keyed Row). AreSound (shown layouts keyed.row)) (is.is there.x) (sound is.at there.x is.within))
 
 -- an object that comes
-module _ (layouts : List (List Field)) (rows : Table (List (Keyed Row))) (seen : Shelves) (view_is : shelves_of layouts rows ≡ seen) (place : ℕ) (is_place : IsPlace seen.table place) (n : ℕ) where
+module _ {layouts : List (List Field)} (rows : Table (List (Keyed Row))) {seen : Shelves} (view_is : shelves_of layouts rows ≡ seen) (place : ℕ) (is_place : IsPlace seen.table place) (n : ℕ) where
   pub no_key : properties_of (store_at seen place) n ≡ None → key_of number (rows_at rows place) n ≡ None
   no_key none =
-      let nowhere = unmapped (shown layouts) (row_of (rows_at rows place) n) (sym (properties_there layouts rows seen view_is place is_place n) ∙ none) in
+      let nowhere = unmapped (shown layouts) (row_of (rows_at rows place) n) (sym (properties_there rows view_is place is_place n) ∙ none) in
       ap (option_map (λ (keyed : Keyed Row). keyed.key)) (unmapped (λ (keyed : Keyed Row). keyed.row) (find (λ keyed. keyed.row.object == n) (rows_at rows place)) nowhere)
 
   module _ (kept : AreKept layouts rows) (class key : ℕ) (row : Row) (is : shown layouts row ≡ fresh n (fields_in layouts class)) (new : Table (List (Keyed Row))) (e : new ≡ with_place rows place (inserted number (rows_at rows place) key row)) where
     pub new_kept : AreKept layouts new
     new_kept =
         kept_with layouts rows kept place new (inserted number (rows_at rows place) key row) e
-        (inserted_sound layouts (rows_at rows place) (kept place [] (rows_open layouts rows seen view_is place is_place)) key row (subst AreSound (sym is) (fresh_sound n (fields_in layouts class))))
+        (inserted_sound layouts (rows_at rows place) (kept place [] (rows_open rows view_is place is_place)) key row (subst AreSound (sym is) (fresh_sound n (fields_in layouts class))))
 
     pub new_added : shelves_of layouts new ≡ with_store seen place (added (store_at seen place) n (fields_in seen.layouts class))
     new_added =
-        let there = store_there layouts rows seen view_is place is_place in
+        let there = store_there rows view_is place is_place in
         let object : row.object ≡ n = ap (λ (of : Properties). of.object) is in
-        after layouts rows seen view_is place new (inserted number (rows_at rows place) key row) (added (store_at seen place) n (fields_in seen.layouts class)) e
+        after rows view_is place new (inserted number (rows_at rows place) key row) (added (store_at seen place) n (fields_in seen.layouts class)) e
         (added_shown layouts (rows_at rows place) key row
         ∙ (ap (λ m. filter (λ (of : Properties). nat_lt of.object m) (store_of layouts (rows_at rows place)) ++ shown layouts row ∷ filter (λ (of : Properties). nat_lt m of.object) (store_of layouts (rows_at rows place))) object
         ∙ (ap (λ of. filter (λ (of : Properties). nat_lt of.object n) (store_of layouts (rows_at rows place)) ++ of ∷ filter (λ (of : Properties). nat_lt n of.object) (store_of layouts (rows_at rows place))) is

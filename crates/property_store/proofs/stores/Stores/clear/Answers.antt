@@ -3,4 +3,4 @@ use Rattle.property_store.proofs.PlaceLemmas.{after}
 use Rattle.property_store.proofs.stores.Stores.clear.Goals as goal
 
 pub returns : goal.returns
-returns c = after c.self.inside.layouts c.self.inside.rows c.args.self.now c.self.view_is c.args.place c.clear.new.self [] [] c.clear.ensures refl
+returns c = after c.self.inside.rows c.self.view_is c.args.place c.clear.new.self [] [] c.clear.ensures refl

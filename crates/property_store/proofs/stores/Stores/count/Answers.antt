@@ -6,5 +6,5 @@ use Rattle.property_store.proofs.stores.Stores.count.Goals as goal
 
 pub returns-clause-sound : goal.returns-clause-sound
 returns-clause-sound c =
-    subst IsSound (sym (store_there c.self.inside.layouts c.self.inside.rows c.args.self.now c.self.view_is c.args.place c.requires))
-    (store_sound c.self.inside.layouts (rows_at c.self.inside.rows c.args.place) c.len.ensures.sound (c.self.invariant c.args.place _ (rows_open c.self.inside.layouts c.self.inside.rows c.args.self.now c.self.view_is c.args.place c.requires)))
+    subst IsSound (sym (store_there c.self.inside.rows c.self.view_is c.args.place c.requires))
+    (store_sound c.self.inside.layouts (rows_at c.self.inside.rows c.args.place) c.len.ensures.sound (c.self.invariant c.args.place _ (rows_open c.self.inside.rows c.self.view_is c.args.place c.requires)))

@@ -7,10 +7,10 @@ use Rattle.property_store.proofs.stores.Stores.declared.Goals as goal
 pub returns-in_err-row : goal.returns-in_err-row
 returns-in_err-row c =
     c.from_residual.ensures
-    ∙ ap (option_and_then (λ (of : Properties). declared_in c.args.name.now of.fields)) (sym (none_there c.self.inside.layouts c.self.inside.rows c.args.self.now c.self.view_is c.args.place c.requires c.args.object c.in_err-row.ensures))
+    ∙ ap (option_and_then (λ (of : Properties). declared_in c.args.name.now of.fields)) (sym (none_there c.self.inside.rows c.self.view_is c.args.place c.requires c.args.object c.in_err-row.ensures))
 
 pub returns : goal.returns
 returns c =
     c.declared_in.ensures
     ∙ (ap (declared_in c.args.name.now) c.fields_in.ensures
-    ∙ ap (option_and_then (λ (of : Properties). declared_in c.args.name.now of.fields)) (sym (one_there c.self.inside.layouts c.self.inside.rows c.args.self.now c.self.view_is c.args.place c.requires c.args.object c.in_ok-row.row.now c.in_ok-row.ensures)))
+    ∙ ap (option_and_then (λ (of : Properties). declared_in c.args.name.now of.fields)) (sym (one_there c.self.inside.rows c.self.view_is c.args.place c.requires c.args.object c.in_ok-row.row.now c.in_ok-row.ensures)))

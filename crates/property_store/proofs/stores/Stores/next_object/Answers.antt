@@ -9,4 +9,4 @@ pub returns : goal.returns
 returns c =
     c.first_above.ensures
     ∙ (sym (next_shown c.self.inside.layouts (rows_at c.self.inside.rows c.args.place) c.args.after)
-    ∙ ap (λ store. next_object store c.args.after) (sym (store_there c.self.inside.layouts c.self.inside.rows c.args.self.now c.self.view_is c.args.place c.requires)))
+    ∙ ap (λ store. next_object store c.args.after) (sym (store_there c.self.inside.rows c.self.view_is c.args.place c.requires)))

@@ -12,10 +12,10 @@ changed c =
     record { kept = c.self.invariant; view_is = c.self.view_is; is_place = c.requires; sound = c.find.ensures.sound; found = sym c.in-Some.ensures.found; lent = done.0; under = done.2; lends = done.3.shows; left = done.1; leaves = done.3.leaves; new_is = done.4 }
 
 pub returns-in_default : goal.returns-in_default
-returns-in_default c = nothing_changed c.self.inside.layouts c.self.inside.rows c.args.self.now c.self.view_is c.args.place c.requires c.args.object (sym c.in_default.ensures.found) (without_dynamic c.args.name.now)
+returns-in_default c = nothing_changed c.self.inside.rows c.self.view_is c.args.place c.requires c.args.object (sym c.in_default.ensures.found) (without_dynamic c.args.name.now)
 
 pub update-requires-clause-callable : goal.update-requires-clause-callable
-update-requires-clause-callable c = λ lent under. (under_sound c.self.inside.layouts (rows_at c.self.inside.rows c.args.place) (c.self.invariant c.args.place [] (rows_open c.self.inside.layouts c.self.inside.rows c.args.self.now c.self.view_is c.args.place c.requires)) c.in-Some.key lent.now under).distinct
+update-requires-clause-callable c = λ lent under. (under_sound c.self.inside.layouts (rows_at c.self.inside.rows c.args.place) (c.self.invariant c.args.place [] (rows_open c.self.inside.rows c.self.view_is c.args.place c.requires)) c.in-Some.key lent.now under).distinct
 
 pub invariant_of-self : goal.invariant_of-self
 invariant_of-self c = removed_kept (changed c) c.update.ensures.3.met

@@ -11,10 +11,10 @@ changed c =
     record { kept = c.self.invariant; view_is = c.self.view_is; is_place = c.requires.place; sound = c.find.ensures.sound; found = sym c.in-Some.ensures.found; lent = done.0; under = done.2; lends = done.3.shows; left = done.1; leaves = done.3.leaves; new_is = done.4 }
 
 pub returns-in_default-clause-refused : goal.returns-in_default-clause-refused
-returns-in_default-clause-refused c = rw (nothing c.self.inside.layouts c.self.inside.rows c.args.self.now c.self.view_is c.args.place c.requires.place c.args.object (sym c.in_default.ensures.found)) refl
+returns-in_default-clause-refused c = rw (nothing c.self.inside.rows c.self.view_is c.args.place c.requires.place c.args.object (sym c.in_default.ensures.found)) refl
 
 pub returns-in_default-clause-ok : goal.returns-in_default-clause-ok
-returns-in_default-clause-ok c = nothing_changed c.self.inside.layouts c.self.inside.rows c.args.self.now c.self.view_is c.args.place c.requires.place c.args.object (sym c.in_default.ensures.found) (with_dynamic c.args.name c.args.value)
+returns-in_default-clause-ok c = nothing_changed c.self.inside.rows c.self.view_is c.args.place c.requires.place c.args.object (sym c.in_default.ensures.found) (with_dynamic c.args.name c.args.value)
 
 pub invariant_of-self : goal.invariant_of-self
 invariant_of-self c = set_kept (changed c) c.update.ensures.3.met c.requires.short

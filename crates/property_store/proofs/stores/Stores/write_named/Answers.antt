@@ -12,13 +12,13 @@ changed c =
     record { kept = c.self.invariant; view_is = c.self.view_is; is_place = c.requires.place; sound = c.find.ensures.sound; found = sym c.in-Some.ensures.found; lent = done.0; under = done.2; lends = done.3.shows; left = done.1; leaves = done.3.leaves; new_is = done.4 }
 
 pub returns-in_default-clause-answer : goal.returns-in_default-clause-answer
-returns-in_default-clause-answer c = (nothing_named c.args.self.now c.args.place c.args.object c.args.value (nothing c.self.inside.layouts c.self.inside.rows c.args.self.now c.self.view_is c.args.place c.requires.place c.args.object (sym c.in_default.ensures.found)) c.args.name.now).answer
+returns-in_default-clause-answer c = (nothing_named c.args.self.now c.args.place c.args.object c.args.value (nothing c.self.inside.rows c.self.view_is c.args.place c.requires.place c.args.object (sym c.in_default.ensures.found)) c.args.name.now).answer
 
 pub returns-in_default-clause-new : goal.returns-in_default-clause-new
-returns-in_default-clause-new c = (nothing_named c.args.self.now c.args.place c.args.object c.args.value (nothing c.self.inside.layouts c.self.inside.rows c.args.self.now c.self.view_is c.args.place c.requires.place c.args.object (sym c.in_default.ensures.found)) c.args.name.now).new_is
+returns-in_default-clause-new c = (nothing_named c.args.self.now c.args.place c.args.object c.args.value (nothing c.self.inside.rows c.self.view_is c.args.place c.requires.place c.args.object (sym c.in_default.ensures.found)) c.args.name.now).new_is
 
 pub update-requires-clause-callable : goal.update-requires-clause-callable
-update-requires-clause-callable c = λ lent under. as_many _ (under_sound c.self.inside.layouts (rows_at c.self.inside.rows c.args.place) (c.self.invariant c.args.place [] (rows_open c.self.inside.layouts c.self.inside.rows c.args.self.now c.self.view_is c.args.place c.requires.place)) c.in-Some.key lent.now under)
+update-requires-clause-callable c = λ lent under. as_many _ (under_sound c.self.inside.layouts (rows_at c.self.inside.rows c.args.place) (c.self.invariant c.args.place [] (rows_open c.self.inside.rows c.self.view_is c.args.place c.requires.place)) c.in-Some.key lent.now under)
 
 pub invariant_of-self : goal.invariant_of-self
 invariant_of-self c = name_kept (changed c) c.args.name.now c.args.value c.update.result c.update.ensures.3.met c.requires.short
