@@ -115,14 +115,6 @@ without_dynamic_sound of name sound = record {
 }
 
 -- what a call that may be refused leaves
-pub on_ok_same : {T : Type 0} {P Q : Type 0} (done : Result T Fault) → OnOk done P → (P → Q) → OnOk done Q
-on_ok_same (Ok value) holds gives = gives holds
-on_ok_same (Err fault) holds gives = tt
-
-pub on_err_same : {T : Type 0} {P Q : Type 0} (done : Result T Fault) → OnErr done P → (P → Q) → OnErr done Q
-on_err_same (Ok value) holds gives = tt
-on_err_same (Err fault) holds gives = gives holds
-
 pub either_sound : (of : Properties) (name : List ℕ) (value : Value) → AreSound of → IsShort value → (dynamic : List Named) {T : Type 0} (done : Result T Fault) → RefusedBy (refusal_of_name name of.dynamic) done → OnOk done (dynamic ≡ with_name name value of.dynamic) → OnErr done (dynamic ≡ of.dynamic)
     → AreSound (record of { dynamic = dynamic })
 either_sound of name value sound short dynamic (Ok v) refused ok err = subst (λ d. AreSound (record of { dynamic = d })) (sym ok) (with_dynamic_sound of name value sound short refused)

@@ -4,6 +4,7 @@ use Rattle.std.specs.List.{slice_get}
 use Rattle.std.specs.Option.{option_map, option_map_or}
 use Rattle.std.specs.Prelude.{option_and_then}
 use Rattle.std.specs.Result.{result_err}
+use Rattle.std.proofs.lemmas.Result.{on_err_weaker, on_ok_weaker}
 use Rattle.places.specs.Table.{Table}
 use Rattle.shared_rows.specs.Rows.{Keyed}
 use Rattle.refusals.specs.Answers.{RefusedBy}
@@ -22,7 +23,7 @@ use Rattle.property_store.specs.Named.{answer_named, declared_at, written_named}
 use Rattle.property_store.specs.Store.{AreSound, Properties, Store, changed, dynamic_refusal, field_number, fields_in, is_change, properties_of, with_dynamic, with_value, without_dynamic, write_refusal, written}
 use Rattle.property_store.specs.Storing.{IsNamed, IsNumbered, IsRemoved, IsSet, IsStored, fit_in, numbered, refusal_as, refusal_in, with_fit}
 use Rattle.property_store.specs.Table.{Shelves, store_at, with_store}
-use Rattle.property_store.proofs.DynamicLemmas.{either_sound, on_err_same, on_ok_same, without_dynamic_sound}
+use Rattle.property_store.proofs.DynamicLemmas.{either_sound, without_dynamic_sound}
 use Rattle.property_store.proofs.KindLemmas.{stored_sound}
 use Rattle.property_store.proofs.PlaceLemmas.{IsChanged, kept_under, old_sound, old_there, unchanged_store, view_same, view_under}
 
@@ -139,8 +140,8 @@ module _ {layouts : List (List Field)} {rows new : Table (List (Keyed Row))} {se
   pub dynamic_set : {name : List ℕ} {value : Value} {result : Result (Unit {0}) Fault} → IsSet name value old row result → IsDynamicSet seen (shelves_of layouts new) place n name value result
   dynamic_set {name} {value} {result} said = record {
     refused = rw (old_there it) said.refused;
-    ok = on_ok_same result said.ok (λ is. view_under it (with_dynamic name value) (shown_dynamic _ said.rest is));
-    err = on_err_same result said.err (λ is. view_same it (shown_dynamic _ said.rest is));
+    ok = on_ok_weaker result (λ is. view_under it (with_dynamic name value) (shown_dynamic _ said.rest is)) said.ok;
+    err = on_err_weaker result (λ is. view_same it (shown_dynamic _ said.rest is)) said.err;
   }
 
   pub set_kept : {name : List ℕ} {value : Value} {result : Result (Unit {0}) Fault} → IsSet name value old row result → IsShort value → AreKept layouts new
