@@ -69,7 +69,6 @@ fn classes_in(json: &Value) -> Result<&[Value], Stop>
 }
 
 /// Puts the classes behind those of the table, one after another.
-#[tactic(auto, unfolding(crate::specs::ClassFile::declared))]
 fn declare(
     alloc: Global,
     mut table: ClassTable,

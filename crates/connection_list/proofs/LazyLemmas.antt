@@ -1,5 +1,5 @@
 -- Routes that are made with the first connection.
-use Rattle.std.proofs.Common.{◌≡◌, ◌∙◌, ℕ, ◌<◌, Bool, false, List, [], ◌∷◌, Option, Some, None, IsSome, Box, Global, get_or, refl, sym, ap, subst, arith}
+use Rattle.std.proofs.Common.{◌≡◌, ◌∙◌, ℕ, Bool, false, List, [], ◌∷◌, Option, Some, None, IsSome, Box, Global, sym, ap, subst, arith}
 use Rattle.std.specs.List.{All}
 use Rattle.places.specs.Table.{Table}
 use Rattle.shared_rows.specs.Rows.{Keyed, row_under, rows_at}

@@ -45,7 +45,6 @@ fn scalar_json(alloc: Global, scalar: &Scalar<'_>) -> Result<Value, AllocError>
     })
 }
 
-#[tactic(auto, using(crate::proofs::CopyLemmas::items_in_map, crate::proofs::CopyLemmas::views_snoc, crate::proofs::CopyLemmas::array_view))]
 fn list_json(alloc: Global, scalars: &[Scalar<'_>]) -> Result<Value, AllocError>
     ensures { IfOk result (λ json. view json ≡ array (items_in scalars.now)) }
 {

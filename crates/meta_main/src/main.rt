@@ -52,7 +52,9 @@ fn serve(rt: &HostRuntime, beginning: Beginning) -> Result<Summary, RunFault> {
     };
     let mut reader = Counted::new(rt.stdin());
     let mut writer = Counted::new(rt.stdout());
-    run(rt.alloc(), &mut reader, &mut writer, &mut server)
+    let ended = run(rt.alloc(), &mut reader, &mut writer, &mut server);
+    drop(server);
+    ended
 }
 
 /// Tells what a run came to, and gives the exit status.

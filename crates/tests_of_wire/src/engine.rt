@@ -55,7 +55,9 @@ fn is_refused(
     fails: bool,
 ) -> Result<bool, AllocError> {
     let given = given(alloc, line)?;
-    refuses(engine, &given, fails)
+    let is_refused = refuses(engine, &given, fails);
+    drop(given);
+    is_refused
 }
 
 /// What holds of every session is for proofs alone, and left behind here.
@@ -85,7 +87,9 @@ fn sessions_fail_alone(alloc: Global, engine: &mut Engine) -> Result<bool, Alloc
 /// The same of an engine of its own.
 fn fail_alone_on_fresh_engine(alloc: Global) -> Result<bool, AllocError> {
     let mut engine = fresh(alloc)?;
-    sessions_fail_alone(alloc, &mut engine)
+    let fail_alone = sessions_fail_alone(alloc, &mut engine);
+    drop(engine);
+    fail_alone
 }
 
 #[test]

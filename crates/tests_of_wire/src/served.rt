@@ -70,7 +70,9 @@ fn end_of_fresh_run(
     writer: &mut SlowSink,
 ) -> Result<Result<Summary, RunFault>, AllocError> {
     let mut server = server_of(alloc, host)?;
-    Ok(end_of_run(alloc, reader, writer, &mut server))
+    let ended = end_of_run(alloc, reader, writer, &mut server);
+    drop(server);
+    Ok(ended)
 }
 
 pub fn outcome_of(

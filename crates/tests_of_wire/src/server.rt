@@ -127,7 +127,9 @@ fn reports_and_notes(alloc: Global, server: &mut Server) -> Result<(String, bool
 /// The same of a server of its own.
 fn fresh_one_reports_and_notes(alloc: Global) -> Result<(String, bool), AllocError> {
     let mut server = fresh(alloc)?;
-    reports_and_notes(alloc, &mut server)
+    let told = reports_and_notes(alloc, &mut server);
+    drop(server);
+    told
 }
 
 #[test]

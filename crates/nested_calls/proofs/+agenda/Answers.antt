@@ -17,6 +17,7 @@ use Rattle.session_effects.specs.declared.writing.Notice.{Notice}
 use Rattle.session_effects.specs.Actions.{act_of}
 use Rattle.session_effects.specs.Setup.{settings_of}
 use Rattle.session_effects.specs.Writing.{items_of, notice_args}
+use Rattle.std.proofs.lemmas.Grind.{common_steps}
 use Rattle.nested_calls.specs.Telling.{doing_at}
 use Rattle.session_effects.proofs.ActionLemmas.{keeps_same, keeps_twice, keeps_with, placed_kept}
 use Rattle.nested_calls.proofs.AgendaLemmas.{OnOk-map, acts_end, acts_go_on, call_absent, call_functor, call_queued, call_signal, call_slot, call_spent, effect_done, effect_refused, effect_warned, emission_absent, emission_begins, emission_deep, emission_goes_on, emission_held_back, emission_unheard, failed_done, found_stands, held_done, is_held, is_let_through, keeps_posted, last_stays, left_at, left_falls, left_shot, left_stepped, longest_of, next_smaller, rank_falls, round_falls, taken, test_warned, told_is, warn_done}
@@ -476,3 +477,12 @@ agenda::run_functor-returns-clause-does t g c =
     ∙ answered_does settings c.args.index c.args.functor.now c.requires.found slot.args.now c.in-Some.actions.items (rw c.in-Some.is at c.in_ok-answer.ensures.answer) slot.object slot.sender slot.depth
     (doing_at place c.args.tables.now c.call_functor.new.self) (doing_at place c.acts-2.new.tables c.acts-2.new.telling) does)
     (rw c.as_slice-2.ensures.value at c.acts-2.ensures.does)
+
+pub agenda::act-returns-in-Err-clause-keeps : goal.agenda::act-returns-in-Err-clause-keeps
+agenda::act-returns-in-Err-clause-keeps g t c = grind (arith, common_steps)
+
+pub agenda::acts-actions-init : goal.agenda::acts-actions-init
+agenda::acts-actions-init g t c = grind (arith, common_steps)
+
+pub agenda::effect-returns-in-Err-clause-keeps : goal.agenda::effect-returns-in-Err-clause-keeps
+agenda::effect-returns-in-Err-clause-keeps g t c = grind (arith, common_steps)

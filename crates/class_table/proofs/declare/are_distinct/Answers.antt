@@ -1,6 +1,7 @@
-use Rattle.std.proofs.Common.{◌≡◌, ◌∙◌, ◌++◌, ◌∷◌, [], Bool, Ok, true, false, not, sym, ap, append_assoc, bytes_eq, if◌then◌else◌, rules}
+use Rattle.std.proofs.Common.{◌≡◌, ◌∙◌, ◌++◌, ◌∷◌, [], Bool, Ok, true, false, not, sym, ap, append_assoc, bytes_eq, if◌then◌else◌, rules, arith}
 use Rattle.std.specs.List.{list_any}
 use Rattle.std.specs.Vec.Iter.{into_iter_items}
+use Rattle.std.proofs.lemmas.Grind.{common_steps}
 use Rattle.class_table.specs.Lookup.{is_distinct}
 use Rattle.class_table.proofs.OnceLemmas.{found_again, once_more}
 use Rattle.class_table.proofs.declare.are_distinct.Goals as goal
@@ -27,3 +28,6 @@ loop-text-preserved c =
     let new : list_any (bytes_eq text) keys ≡ false = (turned (list_any (bytes_eq text) keys) c.in_ok-insert.field-0 c.in_ok-insert.ensures.added).1 c.if-not-branch.false in
     let pushed : c.insert.new.self.keys ≡ keys ++ text ∷ [] = c.in_ok-insert.ensures.keys ∙ ap (λ b. if b then keys else keys ++ text ∷ []) new in
     (tt, tt, (ap (λ l. l ++ rest) pushed ∙ (append_assoc keys (text ∷ []) rest ∙ (ap (λ l. keys ++ l) (sym left) ∙ c.loop-text.invariant.2.0)), ap (is_distinct bytes_eq) pushed ∙ once_more keys text c.loop-text.invariant.2.1 new))
+
+pub returns : goal.returns
+returns c = grind (arith, common_steps)

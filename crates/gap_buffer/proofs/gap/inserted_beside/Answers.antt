@@ -1,6 +1,7 @@
 use Rattle.std.proofs.Common.{◌≡◌, ◌+◌, ◌∙◌, sym, ap, arith}
 use Rattle.std.specs.List.{insert}
 use Rattle.std.proofs.lemmas.List.Edits.{length-insert}
+use Rattle.std.proofs.lemmas.Grind.{common_steps}
 use Rattle.gap_buffer.specs.Gap.{without}
 use Rattle.gap_buffer.proofs.GapLemmas.{insert_before, insert_behind, length-without, without_none}
 use Rattle.gap_buffer.proofs.gap.inserted_beside.Goals as goal
@@ -43,3 +44,9 @@ returns-clause-items g c =
     let size = length-without c.args.ring.now.items c.args.gap.start c.args.gap.gone c.requires.gap.0 in
     ap (λ ring. without ring c.args.gap.start c.args.gap.gone) c.insert_in_room-2.ensures.items
     ∙ insert_behind c.args.ring.now.items c.args.gap.start c.args.gap.gone c.args.at c.args.element c.requires.gap.0 (omega arith) (omega arith)
+
+pub returns-then-at-gap-clause-fits : goal.returns-then-at-gap-clause-fits
+returns-then-at-gap-clause-fits g c = grind (arith, common_steps)
+
+pub returns-clause-fits : goal.returns-clause-fits
+returns-clause-fits g c = grind (arith, common_steps)

@@ -1,4 +1,5 @@
 use Rattle.std.proofs.Common.{◌≡◌, ◌≤◌, ◌+◌, ◌∙◌, length, sym, ap, arith}
+use Rattle.std.proofs.lemmas.Grind.{common_steps}
 use Rattle.gap_buffer.specs.Gap.{without}
 use Rattle.gap_buffer.proofs.GapLemmas.{without_back, without_front}
 use Rattle.gap_buffer.proofs.gap.trimmed.Goals as goal
@@ -13,3 +14,6 @@ pub returns-then-gap-len-clause-items : goal.returns-then-gap-len-clause-items
 returns-then-gap-len-clause-items g c =
     let end : length c.args.ring.now.items ≤ c.args.gap.start + c.args.gap.gone = omega (arith, c.args.ring.now.ok.0, c.len.ensures, c.if-gap-len.true) in
     ap (λ ring. without ring c.args.gap.start 0) c.truncate.ensures.items ∙ without_back c.args.ring.now.items c.args.gap.start c.args.gap.gone end
+
+pub returns-then-gap-eq0-clause-fits : goal.returns-then-gap-eq0-clause-fits
+returns-then-gap-eq0-clause-fits g c = grind (arith, common_steps)

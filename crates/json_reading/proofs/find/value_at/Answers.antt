@@ -1,6 +1,7 @@
 use Rattle.std.proofs.Common.{◌≡◌, ℕ, ◌+◌, ◌-◌, ◌<◌, List, [], ◌∷◌, ◌++◌, length, take, get_or, bytes_eq, true, false, sym, ap, ◌∙◌, arith}
 use Rattle.std.proofs.lemmas.List.{take_more}
 use Rattle.serde_json.specs.Find.{get_member}
+use Rattle.std.proofs.lemmas.Grind.{common_steps}
 use Rattle.json_reading.specs.declared.field.Member.{Member}
 use Rattle.json_reading.specs.Members.{members_in}
 use Rattle.json_reading.proofs.MemberLemmas.{found_at_last, found_before_last}
@@ -29,3 +30,6 @@ left-preserved c =
     let last = looks_at_last ms left c.left.left m (omega arith) (omega arith) c.index-members-left.is in
     let other : bytes_eq m.key.now key ≡ false = grind arith in
     (c.left.invariant.0 ∙ ap (λ ys. get_member key (members_in ys)) last ∙ found_before_last key (take left ms) m other, omega arith)
+
+pub left-init : goal.left-init
+left-init c = grind (arith, common_steps)

@@ -1,5 +1,6 @@
-use Rattle.std.proofs.Common.{◌≡◌, get_or, append-nil}
+use Rattle.std.proofs.Common.{◌≡◌, get_or, append-nil, arith}
 use Rattle.json.specs.Print.{print_from}
+use Rattle.std.proofs.lemmas.Grind.{common_steps}
 use Rattle.json_reading.proofs.ItemLemmas.{list_stands}
 use Rattle.json_reading.proofs.scan.scan_field.Goals as goal
 
@@ -12,3 +13,6 @@ returns-then-byte_at-eq91 c =
 pub returns : goal.returns
 unfolding print_from
 returns c = rw append-nil c.in_ok-scalar.ensures
+
+pub overflow_add-at : goal.overflow_add-at
+overflow_add-at c = grind (arith, common_steps)

@@ -1,5 +1,6 @@
 use Rattle.std.proofs.Common.{◌≡◌, get_or, refl, arith}
 use Rattle.json.specs.Print.{print_from}
+use Rattle.std.proofs.lemmas.Grind.{common_steps}
 use Rattle.json_reading.proofs.ItemLemmas.{AllFit-push, item_grown_by_comma, item_grown_to_end, no_items_stand}
 use Rattle.json_reading.proofs.scan.scan_items.Goals as goal
 
@@ -36,3 +37,6 @@ returns-in-93 c =
     let bracket : get_or d c.in_ok-item.next 0 ≡ 93 = cc in
     rw c.in_ok-push.ensures.items
     (item_grown_to_end d ss s c.args.from c.items.at c.in_ok-item.next c.items.invariant.later c.items.invariant.text found.0 bracket, AllFit-push ss s c.items.invariant.fit found.1)
+
+pub overflow_add-result : goal.overflow_add-result
+overflow_add-result c = grind (arith, common_steps)

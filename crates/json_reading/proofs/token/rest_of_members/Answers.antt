@@ -2,6 +2,7 @@ use Rattle.std.proofs.Common.{◌≡◌, List, [], ◌∷◌, ◌++◌, Some, sy
 use Rattle.json.specs.Token.{Token, key}
 use Rattle.json.specs.Json.{read_key}
 use Rattle.json.proofs.Grammar.{read_key_is}
+use Rattle.std.proofs.lemmas.Grind.{common_steps}
 use Rattle.json_reading.specs.declared.field.Member.{Member}
 use Rattle.json_reading.specs.Spelling.{field_tokens, member_tokens}
 use Rattle.json_reading.proofs.Printing.{member_tokens-push, AreSpelled-push}
@@ -24,3 +25,6 @@ members-preserved c =
       tokens = took_member _ l.reader rest l.found.items _ l.invariant.tokens (read_key_is l.reader (Some k) _ named ∙ ap (λ ts. key k ∷ ts) found.0);
       spelled = AreSpelled-push l.found.items _ l.invariant.spelled found.1;
     })
+
+pub members-smaller : goal.members-smaller
+members-smaller c = grind (arith, common_steps)

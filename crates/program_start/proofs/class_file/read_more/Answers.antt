@@ -22,3 +22,18 @@ pub returns-clause-taken : goal.returns-clause-taken
 returns-clause-taken g c =
     let came = take c.in_ok-count.count c.read.new.buffer in
     (came, front_few _ _ c.read.new.buffer (grind (arith, common_steps, c.in_ok-count.ensures.bound)), c.in_ok-count.ensures.bytes.0)
+
+pub slice_bounds-chunk-end-2 : goal.slice_bounds-chunk-end-2
+slice_bounds-chunk-end-2 g c = grind (arith, common_steps)
+
+pub slice_bounds-extend_from_slice-end : goal.slice_bounds-extend_from_slice-end
+slice_bounds-extend_from_slice-end g c = grind (arith, common_steps)
+
+pub returns-clause-more : goal.returns-clause-more
+returns-clause-more g c = grind (arith, common_steps)
+
+pub returns-clause-few : goal.returns-clause-few
+returns-clause-few g c = grind (arith, common_steps)
+
+pub returns-clause-came : goal.returns-clause-came
+returns-clause-came g c = grind (arith, common_steps)

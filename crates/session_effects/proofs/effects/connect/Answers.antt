@@ -28,3 +28,12 @@ returns-in_err-new c = grind (arith, common_steps)
 
 pub returns-in_err-connect : goal.returns-in_err-connect
 returns-in_err-connect c = grind (arith, common_steps)
+
+pub returns-in_err-sender-clause-keeps : goal.returns-in_err-sender-clause-keeps
+returns-in_err-sender-clause-keeps c = grind (arith, common_steps)
+
+pub returns-in_err-receiver-clause-keeps : goal.returns-in_err-receiver-clause-keeps
+returns-in_err-receiver-clause-keeps c = grind (arith, common_steps)
+
+pub returns-clause-keeps : goal.returns-clause-keeps
+returns-clause-keeps c = grind (arith, common_steps)

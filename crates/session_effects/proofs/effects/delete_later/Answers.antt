@@ -22,3 +22,12 @@ returns-in_err-check_living c = grind (arith, common_steps)
 
 pub returns-in_err-check_room : goal.returns-in_err-check_room
 returns-in_err-check_room c = grind (arith, common_steps)
+
+pub returns-in_err-receiver-clause-keeps : goal.returns-in_err-receiver-clause-keeps
+returns-in_err-receiver-clause-keeps c = grind (arith, common_steps)
+
+pub returns-in_err-post-clause-keeps : goal.returns-in_err-post-clause-keeps
+returns-in_err-post-clause-keeps c = grind (arith, common_steps)
+
+pub returns-clause-keeps : goal.returns-clause-keeps
+returns-clause-keeps c = grind (arith, common_steps)

@@ -25,3 +25,12 @@ returns-in_err-check_named c = grind (arith, common_steps)
 
 pub returns-in_err-pattern : goal.returns-in_err-pattern
 returns-in_err-pattern c = grind (arith, common_steps)
+
+pub returns-in_err-sender-clause-keeps : goal.returns-in_err-sender-clause-keeps
+returns-in_err-sender-clause-keeps c = grind (arith, common_steps)
+
+pub returns-in_err-receiver-clause-keeps : goal.returns-in_err-receiver-clause-keeps
+returns-in_err-receiver-clause-keeps c = grind (arith, common_steps)
+
+pub returns-clause-keeps : goal.returns-clause-keeps
+returns-clause-keeps c = grind (arith, common_steps)

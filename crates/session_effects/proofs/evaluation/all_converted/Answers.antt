@@ -36,3 +36,6 @@ returns-in_err-value_as c =
     ∙ ap (λ values. behind c.loop-value.converted (all_converted (drop c.loop-value.at c.args.kinds.now) values)) next
     ∙ converted_refused c.loop-value.converted c.args.kinds.now c.loop-value.at c.in-Some.value c.next.new.self.rest.items c.get.result c.get.ensures.lookup.3 _ c.in_err-value_as.ensures
     )
+
+pub returns : goal.returns
+returns c = grind (arith, common_steps)

@@ -1,5 +1,6 @@
-use Rattle.std.proofs.Common.{sym, ◌∙◌}
+use Rattle.std.proofs.Common.{sym, ◌∙◌, arith}
 use Rattle.thread_model.specs.Targets.{evaluated, object_of}
+use Rattle.std.proofs.lemmas.Grind.{common_steps}
 use Rattle.session_effects.proofs.ActionLemmas.{is_there_by, read_as}
 use Rattle.session_effects.proofs.WritingLemmas.{sets_property}
 use Rattle.session_effects.proofs.writing.set.Goals as goal
@@ -13,3 +14,12 @@ returns-clause-tries c =
     (is_there_by _ c.in_ok-class.ensures.refusal)
     (sym (read_as (λ state object sender. evaluated state object sender slot.args.now c.args.value.now) r.tables r.place r.object r.sender) ∙ c.in_ok-value.ensures)
     c.write.ensures.writes
+
+pub returns-in_err-object-clause-keeps : goal.returns-in_err-object-clause-keeps
+returns-in_err-object-clause-keeps c = grind (arith, common_steps)
+
+pub returns-in_err-class-clause-keeps : goal.returns-in_err-class-clause-keeps
+returns-in_err-class-clause-keeps c = grind (arith, common_steps)
+
+pub returns-in_err-value-clause-keeps : goal.returns-in_err-value-clause-keeps
+returns-in_err-value-clause-keeps c = grind (arith, common_steps)

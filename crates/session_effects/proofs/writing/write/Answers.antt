@@ -1,9 +1,10 @@
-use Rattle.std.proofs.Common.{◌≡◌, ◌∙◌, true, false, Ok, Err, ap, rules, sym}
+use Rattle.std.proofs.Common.{◌≡◌, ◌∙◌, true, false, Ok, Err, ap, rules, sym, arith}
 use Rattle.property_store.specs.declared.unwritten.Unwritten.TheVariants as u
 use Rattle.property_store.specs.Named.{answer_named}
 use Rattle.variant_value.specs.Values.{IsShort}
 use Rattle.thread_model.specs.Writing.{Declared}
 use Rattle.session_tables.specs.Tables.{state_at, with_state}
+use Rattle.std.proofs.lemmas.Grind.{common_steps}
 use Rattle.session_effects.proofs.NamedLemmas.{done_is, failed_instead, refused_is, tried_instead, undeclared_is}
 use Rattle.session_effects.proofs.WritingLemmas.{writes_change, writes_same}
 use Rattle.session_effects.proofs.writing.write.Goals as goal
@@ -51,3 +52,15 @@ returns-in-Err-Refused-clause-writes c =
     let is_short : IsShort c.args.value = search rules in
     let answered = rw c.as_str-2.ensures at c.write_named.ensures.answer in
     refused_is (state_at c.args.tables.now c.args.caller.now.place) c.args.object c.args.property.now c.args.value is_short c.in-Err-Refused.code (cc (answered, c.in-Err-Refused.is))
+
+pub returns-clause-keeps : goal.returns-clause-keeps
+returns-clause-keeps c = grind (arith, common_steps)
+
+pub returns-in-Ok-default-true-clause-keeps : goal.returns-in-Ok-default-true-clause-keeps
+returns-in-Ok-default-true-clause-keeps c = grind (arith, common_steps)
+
+pub returns-in-Ok-default-false-clause-keeps : goal.returns-in-Ok-default-false-clause-keeps
+returns-in-Ok-default-false-clause-keeps c = grind (arith, common_steps)
+
+pub returns-in-Err-Refused-clause-keeps : goal.returns-in-Err-Refused-clause-keeps
+returns-in-Err-Refused-clause-keeps c = grind (arith, common_steps)

@@ -1,5 +1,6 @@
-use Rattle.std.proofs.Common.{refl}
+use Rattle.std.proofs.Common.{refl, arith}
 use Rattle.thread_model.specs.Writing.{Removed}
+use Rattle.std.proofs.lemmas.Grind.{common_steps}
 use Rattle.session_effects.proofs.WritingLemmas.{refused_as, set_keeps, writes_dynamic, writes_silently}
 use Rattle.session_effects.proofs.writing.write_dynamic.Goals as goal
 
@@ -20,3 +21,9 @@ returns c =
       refused = refused_as _ c.set_dynamic.result c.set_dynamic.ensures.err;
       keeps = set_keeps c.args.caller.now.place c.args.tables.now c.set_dynamic.new.self _ c.set_dynamic.result c.requires.placed c.set_dynamic.ensures.ok c.set_dynamic.ensures.err;
     }
+
+pub returns-in-Invalid-clause-keeps : goal.returns-in-Invalid-clause-keeps
+returns-in-Invalid-clause-keeps c = grind (arith, common_steps)
+
+pub returns-in_err-name : goal.returns-in_err-name
+returns-in_err-name c = grind (arith, common_steps)

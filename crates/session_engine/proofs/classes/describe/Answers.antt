@@ -1,10 +1,11 @@
-use Rattle.std.proofs.Common.{sym, ap, refl, slice_get, ◌∙◌}
+use Rattle.std.proofs.Common.{sym, ap, refl, slice_get, ◌∙◌, arith}
 use Rattle.std.specs.Option.{option_copied}
 use Rattle.thread_model.specs.declared.line.Answer.TheVariants as a
 use Rattle.thread_model.specs.Classes.{described}
 use Rattle.thread_model.specs.Effects.{replies}
 use Rattle.thread_model.proofs.ClassLemmas.{described_at, performs_meta, refusal_meta}
 use Rattle.session_tables.specs.Tables.{state_at}
+use Rattle.std.proofs.lemmas.Grind.{common_steps}
 use Rattle.session_engine.proofs.ClassesLemmas.{class_index_there, described_is}
 use Rattle.session_engine.proofs.CommandsLemmas.{replied_by, stopped}
 use Rattle.session_engine.proofs.StepLemmas.{some_none}
@@ -29,3 +30,24 @@ returns c =
     ∙ ap (λ meta. replies state (a.Meta meta)) (described_at classes c.in_ok-index.index c.in-Some.row.now (sym c.in-Some.ensures.value)
     ∙ sym (described_is classes c.in_ok-index.index c.in-Some.row.now _ _ _ _ _ _ c.in_ok-copy.ensures c.in-Some.ensures.has.method_offset (c.in_ok-texts.ensures ∙ c.in_ok-methods.ensures)
     (c.in_ok-texts-2.ensures ∙ c.in_ok-properties.ensures) c.in-Some.ensures.has.property_offset c.in_ok-superclass_name.ensures) ∙ sym c.in_ok-new.ensures))
+
+pub returns-in_err-copy : goal.returns-in_err-copy
+returns-in_err-copy c = grind (arith, common_steps)
+
+pub returns-in_err-methods : goal.returns-in_err-methods
+returns-in_err-methods c = grind (arith, common_steps)
+
+pub returns-in_err-texts : goal.returns-in_err-texts
+returns-in_err-texts c = grind (arith, common_steps)
+
+pub returns-in_err-properties : goal.returns-in_err-properties
+returns-in_err-properties c = grind (arith, common_steps)
+
+pub returns-in_err-texts-2 : goal.returns-in_err-texts-2
+returns-in_err-texts-2 c = grind (arith, common_steps)
+
+pub returns-in_err-superclass_name : goal.returns-in_err-superclass_name
+returns-in_err-superclass_name c = grind (arith, common_steps)
+
+pub returns-in_err-new : goal.returns-in_err-new
+returns-in_err-new c = grind (arith, common_steps)

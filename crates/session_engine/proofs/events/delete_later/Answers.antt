@@ -1,5 +1,6 @@
-use Rattle.std.proofs.Common.{sym, refl, ◌∙◌}
+use Rattle.std.proofs.Common.{sym, refl, ◌∙◌, arith}
 use Rattle.thread_model.proofs.EventLemmas.{performs_delete_later, refusal_delete_later}
+use Rattle.std.proofs.lemmas.Grind.{common_steps}
 use Rattle.session_engine.proofs.CommandsLemmas.{or_first, or_second, replied, stopped}
 use Rattle.session_engine.proofs.events.delete_later.Goals as goal
 
@@ -13,3 +14,6 @@ returns-in_err-check_room c = stopped _ _ _ _ _ c.in_err-check_room.field-0.0 _ 
 pub returns : goal.returns
 returns c = replied _ _ _ _ _ _ (refusal_delete_later _ _ _ _ ∙ or_second _ _ c.in_ok-check_object.ensures ∙ sym c.in_ok-check_room.ensures)
     (performs_delete_later _ _ _ _) c.in_ok-post.ensures.ok
+
+pub returns-in_err-post : goal.returns-in_err-post
+returns-in_err-post c = grind (arith, common_steps)

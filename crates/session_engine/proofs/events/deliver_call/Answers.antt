@@ -1,6 +1,8 @@
 use Rattle.session_effects.specs.Setup.{settings_of}
 use Rattle.nested_calls.specs.Telling.{doing_at}
 use Rattle.nested_calls.proofs.AgendaLemmas.{OnOk-map}
+use Rattle.std.proofs.Common.{arith}
+use Rattle.std.proofs.lemmas.Grind.{common_steps}
 use Rattle.session_engine.proofs.EventsLemmas.{calls_functor, calls_none, calls_slot}
 use Rattle.session_engine.proofs.events.deliver_call.Goals as goal
 
@@ -17,3 +19,6 @@ pub returns-clause-does : goal.returns-clause-does
 returns-clause-does g c =
     OnOk-map c.run_slot.result (calls_slot (settings_of c.args.actor.now.caller.setup.now) c.args.actor.now.caller.place c.args.tables.now c.args.telling.now c.args.call.now c.in-Method.index c.in-Method.is
     c.in-Some.method.now c.in-Some.ensures.value (doing_at c.args.actor.now.caller.place c.run_slot.new.tables c.run_slot.new.telling) c.if-method.false) (rw c.as_slice-2.ensures at c.run_slot.ensures.does)
+
+pub returns-in_default-clause-keeps : goal.returns-in_default-clause-keeps
+returns-in_default-clause-keeps g c = grind (arith, common_steps)

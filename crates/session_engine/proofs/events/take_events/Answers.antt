@@ -5,6 +5,7 @@ use Rattle.session_effects.specs.Setup.{settings_of}
 use Rattle.session_effects.proofs.ActionLemmas.{keeps_twice, keeps_with, placed_kept}
 use Rattle.nested_calls.specs.Telling.{doing_at}
 use Rattle.nested_calls.proofs.AgendaLemmas.{OnOk-map}
+use Rattle.std.proofs.lemmas.Grind.{common_steps}
 use Rattle.session_engine.proofs.EventsLemmas.{few_taken, spin_ends, spin_goes_on, spin_spent, turns_left, with_event_taken}
 use Rattle.session_engine.proofs.events.take_events.Goals as goal
 
@@ -39,3 +40,9 @@ events-preserved g c =
 
 pub returns-clause-does : goal.returns-clause-does
 returns-clause-does g c = spin_ends (settings_of c.args.actor.now.caller.setup.now) (doing_at c.args.actor.now.caller.place c.events.tables c.events.telling) _ (sym c.events-test.ensures.waits) c.events.invariant.runs
+
+pub events-init : goal.events-init
+events-init g c = grind (arith, common_steps)
+
+pub unreachable-requires : goal.unreachable-requires
+unreachable-requires g c = grind (arith, common_steps)

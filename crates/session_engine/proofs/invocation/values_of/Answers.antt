@@ -24,3 +24,15 @@ returns-then-not-is_limit c =
     let there : drop i args ≡ x ∷ drop (i + 1) args = drop_more args i x (omega arith) ∙ ap (λ y. y ∷ drop (i + 1) args) (sym c.json-item.is) in
     sym c.loop-json.invariant.rest
     ∙ values_refused c.loop-json.is_long _ _ _ _ _ _ _ _ here (ap (map view) there) (rw c.in-Err-Refused.field-0-is at c.in-Err-Refused.ensures.exact) (sym c.if-not-is_limit.ensures)
+
+pub returns-in_default : goal.returns-in_default
+returns-in_default c = grind (arith, common_steps)
+
+pub loop-json-preserved : goal.loop-json-preserved
+loop-json-preserved c = grind (arith, common_steps)
+
+pub returns-then-is_long : goal.returns-then-is_long
+returns-then-is_long c = grind (arith, common_steps)
+
+pub returns : goal.returns
+returns c = grind (arith, common_steps)

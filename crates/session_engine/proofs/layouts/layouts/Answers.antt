@@ -7,6 +7,7 @@ use Rattle.class_table.proofs.TableLemmas.{of_class-none}
 use Rattle.property_store.specs.declared.field.Field.{Field}
 use Rattle.property_store.specs.Store.{fields_in}
 use Rattle.thread_model.specs.State.{field_of, fields_of}
+use Rattle.std.proofs.lemmas.Grind.{common_steps}
 use Rattle.session_engine.proofs.layouts.layouts.Goals as goal
 
 -- past the last class there are no properties
@@ -20,3 +21,6 @@ all_laid layouts classes even below class = ⊎_elim
 
 pub returns-clause-each : goal.returns-clause-each
 returns-clause-each c = all_laid c.loop-class.layouts c.args.classes.now (omega (arith, c.loop-class.invariant.length, c.len-class-end.ensures.value)) (λ class within. c.loop-class.invariant.each class (omega (arith, within, c.len-class-end.ensures.value)))
+
+pub loop-class-preserved : goal.loop-class-preserved
+loop-class-preserved c = grind (arith, common_steps)

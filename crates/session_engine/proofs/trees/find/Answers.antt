@@ -1,10 +1,11 @@
-use Rattle.std.proofs.Common.{sym, ap, refl, ◌∙◌, ◌&&◌}
+use Rattle.std.proofs.Common.{sym, ap, refl, ◌∙◌, ◌&&◌, arith}
 use Rattle.thread_model.specs.declared.line.Answer.TheVariants as a
 use Rattle.object_tree.specs.Finding.{found_below}
 use Rattle.thread_model.specs.Effects.{replies}
 use Rattle.thread_model.specs.Trees.{has_title, is_of_class}
 use Rattle.thread_model.proofs.TreeLemmas.{performs_find, refusal_find}
 use Rattle.session_tables.specs.Tables.{state_at}
+use Rattle.std.proofs.lemmas.Grind.{common_steps}
 use Rattle.session_engine.proofs.CommandsLemmas.{or_first, or_second, replied_by, stopped}
 use Rattle.session_engine.proofs.trees.find.Goals as goal
 
@@ -22,3 +23,6 @@ returns c =
     (performs_find _ _ _ _ _ _
     ∙ ap (λ base. replies state (a.Found (found_below state.forest.rows c.args.object (λ number. has_title state c.args.title.now number && is_of_class c.args.caller.now.setup.now.classes state base number)))) (sym c.in_ok-base.ensures.index)
     ∙ ap (λ found. replies state (a.Found found)) (sym c.in_ok-found.ensures))
+
+pub returns-in_err-found : goal.returns-in_err-found
+returns-in_err-found c = grind (arith, common_steps)

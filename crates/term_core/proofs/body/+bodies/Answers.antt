@@ -2,6 +2,7 @@ use Rattle.std.proofs.Common.{◌≡◌, ◌∙◌, ◌≤◌, ◌+◌, ◌∷�
 use Rattle.std.proofs.lemmas.List.{drop_more}
 use Rattle.serde_json.specs.Data.{depth, items_depth}
 use Rattle.serde_json.specs.View.{view, items_view}
+use Rattle.std.proofs.lemmas.Grind.{common_steps}
 use Rattle.term_core.specs.Bodies.{action_in, acts_in}
 use Rattle.term_core.proofs.Branches.{get_falls, item_within, acts_in_reads}
 use Rattle.term_core.proofs.Joined.{joined_step, joined_refused}
@@ -39,3 +40,6 @@ actions_of-loop-json-preserved t c =
     let x = c.json-item.result in
     let here : drop l.json-index xs ≡ x ∷ drop (l.json-index + 1) xs = drop_more xs l.json-index x (omega arith) ∙ ap (λ y. y ∷ drop (l.json-index + 1) xs) (sym c.json-item.is) in
     rw c.in_ok-push.ensures.items (joined_step (action_in c.args.scope) (acts_in c.args.scope) (acts_in_reads c.args.scope) _ _ x _ _ here c.in_ok-action.ensures ∙ l.invariant)
+
+pub actions_of-returns : goal.actions_of-returns
+actions_of-returns t c = grind (arith, common_steps)

@@ -1,4 +1,3 @@
-use Rattle.std.proofs.Common.{refl}
 use Rattle.class_table.proofs.TableLemmas.{first_table}
 use Rattle.class_table.proofs.table.ClassTable.new.Goals as goal
 

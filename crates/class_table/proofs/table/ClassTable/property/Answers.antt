@@ -1,5 +1,6 @@
-use Rattle.std.proofs.Common.{◌∙◌, sym}
+use Rattle.std.proofs.Common.{◌∙◌, sym, arith}
 use Rattle.std.specs.Option.{option_or}
+use Rattle.std.proofs.lemmas.Grind.{common_steps}
 use Rattle.class_table.specs.Lookup.{inherited, property_number, properties}
 use Rattle.class_table.proofs.TableLemmas.{property-step}
 use Rattle.class_table.proofs.table.ClassTable.property.Goals as goal
@@ -13,3 +14,6 @@ loop-next-preserved c =
     let up = property-step rows c.in-Some.index row c.in-Some-class_row.ensures.has wanted found in
     let here = (λ i. option_or (property_number wanted (inherited (properties rows) (sym c.in-Some.is i))) found) ∙ c.loop-next.invariant in
     rw (c.or-found.ensures, c.own_property.ensures) (up ∙ here)
+
+pub own_property-requires : goal.own_property-requires
+own_property-requires c = grind (arith, common_steps)

@@ -1,4 +1,3 @@
-use Rattle.std.proofs.Common.{◌≡◌}
 use Rattle.std.specs.Map.{values_of}
 use Rattle.class_table.specs.Sound.{FitsBehind}
 use Rattle.class_table.proofs.TableLemmas.{IsTable-push}

@@ -1,8 +1,9 @@
-use Rattle.std.proofs.Common.{◌≡◌, ◌∙◌, ◌==◌, ap, false, is_some, sym}
+use Rattle.std.proofs.Common.{◌≡◌, ◌∙◌, ◌==◌, ap, false, is_some, sym, arith}
 use Rattle.std.specs.List.{list_any}
 use Rattle.places.specs.Table.{with_place}
 use Rattle.places.proofs.TableLemmas.{with_same}
 use Rattle.shared_rows.specs.Rows.{rows_at}
+use Rattle.std.proofs.lemmas.Grind.{common_steps}
 use Rattle.connection_list.specs.Rows.{has_number, no_rows}
 use Rattle.connection_list.specs.Table.{rows_at as place_at}
 use Rattle.connection_list.proofs.KeyedLemmas.{found_none, found_under}
@@ -47,3 +48,9 @@ returns-in-None-clause-rows c =
     let absent : list_any (has_number c.args.number) (place_at c.args.self.now c.args.place).rows ≡ false = rw at.shows (sym (ap is_some none ∙ any_found (has_number c.args.number) _)) in
     sym (ap (λ rows. with_place c.args.self.now c.args.place (record { rows = rows; last_number = (place_at c.args.self.now c.args.place).last_number })) (filter_all (has_number c.args.number) (place_at c.args.self.now c.args.place).rows absent)
     ∙ with_same no_rows c.args.self.now c.args.place)
+
+pub get_mut-routes-requires : goal.get_mut-routes-requires
+get_mut-routes-requires c = grind (arith, common_steps)
+
+pub take_out-requires-clause-place : goal.take_out-requires-clause-place
+take_out-requires-clause-place c = grind (arith, common_steps)

@@ -1,4 +1,5 @@
-use Rattle.std.proofs.Common.{◌∙◌, ap, sym}
+use Rattle.std.proofs.Common.{◌∙◌, ap, sym, arith}
+use Rattle.std.proofs.lemmas.Grind.{common_steps}
 use Rattle.event_queue.specs.Queue.{Queue}
 use Rattle.std.specs.List.{slice_get}
 use Rattle.event_queue.proofs.QueueLemmas.{first_taken, none_taken, of_rows, seen, some_log}
@@ -33,3 +34,6 @@ returns-clause-first c =
 pub returns-clause-rest : goal.returns-clause-rest
 returns-clause-rest c =
     (first_taken c.self.invariant c.args.self.now c.self.view_is c.args.place c.requires c.get_mut.result.now c.get_mut.ensures.value c.take_first.new.rows c.in_ok-event.ensures.rest c.subtract.new.self c.in_ok-event.event (sym c.in_ok-event.ensures.first) (rw c.object.ensures at c.subtract.ensures)).view
+
+pub get_mut-requires : goal.get_mut-requires
+get_mut-requires c = grind (arith, common_steps)

@@ -1,6 +1,7 @@
-use Rattle.std.proofs.Common.{◌∙◌, Option, ℕ, sym, ap, subst}
+use Rattle.std.proofs.Common.{◌∙◌, Option, ℕ, sym, ap, subst, arith}
 use Rattle.std.specs.List.{Contains}
 use Rattle.shared_rows.specs.Links.{Linked, with_link, without_link}
+use Rattle.std.proofs.lemmas.Grind.{common_steps}
 use Rattle.object_tree.specs.declared.row.Row.{Row}
 use Rattle.object_tree.specs.declared.child.Child.{Child}
 use Rattle.object_tree.specs.Children.{child_cmp}
@@ -28,3 +29,12 @@ pub returns : goal.returns
 returns c =
     hung_seen c.self.inside.rows c.self.inside.kinships c.args.self.now c.args.place c.self.invariant c.self.view_is c.requires c.in-Some.key c.args.number c.get-row.result.now c.get-row.ensures.sound c.get-row.ensures.row c.in-Some.ensures.stands (hangs c.args.parent c.args.stamp) c.replace.new.self c.replace.ensures.new c.get_mut.result.now c.get_mut.ensures.value c.replace-2.new.self
     (ap (λ (l : Linked Child). l.links) c.replace-2.ensures ∙ λ i. with_link child_cmp (without_link child_cmp c.get_mut.result.now.children.links (c.child_of.ensures i)) (c.child_of-2.ensures i))
+
+pub get-row-requires-clause-place : goal.get-row-requires-clause-place
+get-row-requires-clause-place c = grind (arith, common_steps)
+
+pub replace-requires-clause-place : goal.replace-requires-clause-place
+replace-requires-clause-place c = grind (arith, common_steps)
+
+pub get_mut-requires : goal.get_mut-requires
+get_mut-requires c = grind (arith, common_steps)

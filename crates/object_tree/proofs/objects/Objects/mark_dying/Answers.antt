@@ -1,4 +1,5 @@
-use Rattle.std.proofs.Common.{◌∙◌, true, refl, sym, ap}
+use Rattle.std.proofs.Common.{◌∙◌, true, refl, sym, ap, arith}
+use Rattle.std.proofs.lemmas.Grind.{common_steps}
 use Rattle.object_tree.specs.declared.row.Row.{Row}
 use Rattle.object_tree.specs.Table.{forest_at, with_forest}
 use Rattle.object_tree.proofs.ChangesLemmas.{marked_is}
@@ -23,3 +24,9 @@ pub returns-in_default : goal.returns-in_default
 returns-in_default c =
     sym (absent_seen c.self.inside.rows c.self.inside.kinships c.args.self.now c.args.place c.self.invariant c.self.view_is c.requires mark c.args.number c.in_default.ensures.found).0
     ∙ ap (with_forest c.args.self.now c.args.place) (marked_is (forest_at c.args.self.now c.args.place) c.args.number _ refl)
+
+pub get-row-requires-clause-place : goal.get-row-requires-clause-place
+get-row-requires-clause-place c = grind (arith, common_steps)
+
+pub replace-requires-clause-place : goal.replace-requires-clause-place
+replace-requires-clause-place c = grind (arith, common_steps)

@@ -1,8 +1,9 @@
-use Rattle.std.proofs.Common.{◌≡◌, ◌∙◌, ℕ, Option, Some, map, refl, sym, ap}
+use Rattle.std.proofs.Common.{◌≡◌, ◌∙◌, ℕ, Option, Some, map, refl, sym, ap, arith}
 use Rattle.std.specs.Option.{option_map}
 use Rattle.places.specs.Joined.{joined_tables}
 use Rattle.places.proofs.TableLemmas.{with_same}
 use Rattle.shared_rows.specs.Links.{Linked, without_link}
+use Rattle.std.proofs.lemmas.Grind.{common_steps}
 use Rattle.object_tree.specs.declared.child.Child.{Child}
 use Rattle.object_tree.specs.declared.row.Row.{Row}
 use Rattle.object_tree.specs.Forest.{Forest, empty_forest}
@@ -52,3 +53,6 @@ returns-in_default c =
     ∙ sym (with_same empty_forest c.args.self.now c.args.place)
     ∙ ap (with_forest c.args.self.now c.args.place) (removed_is (forest_at c.args.self.now c.args.place) c.args.number (forest_at c.args.self.now c.args.place).rows
     (sym (orphans_absent (forest_at c.args.self.now c.args.place) c.requires.sound c.args.number (absent_seen c.self.inside.rows c.self.inside.kinships c.args.self.now c.args.place c.self.invariant c.self.view_is c.requires.place (λ row. row) c.args.number (sym c.in_default.ensures.absent)).1)))
+
+pub get_mut-requires : goal.get_mut-requires
+get_mut-requires c = grind (arith, common_steps)

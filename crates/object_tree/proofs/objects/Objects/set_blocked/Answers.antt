@@ -1,5 +1,6 @@
-use Rattle.std.proofs.Common.{◌∙◌, Bool, false, refl, sym, ap}
+use Rattle.std.proofs.Common.{◌∙◌, Bool, false, refl, sym, ap, arith}
 use Rattle.std.specs.Option.{option_map_or}
+use Rattle.std.proofs.lemmas.Grind.{common_steps}
 use Rattle.object_tree.specs.declared.row.Row.{Row}
 use Rattle.object_tree.specs.Table.{forest_at, with_forest}
 use Rattle.object_tree.proofs.ChangesLemmas.{blocked_is}
@@ -30,3 +31,9 @@ pub returns-clause-after : goal.returns-clause-after
 returns-clause-after c =
     changed_seen c.self.inside.rows c.self.inside.kinships c.args.self.now c.args.place c.self.invariant c.self.view_is c.requires c.in-Some.key c.args.number c.get-row.result.now c.get-row.ensures.sound c.get-row.ensures.row c.in-Some.ensures.stands (block c.args.on) c.replace.new.self c.replace.ensures.new
     ∙ ap (with_forest c.args.self.now c.args.place) (blocked_is (forest_at c.args.self.now c.args.place) c.args.number c.args.on _ refl)
+
+pub get-row-requires-clause-place : goal.get-row-requires-clause-place
+get-row-requires-clause-place c = grind (arith, common_steps)
+
+pub replace-requires-clause-place : goal.replace-requires-clause-place
+replace-requires-clause-place c = grind (arith, common_steps)

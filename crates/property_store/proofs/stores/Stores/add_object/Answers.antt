@@ -1,4 +1,5 @@
-use Rattle.std.proofs.Common.{◌≡◌, ◌∙◌, ap, map}
+use Rattle.std.proofs.Common.{◌≡◌, ◌∙◌, ap, map, arith}
+use Rattle.std.proofs.lemmas.Grind.{common_steps}
 use Rattle.property_store.specs.Inside.{shown}
 use Rattle.property_store.specs.Store.{default_of, fields_in, fresh}
 use Rattle.property_store.proofs.PlaceLemmas.{new_added, new_kept, no_key}
@@ -25,3 +26,6 @@ invariant_of-self-2 c =
 pub returns-clause-ok : goal.returns-clause-ok
 returns-clause-ok c =
     new_added c.self.inside.rows c.self.view_is c.args.place c.requires.place c.args.object c.self.invariant c.args.class c.in_ok-insert.field-0 (row c) (is_fresh c) c.insert.new.self c.in_ok-insert.ensures.added
+
+pub insert-requires-clause-place : goal.insert-requires-clause-place
+insert-requires-clause-place c = grind (arith, common_steps)

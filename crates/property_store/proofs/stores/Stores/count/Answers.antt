@@ -1,5 +1,6 @@
-use Rattle.std.proofs.Common.{subst, sym}
+use Rattle.std.proofs.Common.{subst, sym, arith}
 use Rattle.shared_rows.specs.Rows.{rows_at}
+use Rattle.std.proofs.lemmas.Grind.{common_steps}
 use Rattle.property_store.specs.Store.{IsSound}
 use Rattle.property_store.proofs.PlaceLemmas.{rows_open, store_sound, store_there}
 use Rattle.property_store.proofs.stores.Stores.count.Goals as goal
@@ -8,3 +9,9 @@ pub returns-clause-sound : goal.returns-clause-sound
 returns-clause-sound c =
     subst IsSound (sym (store_there c.self.inside.rows c.self.view_is c.args.place c.requires))
     (store_sound c.self.inside.layouts (rows_at c.self.inside.rows c.args.place) c.len.ensures.sound (c.self.invariant c.args.place _ (rows_open c.self.inside.rows c.self.view_is c.args.place c.requires)))
+
+pub len-requires : goal.len-requires
+len-requires c = grind (arith, common_steps)
+
+pub returns-clause-count : goal.returns-clause-count
+returns-clause-count c = grind (arith, common_steps)

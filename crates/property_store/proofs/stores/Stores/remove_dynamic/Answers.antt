@@ -1,5 +1,6 @@
-use Rattle.std.proofs.Common.{[], sym}
+use Rattle.std.proofs.Common.{[], sym, arith}
 use Rattle.shared_rows.specs.Rows.{rows_at}
+use Rattle.std.proofs.lemmas.Grind.{common_steps}
 use Rattle.property_store.specs.Store.{without_dynamic}
 use Rattle.property_store.proofs.PlaceLemmas.{IsChanged, nothing_changed, rows_open, under_sound}
 use Rattle.property_store.proofs.WriteLemmas.{dynamic_removed, removed_kept}
@@ -22,3 +23,9 @@ invariant_of-self c = removed_kept (changed c) c.update.ensures.3.met
 
 pub returns : goal.returns
 returns c = dynamic_removed (changed c) c.update.ensures.3.met
+
+pub find-requires : goal.find-requires
+find-requires c = grind (arith, common_steps)
+
+pub update-requires-clause-place : goal.update-requires-clause-place
+update-requires-clause-place c = grind (arith, common_steps)

@@ -1,4 +1,5 @@
-use Rattle.std.proofs.Common.{refl, sym}
+use Rattle.std.proofs.Common.{refl, sym, arith}
+use Rattle.std.proofs.lemmas.Grind.{common_steps}
 use Rattle.property_store.specs.Store.{with_dynamic}
 use Rattle.property_store.proofs.PlaceLemmas.{IsChanged, nothing, nothing_changed}
 use Rattle.property_store.proofs.WriteLemmas.{dynamic_set, set_kept}
@@ -27,3 +28,9 @@ returns-clause-ok c = (dynamic_set (changed c) c.update.ensures.3.met).ok
 
 pub returns-clause-err : goal.returns-clause-err
 returns-clause-err c = (dynamic_set (changed c) c.update.ensures.3.met).err
+
+pub find-requires : goal.find-requires
+find-requires c = grind (arith, common_steps)
+
+pub update-requires-clause-place : goal.update-requires-clause-place
+update-requires-clause-place c = grind (arith, common_steps)

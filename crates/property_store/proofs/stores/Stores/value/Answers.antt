@@ -1,7 +1,8 @@
-use Rattle.std.proofs.Common.{◌∙◌, ap, sym}
+use Rattle.std.proofs.Common.{◌∙◌, ap, sym, arith}
 use Rattle.std.specs.Option.{option_map}
 use Rattle.std.specs.Prelude.{option_and_then, slice_get}
 use Rattle.shared_rows.specs.Rows.{rows_at}
+use Rattle.std.proofs.lemmas.Grind.{common_steps}
 use Rattle.property_store.specs.Inside.{shown}
 use Rattle.property_store.specs.Store.{Properties}
 use Rattle.property_store.proofs.KindLemmas.{value_kind}
@@ -24,3 +25,6 @@ returns-clause-kind c =
     let sound = found_sound c.self.inside.layouts (rows_at c.self.inside.rows c.args.place) (c.self.invariant c.args.place _ (rows_open c.self.inside.rows c.self.view_is c.args.place c.requires)) c.args.object c.in_ok-row.row.now c.in_ok-row.ensures in
     let one = one_there c.self.inside.rows c.self.view_is c.args.place c.requires c.args.object c.in_ok-row.row.now c.in_ok-row.ensures in
     value_kind of sound c.args.number c.value_at.result c.value_at.ensures _ (ap (option_and_then (λ (of : Properties). slice_get of.fields c.args.number)) (sym one))
+
+pub row_of-requires : goal.row_of-requires
+row_of-requires c = grind (arith, common_steps)

@@ -1,6 +1,7 @@
-use Rattle.std.proofs.Common.{◌∙◌, ap, sym}
+use Rattle.std.proofs.Common.{◌∙◌, ap, sym, arith}
 use Rattle.std.specs.Option.{option_map, option_map_or}
 use Rattle.std.specs.Prelude.{option_and_then, slice_get}
+use Rattle.std.proofs.lemmas.Grind.{common_steps}
 use Rattle.property_store.specs.Store.{dynamic_value, field_number, named_value}
 use Rattle.property_store.proofs.PlaceLemmas.{none_there, one_there}
 use Rattle.property_store.proofs.stores.Stores.value_named.Goals as goal
@@ -26,3 +27,6 @@ returns-in-None c =
     ∙ (ap (dynamic_value c.args.name.now) c.as_slice.ensures.value
     ∙ (ap (λ o. option_map_or (λ n. slice_get row.values n) o (dynamic_value c.args.name.now row.dynamic.items)) number
     ∙ ap (option_and_then (named_value c.args.name.now)) (sym (one_there c.self.inside.rows c.self.view_is c.args.place c.requires c.args.object row c.in_ok-row.ensures))))
+
+pub row_of-requires : goal.row_of-requires
+row_of-requires c = grind (arith, common_steps)

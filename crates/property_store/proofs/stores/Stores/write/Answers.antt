@@ -1,5 +1,6 @@
-use Rattle.std.proofs.Common.{[], sym}
+use Rattle.std.proofs.Common.{[], sym, arith}
 use Rattle.shared_rows.specs.Rows.{rows_at}
+use Rattle.std.proofs.lemmas.Grind.{common_steps}
 use Rattle.property_store.proofs.KindLemmas.{as_many}
 use Rattle.property_store.proofs.PlaceLemmas.{IsChanged, nothing, rows_open, under_sound}
 use Rattle.property_store.proofs.WriteLemmas.{nothing_written, row_kept, row_written}
@@ -37,3 +38,9 @@ returns-clause-new c = (row_written (changed c) c.update.ensures.3.met).new_is
 
 pub returns-clause-err : goal.returns-clause-err
 returns-clause-err c = (row_written (changed c) c.update.ensures.3.met).err
+
+pub find-requires : goal.find-requires
+find-requires c = grind (arith, common_steps)
+
+pub update-requires-clause-place : goal.update-requires-clause-place
+update-requires-clause-place c = grind (arith, common_steps)

@@ -1,4 +1,5 @@
 use Rattle.std.proofs.Common.{arith}
+use Rattle.std.proofs.lemmas.Grind.{common_steps}
 use Rattle.shared_rows.proofs.KeptLemmas.{entry_shown, entry_some, seen_by}
 use Rattle.shared_rows.proofs.rows.SharedRows.at.Goals as goal
 
@@ -16,3 +17,6 @@ pub returns : goal.returns
 returns g c =
     let seen = seen_by c.self.invariant c.self.inside.indexes.room c.args.self.now c.self.view_is c.args.place c.requires.place c.get.result.now c.get.ensures in
     entry_shown seen c.args.position c.get-2.result c.index.result.now c.requires.stands (c.get-2.ensures c.get-2.result) c.index.ensures
+
+pub get-requires : goal.get-requires
+get-requires g c = grind (arith, common_steps)

@@ -1,5 +1,6 @@
 use Rattle.std.proofs.Common.{◌≡◌, ◌∙◌, ◌-◌, [], length, is_some, ap, arith}
 use Rattle.places.proofs.TableLemmas.{changes_open, changes_twice, changes_with, with_there}
+use Rattle.std.proofs.lemmas.Grind.{common_steps}
 use Rattle.shared_rows.specs.Rows.{rows_at, without}
 use Rattle.shared_rows.proofs.RowsLemmas.{length-without, some_at}
 use Rattle.shared_rows.proofs.rows.SharedRows.clear.Goals as goal
@@ -21,3 +22,12 @@ rows-preserved g c =
       place = changes_open [] c.rows.self c.remove.new.self c.args.place after c.rows.invariant.place;
       changed = changes_twice [] c.args.self.now c.rows.self c.remove.new.self c.args.place c.rows.invariant.changed after;
     }
+
+pub rows-init : goal.rows-init
+rows-init g c = grind (arith, common_steps)
+
+pub drop_index-requires-clause-empty : goal.drop_index-requires-clause-empty
+drop_index-requires-clause-empty g c = grind (arith, common_steps)
+
+pub returns : goal.returns
+returns g c = grind (arith, common_steps)

@@ -1,5 +1,6 @@
-use Rattle.std.proofs.Common.{◌∙◌, Some, ap}
+use Rattle.std.proofs.Common.{◌∙◌, Some, ap, arith}
 use Rattle.std.specs.Option.{option_map}
+use Rattle.std.proofs.lemmas.Grind.{common_steps}
 use Rattle.shared_rows.proofs.KeptLemmas.{number_absent, number_found, number_stands, seen_by}
 use Rattle.shared_rows.specs.Rows.{row_under, rows_at}
 use Rattle.shared_rows.proofs.rows.SharedRows.find.Goals as goal
@@ -26,3 +27,6 @@ returns-in-None g c =
       stands = tt;
       sound = seen.sound;
     }
+
+pub get-entries-requires : goal.get-entries-requires
+get-entries-requires g c = grind (arith, common_steps)

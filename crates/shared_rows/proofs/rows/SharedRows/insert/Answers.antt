@@ -1,5 +1,6 @@
-use Rattle.std.proofs.Common.{◌≡◌, ◌∙◌, [], None, get_or, refl, sym, ap, subst, rules}
+use Rattle.std.proofs.Common.{◌≡◌, ◌∙◌, [], None, get_or, refl, sym, ap, subst, rules, arith}
 use Rattle.std.specs.List.{insert}
+use Rattle.std.proofs.lemmas.Grind.{common_steps}
 use Rattle.shared_rows.specs.Index.{IsCountBelow, IsRisingIndex}
 use Rattle.shared_rows.proofs.KeptLemmas.{inserted_by, on_err, seen_by, unchanged, vacant_seen}
 use Rattle.places.proofs.TableLemmas.{with_same}
@@ -44,3 +45,6 @@ returns-clause-vacant g c =
     let seen = seen_by c.self.invariant c.self.inside.indexes.room c.args.self.now c.self.view_is c.args.place c.requires.place c.get_mut-index.result.now c.get_mut-index.ensures.value in
     vacant_seen c.self.invariant seen c.self.inside.indexes.room c.self.view_is c.self.inside.slab.slots c.get_mut-index.result.now c.vacant_key-key.result
     (ap (λ slab. get_or slab.slots c.vacant_key-key.result None) (sym c.reserve.ensures.rest_kept) ∙ c.vacant_key-key.ensures.vacant)
+
+pub get_mut-index-requires : goal.get_mut-index-requires
+get_mut-index-requires g c = grind (arith, common_steps)

@@ -1,4 +1,5 @@
-use Rattle.std.proofs.Common.{◌∙◌, sym}
+use Rattle.std.proofs.Common.{◌∙◌, sym, arith}
+use Rattle.std.proofs.lemmas.Grind.{common_steps}
 use Rattle.shared_rows.proofs.KeptLemmas.{seen_by}
 use Rattle.shared_rows.proofs.rows.SharedRows.len.Goals as goal
 
@@ -6,3 +7,6 @@ pub returns : goal.returns
 returns g c =
     let seen = seen_by c.self.invariant c.self.inside.indexes.room c.args.self.now c.self.view_is c.args.place c.requires c.get.result.now c.get.ensures in
     record { len = c.len.ensures ∙ sym seen.count; sound = seen.sound }
+
+pub get-requires : goal.get-requires
+get-requires g c = grind (arith, common_steps)

@@ -1,4 +1,5 @@
-use Rattle.std.proofs.Common.{◌≡◌, ◌∙◌, [], None, get_or, refl, sym, ap, rules}
+use Rattle.std.proofs.Common.{◌≡◌, ◌∙◌, [], None, get_or, refl, sym, ap, rules, arith}
+use Rattle.std.proofs.lemmas.Grind.{common_steps}
 use Rattle.shared_rows.proofs.KeptLemmas.{on_err, pushed_by, seen_by, unchanged, vacant_seen}
 use Rattle.places.proofs.TableLemmas.{with_same}
 use Rattle.shared_rows.proofs.rows.SharedRows.push.Goals as goal
@@ -39,3 +40,6 @@ returns-clause-vacant g c =
     let seen = seen_by c.self.invariant c.self.inside.indexes.room c.args.self.now c.self.view_is c.args.place c.requires.place c.get_mut-index.result.now c.get_mut-index.ensures.value in
     vacant_seen c.self.invariant seen c.self.inside.indexes.room c.self.view_is c.self.inside.slab.slots c.get_mut-index.result.now c.vacant_key-key.result
     (ap (λ slab. get_or slab.slots c.vacant_key-key.result None) (sym c.reserve.ensures.rest_kept) ∙ c.vacant_key-key.ensures.vacant)
+
+pub get_mut-index-requires : goal.get_mut-index-requires
+get_mut-index-requires g c = grind (arith, common_steps)

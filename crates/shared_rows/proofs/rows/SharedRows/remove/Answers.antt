@@ -1,4 +1,5 @@
-use Rattle.std.proofs.Common.{◌∙◌, Some, ap}
+use Rattle.std.proofs.Common.{◌∙◌, Some, ap, arith}
+use Rattle.std.proofs.lemmas.Grind.{common_steps}
 use Rattle.shared_rows.proofs.KeptLemmas.{found_at, number_there, removed, seen_at, seen_by, slot_some, slot_under}
 use Rattle.shared_rows.proofs.rows.SharedRows.remove.Goals as goal
 
@@ -33,3 +34,6 @@ returns-clause-rest g c =
     let slot = slot_under seen c.args.key c.remove-row.result c.requires.stands c.remove-row.ensures.value in
     let stood = c.remove-row.ensures.value ∙ ap (λ place. Some (record { place = place; row = c.remove-row.result.row })) slot.0 in
     (removed c.self.invariant seen c.self.inside.indexes.room c.self.view_is c.remove-row.new.self.slots c.remove.new.self c.unwrap-at.result c.args.key c.remove-row.result.row is c.requires.stands stood c.remove-row.ensures.updates.others c.remove-row.ensures.len (ap (λ index. index.items) c.remove.ensures.others)).view
+
+pub get_mut-index-requires : goal.get_mut-index-requires
+get_mut-index-requires g c = grind (arith, common_steps)

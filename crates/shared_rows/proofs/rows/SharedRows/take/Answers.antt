@@ -1,4 +1,5 @@
-use Rattle.std.proofs.Common.{◌∙◌, [], refl, sym, ap, subst}
+use Rattle.std.proofs.Common.{◌∙◌, [], refl, sym, ap, subst, arith}
+use Rattle.std.proofs.lemmas.Grind.{common_steps}
 use Rattle.shared_rows.specs.Index.{IsAt}
 use Rattle.shared_rows.proofs.KeptLemmas.{key_some, number_absent, removed, row_of_number, seen_by, slot_some, unchanged}
 use Rattle.places.proofs.TableLemmas.{with_same}
@@ -55,3 +56,6 @@ pub returns-clause-sound : goal.returns-clause-sound
 returns-clause-sound g c =
     let seen = seen_by c.self.invariant c.self.inside.indexes.room c.args.self.now c.self.view_is c.args.place c.requires c.get_mut-index.result.now c.get_mut-index.ensures.value in
     seen.sound
+
+pub get_mut-index-requires : goal.get_mut-index-requires
+get_mut-index-requires g c = grind (arith, common_steps)

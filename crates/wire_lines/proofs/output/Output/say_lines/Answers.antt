@@ -1,5 +1,6 @@
 use Rattle.std.proofs.Common.{◌∙◌, ap, arith}
 use Rattle.wire_format.specs.Text.{text_of_line}
+use Rattle.std.proofs.lemmas.Grind.{common_steps}
 use Rattle.wire_lines.specs.Sending.{out}
 use Rattle.wire_lines.proofs.Sent.{SentAll-failed, Sent-next, SentFront-next}
 use Rattle.wire_lines.proofs.output.Output.say_lines.Goals as goal
@@ -21,3 +22,6 @@ loop-line-preserved g c =
       said = Sent-next (text_of_line c.args.session.now) c.args.lines.now c.loop-line.line-index old mid new c.line-item.result _ (omega arith) (ap (text_of_line c.args.session.now) c.line-item.is) c.loop-line.invariant.said c.in_ok-say_line.ensures.said;
       failed = c.in_ok-say_line.ensures.failed ∙ c.loop-line.invariant.failed;
     }
+
+pub returns-clause-said : goal.returns-clause-said
+returns-clause-said g c = grind (arith, common_steps)

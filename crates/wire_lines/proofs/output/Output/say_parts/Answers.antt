@@ -1,6 +1,7 @@
 use Rattle.std.proofs.Common.{◌∙◌, [], subst, arith}
 use denote.Ref.{Bor}
 use Rattle.std.specs.Prelude.{List, ℕ}
+use Rattle.std.proofs.lemmas.Grind.{common_steps}
 use Rattle.wire_lines.specs.Sending.{out, SentFront}
 use Rattle.wire_lines.proofs.Sent.{SentAll-failed, Sent-next, SentFront-next}
 use Rattle.wire_lines.proofs.output.Output.say_parts.Goals as goal
@@ -23,3 +24,6 @@ loop-part-preserved g c =
       said = Sent-next (λ (part : Bor (List ℕ)). part.now) c.in_order-parts.result c.loop-part.part-index old mid new (record { ref_ptr = (0, 0); now = [] }) c.as_bytes.result.now (omega arith) c.as_bytes.ensures.value c.loop-part.invariant.said c.in_ok-send.ensures.bytes;
       counted = c.in_ok-send.ensures.counted ∙ c.loop-part.invariant.counted;
     }
+
+pub returns-clause-said : goal.returns-clause-said
+returns-clause-said g c = grind (arith, common_steps)

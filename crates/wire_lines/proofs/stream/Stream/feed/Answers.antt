@@ -1,5 +1,6 @@
-use Rattle.std.proofs.Common.{◌∙◌, ℕ, List, [], ◌∷◌, ◌++◌, take, refl, sym, subst, lit<}
+use Rattle.std.proofs.Common.{◌∙◌, ℕ, List, [], ◌∷◌, ◌++◌, take, refl, sym, subst, lit<, arith}
 use Rattle.wire_format.specs.Input.{NoEnd}
+use Rattle.std.proofs.lemmas.Grind.{common_steps}
 use Rattle.wire_lines.specs.declared.buffer.TheConstants.{BUFFER_BYTES}
 use Rattle.wire_lines.specs.Sending.{out}
 use Rattle.wire_lines.specs.Stream.{Fed, Feeds}
@@ -50,3 +51,9 @@ returns-clause-fed g c =
     let whole = NoEnd-append c.lines.self.begun c.lines.rest.now c.lines.self.no_end (c.in_default.ensures.none refl) in
     let kept = Fed-kept (seen_as c.lines.server) (out (g.W.Sink.held c.lines.writer) c.lines.self.lines.output.gathered) c.lines.self.lines.count BUFFER_BYTES rest whole (lit< tt) in
     subst (λ (begun : List ℕ). Fed start (here begun)) (sym c.keep.ensures) (Fed-trans start (here rest) (here (take BUFFER_BYTES rest)) c.lines.invariant.fed kept)
+
+pub lines-init : goal.lines-init
+lines-init g c = grind (arith, common_steps)
+
+pub lines-smaller : goal.lines-smaller
+lines-smaller g c = grind (arith, common_steps)

@@ -1,6 +1,7 @@
 use Rattle.std.proofs.Common.{◌≡◌, ◌<◌, ◌∙◌, ℕ, List, [], ◌++◌, length, take, inr, arith, append-nil, length-append, sym, ap, subst}
 use Rattle.std.specs.Io.KnownBytes.{Consumes}
 use Rattle.std.proofs.KnownBytes.{Consumes-trans}
+use Rattle.std.proofs.lemmas.Grind.{common_steps}
 use Rattle.wire_lines.specs.declared.fault.RunFault.TheVariants.{Write}
 use Rattle.wire_lines.specs.Stream.{Fed}
 use Rattle.wire_lines.specs.Feeding.{at}
@@ -131,3 +132,6 @@ returns-clause-ends g c = λ input known.
     let all = ap length is in
     let parts = length-append bytes rest in
     (Cut-known start end bytes rest input is (Cut-after (and_then start bytes) here end rest so_far.fed (Cut-here here [] rest)), inr (omega (arith, so_far.enough)))
+
+pub reads-init : goal.reads-init
+reads-init g c = grind (arith, common_steps)

@@ -1,0 +1,9 @@
+use Rattle.std.proofs.Common.{arith}
+use Rattle.std.proofs.lemmas.Grind.{common_steps}
+use Rattle.gap_buffer.proofs.buffer.GapBuffer.first.Goals as goal
+
+pub get-requires : goal.get-requires
+get-requires g c = grind (arith, common_steps)
+
+pub returns-clause-variant : goal.returns-clause-variant
+returns-clause-variant g c = grind (arith, common_steps)

@@ -1,0 +1,9 @@
+use Rattle.std.proofs.Common.{arith}
+use Rattle.std.proofs.lemmas.Grind.{common_steps}
+use Rattle.term_core.proofs.forms.triple.Goals as goal
+
+pub returns-in-Some-Some-Some-None-clause-three : goal.returns-in-Some-Some-Some-None-clause-three
+returns-in-Some-Some-Some-None-clause-three c = grind (arith, common_steps)
+
+pub returns-in_default-clause-none : goal.returns-in_default-clause-none
+returns-in_default-clause-none c = grind (arith, common_steps)
