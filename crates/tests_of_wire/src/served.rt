@@ -62,7 +62,8 @@ fn end_of_run(
     run(alloc, reader, writer, server)
 }
 
-/// How a run ends. No other function of whole runs owns a server: that one is let go of costs much to prove.
+/// How a run ends. The server is dropped by a call, which is proved once for each type in it; by a scope's end
+/// all that it holds would be proved here.
 fn end_of_fresh_run(
     alloc: Global,
     host: Host,
