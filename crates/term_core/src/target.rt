@@ -6,7 +6,6 @@ use std::alloc::{AllocError, Global};
 
 /// The object that an expression reads, or that an action acts on. Which object it is is found when
 /// the expression is evaluated or the action is run.
-#[derive(Drop)]
 pub enum Target {
     /// The object whose property is bound, or whose slot is run.
     Itself,
@@ -16,6 +15,15 @@ pub enum Target {
     Child(Text),
     /// The object of this number, which is not 0.
     Object(u32),
+}
+
+// Each scope that drops a target calls this, where a derived `Drop` would have all forms proved there.
+impl Drop for Target {
+    fn drop(self) {
+        match self {
+            Target::Itself | Target::Sender | Target::Child(_) | Target::Object(_) => (),
+        }
+    }
 }
 
 impl Target {

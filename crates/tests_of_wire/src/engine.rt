@@ -55,9 +55,7 @@ fn is_refused(
     fails: bool,
 ) -> Result<bool, AllocError> {
     let given = given(alloc, line)?;
-    let is_refused = refuses(engine, &given, fails);
-    drop(given);
-    is_refused
+    refuses(engine, &given, fails)
 }
 
 /// What holds of every session is for proofs alone, and left behind here.

@@ -116,8 +116,17 @@ pub enum Command {
 }
 
 /// A command with the name of the session that gives it.
-#[derive(Drop)]
 pub struct Tagged {
     pub session: Text,
     pub command: Command,
+}
+
+// Each scope that drops a command calls this, where a derived `Drop` would have all forms proved there.
+impl Drop for Tagged {
+    fn drop(self) {
+        let Tagged {
+            session: _,
+            command: _,
+        } = self;
+    }
 }

@@ -15,9 +15,15 @@ enum Kept {
 }
 
 /// Values that contracts see as a list.
-#[derive(Drop)]
 pub struct Args {
     kept: Kept,
+}
+
+// Each scope that drops arguments calls this, where a derived `Drop` would have both forms proved there.
+impl Drop for Args {
+    fn drop(self) {
+        let Args { kept: _ } = self;
+    }
 }
 
 impl Model for Args {

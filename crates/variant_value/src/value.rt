@@ -16,7 +16,7 @@ use std::mem;
 pub const TEXT_BYTES: usize = 4096;
 
 /// What a property holds, and what a signal carries.
-#[derive(PartialEq, Drop)]
+#[derive(PartialEq)]
 pub enum Value {
     /// No value.
     Invalid,
@@ -32,6 +32,21 @@ pub enum Value {
     Ulonglong(u64),
     /// A text. `from_json` and `infer` give none of more than `TEXT_BYTES`.
     Text(Text),
+}
+
+// Each scope that drops a value calls this, where a derived `Drop` would have all kinds proved there.
+impl Drop for Value {
+    fn drop(self) {
+        match self {
+            Value::Invalid
+            | Value::Bool(_)
+            | Value::Int(_)
+            | Value::Uint(_)
+            | Value::Longlong(_)
+            | Value::Ulonglong(_)
+            | Value::Text(_) => (),
+        }
+    }
 }
 
 impl Value {

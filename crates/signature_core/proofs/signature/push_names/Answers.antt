@@ -1,4 +1,5 @@
 use Rattle.std.proofs.Common.{◌∙◌, ◌++◌, ap, lit<, arith, string_bytes}
+use Rattle.std.proofs.lemmas.Grind.{common_steps}
 use Rattle.signature_core.proofs.Normal.{names_to_first, names_to_more}
 use Rattle.signature_core.proofs.signature.push_names.Goals as goal
 use Rattle.signature_core.proofs.signature.push_names.Goals.{then-index-gt0+in_ok-push, else-index-gt0}
@@ -14,3 +15,6 @@ loop-index-preserved c =
           names_to_first _ c.args.kinds.now c.loop-index.index _ _ _ _ (omega arith) (omega arith) c.loop-index.invariant c.name.ensures.value
           (pushed ∙ ap (λ t. t ++ c.name.result.now) (ap string_bytes w.text-is))
     ]
+
+pub returns : goal.returns
+returns c = grind (arith, common_steps)

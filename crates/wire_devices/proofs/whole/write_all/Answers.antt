@@ -9,3 +9,6 @@ loop-taken-preserved g c = record {
   bytes = Appends-more _ _ _ _ _ _ c.loop-taken.invariant.bytes c.in_ok-count.ensures.bytes;
   failures = grind (arith, common_steps);
 }
+
+pub returns-clause-bytes : goal.returns-clause-bytes
+returns-clause-bytes g c = grind (arith, common_steps)
