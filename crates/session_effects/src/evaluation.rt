@@ -120,8 +120,8 @@ pub fn truth_evaluated(
 ) -> Result<bool, Fault>
     ensures { Answers result (truth_evaluated (state_at reader.now.tables.now reader.now.place) reader.now.object reader.now.sender args.now expr.now) }
 {
-    match evaluated(alloc, reader, args, expr)? {
-        Value::Bool(truth) => Ok(truth),
+    match &evaluated(alloc, reader, args, expr)? {
+        Value::Bool(truth) => Ok(*truth),
         _ => Err(Fault::Refused(Code::BadValue)),
     }
 }

@@ -145,7 +145,7 @@ pub fn write_dynamic(
     ensures refused { OnRefused result (tables.new ≡ tables.old) }
     ensures keeps { Keeps caller.now.place tables.old tables.new }
 {
-    if let Value::Invalid = value {
+    if let Value::Invalid = &value {
         tables.remove_dynamic(caller.place, object, name.as_str());
         return Ok(());
     }

@@ -32,14 +32,14 @@ fn number_set(alloc: Global, actions: &[Action]) -> Result<Option<i32>, AllocErr
         };
         match &action.step {
             Step::Effect(Effect::Set { value, .. }) => {
-                return match value_of(alloc, value)? {
-                    Some(Value::Int(number)) => Ok(Some(number)),
+                return match &value_of(alloc, value)? {
+                    Some(Value::Int(number)) => Ok(Some(*number)),
                     _ => Ok(None),
                 };
             }
             Step::Effect(_) => return Ok(None),
             Step::When(test, held, failed) => {
-                left = match value_of(alloc, test)? {
+                left = match &value_of(alloc, test)? {
                     Some(Value::Bool(true)) => held,
                     _ => failed,
                 };
