@@ -17,10 +17,18 @@ use std::marker::Model;
 
 /// The classes of a class file behind `QObject`, whose index is 0; the first class of the file has
 /// index 1.
-#[derive(Drop)]
 pub struct ClassTable {
     alloc: Global,
     classes: IndexMap<String, Class>,
+}
+
+impl Drop for ClassTable {
+    fn drop(self) {
+        let ClassTable {
+            alloc: _,
+            classes: _,
+        } = self;
+    }
 }
 
 impl Model for ClassTable {

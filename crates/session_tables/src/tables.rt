@@ -13,7 +13,6 @@ use property_store::{Field, Stores};
 use std::alloc::{AllocError, Global};
 
 /// What a server keeps of each session.
-#[derive(Drop)]
 pub struct Tables {
     pub(crate) forests: Forests,
     pub(crate) stores: Stores,
@@ -22,6 +21,18 @@ pub struct Tables {
     /// Memory was wanted for the session and not found. Its objects, connections and events are gone,
     /// and it refuses every command.
     pub(crate) failed: Places<bool>,
+}
+
+impl Drop for Tables {
+    fn drop(self) {
+        let Tables {
+            forests: _,
+            stores: _,
+            connections: _,
+            queues: _,
+            failed: _,
+        } = self;
+    }
 }
 
 impl Tables {

@@ -8,7 +8,6 @@ use term_core::Body;
 use term_evaluation::unfold;
 
 /// A functor as it is shown: plain data, by which two functors can be compared.
-#[derive(Drop)]
 pub struct Functor {
     /// What a connection names it by, and its calls are printed with.
     pub name: Text,
@@ -17,6 +16,16 @@ pub struct Functor {
     pub params: Items<Kind>,
     /// What it does, as a slot's body says what a slot does; `self` is its context object.
     pub body: Body,
+}
+
+impl Drop for Functor {
+    fn drop(self) {
+        let Functor {
+            name: _,
+            params: _,
+            body: _,
+        } = self;
+    }
 }
 
 impl Functor {

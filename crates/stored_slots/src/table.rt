@@ -13,11 +13,19 @@ use term_core::{Action, Body};
 use variant_value::Value;
 
 /// The functors that were handed in, each by its index: the first has index 0. None is ever taken out.
-#[derive(Drop)]
 pub struct Functors {
     alloc: Global,
     stored: Vec<StoredFunctor>,
     ghost few: { vec_len stored ≤ FUNCTORS },
+}
+
+impl Drop for Functors {
+    fn drop(self) {
+        let Functors {
+            alloc: _,
+            stored: _,
+        } = self;
+    }
 }
 
 /// Where the functor of this name stands.

@@ -50,7 +50,6 @@ pub struct Status {
 }
 
 /// One line of what a session is told.
-#[derive(Drop)]
 pub enum Line {
     Reply(Answer),
     /// The command was refused.
@@ -60,4 +59,15 @@ pub enum Line {
     /// An action in the body of this object's slot, or of a functor that ran for it, was refused, or a
     /// signal of this object was not sent. That the turns are used up is said of no object.
     Warning { code: Code, object: Option<u32> },
+}
+
+impl Drop for Line {
+    fn drop(self) {
+        match self {
+            Line::Reply(_)
+            | Line::Error(_)
+            | Line::Call(_)
+            | Line::Warning { code: _, object: _ } => (),
+        }
+    }
 }
