@@ -52,10 +52,7 @@ fn serve(rt: &HostRuntime, beginning: Beginning) -> Result<Summary, RunFault> {
     };
     let mut reader = Counted::new(rt.stdin());
     let mut writer = Counted::new(rt.stdout());
-    let ended = run(rt.alloc(), &mut reader, &mut writer, &mut server);
-    // By a call, which is proved once for each type in a server, and not by the end of this scope.
-    drop(server);
-    ended
+    run(rt.alloc(), &mut reader, &mut writer, &mut server)
 }
 
 /// Tells what a run came to, and gives the exit status.

@@ -21,12 +21,21 @@ use stored_slots::Functors;
 use thread_model::{Line, Tagged};
 
 /// A server of sessions, each with a name. A session is there from its first command on.
-#[derive(Drop)]
 pub struct Server {
     alloc: Global,
     engine: Engine,
     /// Memory was wanted outside the engine and not found.
     memory_refused: bool,
+}
+
+impl Drop for Server {
+    fn drop(self) {
+        let Server {
+            alloc: _,
+            engine: _,
+            memory_refused: _,
+        } = self;
+    }
 }
 
 impl Server {

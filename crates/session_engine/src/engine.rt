@@ -16,11 +16,19 @@ use thread_model::{Command, Line};
 
 /// The sessions of a server. Each is named by a text, and has a place that calls use; none is ever
 /// closed.
-#[derive(Drop)]
 pub struct Engine {
     core: Core,
     functors: Functors,
     ghost same: { functors_of functors ≡ (settings core).functors } by { Prim.hlevel (props, codes, functor.the_row.coded) },
+}
+
+impl Drop for Engine {
+    fn drop(self) {
+        let Engine {
+            core: _,
+            functors: _,
+        } = self;
+    }
 }
 
 impl Engine {

@@ -85,9 +85,7 @@ fn sessions_fail_alone(alloc: Global, engine: &mut Engine) -> Result<bool, Alloc
 /// The same of an engine of its own.
 fn fail_alone_on_fresh_engine(alloc: Global) -> Result<bool, AllocError> {
     let mut engine = fresh(alloc)?;
-    let fail_alone = sessions_fail_alone(alloc, &mut engine);
-    drop(engine);
-    fail_alone
+    sessions_fail_alone(alloc, &mut engine)
 }
 
 #[test]

@@ -62,8 +62,7 @@ fn end_of_run(
     run(alloc, reader, writer, server)
 }
 
-/// How a run ends. The server is dropped by a call, which is proved once for each type in it; by a scope's end
-/// all that it holds would be proved here.
+/// How a run with a server of its own ends.
 fn end_of_fresh_run(
     alloc: Global,
     host: Host,
@@ -71,9 +70,7 @@ fn end_of_fresh_run(
     writer: &mut SlowSink,
 ) -> Result<Result<Summary, RunFault>, AllocError> {
     let mut server = server_of(alloc, host)?;
-    let ended = end_of_run(alloc, reader, writer, &mut server);
-    drop(server);
-    Ok(ended)
+    Ok(end_of_run(alloc, reader, writer, &mut server))
 }
 
 pub fn outcome_of(

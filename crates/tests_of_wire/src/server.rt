@@ -127,9 +127,7 @@ fn reports_and_notes(alloc: Global, server: &mut Server) -> Result<(String, bool
 /// The same of a server of its own.
 fn fresh_one_reports_and_notes(alloc: Global) -> Result<(String, bool), AllocError> {
     let mut server = fresh(alloc)?;
-    let told = reports_and_notes(alloc, &mut server);
-    drop(server);
-    told
+    reports_and_notes(alloc, &mut server)
 }
 
 #[test]
