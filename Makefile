@@ -73,8 +73,8 @@ limits:
 sessions:
 	python3 tools/sessions.py bin/metad
 
-clients:
-	python3 tools/clients.py bin/metad
+clients: bin/early_signal.so
+	python3 tools/clients.py bin/metad bin/early_signal.so
 
 first_hour:
 	python3 tools/first_hour.py bin/metad

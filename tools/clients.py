@@ -4,7 +4,7 @@
 The client is tried by the examples of docs/PROTOCOL.md, by many commands at once and by the ends that a server can
 come to; the front by many clients at once, each compared with a server of its own, and by those that write rubbish,
 write without end, do not read or go away. The programs of the page beside them have to print what it says.
-Usage: clients.py PROGRAM
+Usage: clients.py PROGRAM SHIM, the shim being early_signal.c as a library to be preloaded.
 """
 
 import os
@@ -49,8 +49,13 @@ def fault_of(case, program):
 
 
 def main():
-    program, failed = str(Path(sys.argv[1]).resolve()), 0
-    cases = [*client_cases.CASES, *front_cases.CASES, page]
+    program, shim = (str(Path(word).resolve()) for word in sys.argv[1:])
+    failed = 0
+
+    def asked_early(program, room):
+        front_cases.asked_early(program, room, shim)
+
+    cases = [*client_cases.CASES, *front_cases.CASES, asked_early, page]
     for case in cases:
         fault = fault_of(case, program)
         if fault:

@@ -94,9 +94,9 @@ class Client:
         self.link.close()
 
 
-def front_of(path, program, *words):
+def front_of(path, program, *words, **how):
     pipe = subprocess.PIPE
-    return subprocess.Popen([sys.executable, FRONT, path, program, *words], stdout=pipe, stderr=pipe, text=True)
+    return subprocess.Popen([sys.executable, FRONT, path, program, *words], stdout=pipe, stderr=pipe, text=True, **how)
 
 
 def listens(path):
@@ -426,6 +426,19 @@ def server_ends(program, room):
     expect("the front's status", process.returncode, 1)
     expect("what it says", said, ("", "front: the server was ended by signal 9\n"))
     expect("whether its socket stands", path.exists(), False)
+
+
+def asked_early(program, room, shim):
+    """The front ends too where it is asked to right before it begins to wait."""
+    path = Path(room, "socket")
+    process = front_of(path, program, env={**os.environ, "LD_PRELOAD": shim})
+    try:
+        wait_for(path, process)
+        said = process.communicate(timeout=SECONDS)
+        expect("the front's end", (process.returncode, *said, path.exists()), (0, "", "", False))
+    finally:
+        process.kill()
+        process.wait()
 
 
 def words(program, room):

@@ -164,9 +164,10 @@ class Front:
         self.given = bytearray()  # what the server has not taken yet
         self.begun = bytearray()  # a line of the server without its end
 
-    def serve(self) -> None:
-        """Serves until the server ends."""
+    def serve(self, alarm: socket.socket) -> None:
+        """Serves until the server ends or a signal comes."""
         os.set_blocking(self.input.fileno(), False)
+        self.watch(alarm, READ, lambda _events: None)
         self.watch(self.listener, READ, self.accept)
         self.watch(self.output, READ, self.hear)
         while True:
@@ -327,6 +328,20 @@ def started(program: str, args: Sequence[str]) -> Iterator[subprocess.Popen[byte
             server.terminate()
 
 
+@contextmanager
+def alarmed() -> Iterator[socket.socket]:
+    """A socket that can be read once a signal has come. A signal that comes right before the front begins to wait
+    does not end that wait of itself."""
+    alarm, bell = socket.socketpair()
+    with alarm, bell:
+        bell.setblocking(False)
+        signal.set_wakeup_fd(bell.fileno())
+        try:
+            yield alarm
+        finally:
+            signal.set_wakeup_fd(-1)
+
+
 def words() -> argparse.Namespace:
     """The words of the command line."""
     does = "Serves many clients over a Unix-domain socket, each as one session of one metad."
@@ -342,8 +357,8 @@ def main() -> int:
     given = words()
     signal.signal(signal.SIGTERM, signal.default_int_handler)
     try:
-        with listening(given.socket) as listener, started(given.program, given.args) as server:
-            Front(listener, server).serve()
+        with alarmed() as alarm, listening(given.socket) as listener, started(given.program, given.args) as server:
+            Front(listener, server).serve(alarm)
     except Ended as ended:
         print(f"front: {ended}", file=sys.stderr)
         return 1
