@@ -429,7 +429,8 @@ def server_ends(program, room):
 
 
 def asked_early(program, room, shim):
-    """The front ends too where it is asked to right before it begins to wait."""
+    """The front ends too where it is asked to right before it waits: the third time, when the connection by which
+    it is found to listen has come and gone."""
     path = Path(room, "socket")
     process = front_of(path, program, env={**os.environ, "LD_PRELOAD": shim})
     try:
