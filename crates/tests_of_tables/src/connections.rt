@@ -60,48 +60,44 @@ impl Bench {
 
     fn call(&mut self, place: usize, call: Call) -> Result<u64, Fault> {
         let place = place.min(1);
-        let table = &mut self.table;
-        let answer = match call {
-            Connect(ends) => {
-                table.connect(place, joins(ends, Method(ends.3), Auto, false), false)? as u64
-            }
-            Unique(ends) => {
-                table.connect(place, joins(ends, Method(ends.3), Auto, false), true)? as u64
-            }
+        match call {
+            Connect(ends) => self.connect(place, method(ends), false),
+            Unique(ends) => self.connect(place, method(ends), true),
             UniqueAs(ends, mode, single) => {
-                table.connect(place, joins(ends, Method(ends.3), mode, single), true)? as u64
+                self.connect(place, joins(ends, Method(ends.3), mode, single), true)
             }
             UniqueFunctor(ends) => {
-                table.connect(place, joins(ends, Functor(ends.3), Auto, false), true)? as u64
+                self.connect(place, joins(ends, Functor(ends.3), Auto, false), true)
             }
-            DisconnectOne(number) => table.disconnect_one(place, number) as u64,
+            DisconnectOne(number) => Ok(self.table.disconnect_one(place, number) as u64),
             DisconnectMatching(sender, signal, to) => {
-                let receiver = match to {
-                    Some((object, method)) => Some(Receiver { object, method }),
-                    None => None,
-                };
-                let pattern = Pattern {
-                    sender,
-                    signal,
-                    receiver,
-                };
-                table.disconnect_matching(place, &pattern) as u64
+                let pattern = pattern(sender, signal, to);
+                Ok(self.table.disconnect_matching(place, &pattern) as u64)
             }
             DropObject(object) => {
-                table.drop_object(place, object);
-                0
+                self.table.drop_object(place, object);
+                Ok(0)
             }
-            NextAfter(after, up_to) => number_of(table.next_after(place, 1, 5, after, up_to)),
-            Row(number) => number_of(table.row(place, number)),
-            Left => self.left(place),
-            LastNumber => table.last_number(place) as u64,
-            Count => table.count(place) as u64,
+            NextAfter(after, up_to) => {
+                let next = self.table.next_after(place, 1, 5, after, up_to);
+                Ok(number_of(next))
+            }
+            Row(number) => Ok(number_of(self.table.row(place, number))),
+            Left => Ok(self.left(place)),
+            LastNumber => Ok(self.table.last_number(place) as u64),
+            Count => Ok(self.table.count(place) as u64),
             Clear => {
-                table.clear(place);
-                0
+                self.table.clear(place);
+                Ok(0)
             }
-        };
-        Ok(answer)
+        }
+    }
+
+    fn connect(&mut self, place: usize, new: NewConnection, unique: bool) -> Result<u64, Fault>
+        requires { place < length self.old.table.places }
+    {
+        let number = self.table.connect(place, new, unique)?;
+        Ok(number as u64)
     }
 
     fn left(&self, place: usize) -> u64
@@ -126,6 +122,23 @@ fn joins(ends: Ends, callee: Callee, mode: ConnectionType, single: bool) -> NewC
         callee,
         mode,
         single,
+    }
+}
+
+/// From a sender's signal to a method, by no type, and not single.
+fn method(ends: Ends) -> NewConnection {
+    joins(ends, Method(ends.3), Auto, false)
+}
+
+fn pattern(sender: u32, signal: Option<u32>, to: Option<(u32, Option<u32>)>) -> Pattern {
+    let receiver = match to {
+        Some((object, method)) => Some(Receiver { object, method }),
+        None => None,
+    };
+    Pattern {
+        sender,
+        signal,
+        receiver,
     }
 }
 

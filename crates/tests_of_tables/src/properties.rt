@@ -62,18 +62,15 @@ impl Bench {
         match asked {
             Write(number, value) => Ok(self.write(place, number, value)),
             ValueAt(number) => Ok(told(self.table.value(place, 3, number))),
-            Read(name) => Ok(told(Some(&self.table.read(place, 3, name)?))),
-            NumberOf(name) => {
-                let found = self.table.declared(place, 3, name);
-                Ok(found.map_or(9, |(number, _)| number) as u64)
-            }
-            Fields => Ok(self.table.fields(place, 3).map_or(9, |fields| fields.len()) as u64),
+            Read(name) => self.read(place, name),
+            NumberOf(name) => Ok(self.number_of(place, name)),
+            Fields => Ok(self.fields(place)),
             SetDynamic(name, value) => self.set_dynamic(place, name, value),
             RemoveDynamic(name) => {
                 self.table.remove_dynamic(place, 3, name);
                 Ok(0)
             }
-            DynamicNames => Ok(self.table.dynamic_names(place, 3)?.len() as u64),
+            DynamicNames => self.dynamic_names(place),
             Next(after) => Ok(self.table.next_object(place, after).unwrap_or(0) as u64),
             DropObject => Ok(self.drop_object(place)),
             Clear => Ok(self.clear(place)),
@@ -87,6 +84,38 @@ impl Bench {
             Ok(is_change) => is_change as u64,
             Err(_) => 2,
         }
+    }
+
+    fn read(&self, place: usize, name: &str) -> Result<u64, AllocError>
+        requires { place < length self.now.table.table.places }
+    {
+        let value = self.table.read(place, 3, name)?;
+        Ok(told(Some(&value)))
+    }
+
+    fn number_of(&self, place: usize, name: &str) -> u64
+        requires { place < length self.now.table.table.places }
+    {
+        match self.table.declared(place, 3, name) {
+            Some((number, _)) => number as u64,
+            None => 9,
+        }
+    }
+
+    fn fields(&self, place: usize) -> u64
+        requires { place < length self.now.table.table.places }
+    {
+        match self.table.fields(place, 3) {
+            Some(fields) => fields.len() as u64,
+            None => 9,
+        }
+    }
+
+    fn dynamic_names(&self, place: usize) -> Result<u64, AllocError>
+        requires { place < length self.now.table.table.places }
+    {
+        let names = self.table.dynamic_names(place, 3)?;
+        Ok(names.len() as u64)
     }
 
     fn set_dynamic(&mut self, place: usize, name: &str, value: i32) -> Result<u64, AllocError>
@@ -157,7 +186,7 @@ fn told(value: Option<&Value>) -> u64 {
 /// A place, what is asked of it, and what is answered.
 type Case = (usize, Asked, u64);
 
-const AS_WRITTEN: [Case; 28] = [
+const AS_WRITTEN: &[Case] = &[
     (0, Fields, 2),
     (1, Fields, 9),
     (0, NumberOf("wide"), 1),
@@ -190,7 +219,7 @@ const AS_WRITTEN: [Case; 28] = [
 
 fn are_read_as_written(alloc: Global) -> Result<bool, AllocError> {
     let mut bench = Bench::new(alloc)?;
-    bench.answers(&AS_WRITTEN)
+    bench.answers(AS_WRITTEN)
 }
 
 #[test]

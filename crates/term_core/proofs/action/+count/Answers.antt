@@ -15,3 +15,6 @@ count_all-loop-action-preserved t c = grind (arith, common_steps)
 
 pub count_all-returns : goal.count_all-returns
 count_all-returns t c = grind (arith, common_steps)
+
+pub Action::count-returns-in-When : goal.Action::count-returns-in-When
+Action::count-returns-in-When t c = grind (arith, common_steps)

@@ -12,3 +12,9 @@ loop-taken-preserved g c = record {
 
 pub returns-clause-bytes : goal.returns-clause-bytes
 returns-clause-bytes g c = grind (arith, common_steps)
+
+pub returns-then-count-eq0-clause-bytes : goal.returns-then-count-eq0-clause-bytes
+returns-then-count-eq0-clause-bytes g c = grind (arith, common_steps)
+
+pub returns-then-count-eq0-clause-counted : goal.returns-then-count-eq0-clause-counted
+returns-then-count-eq0-clause-counted g c = grind (arith, common_steps)

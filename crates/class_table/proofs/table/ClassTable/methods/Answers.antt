@@ -1,4 +1,5 @@
 use Rattle.std.proofs.Common.{◌∙◌, ◌++◌, ◌∷◌, ◌≤◌, [], sym, ap, arith, length, map, string_bytes}
+use Rattle.std.proofs.lemmas.Grind.{common_steps}
 use Rattle.std.proofs.lemmas.List.{map-append}
 use Rattle.class_table.specs.Lookup.{method_text, methods}
 use Rattle.class_table.proofs.ListLemmas.{map-taken, taken-whole}
@@ -18,3 +19,6 @@ returns c =
     let rows = methods c.args.self.now c.args.class in
     let whole : length rows ≤ c.loop-number.number = omega (arith, c.method_count-number-end.ensures.value) in
     c.loop-number.invariant ∙ ap (map method_text) (taken-whole rows c.loop-number.number whole)
+
+pub loop-number-init : goal.loop-number-init
+loop-number-init c = grind (arith, common_steps)

@@ -7,3 +7,6 @@ get-requires g c = grind (arith, common_steps)
 
 pub returns-clause-variant : goal.returns-clause-variant
 returns-clause-variant g c = grind (arith, common_steps)
+
+pub returns-clause-lookup : goal.returns-clause-lookup
+returns-clause-lookup g c = grind (arith, common_steps)

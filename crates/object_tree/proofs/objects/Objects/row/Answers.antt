@@ -14,3 +14,6 @@ returns c = sym (is_row c.self.inside.rows c.self.inside.kinships c.args.self.no
 
 pub get-requires-clause-place : goal.get-requires-clause-place
 get-requires-clause-place c = grind (arith, common_steps)
+
+pub get-requires-clause-stands : goal.get-requires-clause-stands
+get-requires-clause-stands c = grind (arith, common_steps)

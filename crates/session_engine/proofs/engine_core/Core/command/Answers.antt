@@ -1,4 +1,5 @@
-use Rattle.std.proofs.Common.{◌∙◌, ap, subst, sym}
+use Rattle.std.proofs.Common.{◌∙◌, ap, subst, sym, arith}
+use Rattle.std.proofs.lemmas.Grind.{common_steps}
 use Rattle.session_tables.specs.Tables.{AreStored, state_at}
 use Rattle.thread_model.specs.State.{fields_of}
 use Rattle.session_engine.proofs.CommandsLemmas.{found_step, found_whole, returns_named, wanting_step, wanting_whole}
@@ -28,3 +29,9 @@ returns-else-wants_memory-clause-step g c = λ name there.
 pub returns-else-wants_memory-clause-returns : goal.returns-else-wants_memory-clause-returns
 returns-else-wants_memory-clause-returns g c = λ name there.
     returns_named _ _ _ c.obey-done.new.tables _ (rw c.new-actor.ensures at c.obey-done.ensures) _ c.self.inside.memory_refused c.args.self.now c.self.invariant c.self.view_is c.in-Some.ensures.key name there
+
+pub returns-then-wants_memory-clause-fails : goal.returns-then-wants_memory-clause-fails
+returns-then-wants_memory-clause-fails g c = grind (arith, common_steps)
+
+pub returns-then-wants_memory-clause-fine : goal.returns-then-wants_memory-clause-fine
+returns-then-wants_memory-clause-fine g c = grind (arith, common_steps)

@@ -1,4 +1,5 @@
 use Rattle.std.proofs.Common.{length, ap, arith}
+use Rattle.std.proofs.lemmas.Grind.{common_steps}
 use Rattle.shared_rows.specs.Links.{Linked}
 use Rattle.shared_rows.proofs.LinkedLemmas.{length-without}
 use Rattle.shared_rows.proofs.links.Links.replace.Goals as goal
@@ -16,3 +17,6 @@ insert_reserved-requires g c =
       ap (λ (l : Linked g.row.K.Denot). length l.links) new,
       ap (λ (l : Linked g.row.K.Denot). l.capacity) new,
     )
+
+pub returns : goal.returns
+returns g c = grind (arith, common_steps)

@@ -7,3 +7,6 @@ returns-then-len-ge-FUNCTORS-clause-refusal g c = grind (arith, common_steps)
 
 pub returns-clause-refusal : goal.returns-clause-refusal
 returns-clause-refusal g c = grind (arith, common_steps)
+
+pub returns-clause-room : goal.returns-clause-room
+returns-clause-room g c = grind (arith, common_steps)

@@ -1,3 +1,5 @@
+use Rattle.std.proofs.Common.{arith}
+use Rattle.std.proofs.lemmas.Grind.{common_steps}
 use Rattle.wire_lines.proofs.Sent.{SentFront-emptied, SentAll-failed, SentAll-passed}
 use Rattle.wire_lines.proofs.buffer.Buffer.send.Goals as goal
 
@@ -11,3 +13,9 @@ pub returns-clause-bytes : goal.returns-clause-bytes
 returns-clause-bytes g c =
     let flushed = c.in_ok-flush.ensures in
     SentAll-passed _ _ _ _ _ _ _ flushed.emptied flushed.bytes c.write_all.ensures.bytes
+
+pub returns-then-text-room-clause-bytes : goal.returns-then-text-room-clause-bytes
+returns-then-text-room-clause-bytes g c = grind (arith, common_steps)
+
+pub returns-clause-counted : goal.returns-clause-counted
+returns-clause-counted g c = grind (arith, common_steps)

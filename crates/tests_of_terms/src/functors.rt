@@ -1,0 +1,89 @@
+//! Functors that are handed in, found and looked at.
+ghost use Rattle.std.specs.Prelude.{◌≡◌, [], IfOk};
+
+use crate::handing::numbers_set;
+use plain_types::{Items, Text};
+use refusals::{Code, Fault};
+use std::alloc::{AllocError, Global};
+use std::test::Fail;
+use stored_slots::{Closure, FUNCTORS, Functors};
+use term_core::{Action, Body};
+use variant_value::Value;
+
+#[test]
+fn clamp_keeps_to_its_bounds(rt: HostRuntime) -> Result<(), Fail> {
+    let set = numbers_set(rt.alloc(), &[250, -5, 50])?;
+    assert!(rt; set.as_slice() == [Some(100), Some(0), Some(50)].as_slice());
+    Ok(())
+}
+
+/// Whether a functor is taken or refused as it has to be where so many were handed in before.
+fn is_as_wanted(count: usize, added: Result<(), Fault>) -> bool {
+    match added {
+        Ok(()) => count < FUNCTORS,
+        Err(Fault::Refused(Code::Limit)) => count == FUNCTORS,
+        Err(Fault::Refused(Code::NameTaken)) => count > FUNCTORS,
+        Err(_) => false,
+    }
+}
+
+/// Names, and the index at which each is found.
+const INDICES: &[(&str, Option<u32>)] = &[
+    ("0", Some(0)),
+    ("25", Some(25)),
+    ("255", Some(255)),
+    ("256", None),
+    ("2555", None),
+    ("", None),
+];
+
+fn are_found(functors: &Functors) -> bool {
+    for (name, wanted) in INDICES {
+        if functors.find(*name) != *wanted {
+            return false;
+        }
+    }
+    true
+}
+
+/// The name of the functor at an index, empty where there is none.
+fn name_of(functors: &Functors, index: u32) -> &str {
+    match functors.row(index) {
+        Some(functor) => functor.name.as_str(),
+        None => "",
+    }
+}
+
+fn have_names(functors: &Functors) -> bool {
+    name_of(functors, 0) == "0" && name_of(functors, 255) == "255" && name_of(functors, 256) == ""
+}
+
+/// Hands in as many functors as there may be, each named by its index, then one more, and one of a name
+/// that is there: whether all is as it has to be.
+fn are_as_wanted(alloc: Global) -> Result<bool, AllocError> {
+    let mut functors = Functors::new(alloc);
+    for count in 0..FUNCTORS + 2 {
+        let run: Closure = Box::new(
+            alloc,
+            |alloc: Global, _args: &[Value]| -> Result<Vec<Action>, AllocError>
+                ensures { IfOk result (λ actions. actions.items ≡ []) }
+            { Ok(Vec::new(alloc)) },
+        )?;
+        let body = Body {
+            params: 0,
+            actions: Items::new(alloc),
+        };
+        let name = Text::from_string((count % (FUNCTORS + 1)).to_string(alloc)?);
+        let added = functors.add(name, Items::new(alloc), body, run);
+        if !is_as_wanted(count, added) {
+            return Ok(false);
+        }
+    }
+    Ok(are_found(&functors) && have_names(&functors))
+}
+
+#[test]
+fn functors_have_names_and_are_few(rt: HostRuntime) -> Result<(), Fail> {
+    assert!(rt; are_as_wanted(rt.alloc())?);
+    Ok(())
+}
