@@ -1,2 +1,5 @@
+mod NumberLemmas
+mod WordLemmas
+mod WalkLemmas
 mod ReadingLemmas
 mod StartLemmas

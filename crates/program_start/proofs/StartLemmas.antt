@@ -1,6 +1,6 @@
 -- What the answer of the class file says of the start.
 use Rattle.std.proofs.Common.{◌≡◌, ◌⊎◌, ℕ, List, Option, Some, None, Err, sym, subst, inl, inr}
-use Rattle.command_line.specs.Asked.{Asked, run}
+use Rattle.program_start.specs.Asked.{Asked, run}
 use Rattle.program_start.specs.ClassBytes.{AnswersAt}
 use Rattle.program_start.specs.declared.class_file.ClassFileError.{ClassFileError}
 use Rattle.program_start.specs.declared.class_file.ClassFileError.TheVariants.{Refused, Unreadable, Memory}

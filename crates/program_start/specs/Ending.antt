@@ -7,7 +7,7 @@ use Rattle.clap.specs.declared.error.kind.ErrorKind.{ErrorKind}
 use Rattle.clap.specs.declared.error.kind.ErrorKind.TheVariants.{OutOfMemory}
 use Rattle.class_table.specs.declared.fault.ClassFault.{ClassFault}
 use Rattle.class_table.specs.Faults.{kind_text}
-use Rattle.command_line.specs.Statuses.{status_for}
+use Rattle.program_start.specs.Statuses.{status_for}
 use Rattle.wire_devices.specs.Counts.{FailsOnce}
 use Rattle.program_start.specs.declared.class_file.ClassFileError.{ClassFileError}
 use Rattle.program_start.specs.declared.class_file.ClassFileError.TheVariants.{Refused, Unreadable, Memory}

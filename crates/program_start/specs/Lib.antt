@@ -1,3 +1,6 @@
+pub mod Program
+pub mod Asked
+pub mod Statuses
 pub mod Clamp
 pub mod ClassBytes
 pub mod Ending

@@ -2,7 +2,7 @@
 use Rattle.std.specs.Prelude.{◌≡◌, ◌⊎◌, ℕ, List, Option, Some, None, Result, Ok, Err, IfErr, IfSome}
 use Rattle.class_table.specs.declared.fault.ClassFault.{ClassFault}
 use Rattle.class_table.specs.ClassFile.{table_of}
-use Rattle.command_line.specs.Asked.{Asked, asked, run, help, mistake}
+use Rattle.program_start.specs.Asked.{Asked, asked, run, help, mistake}
 use Rattle.program_start.specs.declared.beginning.Beginning.{Beginning}
 use Rattle.program_start.specs.declared.demonstration.TheConstants.{DEMONSTRATION}
 use Rattle.program_start.specs.declared.ending.Ending.{Ending}

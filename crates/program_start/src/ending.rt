@@ -7,8 +7,8 @@ ghost use Rattle.program_start.specs.Ending.{Complains, EndsByClasses, EndsByWor
 ghost use Rattle.program_start.specs.declared.ending.TheConstants.{NO_UTF_8};
 
 use crate::class_file::ClassFileError;
+use crate::refusal::{goes_to_standard_output, status_of_refusal, text_of_refusal};
 use class_table::ClassFault;
-use command_line::{goes_to_standard_output, status_of_refusal, text_of_refusal};
 use std::alloc::{AllocError, Global};
 use std::borrow::CowStr;
 use wire_devices::{Failed, Sink, write_all};

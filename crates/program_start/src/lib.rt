@@ -1,5 +1,5 @@
-//! The start of `metad`: what its command line asks for, the classes and turns that it runs with, and its
-//! functor.
+//! The start of `metad`: what the words of its command line mean, the classes and turns that it runs with,
+//! and its functor.
 #![tactic(auto)]
 
 mod beginning;
@@ -8,6 +8,8 @@ mod class_file;
 mod class_files;
 mod demonstration;
 mod ending;
+mod options;
+mod refusal;
 mod starting;
 
 pub use beginning::Beginning;
@@ -18,4 +20,5 @@ pub use class_file::{
 pub use class_files::ClassFiles;
 pub use demonstration::DEMONSTRATION;
 pub use ending::{Ending, Stream, class_text};
+pub use options::{DEFAULT_TURNS, Options, options_of};
 pub use starting::{start, start_with, words_of};

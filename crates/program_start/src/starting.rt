@@ -1,13 +1,13 @@
 //! The start of the program: the command line, and then the classes.
 ghost use Rattle.std.specs.Prelude.{IfErr, map};
-ghost use Rattle.command_line.specs.Asked.{asked};
+ghost use Rattle.program_start.specs.Asked.{asked};
 ghost use Rattle.program_start.specs.Start.{Starts, StartsByProcess, SaysNoWords};
 
 use crate::beginning::Beginning;
 use crate::class_file::classes_at;
 use crate::class_files::ClassFiles;
 use crate::ending::Ending;
-use command_line::options_of;
+use crate::options::options_of;
 use std::alloc::AllocError;
 use std::convert::AsStr;
 use std::env;

@@ -88,9 +88,8 @@ fn pair(json: &Json) -> Option<(&Json, &Json)>
         ≡ array (item (view found.0.now) (item (view found.1.now) no_items))) }
     ensures none { IfNone result ((a b : Data) → view json.now ≡ array (item a (item b no_items)) → ⊥) }
 {
-    let mut items = json.as_array()?.iter();
-    match (items.next(), items.next(), items.next()) {
-        (Some(a), Some(b), None) => Some((a, b)),
+    match json.as_array()?.as_slice() {
+        [a, b] => Some((a, b)),
         _ => None,
     }
 }
@@ -102,9 +101,8 @@ fn triple(json: &Json) -> Option<(&Json, &Json, &Json)>
     ensures none { IfNone result ((a b c : Data)
         → view json.now ≡ array (item a (item b (item c no_items))) → ⊥) }
 {
-    let mut items = json.as_array()?.iter();
-    match (items.next(), items.next(), items.next(), items.next()) {
-        (Some(a), Some(b), Some(c), None) => Some((a, b, c)),
+    match json.as_array()?.as_slice() {
+        [a, b, c] => Some((a, b, c)),
         _ => None,
     }
 }

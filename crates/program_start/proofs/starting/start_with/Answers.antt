@@ -1,6 +1,6 @@
 use Rattle.std.proofs.Common.{rules, map, arith}
 use Rattle.std.proofs.lemmas.Grind.{common_steps}
-use Rattle.command_line.specs.Asked.{asked}
+use Rattle.program_start.specs.Asked.{asked}
 use Rattle.program_start.proofs.StartLemmas.{ends_for}
 use Rattle.program_start.proofs.starting.start_with.Goals as goal
 

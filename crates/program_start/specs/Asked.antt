@@ -8,8 +8,8 @@ use Rattle.clap.specs.Words.{kind_of}
 use Rattle.clap.specs.declared.error.Error.{Error}
 use Rattle.clap.specs.declared.error.kind.ErrorKind.{ErrorKind}
 use Rattle.clap.specs.declared.error.kind.ErrorKind.TheVariants.{DisplayHelp, DisplayVersion, OutOfMemory}
-use Rattle.command_line.specs.declared.options.Options.{Options}
-use Rattle.command_line.specs.declared.options.TheConstants.{DEFAULT_TURNS}
+use Rattle.program_start.specs.declared.options.Options.{Options}
+use Rattle.program_start.specs.declared.options.TheConstants.{DEFAULT_TURNS}
 
 -- a run, with the class file at this path if there is one, in which each command has so many turns;
 -- the help; or nothing that metad knows

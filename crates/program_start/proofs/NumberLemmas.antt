@@ -10,8 +10,8 @@ use Rattle.clap.specs.ValueTests.{accepts, is_numeral}
 use Rattle.clap.specs.Words.{ReadsOne, Text}
 use Rattle.clap.specs.declared.builder.value_parser.ValueParser.{ValueParser}
 use Rattle.clap.specs.declared.builder.value_parser.ValueParser.TheVariants.{Signed}
-use Rattle.command_line.specs.Asked.{Gives, number_in}
-use Rattle.command_line.specs.declared.options.TheConstants.{DEFAULT_TURNS}
+use Rattle.program_start.specs.Asked.{Gives, number_in}
+use Rattle.program_start.specs.declared.options.TheConstants.{DEFAULT_TURNS}
 
 abbrev pub parser : ValueParser
 parser = Signed (pos 1) (pos 1000000)

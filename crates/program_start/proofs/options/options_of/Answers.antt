@@ -5,13 +5,13 @@ use Rattle.std.specs.Prelude.{ℕ}
 use Rattle.clap.specs.Words.{App, HasKind, app_of, fault_of, first_of, is_simple, is_simple_and_free, kind_of, matches_of, found_of, one_of, one_text}
 use Rattle.std.specs.Str.Parse.{ParsesUnsigned, ExplainsUnsignedError, HasUnsignedDigitsIfOk}
 use Rattle.clap.proofs.WalkLemmas.{first_value-rows, one_text-rows}
-use Rattle.command_line.specs.Program.{metad}
-use Rattle.command_line.specs.Asked.{Gives, asked, run}
-use Rattle.command_line.proofs.NumberLemmas.{gives_once, turns_read}
-use Rattle.command_line.proofs.WalkLemmas.{kind_says, reads_refusal, run_asked}
-use Rattle.command_line.proofs.WordLemmas.{simple, simple_and_free}
-use Rattle.command_line.proofs.options.options_of.Goals as goal
-use Rattle.command_line.proofs.options.options_of.Goals.{in-Some+in_ok-from_str-in-Some, in-None}
+use Rattle.program_start.specs.Program.{metad}
+use Rattle.program_start.specs.Asked.{Gives, asked, run}
+use Rattle.program_start.proofs.NumberLemmas.{gives_once, turns_read}
+use Rattle.program_start.proofs.WalkLemmas.{kind_says, reads_refusal, run_asked}
+use Rattle.program_start.proofs.WordLemmas.{simple, simple_and_free}
+use Rattle.program_start.proofs.options.options_of.Goals as goal
+use Rattle.program_start.proofs.options.options_of.Goals.{in-Some+in_ok-from_str-in-Some, in-None}
 
 pub returns-in_err-matches-clause-asked : goal.returns-in_err-matches-clause-asked
 returns-in_err-matches-clause-asked g c =

@@ -3,7 +3,7 @@ use Rattle.std.proofs.Common.{◌≡◌, ◌∙◌, rules, ap₂, codes, true}
 use Rattle.std.proofs.lemmas.Result.{IfOk-weaker}
 use Rattle.clap.specs.Simple.{on_top}
 use Rattle.clap.specs.Words.{app_of, new_app, with_rule}
-use Rattle.command_line.proofs.options.metad_command.Goals as goal
+use Rattle.program_start.proofs.options.metad_command.Goals as goal
 
 pub returns : goal.returns
 returns c =

@@ -14,9 +14,9 @@ use Rattle.clap.specs.Words.{Rule, Shape, Text, Row, Kinds}
 use Rattle.clap.specs.declared.error.kind.ErrorKind.{ErrorKind}
 use Rattle.clap.specs.declared.error.kind.ErrorKind.TheVariants.{DisplayHelp, UnknownArgument, TooManyValues}
 use Rattle.clap.proofs.OnLiterals.{clap_on_literals}
-use Rattle.command_line.specs.Asked.{mistake, asks_help, has_value, is_option, names_turns, number_in, Says}
-use Rattle.command_line.specs.Program.{metad, turns_rule}
-use Rattle.command_line.proofs.NumberLemmas.{no_number}
+use Rattle.program_start.specs.Asked.{mistake, asks_help, has_value, is_option, names_turns, number_in, Says}
+use Rattle.program_start.specs.Program.{metad, turns_rule}
+use Rattle.program_start.proofs.NumberLemmas.{no_number}
 
 pub simple : is_simple metad ≡ true
 unfolding clap_on_literals

@@ -1,8 +1,8 @@
 //! The options that a command line gives.
 ghost use Rattle.std.specs.Prelude.{◌≡◌, IfOk, false, map, codes};
 ghost use Rattle.clap.specs.Words.{FailsBy, app_of, fault_of, first_of, matches_of, one_of, rule_of};
-ghost use Rattle.command_line.specs.Program.{classes_rule, metad, turns_rule};
-ghost use Rattle.command_line.specs.Asked.{Gives, Reads, asked};
+ghost use Rattle.program_start.specs.Program.{classes_rule, metad, turns_rule};
+ghost use Rattle.program_start.specs.Asked.{Gives, Reads, asked};
 
 use clap::{Arg, Command, Error, value_parser};
 use plain_types::Text;

@@ -15,12 +15,12 @@ use Rattle.clap.specs.declared.error.kind.ErrorKind.{ErrorKind}
 use Rattle.clap.specs.declared.error.kind.ErrorKind.TheVariants.{ArgumentConflict, DisplayHelp, InvalidValue, OutOfMemory, ValueValidation}
 use Rattle.clap.specs.declared.parser.matches.ValueSource.TheVariants.{CommandLine}
 use Rattle.clap.specs.declared.builder.value_parser.Reading.TheVariants.{AsWritten, WithoutMinus}
-use Rattle.command_line.specs.Asked.{Asked, run, help, mistake, asked, asked_behind, asked_by_paths, asks_help, has_value, is_option, names_turns, number_in, one_number, one_path, run_with, Gives, Reads, Says}
-use Rattle.command_line.specs.Program.{metad}
-use Rattle.command_line.specs.declared.options.Options.{Options}
+use Rattle.program_start.specs.Asked.{Asked, run, help, mistake, asked, asked_behind, asked_by_paths, asks_help, has_value, is_option, names_turns, number_in, one_number, one_path, run_with, Gives, Reads, Says}
+use Rattle.program_start.specs.Program.{metad}
+use Rattle.program_start.specs.declared.options.Options.{Options}
 use Rattle.clap.specs.ValueTests.{accepts}
-use Rattle.command_line.proofs.NumberLemmas.{parser, accepts-number, number_plain}
-use Rattle.command_line.proofs.WordLemmas.{shape, rules, turns, Pending, at, settle, settles, IsTurn, GoesTo, IsPathWord, path_behind_dashes, dashes, turns_value, turns_alone, IsMistake, Refuses, unknown, option_word, path_word, number_word, HasNumber, turns_with, turns_without}
+use Rattle.program_start.proofs.NumberLemmas.{parser, accepts-number, number_plain}
+use Rattle.program_start.proofs.WordLemmas.{shape, rules, turns, Pending, at, settle, settles, IsTurn, GoesTo, IsPathWord, path_behind_dashes, dashes, turns_value, turns_alone, IsMistake, Refuses, unknown, option_word, path_word, number_word, HasNumber, turns_with, turns_without}
 
 -- ---- the rows
 

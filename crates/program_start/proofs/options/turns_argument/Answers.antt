@@ -1,7 +1,7 @@
 -- The number is read as one from 1 to 1,000,000.
 use Rattle.std.proofs.Common.{◌≡◌, ◌∙◌, rules, ap, Some, pos}
 use Rattle.clap.specs.declared.builder.value_parser.ValueParser.TheVariants.{Signed}
-use Rattle.command_line.proofs.options.turns_argument.Goals as goal
+use Rattle.program_start.proofs.options.turns_argument.Goals as goal
 
 pub returns-clause-rule : goal.returns-clause-rule
 returns-clause-rule c =
