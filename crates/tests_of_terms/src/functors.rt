@@ -1,14 +1,60 @@
-//! Functors that are handed in, found and looked at.
+//! Functors that are handed in, called, found and looked at.
 ghost use Rattle.std.specs.Prelude.{◌≡◌, [], IfOk};
 
-use crate::handing::numbers_set;
+use crate::handing::answers;
 use plain_types::{Items, Text};
 use refusals::{Code, Fault};
 use std::alloc::{AllocError, Global};
 use std::test::Fail;
 use stored_slots::{Closure, FUNCTORS, Functors};
-use term_core::{Action, Body};
+use term_core::{Action, Body, Effect, Expr, Step};
+use term_evaluation::{Halt, NoObjects, evaluate};
 use variant_value::Value;
+
+/// The value of an expression that speaks of no object, or nothing where it has none.
+fn value_of(alloc: Global, expr: &Expr) -> Result<Option<Value>, AllocError> {
+    match evaluate(alloc, expr, &[], &NoObjects) {
+        Ok(value) => Ok(Some(value)),
+        Err(Halt::Memory) => Err(AllocError),
+        Err(_) => Ok(None),
+    }
+}
+
+/// The number that actions set a property to, through branches that are nested as deep as those of
+/// `clamp`.
+fn number_set(alloc: Global, actions: &[Action]) -> Result<Option<i32>, AllocError> {
+    let mut left = actions;
+    for _ in 0..3 {
+        let Some(action) = left.first() else {
+            return Ok(None);
+        };
+        match &action.step {
+            Step::Effect(Effect::Set { value, .. }) => {
+                return match &value_of(alloc, value)? {
+                    Some(Value::Int(number)) => Ok(Some(*number)),
+                    _ => Ok(None),
+                };
+            }
+            Step::Effect(_) => return Ok(None),
+            Step::When(test, held, failed) => {
+                left = match &value_of(alloc, test)? {
+                    Some(Value::Bool(true)) => held,
+                    _ => failed,
+                };
+            }
+        }
+    }
+    Ok(None)
+}
+
+/// The numbers that `clamp` sets a property to where it is called with these.
+fn numbers_set(alloc: Global, given: &[i32]) -> Result<Vec<Option<i32>>, Fault> {
+    let mut numbers = Vec::new(alloc);
+    for actions in answers(alloc, given)? {
+        numbers.push(number_set(alloc, actions.as_slice())?)?;
+    }
+    Ok(numbers)
+}
 
 #[test]
 fn clamp_keeps_to_its_bounds(rt: HostRuntime) -> Result<(), Fail> {

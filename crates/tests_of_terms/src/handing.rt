@@ -9,49 +9,12 @@ use program_start::{clamped, with_clamp};
 use refusals::Fault;
 use std::alloc::{AllocError, Global};
 use stored_slots::Closure;
-use term_core::{Action, Effect, Expr, Node, Step};
-use term_evaluation::{Halt, NoObjects, evaluate};
+use term_core::{Action, Expr, Node};
 use variant_value::Value;
 
-/// The value of an expression that speaks of no object, or nothing where it has none.
-fn value_of(alloc: Global, expr: &Expr) -> Result<Option<Value>, AllocError> {
-    match evaluate(alloc, expr, &[], &NoObjects) {
-        Ok(value) => Ok(Some(value)),
-        Err(Halt::Memory) => Err(AllocError),
-        Err(_) => Ok(None),
-    }
-}
-
-/// The number that actions set a property to, through branches that are nested as deep as those of
-/// `clamp`.
-fn number_set(alloc: Global, actions: &[Action]) -> Result<Option<i32>, AllocError> {
-    let mut left = actions;
-    for _ in 0..3 {
-        let Some(action) = left.first() else {
-            return Ok(None);
-        };
-        match &action.step {
-            Step::Effect(Effect::Set { value, .. }) => {
-                return match &value_of(alloc, value)? {
-                    Some(Value::Int(number)) => Ok(Some(*number)),
-                    _ => Ok(None),
-                };
-            }
-            Step::Effect(_) => return Ok(None),
-            Step::When(test, held, failed) => {
-                left = match &value_of(alloc, test)? {
-                    Some(Value::Bool(true)) => held,
-                    _ => failed,
-                };
-            }
-        }
-    }
-    Ok(None)
-}
-
 /// Hands in `clamp`, which keeps a number between the bounds 0 and 100 that its closure captures, and
-/// calls it with each of these numbers: what it sets a property to then.
-pub fn numbers_set(alloc: Global, given: &[i32]) -> Result<Vec<Option<i32>>, Fault> {
+/// calls it with each of these numbers: what it answers.
+pub fn answers(alloc: Global, given: &[i32]) -> Result<Vec<Vec<Action>>, Fault> {
     let (least, most) = (0, 100);
     let run: Closure = Box::new(
         alloc,
@@ -65,10 +28,9 @@ pub fn numbers_set(alloc: Global, given: &[i32]) -> Result<Vec<Option<i32>>, Fau
         },
     )?;
     let functors = with_clamp(alloc, least, most, run)?;
-    let mut set = Vec::new(alloc);
+    let mut answers = Vec::new(alloc);
     for number in given {
-        let actions = functors.call(0, &[Value::Int(*number)])?;
-        set.push(number_set(alloc, actions.as_slice())?)?;
+        answers.push(functors.call(0, &[Value::Int(*number)])?)?;
     }
-    Ok(set)
+    Ok(answers)
 }

@@ -18,4 +18,4 @@ mod handing;
 #[cfg(test)]
 mod members;
 
-pub use handing::numbers_set;
+pub use handing::answers;
