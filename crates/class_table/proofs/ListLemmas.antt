@@ -1,5 +1,5 @@
 -- Lists: the first index that passes, and lists with no element twice.
-use Rattle.std.proofs.Common.{◌≡◌, ◌≢◌, inl, inr, ℕ, suc, zero, ◌+◌, ◌<◌, ◌≤◌, ◌==◌, Bool, true, false, not, cond, List, [], ◌∷◌, ◌++◌, length, map, position, slice_get, Option, Some, None, get_or, refl, sym, ap, ◌∙◌, arith, add-zero, nat_lt, take}
+use Rattle.std.proofs.Common.{◌≡◌, ◌≢◌, inl, inr, ℕ, suc, zero, ◌+◌, ◌-◌, ◌<◌, ◌≤◌, ◌==◌, Bool, true, false, not, cond, List, [], ◌∷◌, ◌++◌, length, map, position, slice_get, Option, Some, None, get_or, refl, sym, ap, ◌∙◌, arith, add-zero, nat_lt, take}
 use Rattle.std.specs.Option.{option_or, option_map, option_map_or}
 use Rattle.std.specs.List.{position_from, prefix_len}
 use Rattle.std.proofs.lemmas.Bool.Decides.{eqb_tells}
@@ -83,6 +83,12 @@ slice_get-front (x ∷ xs) ys (suc k) h = slice_get-front xs ys k (omega arith)
 pub slice_get-behind : {X : Type 0} (xs ys : List X) (k : ℕ) → slice_get (xs ++ ys) (length xs + k) ≡ slice_get ys k
 slice_get-behind [] ys k = let e : 0 + k ≡ k = omega arith in rw e
 slice_get-behind (x ∷ xs) ys k = let e : length (x ∷ xs) + k ≡ suc (length xs + k) = omega arith in rw e (slice_get-behind xs ys k)
+
+-- an element of the list that stands behind, by its number in both together
+pub slice_get-own : {X : Type 0} (before own all : List X) (offset number : ℕ) → all ≡ before ++ own → offset ≡ length before → offset ≤ number → slice_get own (number - offset) ≡ slice_get all number
+slice_get-own before own all offset number whole at past =
+    let split : length before + (number - offset) ≡ number = omega (arith, at, past) in
+    sym (slice_get-behind before own (number - offset)) ∙ (ap (λ n. slice_get (before ++ own) n) split ∙ ap (λ l. slice_get l number) (sym whole))
 
 taken : {X : Type 0} (xs : List X) (i : ℕ) (x : X) → Some x ≡ slice_get xs i → take (i + 1) xs ≡ take i xs ++ x ∷ []
 taken [] i x e = absurd (cc)
