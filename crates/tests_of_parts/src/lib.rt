@@ -1,0 +1,30 @@
+//! Tests of what only a call can show of the crates below sessions: which texts are read without a tree,
+//! examples from outside of what no command reaches so far, that a closure with its fact is taken and
+//! answers, that calls of the shared tables succeed where memory is found, and that the definitions mean
+//! what the rules say. What lines and class files show of these crates stands in the rows and the tools of
+//! the built program.
+#![tactic(auto)]
+
+#[cfg(test)]
+mod base;
+#[cfg(test)]
+mod bodies;
+#[cfg(test)]
+mod cases;
+#[cfg(test)]
+mod class_files;
+#[cfg(test)]
+mod events;
+#[cfg(test)]
+mod expressions;
+#[cfg(test)]
+mod functors;
+#[cfg(test)]
+mod gaps;
+mod handing;
+#[cfg(test)]
+mod members;
+#[cfg(test)]
+mod properties;
+
+pub use handing::answers;
