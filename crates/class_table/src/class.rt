@@ -19,7 +19,6 @@ pub const METHODS: usize = 256;
 pub const PROPERTIES: usize = 64;
 
 /// A signal or a slot.
-#[derive(Drop)]
 pub struct Method {
     pub signature: Signature,
     /// The normal text of the signature.
@@ -27,6 +26,17 @@ pub struct Method {
     pub is_signal: bool,
     /// What a slot does; that of a signal is empty.
     pub body: Body,
+}
+
+impl Drop for Method {
+    fn drop(self) {
+        let Method {
+            signature: _,
+            text: _,
+            is_signal: _,
+            body: _,
+        } = self;
+    }
 }
 
 impl Method {
@@ -73,7 +83,6 @@ fn empty_body(alloc: Global, params: usize) -> Body
 }
 
 /// A declared property.
-#[derive(Drop)]
 pub struct Property {
     pub name: Text,
     pub kind: Kind,
@@ -82,8 +91,18 @@ pub struct Property {
     pub bindable: bool,
 }
 
+impl Drop for Property {
+    fn drop(self) {
+        let Property {
+            name: _,
+            kind: _,
+            notify: _,
+            bindable: _,
+        } = self;
+    }
+}
+
 /// A class with what it declares itself. What its superclasses declare comes first in number.
-#[derive(Drop)]
 pub struct Class {
     pub name: Text,
     /// The superclass by its index in the table; only `QObject` has none.
@@ -95,6 +114,19 @@ pub struct Class {
     /// The signals, and then the slots, each in the order of the file.
     pub methods: Items<Method>,
     pub properties: Items<Property>,
+}
+
+impl Drop for Class {
+    fn drop(self) {
+        let Class {
+            name: _,
+            superclass: _,
+            method_offset: _,
+            property_offset: _,
+            methods: _,
+            properties: _,
+        } = self;
+    }
 }
 
 impl Class {

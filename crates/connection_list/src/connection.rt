@@ -4,7 +4,7 @@ use connection_types::{Callee, ConnectionType};
 use shared_rows::Numbered;
 
 /// A connection, as `connect` is asked for it.
-#[derive(Clone, Copy, PartialEq, Eq)]
+#[derive(Clone, Copy)]
 pub struct NewConnection {
     /// The object that sends the signal.
     pub sender: u32,
@@ -18,7 +18,7 @@ pub struct NewConnection {
 }
 
 /// A connection that stands.
-#[derive(Clone, Copy, PartialEq, Eq)]
+#[derive(Clone, Copy)]
 pub struct Connection {
     /// Counted from 1 in each place, in the order of making, and never given twice before a `clear`.
     pub number: u32,

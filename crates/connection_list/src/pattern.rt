@@ -1,7 +1,7 @@
 //! Which connections are to be broken.
 
 /// The receiving end of a pattern.
-#[derive(Clone, Copy, PartialEq, Eq)]
+#[derive(Clone, Copy)]
 pub struct Receiver {
     pub object: u32,
     /// Absent, every method is meant, and every functor with this object as its context.
@@ -10,7 +10,7 @@ pub struct Receiver {
 
 /// Which connections `disconnect_matching` breaks, as the arguments of `QObject::disconnect` say it:
 /// what is absent matches everything.
-#[derive(Clone, Copy, PartialEq, Eq)]
+#[derive(Clone, Copy)]
 pub struct Pattern {
     pub sender: u32,
     pub signal: Option<u32>,

@@ -7,7 +7,6 @@ use shared_rows::Numbered;
 use variant_value::Args;
 
 /// A call that waits in the queue (`QMetaCallEvent`).
-#[derive(Drop)]
 pub struct QueuedCall {
     /// The receiver: the object whose method is called, or that is the functor's context.
     pub object: u32,
@@ -17,12 +16,30 @@ pub struct QueuedCall {
     pub args: Args,
 }
 
+impl Drop for QueuedCall {
+    fn drop(self) {
+        let QueuedCall {
+            object: _,
+            callee: _,
+            sender: _,
+            args: _,
+        } = self;
+    }
+}
+
 /// What an event loop delivers to an object.
-#[derive(Drop)]
 pub enum Event {
     Call(QueuedCall),
     /// The deletion of this object, which was asked for later (`QEvent::DeferredDelete`).
     Deletion(u32),
+}
+
+impl Drop for Event {
+    fn drop(self) {
+        match self {
+            Event::Call(_) | Event::Deletion(_) => (),
+        }
+    }
 }
 
 impl Event {

@@ -18,7 +18,7 @@ use std::marker::Model;
 pub const EVENTS: usize = 16384;
 
 /// What is told of a queue.
-#[derive(Clone, Copy, PartialEq, Eq)]
+#[derive(Clone, Copy)]
 pub struct Counts {
     /// How many events wait.
     pub queued: usize,

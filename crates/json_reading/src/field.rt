@@ -15,18 +15,30 @@ pub enum Scalar<'a> {
 }
 
 /// The value of a member: borrowed from the text, or any other value.
-#[derive(Drop)]
 pub enum Field<'a> {
     Plain(Scalar<'a>),
     List(Vec<Scalar<'a>>),
     Tree(&'a Value),
 }
 
+impl<'a> Drop for Field<'a> {
+    fn drop(self) {
+        match self {
+            Field::Plain(_) | Field::List(_) | Field::Tree(_) => (),
+        }
+    }
+}
+
 /// A key with its value. Of members with equal keys the last counts.
-#[derive(Drop)]
 pub struct Member<'a> {
     pub key: &'a str,
     pub value: Field<'a>,
+}
+
+impl<'a> Drop for Member<'a> {
+    fn drop(self) {
+        let Member { key: _, value: _ } = self;
+    }
 }
 
 impl<'a> Field<'a> {

@@ -8,7 +8,7 @@ pub const OBJECTS: usize = 4096;
 pub const DEPTH: usize = 64;
 
 /// An object.
-#[derive(Clone, Copy, PartialEq, Eq)]
+#[derive(Clone, Copy)]
 pub struct Row {
     /// Counted from 1 in each forest, and never given again before it is cleared.
     pub number: u32,

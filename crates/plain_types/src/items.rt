@@ -6,9 +6,14 @@ use std::alloc::{AllocError, Global};
 use std::marker::Model;
 
 /// A `Vec` that contracts see as the list of its elements.
-#[derive(Drop)]
 pub struct Items<T> {
     inner: Vec<T>,
+}
+
+impl<T: Drop> Drop for Items<T> {
+    fn drop(self) {
+        let Items { inner: _ } = self;
+    }
 }
 
 impl<T> Model for Items<T> {

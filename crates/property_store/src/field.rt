@@ -13,12 +13,21 @@ use std::alloc::{AllocError, Global};
 use variant_value::{Args, Value};
 
 /// A declared property, as a store knows it.
-#[derive(Drop)]
 pub struct Field {
     pub name: Text,
     pub kind: Kind,
     /// Whether it may be bound to an expression.
     pub bindable: bool,
+}
+
+impl Drop for Field {
+    fn drop(self) {
+        let Field {
+            name: _,
+            kind: _,
+            bindable: _,
+        } = self;
+    }
 }
 
 /// The properties that a class declares; a class that is not there declares none.

@@ -71,9 +71,9 @@ fn deliver<F: Answering>(
         (doing_at actor.now.caller.place tables.old telling.old) tables.new telling.new) }
     ensures keeps { Keeps actor.now.caller.place tables.old tables.new }
 {
-    match event {
-        Event::Call(call) => deliver_call(actor, tables, telling, &call),
-        Event::Deletion(object) => delete(actor, tables, telling, object, 0),
+    match &event {
+        Event::Call(call) => deliver_call(actor, tables, telling, call),
+        Event::Deletion(object) => delete(actor, tables, telling, *object, 0),
     }
 }
 

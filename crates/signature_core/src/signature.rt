@@ -13,12 +13,17 @@ use std::alloc::{AllocError, Global};
 pub const PARAMS: usize = 10;
 
 /// What tells a method from the others of its class. `normalise` makes one of a text.
-#[derive(Drop)]
 pub struct Signature {
     /// The method's name.
     pub name: Text,
     /// The kinds of its parameters, first to last.
     pub kinds: Items<Kind>,
+}
+
+impl Drop for Signature {
+    fn drop(self) {
+        let Signature { name: _, kinds: _ } = self;
+    }
 }
 
 impl Signature {

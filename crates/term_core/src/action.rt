@@ -13,7 +13,6 @@ use std::marker::Model;
 
 /// An action that does one thing. `of` is the object that it acts on. A target's object is looked up
 /// when the action is run.
-#[derive(Drop)]
 pub enum Effect {
     /// Writes a property.
     Set {
@@ -59,6 +58,42 @@ pub enum Effect {
         of: Target,
         parent: Option<Target>,
     },
+}
+
+impl Drop for Effect {
+    fn drop(self) {
+        match self {
+            Effect::Set {
+                of: _,
+                property: _,
+                value: _,
+            }
+            | Effect::Emit {
+                of: _,
+                signal: _,
+                args: _,
+            }
+            | Effect::Connect {
+                of: _,
+                signal: _,
+                to: _,
+                method: _,
+                mode: _,
+                unique: _,
+                single: _,
+            }
+            | Effect::Disconnect {
+                of: _,
+                signal: _,
+                to: _,
+                method: _,
+            }
+            | Effect::Delete(_)
+            | Effect::DeleteLater(_)
+            | Effect::Block { of: _, on: _ }
+            | Effect::SetParent { of: _, parent: _ } => (),
+        }
+    }
 }
 
 impl Effect {

@@ -16,11 +16,19 @@ use serde_json::Value as Json;
 use std::alloc::Global;
 
 /// What a slot does when it is run: its actions, one after another.
-#[derive(Drop)]
 pub struct Body {
     /// How many parameters the slot has.
     pub params: usize,
     pub actions: Items<Action>,
+}
+
+impl Drop for Body {
+    fn drop(self) {
+        let Body {
+            params: _,
+            actions: _,
+        } = self;
+    }
 }
 
 impl Body {

@@ -18,9 +18,15 @@ use variant_value::{TEXT_BYTES, Value};
 
 /// An expression of a binding or of a slot's body.
 #[cycle(expr)]
-#[derive(Drop)]
 pub struct Expr {
     pub node: Node,
+}
+
+impl Drop for Expr {
+    #[cycle(drop)]
+    fn drop(self) {
+        let Expr { node: _ } = self;
+    }
 }
 
 /// An expression's outermost form.

@@ -3,7 +3,7 @@ ghost use Rattle.std.specs.Prelude.{◌≡◌};
 ghost use Rattle.term_core.specs.Forms.{form_named};
 
 /// What is made of two operands.
-#[derive(Clone, Copy, PartialEq, Eq)]
+#[derive(Clone, Copy)]
 pub enum Operator {
     /// The sum of two numbers.
     Sum,

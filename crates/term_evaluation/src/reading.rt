@@ -7,10 +7,15 @@ use std::alloc::{AllocError, Global};
 use term_core::{Expr, Node, Target};
 
 /// A property that an expression reads.
-#[derive(Drop)]
 pub struct Read {
     pub target: Target,
     pub name: Text,
+}
+
+impl Drop for Read {
+    fn drop(self) {
+        let Read { target: _, name: _ } = self;
+    }
 }
 
 /// The properties that the expression reads, in preorder, each as often as it is written. Evaluation

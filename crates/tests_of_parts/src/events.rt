@@ -130,11 +130,11 @@ fn queued_call(alloc: Global, object: u32, sender: u32) -> Result<Event, AllocEr
 
 /// The receiver and the sender of a call as the digits of one number, the object of a deletion, or 0.
 fn told(event: Option<Event>) -> u64 {
-    match event {
+    match &event {
         Some(Event::Call(call)) => (call.object as u64)
             .wrapping_mul(10)
             .wrapping_add(call.sender as u64),
-        Some(Event::Deletion(object)) => object as u64,
+        Some(Event::Deletion(object)) => *object as u64,
         None => 0,
     }
 }

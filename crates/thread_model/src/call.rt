@@ -13,7 +13,6 @@ pub const DESTROYED: u32 = 0;
 pub const OBJECT_NAME: u32 = 0;
 
 /// A slot or a functor as it is called.
-#[derive(Drop)]
 pub struct Call {
     /// The normal text of the slot's signature, or the functor's name.
     pub method: Text,
@@ -23,4 +22,15 @@ pub struct Call {
     pub sender: u32,
     /// The values of the slot's parameters.
     pub args: Args,
+}
+
+impl Drop for Call {
+    fn drop(self) {
+        let Call {
+            method: _,
+            object: _,
+            sender: _,
+            args: _,
+        } = self;
+    }
 }

@@ -26,7 +26,7 @@ pub enum Answer {
 }
 
 /// What came of taking events.
-#[derive(Clone, Copy, PartialEq, Eq)]
+#[derive(Clone, Copy)]
 pub struct Spin {
     /// How many were taken.
     pub events: u32,
@@ -39,7 +39,7 @@ pub struct Spin {
 }
 
 /// How much there is in a session.
-#[derive(Clone, Copy, PartialEq, Eq)]
+#[derive(Clone, Copy)]
 pub struct Status {
     pub connections: u32,
     pub lost: u64,

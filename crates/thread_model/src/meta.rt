@@ -2,7 +2,6 @@
 use plain_types::{Items, Text};
 
 /// What there is in a class, as Qt's `QMetaObject` tells it.
-#[derive(Drop)]
 pub struct MetaObject {
     /// The name of the class.
     pub class: Text,
@@ -16,4 +15,17 @@ pub struct MetaObject {
     pub property_offset: u32,
     /// The name of the superclass; only `QObject` has none.
     pub superclass: Option<Text>,
+}
+
+impl Drop for MetaObject {
+    fn drop(self) {
+        let MetaObject {
+            class: _,
+            method_offset: _,
+            methods: _,
+            properties: _,
+            property_offset: _,
+            superclass: _,
+        } = self;
+    }
 }
