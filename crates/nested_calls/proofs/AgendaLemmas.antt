@@ -1,9 +1,9 @@
 -- An agenda by nested calls.
-use Rattle.std.proofs.Common.{◌≡◌, ◌<◌, ◌≤◌, ◌+◌, ◌-◌, ◌*◌, ◌==◌, ◌&&◌, nat_lt, nat_le, ℕ, suc, Bool, true, false, cond, not, is_some, List, [], ◌∷◌, ◌++◌, Option, Some, None, find, drop, take, length, refl, sym, subst, ap, ◌∙◌, if◌then◌else◌, arith}
+use Rattle.std.proofs.Common.{◌≡◌, ◌<◌, ◌≤◌, ◌+◌, ◌-◌, ◌*◌, ◌==◌, ◌&&◌, ◌||◌, map, filter, nat_lt, nat_le, ℕ, suc, Bool, true, false, cond, not, is_some, List, [], ◌∷◌, ◌++◌, Option, Some, None, find, drop, take, length, refl, sym, subst, ap, ◌∙◌, if◌then◌else◌, arith}
 use Rattle.std.proofs.Common.{Result, Ok, Err, OnErr, OnOk, get_or, ⊎_elim, ◌⊎◌}
 use Rattle.std.proofs.Math.Nat.{mul-le-mul_left, mul-suc}
-use Rattle.std.proofs.lemmas.List.{drop_all}
-use Rattle.std.specs.List.{AllByRecursion}
+use Rattle.std.proofs.lemmas.List.{append-nil, drop_all}
+use Rattle.std.specs.List.{AllByRecursion, list_any}
 use Rattle.std.specs.Option.{option_map}
 use Rattle.std.proofs.lemmas.Bool.{cond-false, cond-true, ne_eqb}
 use Rattle.std.proofs.lemmas.List.Elements.{recursion_from_All}
@@ -36,7 +36,11 @@ use Rattle.thread_model.specs.Agenda.{call_line, callee_called, connection_of, i
 use Rattle.thread_model.specs.Methods.{method_at}
 use Rattle.thread_model.specs.Targets.{truth_evaluated}
 use Rattle.thread_model.proofs.ActionLemmas as action
-use Rattle.thread_model.specs.Doing.{Doing, in_state, lost, posted, shot, told, turn_taken, used_up}
+use Rattle.thread_model.specs.declared.post.Post.{Post}
+use Rattle.thread_model.specs.declared.post.Desk.{Desk}
+use Rattle.thread_model.specs.declared.post.Publication.{Publication}
+use Rattle.thread_model.specs.Arriving.{post_of, posts_of, publishes}
+use Rattle.thread_model.specs.Doing.{Doing, in_state, lost, posted, posting, shot, told, turn_taken, used_up}
 use Rattle.thread_model.specs.Items.{Call, Emit, Item, Next, Run, Warn, puts}
 use Rattle.thread_model.specs.Posting.{is_queued}
 use Rattle.thread_model.specs.Run.{longest_functor, run}
@@ -63,11 +67,6 @@ use Rattle.session_effects.specs.declared.caller.Caller.{Caller}
 use Rattle.session_effects.specs.Setup.{settings_of}
 use Rattle.nested_calls.specs.Telling.{Warns, doing_at, spent, with_line}
 use Rattle.session_effects.proofs.FoundLemmas.{item_at}
-
--- what follows from what a call has done, where it has
-pub OnOk-map : {T E P Q : Type 0} (answer : Result T E) → (P → Q) → OnOk answer P → OnOk answer Q
-OnOk-map (Ok value) f h = f h
-OnOk-map (Err error) f h = tt
 
 -- how many calls and deletions there can still be
 abbrev pub left_at : ℕ → Tables → Telling → ℕ
@@ -106,15 +105,15 @@ module _ (caller : Caller) (old new : Tables) (before after : Telling) (rank nex
   round_falls one_less within = let rounds = rounds_one_less (longest_of caller) (left_at caller.place new after) (left_at caller.place old before) one_less in omega (arith, rounds, within)
 
 -- no call gives turns back, or makes an object
-pub left_falls : (settings : Settings) (agenda : List Item) (place : ℕ) (old new : Tables) (before after : Telling) → run settings agenda (doing_at place old before) ≡ doing_at place new after → left_at place new after ≤ left_at place old before
-left_falls settings agenda place old new before after does =
-    let shrinks : Shrinks (doing_at place old before) (doing_at place new after) = subst (Shrinks (doing_at place old before)) does (run_shrinks settings agenda (doing_at place old before)) in
+pub left_falls : (settings : Settings) (agenda : List Item) (place : ℕ) (old new : Tables) (before after : Telling) (earlier posts : List Post) → run settings agenda (doing_at place old before earlier) ≡ doing_at place new after posts → left_at place new after ≤ left_at place old before
+left_falls settings agenda place old new before after earlier posts does =
+    let shrinks : Shrinks (doing_at place old before earlier) (doing_at place new after posts) = subst (Shrinks (doing_at place old before earlier)) does (run_shrinks settings agenda (doing_at place old before earlier)) in
     omega (arith, shrinks.turns, shrinks.living)
 
 -- nor does an item that is done, whatever it puts in front
-pub left_stepped : (settings : Settings) (item : Item) (items : List Item) (place : ℕ) (old new : Tables) (telling : Telling) → step settings item (doing_at place old telling) ≡ puts items (doing_at place new telling) → left_at place new telling ≤ left_at place old telling
-left_stepped settings item items place old new telling is =
-    let shrinks : Shrinks (doing_at place old telling) (doing_at place new telling) = subst (λ (next : Next). Shrinks (doing_at place old telling) next.doing) is (falls settings item (doing_at place old telling)).shrinks in
+pub left_stepped : (settings : Settings) (item : Item) (items : List Item) (place : ℕ) (old new : Tables) (telling : Telling) (earlier : List Post) → step settings item (doing_at place old telling earlier) ≡ puts items (doing_at place new telling earlier) → left_at place new telling ≤ left_at place old telling
+left_stepped settings item items place old new telling earlier is =
+    let shrinks : Shrinks (doing_at place old telling earlier) (doing_at place new telling earlier) = subst (λ (next : Next). Shrinks (doing_at place old telling earlier) next.doing) is (falls settings item (doing_at place old telling earlier)).shrinks in
     omega (arith, shrinks.turns, shrinks.living)
 
 -- a single-shot connection that goes leaves as much
@@ -188,6 +187,31 @@ sends rows target blocked e = by (row_of rows target) refl e
     by None is e = absurd (cc)
     by (Some row) is e = record { row = row; there = is; is = cc }
 
+-- a signal that is not published is not posted
+pub posts_none : (target signal : ℕ) (args : List Value) (desk : Desk) → list_any (publishes target signal) desk.publications ≡ false → posts_of desk target signal args ≡ []
+posts_none target signal args desk none = ap (map (post_of args)) (by desk.publications none)
+  where
+    by : (rows : List Publication) → list_any (publishes target signal) rows ≡ false → filter (publishes target signal) rows ≡ []
+    by [] none = refl
+    by (row ∷ rows) none = one (publishes target signal row) none (by rows)
+      where
+        one : (passed : Bool) → (passed || list_any (publishes target signal) rows) ≡ false → (list_any (publishes target signal) rows ≡ false → filter (publishes target signal) rows ≡ []) → cond passed (row ∷ filter (publishes target signal) rows) (filter (publishes target signal) rows) ≡ []
+        one true none rest = absurd (cc)
+        one false none rest = rest none
+
+-- a session that posts nothing more is as it was
+posting_none : (doing : Doing) → posting doing [] ≡ doing
+unfolding posting
+posting_none doing = ap (λ posts. record doing { posts = posts }) (append-nil doing.posts)
+
+-- and one whose posts were delivered has them behind the others
+pub posting_is : (place : ℕ) (old new : Tables) (before after : Telling) (earlier more : List Post) → state_at new place ≡ state_at old place → after ≡ record before { failing = after.failing }
+    → posting (doing_at place old before earlier) more ≡ doing_at place new after (earlier ++ more)
+unfolding posting
+posting_is place old new before after earlier more own same =
+    ap (λ (state : State). record { state = state; turns = before.turns; spent = before.spent; taken = before.taken; lines = before.lines; posts = earlier ++ more }) (sym own)
+    ∙ ap (λ (telling : Telling). doing_at place new telling (earlier ++ more)) (sym same)
+
 module _ (settings : Settings) (target signal : ℕ) (args : List Value) (depth : ℕ) where
   -- an object that has gone sends nothing
   pub emission_absent : (doing : Doing) → None ≡ option_map (λ row. row.blocked) (row_of doing.state.forest.rows target) → run settings (Emit target signal args depth ∷ []) doing ≡ doing
@@ -213,17 +237,18 @@ module _ (settings : Settings) (target signal : ℕ) (args : List Value) (depth 
       pub emission_deep : (new : Doing) → NESTED_SIGNALS ≤ depth → run settings (Warn Limit (Some target) ∷ []) doing ≡ new → run settings (Emit target signal args depth ∷ []) doing ≡ new
       emission_deep new deep does = by_step settings (Emit target signal args depth) doing _ (rule.emit_deep settings target signal args depth doing its_row.row its_row.there (held_is false sent) deep) ∙ does
 
-      -- an emission that begins has all connections of the signal before it
-      pub emission_begins : depth < NESTED_SIGNALS → IsSound doing.state.connections
-          → run settings (calls_to settings args depth (remaining target signal doing.state.connections.last_number 0 doing.state.connections.rows)) doing ≡ run settings (Emit target signal args depth ∷ []) doing
-      emission_begins shallow sound =
+      -- an emission that begins is posted, and has all connections of the signal before it
+      pub emission_begins : depth < NESTED_SIGNALS → IsSound doing.state.connections → (new : Doing) → posting doing (posts_of doing.state.desk target signal args) ≡ new
+          → run settings (calls_to settings args depth (remaining target signal doing.state.connections.last_number 0 doing.state.connections.rows)) new ≡ run settings (Emit target signal args depth ∷ []) doing
+      emission_begins shallow sound new posts =
           sym (by_step settings (Emit target signal args depth) doing _ (rule.emit_calls settings target signal args depth doing its_row.row its_row.there (held_is false sent) shallow)
-          ∙ ap (λ agenda. run settings agenda doing) (emission_first settings target signal args depth doing sound))
+          ∙ ap (λ agenda. run settings agenda (posting doing (posts_of doing.state.desk target signal args))) (emission_first settings target signal args depth doing sound)
+          ∙ ap (run settings (calls_to settings args depth (remaining target signal doing.state.connections.last_number 0 doing.state.connections.rows))) posts)
 
-  -- a signal that nothing is connected to comes to nothing, whether its object is there or not, blocked or not
-  pub emission_unheard : (doing : Doing) → depth < NESTED_SIGNALS → IsSound doing.state.connections → is_some (find (is_next target signal 0 doing.state.connections.last_number) doing.state.connections.rows) ≡ false
+  -- a signal that is not published and that nothing is connected to comes to nothing, whether its object is there or not, blocked or not
+  pub emission_unheard : (doing : Doing) → depth < NESTED_SIGNALS → IsSound doing.state.connections → posts_of doing.state.desk target signal args ≡ [] → is_some (find (is_next target signal 0 doing.state.connections.last_number) doing.state.connections.rows) ≡ false
       → run settings (Emit target signal args depth ∷ []) doing ≡ doing
-  emission_unheard doing shallow sound unheard = by_row (option_map (λ (row : Row). row.blocked) (row_of doing.state.forest.rows target)) refl
+  emission_unheard doing shallow sound unpublished unheard = by_row (option_map (λ (row : Row). row.blocked) (row_of doing.state.forest.rows target)) refl
     where
       none : (found : Option Connection) → is_some found ≡ false → found ≡ None
       none None e = refl
@@ -232,7 +257,7 @@ module _ (settings : Settings) (target signal : ℕ) (args : List Value) (depth 
       sent : (blocked : Bool) → Some blocked ≡ option_map (λ (row : Row). row.blocked) (row_of doing.state.forest.rows target) → (held : Bool) → (blocked && not (signal == DESTROYED)) ≡ held → run settings (Emit target signal args depth ∷ []) doing ≡ doing
       sent blocked has true held = emission_held_back doing blocked has held
       sent blocked has false free =
-          sym (emission_begins doing blocked has free shallow sound)
+          sym (emission_begins doing blocked has free shallow sound doing (ap (posting doing) unpublished ∙ posting_none doing))
           ∙ emission_end settings target signal args depth doing.state.connections.last_number 0 doing (none (find (is_next target signal 0 doing.state.connections.last_number) doing.state.connections.rows) unheard)
 
       by_row : (found : Option Bool) → option_map (λ (row : Row). row.blocked) (row_of doing.state.forest.rows target) ≡ found → run settings (Emit target signal args depth ∷ []) doing ≡ doing
@@ -257,50 +282,50 @@ module _ (settings : Settings) (target signal : ℕ) (args : List Value) (depth 
       (let later = (run_later settings (Call next.number args depth ∷ []) middle).last in omega (arith, later, most))
 
 -- what was told
-pub told_is : (place : ℕ) (tables : Tables) (before after : Telling) (line : Line) → after ≡ with_line before line → told (doing_at place tables before) line ≡ doing_at place tables after
+pub told_is : (place : ℕ) (tables : Tables) (before after : Telling) (earlier : List Post) (line : Line) → after ≡ with_line before line → told (doing_at place tables before earlier) line ≡ doing_at place tables after earlier
 unfolding told
-told_is place tables before after line e = ap (doing_at place tables) (sym e)
+told_is place tables before after earlier line e = ap (λ (telling : Telling). doing_at place tables telling earlier) (sym e)
 
 -- that no turn is left is told once
-pub spent_is : (place : ℕ) (tables : Tables) (before after : Telling) → after ≡ spent before → used_up (doing_at place tables before) ≡ doing_at place tables after
+pub spent_is : (place : ℕ) (tables : Tables) (before after : Telling) (earlier : List Post) → after ≡ spent before → used_up (doing_at place tables before earlier) ≡ doing_at place tables after earlier
 unfolding used_up
-spent_is place tables before after e = by before.spent ∙ ap (doing_at place tables) (sym e)
+spent_is place tables before after earlier e = by before.spent ∙ ap (λ (telling : Telling). doing_at place tables telling earlier) (sym e)
   where
-    by : (b : Bool) → (if b then doing_at place tables before else record (doing_at place tables before) { spent = true; lines = before.lines ++ Warning TurnsUsedUp None ∷ [] })
-        ≡ doing_at place tables (if b then before else record { lines = before.lines ++ Warning TurnsUsedUp None ∷ []; turns = before.turns; spent = true; taken = before.taken })
+    by : (b : Bool) → (if b then doing_at place tables before earlier else record (doing_at place tables before earlier) { spent = true; lines = before.lines ++ Warning TurnsUsedUp None ∷ [] })
+        ≡ doing_at place tables (if b then before else record { lines = before.lines ++ Warning TurnsUsedUp None ∷ []; turns = before.turns; spent = true; taken = before.taken; failing = before.failing }) earlier
     by true = refl
     by false = refl
 
 -- a warning is told
-pub warn_done : (settings : Settings) (place : ℕ) (tables : Tables) (before after : Telling) (code : Code) (object : Option ℕ) → after ≡ with_line before (Warning code object)
-    → run settings (Warn code object ∷ []) (doing_at place tables before) ≡ doing_at place tables after
-warn_done settings place tables before after code object e =
-    by_change settings (Warn code object) (doing_at place tables before) _ (rule.warn_told settings (doing_at place tables before) code object) ∙ told_is place tables before after (Warning code object) e
+pub warn_done : (settings : Settings) (place : ℕ) (tables : Tables) (before after : Telling) (earlier : List Post) (code : Code) (object : Option ℕ) → after ≡ with_line before (Warning code object)
+    → run settings (Warn code object ∷ []) (doing_at place tables before earlier) ≡ doing_at place tables after earlier
+warn_done settings place tables before after earlier code object e =
+    by_change settings (Warn code object) (doing_at place tables before earlier) _ (rule.warn_told settings (doing_at place tables before earlier) code object) ∙ told_is place tables before after earlier (Warning code object) e
 
-module _ (settings : Settings) (slot : Slot) (place : ℕ) (tables : Tables) (before after : Telling) where
+module _ (settings : Settings) (slot : Slot) (place : ℕ) (tables : Tables) (before after : Telling) (earlier : List Post) where
   -- a refused action warns
-  pub warned : (item : Item) (code : Code) → step settings item (doing_at place tables before) ≡ puts (Warn code (Some slot.object) ∷ []) (doing_at place tables before) → after ≡ with_line before (Warning code (Some slot.object))
-      → run settings (item ∷ []) (doing_at place tables before) ≡ doing_at place tables after
-  warned item code is e = by_step settings item (doing_at place tables before) _ is ∙ warn_done settings place tables before after code (Some slot.object) e
+  pub warned : (item : Item) (code : Code) → step settings item (doing_at place tables before earlier) ≡ puts (Warn code (Some slot.object) ∷ []) (doing_at place tables before earlier) → after ≡ with_line before (Warning code (Some slot.object))
+      → run settings (item ∷ []) (doing_at place tables before earlier) ≡ doing_at place tables after earlier
+  warned item code is e = by_step settings item (doing_at place tables before earlier) _ is ∙ warn_done settings place tables before after earlier code (Some slot.object) e
 
   -- so a choice whose test has no truth
   pub test_warned : (test : Term) (held failed : Acts) (fault : Fault) → Answers {T = Bool} (Err fault) (truth_evaluated (state_at tables place) slot.object slot.sender slot.args.now test) → Warns fault slot.object before after
-      → run settings (act_of slot (when test held failed) ∷ []) (doing_at place tables before) ≡ doing_at place tables after
-  test_warned test held failed (Refused code) why e = warned (act_of slot (when test held failed)) code (action.when_faulty settings slot.object slot.sender slot.args.now slot.depth (doing_at place tables before) test held failed code why) e
+      → run settings (act_of slot (when test held failed) ∷ []) (doing_at place tables before earlier) ≡ doing_at place tables after earlier
+  test_warned test held failed (Refused code) why e = warned (act_of slot (when test held failed)) code (action.when_faulty settings slot.object slot.sender slot.args.now slot.depth (doing_at place tables before earlier) test held failed code why) e
   test_warned test held failed Memory why e = absurd e
 
 -- so an effect that is refused
-pub effect_warned : {T : Type 0} (caller : Caller) (slot : Slot) (plain : Effect) (tables : Tables) (items : T → List Item) (new : Tables) (before after : Telling) (fault : Fault) → Tries caller slot plain tables items new (Err fault) → Warns fault slot.object before after
-    → run (settings_of caller.setup.now) (act_of slot (effect plain) ∷ []) (doing_at caller.place tables before) ≡ doing_at caller.place tables after
-effect_warned caller slot plain tables items new before after (Refused code) tried e = warned (settings_of caller.setup.now) slot caller.place tables before after (act_of slot (effect plain)) code (tried (doing_at caller.place tables before)) e
-effect_warned caller slot plain tables items new before after Memory tried e = absurd e
+pub effect_warned : {T : Type 0} (caller : Caller) (slot : Slot) (plain : Effect) (tables : Tables) (items : T → List Item) (new : Tables) (before after : Telling) (earlier : List Post) (fault : Fault) → Tries caller slot plain tables items new (Err fault) → Warns fault slot.object before after
+    → run (settings_of caller.setup.now) (act_of slot (effect plain) ∷ []) (doing_at caller.place tables before earlier) ≡ doing_at caller.place tables after earlier
+effect_warned caller slot plain tables items new before after earlier (Refused code) tried e = warned (settings_of caller.setup.now) slot caller.place tables before after earlier (act_of slot (effect plain)) code (tried (doing_at caller.place tables before earlier)) e
+effect_warned caller slot plain tables items new before after earlier Memory tried e = absurd e
 
 -- the same of one that may have changed the session before memory was wanted
-pub effect_refused : {T : Type 0} (caller : Caller) (slot : Slot) (plain : Effect) (old : Tables) (items : T → List Item) (new : Tables) (before after : Telling) (fault : Fault) → Tries caller slot plain old items new (Err fault) → OnRefused {T = T} (Err fault) (new ≡ old)
-    → Warns fault slot.object before after → run (settings_of caller.setup.now) (act_of slot (effect plain) ∷ []) (doing_at caller.place old before) ≡ doing_at caller.place new after
-effect_refused caller slot plain old items new before after (Refused code) tried same e =
-    warned (settings_of caller.setup.now) slot caller.place old before after (act_of slot (effect plain)) code (tried (doing_at caller.place old before)) e ∙ ap (λ tables. doing_at caller.place tables after) (sym same)
-effect_refused caller slot plain old items new before after Memory tried same e = absurd e
+pub effect_refused : {T : Type 0} (caller : Caller) (slot : Slot) (plain : Effect) (old : Tables) (items : T → List Item) (new : Tables) (before after : Telling) (earlier : List Post) (fault : Fault) → Tries caller slot plain old items new (Err fault) → OnRefused {T = T} (Err fault) (new ≡ old)
+    → Warns fault slot.object before after → run (settings_of caller.setup.now) (act_of slot (effect plain) ∷ []) (doing_at caller.place old before earlier) ≡ doing_at caller.place new after earlier
+effect_refused caller slot plain old items new before after earlier (Refused code) tried same e =
+    warned (settings_of caller.setup.now) slot caller.place old before after earlier (act_of slot (effect plain)) code (tried (doing_at caller.place old before earlier)) e ∙ ap (λ tables. doing_at caller.place tables after earlier) (sym same)
+effect_refused caller slot plain old items new before after earlier Memory tried same e = absurd e
 
 module _ (settings : Settings) (slot : Slot) (doing : Doing) (test : Term) (held failed : Acts) where
   abbrev its_acts : Acts → List Item
@@ -336,24 +361,24 @@ module _ (caller : Caller) (connection : Connection) (args : List Value) (depth 
   its_settings = settings_of caller.setup.now
 
   abbrev pub taken : Telling
-  taken = record { lines = before.lines; turns = before.turns - 1; spent = before.spent; taken = before.taken }
+  taken = record { lines = before.lines; turns = before.turns - 1; spent = before.spent; taken = before.taken; failing = before.failing }
 
   abbrev pub shot_state : State
   shot_state = if connection.single then without_connections (state_at old caller.place) (has_number connection.number) else state_at old caller.place
 
-  module _ (placed : IsPlaced old caller.place) (standing : connection_of (doing_at caller.place old before) connection.number ≡ Some connection) where
-    pub call_spent : (after : Telling) → before.turns ≡ 0 → after ≡ spent before → run its_settings (Call connection.number args depth ∷ []) (doing_at caller.place old before) ≡ doing_at caller.place old after
+  module _ (earlier : List Post) (placed : IsPlaced old caller.place) (standing : connection_of (doing_at caller.place old before earlier) connection.number ≡ Some connection) where
+    pub call_spent : (after : Telling) → before.turns ≡ 0 → after ≡ spent before → run its_settings (Call connection.number args depth ∷ []) (doing_at caller.place old before earlier) ≡ doing_at caller.place old after earlier
     call_spent after none e =
-        by_change its_settings (Call connection.number args depth) (doing_at caller.place old before) _ (rule.call_spent its_settings connection.number args depth (doing_at caller.place old before) connection standing none)
-        ∙ spent_is caller.place old before after e
+        by_change its_settings (Call connection.number args depth) (doing_at caller.place old before earlier) _ (rule.call_spent its_settings connection.number args depth (doing_at caller.place old before earlier) connection standing none)
+        ∙ spent_is caller.place old before after earlier e
 
     module _ (e : new ≡ with_state old caller.place shot_state) (some : 0 < before.turns) where
-      is_shot : shot (turn_taken (doing_at caller.place old before)) connection ≡ doing_at caller.place new taken
+      is_shot : shot (turn_taken (doing_at caller.place old before earlier)) connection ≡ doing_at caller.place new taken earlier
       unfolding shot turn_taken
-      is_shot = by connection.single ∙ ap (λ (state : State). in_state (doing_at caller.place old taken) state) (sym (state_with old new caller.place shot_state placed e))
+      is_shot = by connection.single ∙ ap (λ (state : State). in_state (doing_at caller.place old taken earlier) state) (sym (state_with old new caller.place shot_state placed e))
         where
-          by : (b : Bool) → (if b then in_state (doing_at caller.place old taken) (without_connections (state_at old caller.place) (has_number connection.number)) else doing_at caller.place old taken)
-              ≡ in_state (doing_at caller.place old taken) (if b then without_connections (state_at old caller.place) (has_number connection.number) else state_at old caller.place)
+          by : (b : Bool) → (if b then in_state (doing_at caller.place old taken earlier) (without_connections (state_at old caller.place) (has_number connection.number)) else doing_at caller.place old taken earlier)
+              ≡ in_state (doing_at caller.place old taken earlier) (if b then without_connections (state_at old caller.place) (has_number connection.number) else state_at old caller.place)
           by true = refl
           by false = refl
 
@@ -375,19 +400,19 @@ module _ (caller : Caller) (connection : Connection) (args : List Value) (depth 
 
       -- a functor is called then
       pub call_functor : (index : ℕ) → connection.callee ≡ Functor index → (done : Doing)
-          → run its_settings (callee_called its_settings connection args depth (doing_at caller.place new taken) (Functor index)).items (callee_called its_settings connection args depth (doing_at caller.place new taken) (Functor index)).doing ≡ done
-          → run its_settings (Call connection.number args depth ∷ []) (doing_at caller.place old before) ≡ done
+          → run its_settings (callee_called its_settings connection args depth (doing_at caller.place new taken earlier) (Functor index)).items (callee_called its_settings connection args depth (doing_at caller.place new taken earlier) (Functor index)).doing ≡ done
+          → run its_settings (Call connection.number args depth ∷ []) (doing_at caller.place old before earlier) ≡ done
       call_functor index is done does =
-          by_step its_settings (Call connection.number args depth) (doing_at caller.place old before) _ (rule.call_taken its_settings connection.number args depth (doing_at caller.place old before) connection standing some)
-          ∙ ap (λ (called : Callee). let next = callee_called its_settings connection args depth (shot (turn_taken (doing_at caller.place old before)) connection) called in run its_settings next.items next.doing) is
+          by_step its_settings (Call connection.number args depth) (doing_at caller.place old before earlier) _ (rule.call_taken its_settings connection.number args depth (doing_at caller.place old before earlier) connection standing some)
+          ∙ ap (λ (called : Callee). let next = callee_called its_settings connection args depth (shot (turn_taken (doing_at caller.place old before earlier)) connection) called in run its_settings next.items next.doing) is
           ∙ ap (λ (doing : Doing). let next = callee_called its_settings connection args depth doing (Functor index) in run its_settings next.items next.doing) is_shot
           ∙ does
 
       module _ (index : ℕ) (is : connection.callee ≡ Method index) where
-        pub call_absent : None ≡ method_at its_settings (state_at new caller.place) connection.receiver index → run its_settings (Call connection.number args depth ∷ []) (doing_at caller.place old before) ≡ doing_at caller.place new taken
+        pub call_absent : None ≡ method_at its_settings (state_at new caller.place) connection.receiver index → run its_settings (Call connection.number args depth ∷ []) (doing_at caller.place old before earlier) ≡ doing_at caller.place new taken earlier
         call_absent has =
-            by_change its_settings (Call connection.number args depth) (doing_at caller.place old before) _
-            (rule.call_absent its_settings connection.number args depth (doing_at caller.place old before) connection standing some index is (sym (has ∙ same_method connection.receiver index))) ∙ is_shot
+            by_change its_settings (Call connection.number args depth) (doing_at caller.place old before earlier) _
+            (rule.call_absent its_settings connection.number args depth (doing_at caller.place old before earlier) connection standing some index is (sym (has ∙ same_method connection.receiver index))) ∙ is_shot
 
         -- the event that a queued connection posts
         module _ (given : List Value) where
@@ -405,53 +430,53 @@ module _ (caller : Caller) (connection : Connection) (args : List Value) (depth 
           later_is = ap (λ (called : Callee). record { object = connection.receiver; callee = called; sender = connection.sender; args = take (length method.signature.kinds) args }) (sym is)
               ∙ ap (λ (values : List Value). record { object = connection.receiver; callee = connection.callee; sender = connection.sender; args = values }) (sym cut)
 
-          posted_is : (final : Tables) → IsPlaced new caller.place → final ≡ with_state new caller.place (with_event (state_at new caller.place) (event.Call its_call)) → posted (doing_at caller.place new taken) (event.Call its_call) ≡ doing_at caller.place final taken
+          posted_is : (final : Tables) → IsPlaced new caller.place → final ≡ with_state new caller.place (with_event (state_at new caller.place) (event.Call its_call)) → posted (doing_at caller.place new taken earlier) (event.Call its_call) ≡ doing_at caller.place final taken earlier
           unfolding posted
-          posted_is final still f = ap (λ (state : State). in_state (doing_at caller.place new taken) state) (sym (state_with new final caller.place _ still f))
+          posted_is final still f = ap (λ (state : State). in_state (doing_at caller.place new taken earlier) state) (sym (state_with new final caller.place _ still f))
 
-          lost_is : (final : Tables) → IsPlaced new caller.place → final ≡ with_state new caller.place (with_lost (state_at new caller.place)) → lost (doing_at caller.place new taken) ≡ doing_at caller.place final taken
+          lost_is : (final : Tables) → IsPlaced new caller.place → final ≡ with_state new caller.place (with_lost (state_at new caller.place)) → lost (doing_at caller.place new taken earlier) ≡ doing_at caller.place final taken earlier
           unfolding lost
-          lost_is final still f = ap (λ (state : State). in_state (doing_at caller.place new taken) state) (sym (state_with new final caller.place _ still f))
+          lost_is final still f = ap (λ (state : State). in_state (doing_at caller.place new taken earlier) state) (sym (state_with new final caller.place _ still f))
 
           -- a queued connection calls later
           pub call_queued : (final : Tables) → IsPlaced new caller.place → is_queued connection.mode ≡ true → final ≡ with_state new caller.place (its_later (has_room (state_at new caller.place).queue))
-              → run its_settings (Call connection.number args depth ∷ []) (doing_at caller.place old before) ≡ doing_at caller.place final taken
+              → run its_settings (Call connection.number args depth ∷ []) (doing_at caller.place old before earlier) ≡ doing_at caller.place final taken earlier
           call_queued final still later f = by (has_room (state_at new caller.place).queue) refl
             where
               at_first : (room : Bool) → has_room (state_at new caller.place).queue ≡ room → has_room (state_at old caller.place).queue ≡ room
               at_first room is_room = ap has_room (sym same_queue) ∙ is_room
 
-              by : (room : Bool) → has_room (state_at new caller.place).queue ≡ room → run its_settings (Call connection.number args depth ∷ []) (doing_at caller.place old before) ≡ doing_at caller.place final taken
+              by : (room : Bool) → has_room (state_at new caller.place).queue ≡ room → run its_settings (Call connection.number args depth ∷ []) (doing_at caller.place old before earlier) ≡ doing_at caller.place final taken earlier
               by true room =
-                  by_change its_settings (Call connection.number args depth) (doing_at caller.place old before) _
-                  (rule.call_posted its_settings connection.number args depth (doing_at caller.place old before) connection standing some index is method (sym (has ∙ same_method connection.receiver index)) later (at_first true room))
-                  ∙ ap (λ (call : QueuedCall). posted (shot (turn_taken (doing_at caller.place old before)) connection) (event.Call call)) later_is
+                  by_change its_settings (Call connection.number args depth) (doing_at caller.place old before earlier) _
+                  (rule.call_posted its_settings connection.number args depth (doing_at caller.place old before earlier) connection standing some index is method (sym (has ∙ same_method connection.receiver index)) later (at_first true room))
+                  ∙ ap (λ (call : QueuedCall). posted (shot (turn_taken (doing_at caller.place old before earlier)) connection) (event.Call call)) later_is
                   ∙ ap (λ (doing : Doing). posted doing (event.Call its_call)) is_shot
                   ∙ posted_is final still (f ∙ ap (λ room. with_state new caller.place (its_later room)) room)
               by false full =
-                  by_change its_settings (Call connection.number args depth) (doing_at caller.place old before) _
-                  (rule.call_lost its_settings connection.number args depth (doing_at caller.place old before) connection standing some index is method (sym (has ∙ same_method connection.receiver index)) later (at_first false full))
+                  by_change its_settings (Call connection.number args depth) (doing_at caller.place old before earlier) _
+                  (rule.call_lost its_settings connection.number args depth (doing_at caller.place old before earlier) connection standing some index is method (sym (has ∙ same_method connection.receiver index)) later (at_first false full))
                   ∙ ap (λ (doing : Doing). lost doing) is_shot
                   ∙ lost_is final still (f ∙ ap (λ room. with_state new caller.place (its_later room)) full)
 
-          pub call_signal : (done : Doing) → is_queued connection.mode ≡ false → method.is_signal ≡ true → run its_settings (Emit connection.receiver index given (depth + 1) ∷ []) (doing_at caller.place new taken) ≡ done
-              → run its_settings (Call connection.number args depth ∷ []) (doing_at caller.place old before) ≡ done
+          pub call_signal : (done : Doing) → is_queued connection.mode ≡ false → method.is_signal ≡ true → run its_settings (Emit connection.receiver index given (depth + 1) ∷ []) (doing_at caller.place new taken earlier) ≡ done
+              → run its_settings (Call connection.number args depth ∷ []) (doing_at caller.place old before earlier) ≡ done
           call_signal done at_once signal does =
-              by_step its_settings (Call connection.number args depth) (doing_at caller.place old before) _
-              (rule.call_signal its_settings connection.number args depth (doing_at caller.place old before) connection standing some index is method (sym (has ∙ same_method connection.receiver index)) at_once signal)
+              by_step its_settings (Call connection.number args depth) (doing_at caller.place old before earlier) _
+              (rule.call_signal its_settings connection.number args depth (doing_at caller.place old before earlier) connection standing some index is method (sym (has ∙ same_method connection.receiver index)) at_once signal)
               ∙ ap (run its_settings (Emit connection.receiver index (take (length method.signature.kinds) args) (depth + 1) ∷ [])) is_shot
-              ∙ ap (λ (given : List Value). run its_settings (Emit connection.receiver index given (depth + 1) ∷ []) (doing_at caller.place new taken)) (sym cut)
+              ∙ ap (λ (given : List Value). run its_settings (Emit connection.receiver index given (depth + 1) ∷ []) (doing_at caller.place new taken earlier)) (sym cut)
               ∙ does
 
           pub call_slot : (done : Doing) → is_queued connection.mode ≡ false → method.is_signal ≡ false
-              → run its_settings (model.acts (acts_of method.body.actions) given connection.receiver connection.sender (depth + 1)) (told (doing_at caller.place new taken) (call_line method connection.receiver connection.sender given)) ≡ done
-              → run its_settings (Call connection.number args depth ∷ []) (doing_at caller.place old before) ≡ done
+              → run its_settings (model.acts (acts_of method.body.actions) given connection.receiver connection.sender (depth + 1)) (told (doing_at caller.place new taken earlier) (call_line method connection.receiver connection.sender given)) ≡ done
+              → run its_settings (Call connection.number args depth ∷ []) (doing_at caller.place old before earlier) ≡ done
           call_slot done at_once slot does =
-              by_step its_settings (Call connection.number args depth) (doing_at caller.place old before) _
-              (rule.call_slot its_settings connection.number args depth (doing_at caller.place old before) connection standing some index is method (sym (has ∙ same_method connection.receiver index)) at_once slot)
+              by_step its_settings (Call connection.number args depth) (doing_at caller.place old before earlier) _
+              (rule.call_slot its_settings connection.number args depth (doing_at caller.place old before earlier) connection standing some index is method (sym (has ∙ same_method connection.receiver index)) at_once slot)
               ∙ ap (run its_settings (Run connection.receiver index connection.sender (take (length method.signature.kinds) args) depth ∷ [])) is_shot
-              ∙ ap (λ (given : List Value). run its_settings (Run connection.receiver index connection.sender given depth ∷ []) (doing_at caller.place new taken)) (sym cut)
-              ∙ by_step its_settings (Run connection.receiver index connection.sender given depth) (doing_at caller.place new taken) _ (rule.run_slot its_settings connection.receiver index connection.sender given depth (doing_at caller.place new taken) method (sym has))
+              ∙ ap (λ (given : List Value). run its_settings (Run connection.receiver index connection.sender given depth ∷ []) (doing_at caller.place new taken earlier)) (sym cut)
+              ∙ by_step its_settings (Run connection.receiver index connection.sender given depth) (doing_at caller.place new taken earlier) _ (rule.run_slot its_settings connection.receiver index connection.sender given depth (doing_at caller.place new taken earlier) method (sym has))
               ∙ does
 
 -- the next connection is above the last one that was called, and not above the last of all
@@ -476,8 +501,8 @@ next_smaller target signal after up_to rows row found =
     omega (arith, within.0, within.1)
 
 -- an effect that is not refused is done by what it comes to
-pub effect_done : (caller : Caller) (slot : Slot) (plain : Effect) (old : Tables) (agenda : List Item) (between new : Tables) (before after : Telling)
-    → step (settings_of caller.setup.now) (act_of slot (effect plain)) (doing_at caller.place old before) ≡ puts agenda (doing_at caller.place between before)
-    → run (settings_of caller.setup.now) agenda (doing_at caller.place between before) ≡ doing_at caller.place new after
-    → run (settings_of caller.setup.now) (act_of slot (effect plain) ∷ []) (doing_at caller.place old before) ≡ doing_at caller.place new after
-effect_done caller slot plain old agenda between new before after is does = by_step (settings_of caller.setup.now) (act_of slot (effect plain)) (doing_at caller.place old before) _ is ∙ does
+pub effect_done : (caller : Caller) (slot : Slot) (plain : Effect) (old : Tables) (agenda : List Item) (between : Tables) (before : Telling) (earlier : List Post) (done : Doing)
+    → step (settings_of caller.setup.now) (act_of slot (effect plain)) (doing_at caller.place old before earlier) ≡ puts agenda (doing_at caller.place between before earlier)
+    → run (settings_of caller.setup.now) agenda (doing_at caller.place between before earlier) ≡ done
+    → run (settings_of caller.setup.now) (act_of slot (effect plain) ∷ []) (doing_at caller.place old before earlier) ≡ done
+effect_done caller slot plain old agenda between before earlier done is does = by_step (settings_of caller.setup.now) (act_of slot (effect plain)) (doing_at caller.place old before earlier) _ is ∙ does

@@ -1,11 +1,12 @@
 -- Deleting by nested calls: a rule for each way that an item goes.
-use Rattle.std.proofs.Common.{◌≡◌, ◌<◌, ◌≤◌, ◌+◌, ℕ, true, false, List, [], ◌∷◌, length, map, drop, get_or, Some, sym, ap, ◌∙◌, arith}
+use Rattle.std.proofs.Common.{◌≡◌, ◌<◌, ◌≤◌, ◌+◌, ℕ, true, false, List, [], ◌∷◌, length, map, drop, get_or, Some, refl, sym, ap, ◌∙◌, arith}
 use Rattle.std.proofs.lemmas.List.{drop_all, drop_more}
 use Rattle.connection_list.specs.Ends.{touches}
 use Rattle.object_tree.specs.Changes.{marked}
 use Rattle.object_tree.specs.Rows.{children}
 use Rattle.thread_model.specs.declared.call.TheConstants.{DESTROYED}
 use Rattle.thread_model.specs.Agenda.{kins, lives, lives_below}
+use Rattle.thread_model.specs.declared.post.Post.{Post}
 use Rattle.thread_model.specs.Doing.{Doing, dying, forgotten, gone, in_state, untied}
 use Rattle.thread_model.specs.Items.{Cut, Delete, Emit, Gone, Item, Kin}
 use Rattle.thread_model.specs.Run.{run}
@@ -20,7 +21,11 @@ use Rattle.session_tables.specs.Tables.{IsPlaced, state_at, with_state}
 use Rattle.session_tables.proofs.TablesLemmas.{state_with}
 use Rattle.nested_calls.specs.declared.telling.Telling.{Telling}
 use Rattle.nested_calls.specs.Telling.{doing_at}
+use Rattle.session_effects.specs.declared.caller.Caller.{Caller}
+use Rattle.session_effects.specs.Setup.{settings_of}
+use Rattle.session_effects.proofs.ActionLemmas.{keeps_with}
 use Rattle.nested_calls.proofs.AgendaLemmas.{left_at}
+use Rattle.nested_calls.proofs.DoesLemmas.{SoFar, far_none, here}
 
 -- the state with an object that is dying
 abbrev pub dying_in : State → ℕ → State
@@ -31,45 +36,45 @@ abbrev pub untied_in : State → ℕ → State
 untied_in state target = without_connections state (touches target)
 
 -- a session in which another state was put
-module _ (place target : ℕ) (old new : Tables) (telling : Telling) (placed : IsPlaced old place) where
-  put_there : (state : State) → new ≡ with_state old place state → doing_at place new telling ≡ in_state (doing_at place old telling) state
-  put_there state e = ap (λ (state : State). in_state (doing_at place old telling) state) (state_with old new place state placed e)
+module _ (place target : ℕ) (old new : Tables) (telling : Telling) (earlier : List Post) (placed : IsPlaced old place) where
+  put_there : (state : State) → new ≡ with_state old place state → doing_at place new telling earlier ≡ in_state (doing_at place old telling earlier) state
+  put_there state e = ap (λ (state : State). in_state (doing_at place old telling earlier) state) (state_with old new place state placed e)
 
-  marked_is : new ≡ with_state old place (dying_in (state_at old place) target) → doing_at place new telling ≡ dying (doing_at place old telling) target
+  marked_is : new ≡ with_state old place (dying_in (state_at old place) target) → doing_at place new telling earlier ≡ dying (doing_at place old telling earlier) target
   unfolding dying
   marked_is e = put_there (dying_in (state_at old place) target) e
 
-  untied_is : new ≡ with_state old place (untied_in (state_at old place) target) → doing_at place new telling ≡ untied (doing_at place old telling) target
+  untied_is : new ≡ with_state old place (untied_in (state_at old place) target) → doing_at place new telling earlier ≡ untied (doing_at place old telling earlier) target
   unfolding untied
   untied_is e = put_there (untied_in (state_at old place) target) e
 
-  forgotten_is : new ≡ with_state old place (without_events (state_at old place) target) → doing_at place new telling ≡ forgotten (doing_at place old telling) target
+  forgotten_is : new ≡ with_state old place (without_events (state_at old place) target) → doing_at place new telling earlier ≡ forgotten (doing_at place old telling earlier) target
   unfolding forgotten
   forgotten_is e = put_there (without_events (state_at old place) target) e
 
-  gone_is : new ≡ with_state old place (without_object (state_at old place) target) → doing_at place new telling ≡ gone (doing_at place old telling) target
+  pub gone_is : new ≡ with_state old place (without_object (state_at old place) target) → doing_at place new telling earlier ≡ gone (doing_at place old telling earlier) target
   unfolding gone
   gone_is e = put_there (without_object (state_at old place) target) e
 
   -- marking a living object leaves less to do
-  pub left_marked : lives (doing_at place old telling) target ≡ true → new ≡ with_state old place (dying_in (state_at old place) target) → left_at place new telling < left_at place old telling
+  pub left_marked : lives (doing_at place old telling earlier) target ≡ true → new ≡ with_state old place (dying_in (state_at old place) target) → left_at place new telling < left_at place old telling
   left_marked living e =
-      let less = dying_less (doing_at place old telling) target living in
-      let same : living_rows (state_at new place).forest.rows ≡ living_rows (dying (doing_at place old telling) target).state.forest.rows = ap (λ (doing : Doing). living_rows doing.state.forest.rows) (marked_is e) in
+      let less = dying_less (doing_at place old telling earlier) target living in
+      let same : living_rows (state_at new place).forest.rows ≡ living_rows (dying (doing_at place old telling earlier) target).state.forest.rows = ap (λ (doing : Doing). living_rows doing.state.forest.rows) (marked_is e) in
       omega (arith, less, same)
 
   -- breaking connections leaves as much
   pub left_untied : new ≡ with_state old place (untied_in (state_at old place) target) → left_at place new telling ≤ left_at place old telling
   left_untied e =
-      let less = (untied_shrinks (doing_at place old telling) target).living in
-      let same : living_rows (state_at new place).forest.rows ≡ living_rows (untied (doing_at place old telling) target).state.forest.rows = ap (λ (doing : Doing). living_rows doing.state.forest.rows) (untied_is e) in
+      let less = (untied_shrinks (doing_at place old telling earlier) target).living in
+      let same : living_rows (state_at new place).forest.rows ≡ living_rows (untied (doing_at place old telling earlier) target).state.forest.rows = ap (λ (doing : Doing). living_rows doing.state.forest.rows) (untied_is e) in
       omega (arith, less, same)
 
   -- nor does dropping events
   pub left_forgotten : new ≡ with_state old place (without_events (state_at old place) target) → left_at place new telling ≤ left_at place old telling
   left_forgotten e =
-      let less = (forgotten_shrinks (doing_at place old telling) target).living in
-      let same : living_rows (state_at new place).forest.rows ≡ living_rows (forgotten (doing_at place old telling) target).state.forest.rows = ap (λ (doing : Doing). living_rows doing.state.forest.rows) (forgotten_is e) in
+      let less = (forgotten_shrinks (doing_at place old telling earlier) target).living in
+      let same : living_rows (state_at new place).forest.rows ≡ living_rows (forgotten (doing_at place old telling earlier) target).state.forest.rows = ap (λ (doing : Doing). living_rows doing.state.forest.rows) (forgotten_is e) in
       omega (arith, less, same)
 
 module _ (settings : Settings) (target depth : ℕ) where
@@ -80,35 +85,16 @@ module _ (settings : Settings) (target depth : ℕ) where
   pub delete_none : (doing : Doing) → lives doing target ≡ false → run settings (Delete target depth ∷ []) doing ≡ doing
   delete_none doing dead = by_change settings (Delete target depth) doing doing (rule.delete_none settings target depth doing dead)
 
-  delete_some : (doing sent cut : Doing) → lives doing target ≡ true → run settings (Emit target DESTROYED [] depth ∷ []) (dying doing target) ≡ sent → run settings (Cut target depth ∷ []) sent ≡ cut
-      → run settings (Delete target depth ∷ []) doing ≡ gone cut target
-  delete_some doing sent cut living sends does =
-      by_step settings (Delete target depth) doing _ (rule.delete_some settings target depth doing living)
-      ∙ after_first settings (Emit target DESTROYED [] depth) (Cut target depth ∷ Gone target depth ∷ []) (dying doing target)
-      ∙ ap (run settings (Cut target depth ∷ Gone target depth ∷ [])) sends
-      ∙ after_first settings (Cut target depth) (Gone target depth ∷ []) sent
-      ∙ ap (run settings (Gone target depth ∷ [])) does
-      ∙ by_change settings (Gone target depth) cut (gone cut target) (rule.gone_now settings target depth cut)
-
-  -- a living object is marked, says that it goes, what ties it is cut, and it goes
-  pub delete_done : (place : ℕ) (old dead sent cut new : Tables) (before middle after : Telling) → IsPlaced old place → IsPlaced cut place → lives (doing_at place old before) target ≡ true
-      → dead ≡ with_state old place (dying_in (state_at old place) target) → run settings (Emit target DESTROYED [] depth ∷ []) (doing_at place dead before) ≡ doing_at place sent middle
-      → run settings (Cut target depth ∷ []) (doing_at place sent middle) ≡ doing_at place cut after
-      → new ≡ with_state cut place (without_object (state_at cut place) target) → run settings (Delete target depth ∷ []) (doing_at place old before) ≡ doing_at place new after
-  delete_done place old dead sent cut new before middle after placed still living marked sends does removed =
-      delete_some (doing_at place old before) (doing_at place sent middle) (doing_at place cut after) living (ap (run settings (Emit target DESTROYED [] depth ∷ [])) (sym (marked_is place target old dead before placed marked)) ∙ sends) does
-      ∙ sym (gone_is place target cut new after still removed)
-
   -- the connections of a dying object are broken and its events forgotten, and then there are its children
-  pub cut_first : (place : ℕ) (old loose new : Tables) (telling : Telling) → IsPlaced old place → IsPlaced loose place → (found : List ℕ) → found ≡ children (state_at old place).forest.rows (Some target)
+  pub cut_first : (place : ℕ) (old loose new : Tables) (telling : Telling) (earlier : List Post) → IsPlaced old place → IsPlaced loose place → (found : List ℕ) → found ≡ children (state_at old place).forest.rows (Some target)
       → loose ≡ with_state old place (untied_in (state_at old place) target)
       → new ≡ with_state loose place (without_events (state_at loose place) target)
-      → run settings (kins_from found) (doing_at place new telling) ≡ run settings (Cut target depth ∷ []) (doing_at place old telling)
+      → run settings (kins_from found) (doing_at place new telling earlier) ≡ run settings (Cut target depth ∷ []) (doing_at place old telling earlier)
   unfolding kins
-  cut_first place old loose new telling placed still found e f g =
-      ap (run settings (kins_from found)) (forgotten_is place target loose new telling still g ∙ ap (λ doing. forgotten doing target) (untied_is place target old loose telling placed f))
-      ∙ ap (λ numbers. run settings (kins_from numbers) (forgotten (untied (doing_at place old telling) target) target)) e
-      ∙ sym (by_step settings (Cut target depth) (doing_at place old telling) _ (rule.cut_kins settings target depth (doing_at place old telling)))
+  cut_first place old loose new telling earlier placed still found e f g =
+      ap (run settings (kins_from found)) (forgotten_is place target loose new telling earlier still g ∙ ap (λ doing. forgotten doing target) (untied_is place target old loose telling earlier placed f))
+      ∙ ap (λ numbers. run settings (kins_from numbers) (forgotten (untied (doing_at place old telling earlier) target) target)) e
+      ∙ sym (by_step settings (Cut target depth) (doing_at place old telling earlier) _ (rule.cut_kins settings target depth (doing_at place old telling earlier)))
 
   -- one child is deleted, and then those behind it
   pub cut_next : (i : ℕ) (found : List ℕ) (old middle new : Doing) → i < length found → run settings (Kin target (get_or found i 0) depth ∷ []) middle ≡ new
@@ -128,3 +114,13 @@ module _ (settings : Settings) (target depth : ℕ) where
 
   pub kin_some : (child : ℕ) (doing new : Doing) → lives_below doing target child ≡ true → run settings (Delete child depth ∷ []) doing ≡ new → run settings (Kin target child depth ∷ []) doing ≡ new
   kin_some child doing new living does = by_step settings (Kin target child depth) doing _ (rule.kin_some settings target child depth doing living) ∙ does
+
+-- a living object is marked, and then it says that it goes, what ties it is cut, and it goes
+pub delete_begins : (caller : Caller) (target depth : ℕ) (old dead : Tables) (before : Telling) → IsPlaced old caller.place → lives (doing_at caller.place old before []) target ≡ true → dead ≡ with_state old caller.place (dying_in (state_at old caller.place) target)
+    → SoFar caller (here caller (Delete target depth ∷ []) old before) (here caller (Emit target DESTROYED [] depth ∷ Cut target depth ∷ Gone target depth ∷ []) dead before) old dead before before
+delete_begins caller target depth old dead before placed living marked =
+    let settings = settings_of caller.setup.now in
+    far_none caller (here caller (Delete target depth ∷ []) old before) old before placed (here caller (Emit target DESTROYED [] depth ∷ Cut target depth ∷ Gone target depth ∷ []) dead before) dead before (keeps_with old dead caller.place _ placed marked) refl
+    (λ earlier.
+    ap (run settings (Emit target DESTROYED [] depth ∷ Cut target depth ∷ Gone target depth ∷ [])) (marked_is caller.place target old dead before earlier placed marked)
+    ∙ sym (by_step settings (Delete target depth) (doing_at caller.place old before earlier) _ (rule.delete_some settings target depth (doing_at caller.place old before earlier) living)))

@@ -1,6 +1,6 @@
 -- Functors that are called: what a connection's call of one comes to, and that a closure's actions do what
 -- its body does.
-use Rattle.std.proofs.Common.{◌≡◌, ◌+◌, ◌≤◌, ℕ, Bool, true, false, cond, List, [], ◌∷◌, Option, Some, None, Ok, length, take, refl, sym, ap, subst, ◌∙◌}
+use Rattle.std.proofs.Common.{◌≡◌, ◌+◌, ◌≤◌, ℕ, Bool, true, false, cond, List, [], ◌∷◌, Option, Some, None, length, take, refl, sym, ap, subst, ◌∙◌}
 use Rattle.std.specs.Prelude.{IsSomeAnd}
 use Rattle.std.specs.Option.{option_map_or}
 use Rattle.std.proofs.lemmas.Bool.{cond-false, cond-true}
@@ -11,11 +11,7 @@ use Rattle.term_evaluation.proofs.Branches.{branch_unfolded}
 use Rattle.term_evaluation.proofs.SubstitutionLemmas.{actions_kept}
 use Rattle.connection_types.specs.declared.callee.Callee.{Callee}
 use Rattle.connection_types.specs.declared.callee.Callee.TheVariants.{Functor}
-use Rattle.refusals.specs.declared.code.Code.TheVariants.{UniqueFunctor}
 use Rattle.connection_list.specs.declared.connection.Connection.{Connection}
-use Rattle.connection_list.specs.declared.connection.NewConnection.{NewConnection}
-use Rattle.connection_list.specs.Rows.{Rows, connect_refusal}
-use Rattle.thread_model.specs.Connecting.{functor_refusal}
 use Rattle.event_queue.specs.declared.event.Event.TheVariants as event
 use Rattle.event_queue.specs.declared.event.QueuedCall.{QueuedCall}
 use Rattle.event_queue.specs.Queue.{has_room}
@@ -23,6 +19,7 @@ use Rattle.stored_slots.specs.declared.functor.Functor as stored
 use Rattle.stored_slots.specs.Functors.{AreArguments, IsCall}
 use Rattle.thread_model.specs.Acts as model
 use Rattle.thread_model.specs.Agenda.{callee_called, functor_called, functor_line, queued}
+use Rattle.thread_model.specs.declared.post.Post.{Post}
 use Rattle.thread_model.specs.Doing.{Doing, in_state, lost, posted, told}
 use Rattle.thread_model.specs.Functors.{functor_at}
 use Rattle.thread_model.specs.Items.{Next, RunFunctor, puts}
@@ -41,14 +38,14 @@ use Rattle.nested_calls.specs.declared.telling.Telling.{Telling}
 use Rattle.nested_calls.specs.Telling.{doing_at}
 
 -- a call that is posted, or lost where there is no room for it
-pub queued_is : (place : ℕ) (old new : Tables) (telling : Telling) (call : QueuedCall) → IsPlaced old place → new ≡ with_state old place (with_call (state_at old place) call) → queued (doing_at place old telling) call ≡ doing_at place new telling
+pub queued_is : (place : ℕ) (old new : Tables) (telling : Telling) (earlier : List Post) (call : QueuedCall) → IsPlaced old place → new ≡ with_state old place (with_call (state_at old place) call) → queued (doing_at place old telling earlier) call ≡ doing_at place new telling earlier
 unfolding posted lost
-queued_is place old new telling call placed e =
+queued_is place old new telling earlier call placed e =
     by (has_room (state_at old place).queue)
-    ∙ ap (λ (state : State). in_state (doing_at place old telling) state) (sym (state_with old new place (with_call (state_at old place) call) placed e))
+    ∙ ap (λ (state : State). in_state (doing_at place old telling earlier) state) (sym (state_with old new place (with_call (state_at old place) call) placed e))
   where
-    by : (room : Bool) → cond room (posted (doing_at place old telling) (event.Call call)) (lost (doing_at place old telling))
-        ≡ in_state (doing_at place old telling) (cond room (with_event (state_at old place) (event.Call call)) (with_lost (state_at old place)))
+    by : (room : Bool) → cond room (posted (doing_at place old telling earlier) (event.Call call)) (lost (doing_at place old telling earlier))
+        ≡ in_state (doing_at place old telling earlier) (cond room (with_event (state_at old place) (event.Call call)) (with_lost (state_at old place)))
     by true = refl
     by false = refl
 
@@ -122,13 +119,3 @@ module _ (settings : Settings) (index : ℕ) (functor : stored.Functor) (has : S
         ∙ ap (λ body. run settings (model.acts body [] target sender depth) doing) (sym (branch_unfolded args functor.body.actions))
         ∙ ap (λ (actions : List Act). run settings (model.acts (acts_of actions) [] target sender depth) doing) (sym is)
         ∙ does
-
--- a connection to a functor is never unique
-pub never_unique : (place : Rows) (new : NewConnection) (unique : Bool) → unique ≡ true → functor_refusal place (Ok new) unique ≡ Some UniqueFunctor
-never_unique place new true is = refl
-never_unique place new false is = absurd (cc)
-
--- and one that is not asked to be is refused as any other
-pub not_unique : (place : Rows) (new : NewConnection) (unique : Bool) → unique ≡ false → functor_refusal place (Ok new) unique ≡ connect_refusal place new false
-not_unique place new true is = absurd (cc)
-not_unique place new false is = refl

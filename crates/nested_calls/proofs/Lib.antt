@@ -1,3 +1,4 @@
+pub mod DoesLemmas
 pub mod DeletionLemmas
 pub mod AgendaLemmas
 pub mod FunctorLemmas

@@ -1,18 +1,23 @@
 -- What the items of an agenda come to.
-use Rattle.std.specs.Prelude.{◌≡◌, List}
-use Rattle.thread_model.specs.Doing.{Doing}
-use Rattle.thread_model.specs.Items.{Item, Next}
+use Rattle.std.specs.Prelude.{◌≡◌, ◌++◌, List, Result, OnOk}
+use Rattle.thread_model.specs.declared.post.Post.{Post}
+use Rattle.thread_model.specs.Items.{Item, Next, puts}
 use Rattle.thread_model.specs.Run.{run}
 use Rattle.session_tables.specs.declared.tables.Tables.{Tables}
+use Rattle.session_tables.specs.Reaching.{Reaches}
 use Rattle.session_effects.specs.declared.caller.Caller.{Caller}
 use Rattle.session_effects.specs.Setup.{settings_of}
 use Rattle.nested_calls.specs.declared.telling.Telling.{Telling}
 use Rattle.nested_calls.specs.Telling.{doing_at}
 
--- these items are done, and that leads to this session
-abbrev pub Does : Caller → List Item → Doing → Tables → Telling → Type 0
-Does caller items doing tables telling = run (settings_of caller.setup.now) items doing ≡ doing_at caller.place tables telling
+-- all that something comes to is done, with these posts: whatever was posted before, it leads to this session,
+-- with these behind; and all other sessions have heard them. Where memory was wanted for the session itself,
+-- they have heard those that it made until then
+pub record DoesNext {T E : Type 0} (caller : Caller) (next : List Post → Next) (old new : Tables) (before after : Telling) (result : Result T E) : Type 0 where
+  pub posts : List Post
+  pub runs : OnOk result ((earlier : List Post) → run (settings_of caller.setup.now) (next earlier).items (next earlier).doing ≡ doing_at caller.place new after (earlier ++ posts))
+  pub reaches : Reaches caller.name.now caller.place posts old new before.failing after.failing
 
--- and so is all that something comes to
-abbrev pub DoesNext : Caller → Next → Tables → Telling → Type 0
-DoesNext caller next tables telling = Does caller next.items next.doing tables telling
+-- these items are done
+abbrev pub Does : {T E : Type 0} → Caller → List Item → Tables → Tables → Telling → Telling → Result T E → Type 0
+Does caller items old new before after = DoesNext caller (λ earlier. puts items (doing_at caller.place old before earlier)) old new before after

@@ -9,7 +9,7 @@ ghost use Rattle.thread_model.specs.declared.call.TheConstants.{NESTED_SIGNALS};
 ghost use Rattle.thread_model.specs.Acts as model;
 ghost use Rattle.thread_model.specs.Agenda.{call_line, callee_called, connection_of, functor_line};
 ghost use Rattle.thread_model.specs.Doing.{told};
-ghost use Rattle.thread_model.specs.Items.{Call, Emit};
+ghost use Rattle.thread_model.specs.Items.{Call, Emit, puts};
 ghost use Rattle.thread_model.specs.Functors.{functor_at};
 ghost use Rattle.thread_model.specs.Posting.{is_queued};
 ghost use Rattle.thread_model.specs.State.{with_call};
@@ -33,7 +33,7 @@ use refusals::Code;
 use session_effects::{
     Caller, Notice, Slot, change, deleted, functor_at, method_at, sent, set, told_args, truth,
 };
-use session_tables::Tables;
+use session_tables::{Sending, Tables};
 use std::alloc::AllocError;
 use stored_slots::Functor;
 use term_core::{Action, Effect, Step};
@@ -55,8 +55,7 @@ pub fn emit<F: Answering>(
 ) -> Result<(), AllocError>
     requires placed { IsPlaced tables.old actor.now.caller.place }
     requires depth { depth ≤ NESTED_SIGNALS }
-    ensures does { OnOk result (Does actor.now.caller (Emit target signal args.now depth ∷ []) (doing_at actor.now.caller.place tables.old telling.old) tables.new telling.new) }
-    ensures keeps { Keeps actor.now.caller.place tables.old tables.new }
+    ensures { Does actor.now.caller (Emit target signal args.now depth ∷ []) tables.old tables.new telling.old telling.new result }
 {
     let Some(blocked) = tables.blocked(actor.caller.place, target) else {
         return Ok(());
@@ -67,6 +66,15 @@ pub fn emit<F: Answering>(
     if depth >= NESTED_SIGNALS {
         return telling.warn(Code::Limit, Some(target));
     }
+    let sending = Sending {
+        alloc: actor.caller.setup.alloc,
+        place: actor.caller.place,
+        from: actor.caller.name,
+        object: target,
+        signal,
+        args,
+    };
+    telling.failing = tables.deliver(&sending, telling.failing);
     let up_to = tables.last_connection(actor.caller.place);
     let mut after = 0;
     'calls: while let Some(connection) = tables.next_connection(
@@ -82,8 +90,8 @@ pub fn emit<F: Answering>(
     Ok(())
 }
 
-/// Sends what tells of a change, where there is such a signal. Where nothing is connected to it, there is
-/// nothing to do below the level where nested signals are warned of.
+/// Sends what tells of a change, where there is such a signal. Where it is not published and nothing is
+/// connected to it, there is nothing to do below the level where nested signals are warned of.
 #[cycle(agenda)]
 #[inline(always)]
 pub fn notify<F: Answering>(
@@ -95,14 +103,16 @@ pub fn notify<F: Answering>(
 ) -> Result<(), AllocError>
     requires placed { IsPlaced tables.old actor.now.caller.place }
     requires depth { depth ≤ NESTED_SIGNALS }
-    ensures does { OnOk result (Does actor.now.caller (items_of (settings_of actor.now.caller.setup.now) (state_at tables.old actor.now.caller.place) depth told)
-        (doing_at actor.now.caller.place tables.old telling.old) tables.new telling.new) }
-    ensures keeps { Keeps actor.now.caller.place tables.old tables.new }
+    ensures { Does actor.now.caller (items_of (settings_of actor.now.caller.setup.now) (state_at tables.old actor.now.caller.place) depth told)
+        tables.old tables.new telling.old telling.new result }
 {
     let Some(notice) = told else {
         return Ok(());
     };
-    if depth < NESTED_SIGNALS && !tables.is_sent(actor.caller.place, notice.object, notice.signal) {
+    if depth < NESTED_SIGNALS
+        && !tables.is_published(actor.caller.place, notice.object, notice.signal)
+        && !tables.is_sent(actor.caller.place, notice.object, notice.signal)
+    {
         return Ok(());
     }
     let args = told_args(&actor.caller, tables, notice)?;
@@ -130,9 +140,8 @@ fn call<F: Answering>(
 ) -> Result<(), AllocError>
     requires placed { IsPlaced tables.old actor.now.caller.place }
     requires depth { depth < NESTED_SIGNALS }
-    requires stands { connection_of (doing_at actor.now.caller.place tables.old telling.old) connection.now.number ≡ Some connection.now }
-    ensures does { OnOk result (Does actor.now.caller (Call connection.now.number args.now depth ∷ []) (doing_at actor.now.caller.place tables.old telling.old) tables.new telling.new) }
-    ensures keeps { Keeps actor.now.caller.place tables.old tables.new }
+    requires stands { connection_of (doing_at actor.now.caller.place tables.old telling.old []) connection.now.number ≡ Some connection.now }
+    ensures { Does actor.now.caller (Call connection.now.number args.now depth ∷ []) tables.old tables.new telling.old telling.new result }
 {
     if telling.turns == 0 {
         return telling.use_up();
@@ -186,9 +195,8 @@ fn call_functor<F: Answering>(
     requires placed { IsPlaced tables.old actor.now.caller.place }
     requires depth { depth < NESTED_SIGNALS }
     requires callee { connection.now.callee ≡ callee.Functor index }
-    ensures does { OnOk result (DoesNext actor.now.caller (callee_called (settings_of actor.now.caller.setup.now) connection.now args.now depth
-        (doing_at actor.now.caller.place tables.old telling.old) (callee.Functor index)) tables.new telling.new) }
-    ensures keeps { Keeps actor.now.caller.place tables.old tables.new }
+    ensures { DoesNext actor.now.caller (λ earlier. callee_called (settings_of actor.now.caller.setup.now) connection.now args.now depth
+        (doing_at actor.now.caller.place tables.old telling.old earlier) (callee.Functor index)) tables.old tables.new telling.old telling.new result }
 {
     let Some(functor) = functor_at(&actor.caller, index) else {
         return Ok(());
@@ -240,9 +248,8 @@ pub fn run_slot<F: Answering>(
     requires placed { IsPlaced tables.old actor.now.caller.place }
     requires depth { slot.now.depth ≤ NESTED_SIGNALS }
     requires sound { IsMethod method.now }
-    ensures does { OnOk result (Does actor.now.caller (model.acts (acts_of method.now.body.actions) slot.now.args.now slot.now.object slot.now.sender slot.now.depth)
-        (told (doing_at actor.now.caller.place tables.old telling.old) (call_line method.now slot.now.object slot.now.sender slot.now.args.now)) tables.new telling.new) }
-    ensures keeps { Keeps actor.now.caller.place tables.old tables.new }
+    ensures { DoesNext actor.now.caller (λ earlier. puts (model.acts (acts_of method.now.body.actions) slot.now.args.now slot.now.object slot.now.sender slot.now.depth)
+        (told (doing_at actor.now.caller.place tables.old telling.old earlier) (call_line method.now slot.now.object slot.now.sender slot.now.args.now))) tables.old tables.new telling.old telling.new result }
 {
     telling.call(actor.caller.setup.alloc, method, slot)?;
     acts(actor, tables, telling, slot, method.body.actions.as_slice())
@@ -263,9 +270,8 @@ pub fn run_functor<F: Answering>(
     requires placed { IsPlaced tables.old actor.now.caller.place }
     requires depth { slot.now.depth ≤ NESTED_SIGNALS }
     requires found { Some functor.now ≡ functor_at (settings_of actor.now.caller.setup.now) index }
-    ensures does { OnOk result (Does actor.now.caller (model.acts (acts_of functor.now.body.actions) slot.now.args.now slot.now.object slot.now.sender slot.now.depth)
-        (told (doing_at actor.now.caller.place tables.old telling.old) (functor_line functor.now slot.now.object slot.now.sender slot.now.args.now)) tables.new telling.new) }
-    ensures keeps { Keeps actor.now.caller.place tables.old tables.new }
+    ensures { DoesNext actor.now.caller (λ earlier. puts (model.acts (acts_of functor.now.body.actions) slot.now.args.now slot.now.object slot.now.sender slot.now.depth)
+        (told (doing_at actor.now.caller.place tables.old telling.old earlier) (functor_line functor.now slot.now.object slot.now.sender slot.now.args.now))) tables.old tables.new telling.old telling.new result }
 {
     telling.call_functor(actor.caller.setup.alloc, functor, slot)?;
     let answer = answered(actor, index, functor, slot.args)?;
@@ -298,9 +304,8 @@ fn acts<F: Answering>(
 ) -> Result<(), AllocError>
     requires placed { IsPlaced tables.old actor.now.caller.place }
     requires depth { slot.now.depth ≤ NESTED_SIGNALS }
-    ensures does { OnOk result (Does actor.now.caller (model.acts (acts_of actions.now) slot.now.args.now slot.now.object slot.now.sender slot.now.depth)
-        (doing_at actor.now.caller.place tables.old telling.old) tables.new telling.new) }
-    ensures keeps { Keeps actor.now.caller.place tables.old tables.new }
+    ensures { Does actor.now.caller (model.acts (acts_of actions.now) slot.now.args.now slot.now.object slot.now.sender slot.now.depth)
+        tables.old tables.new telling.old telling.new result }
 {
     'actions: for action in actions {
         act(actor, tables, telling, slot, action)?;
@@ -319,8 +324,7 @@ fn act<F: Answering>(
 ) -> Result<(), AllocError>
     requires placed { IsPlaced tables.old actor.now.caller.place }
     requires depth { slot.now.depth ≤ NESTED_SIGNALS }
-    ensures does { OnOk result (Does actor.now.caller (act_of slot.now action.now ∷ []) (doing_at actor.now.caller.place tables.old telling.old) tables.new telling.new) }
-    ensures keeps { Keeps actor.now.caller.place tables.old tables.new }
+    ensures { Does actor.now.caller (act_of slot.now action.now ∷ []) tables.old tables.new telling.old telling.new result }
 {
     match &action.step {
         Step::Effect(plain) => effect(actor, tables, telling, slot, plain),
@@ -343,8 +347,7 @@ fn effect<F: Answering>(
 ) -> Result<(), AllocError>
     requires placed { IsPlaced tables.old actor.now.caller.place }
     requires depth { slot.now.depth ≤ NESTED_SIGNALS }
-    ensures does { OnOk result (Does actor.now.caller (act_of slot.now (effect plain.now) ∷ []) (doing_at actor.now.caller.place tables.old telling.old) tables.new telling.new) }
-    ensures keeps { Keeps actor.now.caller.place tables.old tables.new }
+    ensures { Does actor.now.caller (act_of slot.now (effect plain.now) ∷ []) tables.old tables.new telling.old telling.new result }
 {
     match plain {
         Effect::Emit { of, signal, args } => {

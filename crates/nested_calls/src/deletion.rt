@@ -28,8 +28,7 @@ pub fn delete<F: Answering>(
 ) -> Result<(), AllocError>
     requires placed { IsPlaced tables.old actor.now.caller.place }
     requires depth { depth ≤ NESTED_SIGNALS }
-    ensures does { OnOk result (Does actor.now.caller (Delete target depth ∷ []) (doing_at actor.now.caller.place tables.old telling.old) tables.new telling.new) }
-    ensures keeps { Keeps actor.now.caller.place tables.old tables.new }
+    ensures { Does actor.now.caller (Delete target depth ∷ []) tables.old tables.new telling.old telling.new result }
 {
     if !tables.lives(actor.caller.place, target) {
         return Ok(());
@@ -52,8 +51,7 @@ fn cut<F: Answering>(
 ) -> Result<(), AllocError>
     requires placed { IsPlaced tables.old actor.now.caller.place }
     requires depth { depth ≤ NESTED_SIGNALS }
-    ensures does { OnOk result (Does actor.now.caller (Cut target depth ∷ []) (doing_at actor.now.caller.place tables.old telling.old) tables.new telling.new) }
-    ensures keeps { Keeps actor.now.caller.place tables.old tables.new }
+    ensures { Does actor.now.caller (Cut target depth ∷ []) tables.old tables.new telling.old telling.new result }
 {
     let children = tables.children(actor.caller.place, Some(target))?;
     tables.untie(actor.caller.place, target);
@@ -76,8 +74,7 @@ fn kin<F: Answering>(
 ) -> Result<(), AllocError>
     requires placed { IsPlaced tables.old actor.now.caller.place }
     requires depth { depth ≤ NESTED_SIGNALS }
-    ensures does { OnOk result (Does actor.now.caller (Kin parent child depth ∷ []) (doing_at actor.now.caller.place tables.old telling.old) tables.new telling.new) }
-    ensures keeps { Keeps actor.now.caller.place tables.old tables.new }
+    ensures { Does actor.now.caller (Kin parent child depth ∷ []) tables.old tables.new telling.old telling.new result }
 {
     if !tables.lives_below(actor.caller.place, parent, child) {
         return Ok(());

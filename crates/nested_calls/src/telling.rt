@@ -23,6 +23,8 @@ pub struct Telling {
     pub spent: bool,
     /// How many events it took.
     pub taken: u32,
+    /// Another session has failed by a post of this command.
+    pub failing: bool,
 }
 
 impl Telling {
@@ -35,26 +37,30 @@ impl Telling {
             turns: setup.turns,
             spent: false,
             taken: 0,
+            failing: false,
         }
     }
 
     /// Tells a line.
     pub fn tell(&mut self, line: Line) -> Result<(), AllocError>
-        ensures { OnOk result (self.new ≡ with_line self.old line) }
+        ensures told { OnOk result (self.new ≡ with_line self.old line) }
+        ensures failing { self.new.failing ≡ self.old.failing }
     {
         self.lines.push(line)
     }
 
     /// Warns of a code, and names an object with it.
     pub(crate) fn warn(&mut self, code: Code, object: Option<u32>) -> Result<(), AllocError>
-        ensures { OnOk result (self.new ≡ with_line self.old (Warning code object)) }
+        ensures told { OnOk result (self.new ≡ with_line self.old (Warning code object)) }
+        ensures failing { self.new.failing ≡ self.old.failing }
     {
         self.tell(Line::Warning { code, object })
     }
 
     /// Warns that a turn is wanted and none is left, once in a command.
     pub fn use_up(&mut self) -> Result<(), AllocError>
-        ensures { OnOk result (self.new ≡ spent self.old) }
+        ensures told { OnOk result (self.new ≡ spent self.old) }
+        ensures failing { self.new.failing ≡ self.old.failing }
     {
         if self.spent {
             return Ok(());
@@ -67,7 +73,8 @@ impl Telling {
     /// Warns of what an action of the slot of `object` was refused for. Where memory was wanted there is
     /// nothing to warn of.
     pub(crate) fn warn_of(&mut self, fault: Fault, object: u32) -> Result<(), AllocError>
-        ensures { OnOk result (Warns fault object self.old self.new) }
+        ensures told { OnOk result (Warns fault object self.old self.new) }
+        ensures failing { self.new.failing ≡ self.old.failing }
     {
         match fault {
             Fault::Refused(code) => self.warn(code, Some(object)),
@@ -83,7 +90,8 @@ impl Telling {
         slot: &Slot,
     ) -> Result<(), AllocError>
         requires { IsMethod method.now }
-        ensures { OnOk result (self.new ≡ with_line self.old (call_line method.now slot.now.object slot.now.sender slot.now.args.now)) }
+        ensures told { OnOk result (self.new ≡ with_line self.old (call_line method.now slot.now.object slot.now.sender slot.now.args.now)) }
+        ensures failing { self.new.failing ≡ self.old.failing }
     {
         let call = Call {
             method: method.text.copy(alloc)?,
@@ -101,7 +109,8 @@ impl Telling {
         functor: &Functor,
         slot: &Slot,
     ) -> Result<(), AllocError>
-        ensures { OnOk result (self.new ≡ with_line self.old (functor_line functor.now slot.now.object slot.now.sender slot.now.args.now)) }
+        ensures told { OnOk result (self.new ≡ with_line self.old (functor_line functor.now slot.now.object slot.now.sender slot.now.args.now)) }
+        ensures failing { self.new.failing ≡ self.old.failing }
     {
         let call = Call {
             method: functor.name.copy(alloc)?,

@@ -1,5 +1,5 @@
 -- A server over its engine: when it has found memory refused, which names it knows, and what a command makes of it.
-use Rattle.std.proofs.Common.{◌≡◌, ◌⊎◌, inl, inr, ℕ, Bool, true, false, List, [], ◌∷◌, ◌++◌, Option, Some, None, Result, Ok, Err, IfNone, IsErr, IsTrue, IsFalse, refl, sym, ap, subst, ◌∙◌, ⊎_elim}
+use Rattle.std.proofs.Common.{◌≡◌, inl, ℕ, true, false, List, [], ◌∷◌, ◌++◌, Option, Some, None, Result, Ok, Err, IfNone, IsErr, IsTrue, IsFalse, refl, sym, ap, subst, ◌∙◌, ⊎_elim}
 use Rattle.std.specs.Prelude.{bytes_eq}
 use Rattle.std.specs.List.{list_any}
 use Rattle.std.specs.Option.{option_map_or}
@@ -13,13 +13,14 @@ use Rattle.thread_model.specs.Machine.{machine}
 use Rattle.thread_model.specs.State.{empty}
 use Rattle.thread_model.specs.Thread.{Settings, joins_name}
 use Rattle.session_tables.specs.Session.{Session, fresh}
+use Rattle.session_tables.proofs.ReachingLemmas.{heard-none, stays_failed}
 use Rattle.session_tables.specs.Tables.{session_at}
 use Rattle.session_engine.specs.Core as engine
 use Rattle.session_engine.specs.Core.{Contents, place}
 use Rattle.session_engine.specs.Sessions.{AreSound, AreWell, IsStep}
 use Rattle.session_engine.proofs.EngineLemmas.{position-any, position-None}
 use Rattle.server_world.specs.Names.{with_name}
-use Rattle.server_world.specs.Server.{Server, IsLost, StaysOut, failed, seen, was_refused}
+use Rattle.server_world.specs.Server.{Server, IsLost, StaysOut, failed, seen, sessions, was_refused}
 
 pub refused_in_engine : (server : Server) → IsTrue (engine.was_refused server.engine) → IsTrue (was_refused server)
 unfolding was_refused
@@ -56,6 +57,8 @@ module _ (old new : Server) (same : new.memory_refused ≡ old.memory_refused) w
     tells = step.tells;
     leaves = step.leaves;
     refused = step.refused;
+    posts = step.posts;
+    posted = step.posted;
     others = step.others;
     settings = step.settings;
     kept = refusal_kept step.kept;
@@ -75,7 +78,9 @@ step_out old new name asked out well sound =
       tells = tt;
       leaves = tt;
       refused = λ refused. tt;
-      others = λ other elsewhere. ap (λ sessions. sessions other) out.sessions;
+      posts = [];
+      posted = tt;
+      others = λ other elsewhere. inl (ap (λ sessions. sessions other) out.sessions ∙ sym (heard-none name (engine.sessions old.engine other)));
       settings = out.settings;
       kept = λ was. refused;
       memory = λ none. refused;
@@ -116,7 +121,7 @@ failed_stays old new name asked told step lost other was = ⊎_elim
     (λ here.
     let same : other ≡ name = (bytes_eq-Decides other name).0 here in
     subst (λ name. IsTrue (failed new name)) (sym same) (own told step lost (subst (λ name. IsTrue (failed old name)) same was)))
-    (λ elsewhere. ap (λ session. session.failed) (step.others other elsewhere) ∙ was)
+    (λ elsewhere. stays_failed name step.posts (sessions old other) (sessions new other) (step.others other elsewhere) was)
     (cases_Bool (bytes_eq other name))
   where
     own : (told : Option (List Line)) → IsStep (seen old) (seen new) name asked told → IfNone told (IsLost old new name) → IsTrue (failed old name) → IsTrue (failed new name)

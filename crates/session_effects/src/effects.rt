@@ -1,27 +1,28 @@
 //! What actions do that neither send signals nor delete objects, and what those that do come to.
-ghost use Rattle.std.specs.Prelude.{◌≡◌, ◌∷◌, [], OnErr, IsFalse};
+ghost use Rattle.std.specs.Prelude.{◌≡◌, ◌∷◌, [], IfOk, OnErr, IsFalse, IsTrue, Some};
 ghost use Rattle.refusals.specs.Answers.{Answers};
 ghost use Rattle.term_core.specs.declared.action.Effect.TheVariants as e;
 ghost use Rattle.thread_model.specs.Acts.{emission};
 ghost use Rattle.thread_model.specs.Items.{Delete, Emit};
 ghost use Rattle.thread_model.specs.Targets.{truth_evaluated};
 ghost use Rattle.session_tables.specs.Tables.{IsPlaced, state_at};
-ghost use Rattle.session_effects.specs.Actions.{IsSent, Keeps, Tries, is_nested};
+ghost use Rattle.session_effects.specs.Actions.{FindsDeed, IsSent, Keeps, Tries, is_nested};
 ghost use Rattle.session_effects.specs.Setup.{settings_of};
 
 use crate::caller::Caller;
 use crate::connections::{Options, connection, pattern};
+use crate::deeds::do_deed;
 use crate::evaluation::{
     Reader, all_converted, all_evaluated, named_object_of, object_of, truth_evaluated,
 };
 use crate::methods::{kinds_at, signal_with};
 use crate::slot::Slot;
-use event_queue::Event;
 use plain_types::Items;
 use refusals::Fault;
 use session_tables::Tables;
 use signature_core::Signature;
 use term_core::{Effect, Expr, Target};
+use thread_model::Deed;
 use variant_value::Value;
 
 /// A signal that an action sends.
@@ -100,7 +101,7 @@ pub fn deleted(caller: &Caller, tables: &Tables, slot: &Slot, target: &Target) -
     Ok(object)
 }
 
-/// Does an action that neither sends a signal nor deletes an object at once.
+/// Does an action that is a deed.
 pub fn change(
     caller: &Caller,
     tables: &mut Tables,
@@ -113,6 +114,18 @@ pub fn change(
     ensures err { OnErr result (tables.new ≡ tables.old) }
     ensures keeps { Keeps caller.now.place tables.old tables.new }
 {
+    let deed = deed_of(caller, tables, slot, effect)?;
+    do_deed(tables, caller.place, deed)?;
+    Ok(())
+}
+
+/// The deed that an action is.
+fn deed_of(caller: &Caller, tables: &Tables, slot: &Slot, effect: &Effect) -> Result<Deed, Fault>
+    requires placed { IsPlaced tables.now caller.now.place }
+    requires simple { IsFalse (is_nested effect.now) }
+    ensures { FindsDeed caller.now slot.now effect.now tables.now result }
+{
+    let reader = reader(caller, tables, slot);
     match effect {
         Effect::Connect {
             of,
@@ -128,36 +141,42 @@ pub fn change(
                 unique: *unique,
                 single: *single,
             };
-            connect(caller, tables, slot, of, signal, to, method, options)
+            connect_deed(caller, tables, slot, of, signal, to, method, options)
         }
         Effect::Disconnect {
             of,
             signal,
             to,
             method,
-        } => disconnect(caller, tables, slot, of, signal, to, method),
-        Effect::DeleteLater(target) => delete_later(caller, tables, slot, target),
-        Effect::Block { of, on } => block(caller, tables, slot, of, *on),
-        Effect::SetParent { of, parent } => set_parent(caller, tables, slot, of, parent),
-        Effect::Set { .. } | Effect::Emit { .. } | Effect::Delete(_) => unreachable!(),
+        } => disconnect_deed(caller, tables, slot, of, signal, to, method),
+        Effect::DeleteLater(target) => Ok(Deed::DeleteLater {
+            object: object_of(&reader, target)?,
+        }),
+        Effect::Block { of, on } => Ok(Deed::Block {
+            object: object_of(&reader, of)?,
+            on: *on,
+        }),
+        Effect::SetParent { of, parent } => Ok(Deed::SetParent {
+            object: object_of(&reader, of)?,
+            parent: named_object_of(&reader, parent)?,
+        }),
+        _ => unreachable!(),
     }
 }
 
-/// Connects a signal to a method.
-fn connect(
+/// The connection of a signal to a method.
+fn connect_deed(
     caller: &Caller,
-    tables: &mut Tables,
+    tables: &Tables,
     slot: &Slot,
     of: &Target,
     signal: &Signature,
     to: &Target,
     method: &Signature,
     options: Options,
-) -> Result<(), Fault>
-    requires { IsPlaced tables.old caller.now.place }
-    ensures tries { Tries caller.now slot.now (e.Connect of.now signal.now to.now method.now options.mode options.unique options.single) tables.old (λ _. []) tables.new result }
-    ensures err { OnErr result (tables.new ≡ tables.old) }
-    ensures keeps { Keeps caller.now.place tables.old tables.new }
+) -> Result<Deed, Fault>
+    requires { IsPlaced tables.now caller.now.place }
+    ensures { FindsDeed caller.now slot.now (e.Connect of.now signal.now to.now method.now options.mode options.unique options.single) tables.now result }
 {
     let reader = reader(caller, tables, slot);
     let sender = object_of(&reader, of)?;
@@ -165,24 +184,24 @@ fn connect(
     tables.check_living(caller.place, sender)?;
     tables.check_living(caller.place, receiver)?;
     let new = connection(caller, tables, sender, signal, receiver, method, options)?;
-    tables.connect(caller.place, new, options.unique)?;
-    Ok(())
+    Ok(Deed::Connect {
+        new,
+        unique: options.unique,
+    })
 }
 
-/// Breaks the connections that match.
-fn disconnect(
+/// The connections that are to be broken.
+fn disconnect_deed(
     caller: &Caller,
-    tables: &mut Tables,
+    tables: &Tables,
     slot: &Slot,
     of: &Target,
     signal: &Option<Signature>,
     to: &Option<Target>,
     method: &Option<Signature>,
-) -> Result<(), Fault>
-    requires { IsPlaced tables.old caller.now.place }
-    ensures tries { Tries caller.now slot.now (e.Disconnect of.now signal.now to.now method.now) tables.old (λ _. []) tables.new result }
-    ensures err { OnErr result (tables.new ≡ tables.old) }
-    ensures keeps { Keeps caller.now.place tables.old tables.new }
+) -> Result<Deed, Fault>
+    requires { IsPlaced tables.now caller.now.place }
+    ensures { FindsDeed caller.now slot.now (e.Disconnect of.now signal.now to.now method.now) tables.now result }
 {
     let reader = reader(caller, tables, slot);
     let sender = object_of(&reader, of)?;
@@ -190,66 +209,7 @@ fn disconnect(
     tables.check_object(caller.place, sender)?;
     tables.check_named(caller.place, receiver)?;
     let pattern = pattern(caller, tables, sender, signal, receiver, method)?;
-    tables.disconnect(caller.place, &pattern);
-    Ok(())
-}
-
-/// Posts the deletion of an object.
-fn delete_later(
-    caller: &Caller,
-    tables: &mut Tables,
-    slot: &Slot,
-    target: &Target,
-) -> Result<(), Fault>
-    requires { IsPlaced tables.old caller.now.place }
-    ensures tries { Tries caller.now slot.now (e.DeleteLater target.now) tables.old (λ _. []) tables.new result }
-    ensures err { OnErr result (tables.new ≡ tables.old) }
-    ensures keeps { Keeps caller.now.place tables.old tables.new }
-{
-    let receiver = object_of(&reader(caller, tables, slot), target)?;
-    tables.check_living(caller.place, receiver)?;
-    tables.check_room(caller.place)?;
-    tables.post(caller.place, Event::Deletion(receiver))?;
-    Ok(())
-}
-
-/// Blocks the signals of an object, or lets them through.
-fn block(
-    caller: &Caller,
-    tables: &mut Tables,
-    slot: &Slot,
-    of: &Target,
-    on: bool,
-) -> Result<(), Fault>
-    requires { IsPlaced tables.old caller.now.place }
-    ensures tries { Tries caller.now slot.now (e.Block of.now on) tables.old (λ _. []) tables.new result }
-    ensures err { OnErr result (tables.new ≡ tables.old) }
-    ensures keeps { Keeps caller.now.place tables.old tables.new }
-{
-    let object = object_of(&reader(caller, tables, slot), of)?;
-    tables.check_object(caller.place, object)?;
-    tables.set_blocked(caller.place, object, on);
-    Ok(())
-}
-
-/// Gives an object another parent, or makes it a root.
-fn set_parent(
-    caller: &Caller,
-    tables: &mut Tables,
-    slot: &Slot,
-    of: &Target,
-    parent: &Option<Target>,
-) -> Result<(), Fault>
-    requires { IsPlaced tables.old caller.now.place }
-    ensures tries { Tries caller.now slot.now (e.SetParent of.now parent.now) tables.old (λ _. []) tables.new result }
-    ensures err { OnErr result (tables.new ≡ tables.old) }
-    ensures keeps { Keeps caller.now.place tables.old tables.new }
-{
-    let reader = reader(caller, tables, slot);
-    let object = object_of(&reader, of)?;
-    let parent = named_object_of(&reader, parent)?;
-    tables.set_parent(caller.place, object, parent)?;
-    Ok(())
+    Ok(Deed::Disconnect { pattern })
 }
 
 /// The truth that the test of a choice is.

@@ -1,5 +1,5 @@
 -- What a command makes of the session at its place, by the ways that it goes.
-use Rattle.std.proofs.Common.{◌≡◌, ℕ, Bool, true, false, true≢false, List, Option, Some, None, Result, Ok, Err, IsErrAnd, slice_get, refl, sym, ap, subst, ◌∙◌}
+use Rattle.std.proofs.Common.{◌≡◌, ℕ, Bool, true, false, true≢false, List, Option, Some, None, Result, Ok, Err, IfOk, IsErrAnd, OnErr, OnOk, slice_get, refl, sym, ap, subst, ◌∙◌, ◌⊎◌, inl, inr, eqb, IsFalse, []}
 use Rattle.std.specs.Option.{option_or}
 use Rattle.isolation.specs.Machine.{Effect}
 use Rattle.std.specs.Prelude.{if◌then◌else◌}
@@ -13,6 +13,9 @@ use Rattle.thread_model.specs.declared.line.Line.{Line}
 use Rattle.thread_model.specs.declared.line.Line.TheVariants.{Reply}
 use Rattle.thread_model.specs.declared.post.Post.{Post}
 use Rattle.thread_model.specs.Asked.{Asked}
+use Rattle.thread_model.specs.declared.deed.Deed.{Deed}
+use Rattle.thread_model.specs.Deeds.{behind, deed_answer, deed_refusal, found_refusal, with_deed}
+use Rattle.thread_model.specs.Signals.{does_found}
 use Rattle.thread_model.specs.Doing as doing
 use Rattle.thread_model.specs.Effects.{ended, replies, unless}
 use Rattle.thread_model.specs.Methods.{Found}
@@ -22,23 +25,41 @@ use Rattle.thread_model.specs.Thread.{performs}
 use Rattle.session_tables.specs.declared.tables.Tables.{Tables}
 use Rattle.session_tables.specs.Refused.{OnRefused}
 use Rattle.session_tables.specs.Session.{Session, gone}
-use Rattle.session_tables.specs.Tables.{ChangesOnly, failed_at, session_at, state_at, with_session, with_state}
-use Rattle.session_tables.proofs.TablesLemmas.{changes_same, changes_state, with_session_after, with_state_same, with_state_session}
+use Rattle.session_tables.specs.Tables.{ChangesOnly, IsPlaced, failed_at, session_at, state_at, with_session, with_state}
+use Rattle.session_tables.specs.Reaching.{Hears, Reaches, heard}
+use Rattle.session_tables.proofs.TablesLemmas.{changes_same, changes_with, session_there, state_with}
+use Rattle.session_tables.proofs.PostLemmas.{changes_session}
+use Rattle.session_tables.proofs.ReachingLemmas.{heard-none, placed_shaped, session_unchanged, shaped_changed, shaped_twice}
 use Rattle.session_effects.specs.declared.caller.Caller.{Caller}
 use Rattle.nested_calls.specs.declared.telling.Telling.{Telling}
-use Rattle.session_engine.specs.Commands.{Obeys, Performs, reply_after, reply_lines}
-use Rattle.session_effects.specs.Actions.{Keeps}
+use Rattle.session_engine.specs.Commands.{Obeys, OthersHear, Performs, reply_after, reply_lines}
 use Rattle.nested_calls.specs.Telling.{doing_at, fresh_telling}
 use Rattle.session_engine.specs.Core.{Contents, IsWhole, contents, place, seen, sessions, states}
 use Rattle.session_engine.specs.Returning.{Returns, told, wants_memory}
-use Rattle.session_engine.specs.Sessions.{IsStep, session_after, session_refusal}
+use Rattle.session_engine.specs.Sessions.{IsStep, session_after, session_does, session_refusal}
 use Rattle.session_effects.specs.Setup.{settings_of}
 use Rattle.session_engine.proofs.EngineLemmas.{named_at, sessions-place}
-use Rattle.session_engine.proofs.StepLemmas.{Ends, GaveUp, Told, refused_after, step_of, whole_after}
+use Rattle.session_engine.proofs.StepLemmas.{Ended, GaveUp, Loud, Marks, Quiet, Told, refused_after, some_none_of, step_of, whole_after}
 
--- the session at a place, put there again
-with_session_same : (tables : Tables) (place : ℕ) → with_session tables place (session_at tables place) ≡ tables
-with_session_same tables place = sym (with_state_session tables place (state_at tables place)) ∙ with_state_same tables place
+-- what changes one session alone is not heard by the others
+pub others_changed : (from : List ℕ) (old new : Tables) (place : ℕ) → ChangesOnly place old new → OthersHear from place [] old new false
+others_changed from old new place changes =
+    let unchanged : (at : ℕ) → IsFalse (eqb at place) → IsPlaced old at → session_at new at ≡ heard from [] (session_at old at) =
+    λ at apart placed. session_unchanged old new place at changes apart ∙ sym (heard-none from (session_at old at)) in
+    record { shape = shaped_changed old new place changes; hear = λ at apart placed. inl (unchanged at apart placed); all = λ none. unchanged; one = λ some. absurd (true≢false (sym some)) }
+
+-- what they have heard of nested calls
+pub others_reached : (from : List ℕ) (old new : Tables) (place : ℕ) (posts : List Post) (failing : Bool) → Reaches from place posts old new false failing → OthersHear from place posts old new failing
+others_reached from old new place posts failing reaches = record { shape = reaches.shape; hear = reaches.others; all = λ none. (reaches.all none).1; one = λ some. reaches.one refl some }
+
+-- also where the session fails then
+others_then : (from : List ℕ) (old middle new : Tables) (place : ℕ) (posts : List Post) (failing : Bool) → OthersHear from place posts old middle failing → ChangesOnly place middle new → OthersHear from place posts old new failing
+others_then from old middle new place posts failing others changes = record {
+  shape = shaped_twice old middle new others.shape (shaped_changed middle new place changes);
+  hear = λ at apart placed. subst (Hears from posts (session_at old at)) (sym (session_unchanged middle new place at changes apart)) (others.hear at apart placed);
+  all = λ none at apart placed. session_unchanged middle new place at changes apart ∙ others.all none at apart placed;
+  one = λ some. let it = others.one some in (it.0, it.1, it.2, it.3, ap (λ (session : Session). session.failed) (session_unchanged middle new place it.0 changes it.1) ∙ it.4);
+}
 
 -- the first of two refusals, or the second where there is no first
 pub or_first : (a b : Option Code) (code : Code) → Some code ≡ a → option_or a b ≡ Some code
@@ -55,46 +76,67 @@ module _ (caller : Caller) (asked : Asked) (old new : Tables) where
   its_effect = performs (settings_of caller.setup.now) caller.name.now (state_at old caller.place) asked
 
   -- a command that is refused has changed nothing
-  pub stopped : {T : Type 0} (lines : T → List Line) (code : Code) (result : Result T Fault) → IsErrAnd result (λ fault. fault ≡ Refused code) → its_refusal ≡ Some code → new ≡ old → Performs caller asked old new lines result
+  pub stopped : {T : Type 0} (lines : T → List Line) (code : Code) (result : Result T Fault) → IsErrAnd result (λ fault. fault ≡ Refused code) → its_refusal ≡ Some code → new ≡ old → Performs caller asked old new false lines result
   stopped lines code (Ok value) h refused same = absurd h
   stopped lines code (Err fault) h refused same =
-      subst (λ fault. Performs caller asked old new lines (Err fault)) (sym h) (record { returns = refused; done = tt; refused = same; only = tt })
+      subst (λ fault. Performs caller asked old new false lines (Err fault)) (sym h)
+      (record { returns = refused; posts = []; posted = tt; done = tt; refused = same; others = others_changed caller.name.now old new caller.place (changes_same old new caller.place same) })
 
   -- where memory was wanted only its own session may have changed
-  pub starved : {T : Type 0} (lines : T → List Line) (result : Result T Fault) → IsErrAnd result (λ fault. fault ≡ Memory) → ChangesOnly caller.place old new → Performs caller asked old new lines result
+  pub starved : {T : Type 0} (lines : T → List Line) (result : Result T Fault) → IsErrAnd result (λ fault. fault ≡ Memory) → ChangesOnly caller.place old new → Performs caller asked old new false lines result
   starved lines (Ok value) h only = absurd h
   starved lines (Err fault) h only =
-      subst (λ fault. Performs caller asked old new lines (Err fault)) (sym h) (record { returns = tt; done = tt; refused = tt; only = only })
+      subst (λ fault. Performs caller asked old new false lines (Err fault)) (sym h) (record { returns = tt; posts = []; posted = tt; done = tt; refused = tt; others = others_changed caller.name.now old new caller.place only })
+
+  -- the same where other sessions have heard posts by then
+  pub starved_posting : {T : Type 0} (failing : Bool) (posts : List Post) (lines : T → List Line) (result : Result T Fault) → IsErrAnd result (λ fault. fault ≡ Memory) → OthersHear caller.name.now caller.place posts old new failing → Performs caller asked old new failing lines result
+  starved_posting failing posts lines (Ok value) h others = absurd h
+  starved_posting failing posts lines (Err fault) h others =
+      subst (λ fault. Performs caller asked old new failing lines (Err fault)) (sym h) (record { returns = tt; posts = posts; posted = tt; done = tt; refused = tt; others = others })
 
   -- a fault of a call that is refused by the rest of its refusal
   pub made_fault : {T : Type 0} (lines : T → List Line) (rest : Option Code) (fault : Fault) (result : Result T Fault) → IsErrAnd result (λ other. other ≡ fault) → its_refusal ≡ rest
-      → RefusedBy {T = ℕ} rest (Err fault) → OnRefused {T = ℕ} (Err fault) (new ≡ old) → ChangesOnly caller.place old new → Performs caller asked old new lines result
+      → RefusedBy {T = ℕ} rest (Err fault) → OnRefused {T = ℕ} (Err fault) (new ≡ old) → ChangesOnly caller.place old new → Performs caller asked old new false lines result
   made_fault lines rest (Refused code) result h is refused same only = stopped lines code result h (is ∙ refused) same
   made_fault lines rest Memory result h is refused same only = starved lines result h only
 
+  -- the session is left so, and its mark stays
+  left_as : (state : State) → its_effect.state ≡ state → state_at new caller.place ≡ state → failed_at new caller.place ≡ failed_at old caller.place → session_at new caller.place ≡ record { state = its_effect.state; failed = failed_at old caller.place }
+  left_as state effect is mark =
+      ap (λ state. record { state = state; failed = failed_at new caller.place }) (is ∙ sym effect) ∙ ap (λ failed. record { state = its_effect.state; failed = failed }) mark
+
   -- and else it replies
-  pub replied : (state : State) (answer : Answer) → its_refusal ≡ None → its_effect ≡ replies state answer → new ≡ with_state old caller.place state → Performs caller asked old new reply_lines (Ok answer)
-  replied state answer passed effect e = record {
+  pub replied : (state : State) (answer : Answer) → IsPlaced old caller.place → its_refusal ≡ None → its_effect ≡ replies state answer → new ≡ with_state old caller.place state → Performs caller asked old new false reply_lines (Ok answer)
+  replied state answer placed passed effect e = record {
     returns = (passed, ap (λ effect. effect.lines) effect);
-    done = e ∙ ap (λ effect. with_state old caller.place effect.state) (sym effect);
+    posts = [];
+    posted = sym (ap (λ effect. effect.posts) effect);
+    done = left_as state (ap (λ effect. effect.state) effect) (state_with old new caller.place state placed e) (ap (λ tables. failed_at tables caller.place) e);
     refused = tt;
-    only = tt;
+    others = others_changed caller.name.now old new caller.place (changes_with old new caller.place state placed e);
   }
 
   -- so it does behind what was told by what it set off
-  pub replied_last : (telling : Telling) (answer : Answer) → its_refusal ≡ None → its_effect ≡ ended (doing.told (doing_at caller.place new telling) (Reply answer)) → Keeps caller.place old new
-      → Performs caller asked old new (reply_after telling.lines) (Ok answer)
+  pub replied_last : (telling : Telling) (answer : Answer) (posts : List Post) → its_refusal ≡ None → its_effect ≡ ended (doing.told (doing_at caller.place new telling posts) (Reply answer)) → Reaches caller.name.now caller.place posts old new false telling.failing
+      → Performs caller asked old new telling.failing (reply_after telling.lines) (Ok answer)
   unfolding doing.told
-  replied_last telling answer passed effect keeps = record {
+  replied_last telling answer posts passed effect reaches = record {
     returns = (passed, ap (λ effect. effect.lines) effect);
-    done = changes_state old new caller.place keeps.only keeps.failed ∙ ap (λ effect. with_state old caller.place effect.state) (sym effect);
+    posts = posts;
+    posted = sym (ap (λ effect. effect.posts) effect);
+    done = left_as (state_at new caller.place) (ap (λ effect. effect.state) effect) refl reaches.own;
     refused = tt;
-    only = tt;
+    others = others_reached caller.name.now old new caller.place posts telling.failing reaches;
   }
+
+-- where a command begins no session has failed by its posts
+pub at_first_reaches : (caller : Caller) (old new : Tables) (before after : Telling) (posts : List Post) → before ≡ fresh_telling caller.setup.now.turns → Reaches caller.name.now caller.place posts old new before.failing after.failing
+    → Reaches caller.name.now caller.place posts old new false after.failing
+at_first_reaches caller old new before after posts fresh reaches = subst (λ (telling : Telling). Reaches caller.name.now caller.place posts old new telling.failing after.failing) fresh reaches
 
 -- where what is looked for is not found
 pub found_fault : {T A : Type 0} (caller : Caller) (asked : Asked) (tables : Tables) (lines : T → List Line) (rest : Found A → Option Code) (found : Found A) (fault : Fault) (result : Result T Fault) → IsErrAnd result (λ other. other ≡ fault)
-    → its_refusal caller asked tables tables ≡ rest found → ((code : Code) → rest (Err code) ≡ Some code) → Answers {T = A} (Err fault) found → Performs caller asked tables tables lines result
+    → its_refusal caller asked tables tables ≡ rest found → ((code : Code) → rest (Err code) ≡ Some code) → Answers {T = A} (Err fault) found → Performs caller asked tables tables false lines result
 found_fault caller asked tables lines rest found (Refused code) result h is law why = stopped caller asked tables tables lines code result h (is ∙ ap rest why ∙ law code) refl
 found_fault caller asked tables lines rest found Memory result h is law why = starved caller asked tables tables lines result h (changes_same tables tables caller.place refl)
 
@@ -105,14 +147,67 @@ on_refused Memory h = tt
 
 -- also where it only reads
 pub replied_by : (caller : Caller) (asked : Asked) (tables : Tables) (answer : Answer) → its_refusal caller asked tables tables ≡ None → its_effect caller asked tables tables ≡ replies (state_at tables caller.place) answer
-    → Performs caller asked tables tables reply_lines (Ok answer)
-replied_by caller asked tables answer passed effect =
-    replied caller asked tables tables (state_at tables caller.place) answer passed effect (sym (with_state_same tables caller.place))
+    → Performs caller asked tables tables false reply_lines (Ok answer)
+replied_by caller asked tables answer passed effect = record {
+  returns = (passed, ap (λ effect. effect.lines) effect);
+  posts = [];
+  posted = sym (ap (λ effect. effect.posts) effect);
+  done = left_as caller asked tables tables (state_at tables caller.place) (ap (λ effect. effect.state) effect) refl refl;
+  refused = tt;
+  others = others_changed caller.name.now tables tables caller.place (changes_same tables tables caller.place refl);
+}
+
+-- where a deed is looked for, the first of two refusals, or what stands behind it
+pub behind_first : {A : Type 0} (a : Option Code) (found : Found A) (code : Code) → Some code ≡ a → behind a found ≡ Err code
+behind_first a found code e = sym (ap (λ a. behind a found) e)
+
+pub behind_second : {A : Type 0} (a : Option Code) (found : Found A) → None ≡ a → behind a found ≡ found
+behind_second a found e = sym (ap (λ a. behind a found) e)
+
+-- a command does the deed that was found
+pub deed_performed : (caller : Caller) (asked : Asked) (found : Found Deed) (deed : Deed) (old new : Tables) (result : Result Answer Fault) → IsPlaced old caller.place
+    → its_refusal caller asked old new ≡ found_refusal (state_at old caller.place) found → its_effect caller asked old new ≡ does_found (state_at old caller.place) found → found ≡ Ok deed
+    → RefusedBy (deed_refusal (state_at old caller.place) deed) result → IfOk result (λ answer. answer ≡ deed_answer (state_at old caller.place) deed)
+    → OnOk result (new ≡ with_state old caller.place (with_deed (state_at old caller.place) deed)) → OnErr result (new ≡ old) → Performs caller asked old new false reply_lines result
+deed_performed caller asked found deed old new (Ok answer) placed refusal effect is passed answers done same =
+    replied caller asked old new (with_deed (state_at old caller.place) deed) answer placed (refusal ∙ ap (found_refusal (state_at old caller.place)) is ∙ passed)
+    (effect ∙ ap (does_found (state_at old caller.place)) is ∙ ap (replies (with_deed (state_at old caller.place) deed)) (sym answers)) done
+deed_performed caller asked found deed old new (Err (Refused code)) placed refusal effect is refused answers done same =
+    stopped caller asked old new reply_lines code (Err (Refused code)) refl (refusal ∙ ap (found_refusal (state_at old caller.place)) is ∙ refused) same
+deed_performed caller asked found deed old new (Err Memory) placed refusal effect is passed answers done same =
+    starved caller asked old new reply_lines (Err Memory) refl (changes_same old new caller.place same)
 
 -- a command that tells nothing before its reply
 pub silently : (caller : Caller) (asked : Asked) (old new : Tables) (telling : Telling) (result : Result Answer Fault) → telling ≡ fresh_telling caller.setup.now.turns
-    → Performs caller asked old new reply_lines result → Performs caller asked old new (reply_after telling.lines) result
-silently caller asked old new telling result fresh performed = subst (λ (telling : Telling). Performs caller asked old new (reply_after telling.lines) result) (sym fresh) performed
+    → Performs caller asked old new false reply_lines result → Performs caller asked old new telling.failing (reply_after telling.lines) result
+silently caller asked old new telling result fresh performed = subst (λ (telling : Telling). Performs caller asked old new telling.failing (reply_after telling.lines) result) (sym fresh) performed
+
+-- one that is refused before it posts anything
+pub quietly : (caller : Caller) (asked : Asked) (old new : Tables) (telling : Telling) (lines : Answer → List Line) (result : Result Answer Fault) → telling ≡ fresh_telling caller.setup.now.turns
+    → Performs caller asked old new false lines result → Performs caller asked old new telling.failing lines result
+quietly caller asked old new telling lines result fresh performed = subst (λ (telling : Telling). Performs caller asked old new telling.failing lines result) (sym fresh) performed
+
+-- what is told last takes memory too
+pub told_last : (caller : Caller) (asked : Asked) (old new : Tables) (failing : Bool) (lines : List Line) (answer : Answer) (told : List Line) → told ≡ reply_after lines answer → Performs caller asked old new failing (reply_after lines) (Ok answer) → Performs caller asked old new failing (λ lines. lines) (Ok told)
+told_last caller asked old new failing lines answer told is performed = record {
+  returns = (performed.returns.0, performed.returns.1 ∙ sym is);
+  posts = performed.posts;
+  posted = performed.posted;
+  done = performed.done;
+  refused = tt;
+  others = performed.others;
+}
+
+pub told_fault : (caller : Caller) (asked : Asked) (old new : Tables) (failing : Bool) (lines : Answer → List Line) (fault : Fault) (result : Result (List Line) Fault) → IsErrAnd result (λ other. other ≡ fault) → Performs caller asked old new failing lines (Err fault) → Performs caller asked old new failing (λ lines. lines) result
+told_fault caller asked old new failing lines fault (Ok value) h performed = absurd h
+told_fault caller asked old new failing lines fault (Err other) h performed = subst (λ fault. Performs caller asked old new failing (λ lines. lines) (Err fault)) (sym h) (by fault performed)
+  where
+    by : (fault : Fault) → Performs caller asked old new failing lines (Err fault) → Performs {T = List Line} caller asked old new failing (λ lines. lines) (Err fault)
+    by (Refused code) performed = record { returns = performed.returns; posts = performed.posts; posted = tt; done = tt; refused = performed.refused; others = performed.others }
+    by Memory performed = record { returns = tt; posts = performed.posts; posted = tt; done = tt; refused = tt; others = performed.others }
+
+pub told_starved : (caller : Caller) (asked : Asked) (old new : Tables) (failing : Bool) (lines : Answer → List Line) (answer : Answer) (result : Result (List Line) Fault) → IsErrAnd result (λ other. other ≡ Memory) → Performs caller asked old new failing lines (Ok answer) → Performs caller asked old new failing (λ lines. lines) result
+told_starved caller asked old new failing lines answer result h performed = starved_posting caller asked old new failing performed.posts (λ lines. lines) result h performed.others
 
 module _ (caller : Caller) (asked : Asked) (old new : Tables) where
   -- what the session does with it
@@ -122,87 +217,119 @@ module _ (caller : Caller) (asked : Asked) (old new : Tables) where
   abbrev own_refusal : Option Code
   own_refusal = session_refusal (settings_of caller.setup.now) caller.name.now session asked
 
-  stays : (code : Code) → own_refusal ≡ Some code → new ≡ old → new ≡ with_session old caller.place (session_after (settings_of caller.setup.now) caller.name.now session asked)
-  stays code refused same =
-      same ∙ sym (with_session_same old caller.place)
-      ∙ ap (with_session old caller.place) (sym (refused_after (settings_of caller.setup.now) caller.name.now session asked code refused))
+  abbrev its_end : Session
+  its_end = session_after (settings_of caller.setup.now) caller.name.now session asked
+
+  abbrev own_effect : Effect State Line Post
+  own_effect = session_does (settings_of caller.setup.now) caller.name.now session asked
+
+  unposted : (code : Code) → own_refusal ≡ Some code → own_effect.posts ≡ []
+  unposted code refused = ap (λ refusal. (unless refusal (state_at old caller.place) (performs (settings_of caller.setup.now) caller.name.now (state_at old caller.place) asked)).posts) refused
+
+  stays : (code : Code) → own_refusal ≡ Some code → new ≡ old → session_at new caller.place ≡ its_end
+  stays code refused same = ap (λ tables. session_at tables caller.place) same ∙ sym (refused_after (settings_of caller.setup.now) caller.name.now session asked code refused)
+
+  obeys_refused : (failing : Bool) (code : Code) (posts : List Post) → own_refusal ≡ Some code → new ≡ old → OthersHear caller.name.now caller.place posts old new failing → Obeys caller asked old new failing (Err (Refused code))
+  obeys_refused failing code posts refused same others = record {
+    returns = refused;
+    posts = [];
+    done = (stays code refused same, sym (unposted code refused));
+    refused = same;
+    fails = tt;
+    others = by failing refl;
+  }
+    where
+      by : (flag : Bool) → failing ≡ flag → OthersHear caller.name.now caller.place [] old new failing
+      by true some = let it = others.one some in absurd (true≢false (sym it.4 ∙ ap (λ tables. failed_at tables it.0) same ∙ it.3))
+      by false none = subst (OthersHear caller.name.now caller.place [] old new) (sym none) (others_changed caller.name.now old new caller.place (changes_same old new caller.place same))
 
   -- a session that has failed refuses
-  pub obeys_failed : failed_at old caller.place ≡ true → new ≡ old → Obeys caller asked old new (Err (Refused SessionFailed))
-  obeys_failed was same =
+  pub obeys_failed : (failing : Bool) → failing ≡ false → failed_at old caller.place ≡ true → new ≡ old → Obeys caller asked old new failing (Err (Refused SessionFailed))
+  obeys_failed failing quiet was same =
       let refused : own_refusal ≡ Some SessionFailed = ap (λ b. if b then Some SessionFailed else refusal (settings_of caller.setup.now) caller.name.now (state_at old caller.place) asked) was in
-      record { returns = refused; done = stays SessionFailed refused same; fails = tt }
+      obeys_refused failing SessionFailed [] refused same (subst (OthersHear caller.name.now caller.place [] old new) (sym quiet) (others_changed caller.name.now old new caller.place (changes_same old new caller.place same)))
 
-  module _ (fine : failed_at old caller.place ≡ false) where
+  module _ (fine : failed_at old caller.place ≡ false) (failing : Bool) where
     by_command : own_refusal ≡ refusal (settings_of caller.setup.now) caller.name.now (state_at old caller.place) asked
     by_command = ap (λ b. if b then Some SessionFailed else refusal (settings_of caller.setup.now) caller.name.now (state_at old caller.place) asked) fine
 
     -- another one is told what the command tells
-    pub obeys_found : (result : Result (List Line) Fault) → Performs caller asked old new (λ lines. lines) result → wants_memory result ≡ false → Obeys caller asked old new result
+    pub obeys_found : (result : Result (List Line) Fault) → Performs caller asked old new failing (λ lines. lines) result → wants_memory result ≡ false → Obeys caller asked old new failing result
     obeys_found (Ok lines) performed found =
         let passed : own_refusal ≡ None = by_command ∙ performed.returns.0 in
         let does = ap (λ refusal. unless refusal (state_at old caller.place) (performs (settings_of caller.setup.now) caller.name.now (state_at old caller.place) asked)) passed in
         record {
           returns = (passed, sym performed.returns.1);
-          done = performed.done ∙ with_state_session old caller.place _
-              ∙ ap (λ effect. with_session old caller.place (record { state = effect.state; failed = failed_at old caller.place })) (sym does);
+          posts = performed.posts;
+          done = (performed.done ∙ ap (λ effect. record { state = effect.state; failed = failed_at old caller.place }) (sym does), performed.posted ∙ ap (λ effect. effect.posts) (sym does));
+          refused = tt;
           fails = tt;
+          others = performed.others;
         }
-    obeys_found (Err (Refused code)) performed found =
-        let refused : own_refusal ≡ Some code = by_command ∙ performed.returns in
-        record { returns = refused; done = stays code refused performed.refused; fails = tt }
+    obeys_found (Err (Refused code)) performed found = obeys_refused failing code performed.posts (by_command ∙ performed.returns) performed.refused performed.others
     obeys_found (Err Memory) performed found = absurd (true≢false found)
 
     -- and where memory was wanted it has failed
-    pub obeys_wanting : (result : Result (List Line) Fault) (end : Tables) → Performs caller asked old new (λ lines. lines) result → wants_memory result ≡ true → end ≡ with_session new caller.place gone → Obeys caller asked old end result
-    obeys_wanting (Ok lines) end performed wanted e = absurd (true≢false (sym wanted))
-    obeys_wanting (Err (Refused code)) end performed wanted e = absurd (true≢false (sym wanted))
-    obeys_wanting (Err Memory) end performed wanted e =
-        record { returns = tt; done = tt; fails = (e ∙ with_session_after old new caller.place gone performed.only, fine) }
+    pub obeys_wanting : (result : Result (List Line) Fault) (end : Tables) → IsPlaced old caller.place → Performs caller asked old new failing (λ lines. lines) result → wants_memory result ≡ true → end ≡ with_session new caller.place gone → Obeys caller asked old end failing result
+    obeys_wanting (Ok lines) end placed performed wanted e = absurd (true≢false (sym wanted))
+    obeys_wanting (Err (Refused code)) end placed performed wanted e = absurd (true≢false (sym wanted))
+    obeys_wanting (Err Memory) end placed performed wanted e =
+        let still = placed_shaped old new caller.place performed.others.shape placed in
+        record {
+          returns = tt;
+          posts = performed.posts;
+          done = tt;
+          refused = tt;
+          fails = (ap (λ tables. session_at tables caller.place) e ∙ session_there new caller.place gone still, fine);
+          others = others_then caller.name.now old new end caller.place performed.posts failing performed.others (changes_session new end caller.place gone still e);
+        }
 
   -- so it ends as a command does
-  module _ (names : List (List ℕ)) (refused : Bool) where
-    pub ends_found : (result : Result (List Line) Fault) → Obeys caller asked old new result → wants_memory result ≡ false
-        → Ends (contents caller.setup.now names old refused) (contents caller.setup.now names new refused) caller.place caller.name.now asked (told result)
-    ends_found (Ok lines) obeyed found = Told
-        (ap Some (obeyed.returns.1 ∙ sym (ap (λ refusal. (unless refusal session.state (performs (settings_of caller.setup.now) caller.name.now session.state asked)).lines) obeyed.returns.0)))
-        (ap (λ tables. contents caller.setup.now names tables refused) obeyed.done)
-    ends_found (Err (Refused code)) obeyed found =
-        Told (ap (λ refusal. Some (unless refusal session.state (performs (settings_of caller.setup.now) caller.name.now session.state asked)).lines) (sym obeyed.returns))
-        (ap (λ tables. contents caller.setup.now names tables refused) obeyed.done)
-    ends_found (Err Memory) obeyed found = absurd (true≢false found)
-
-    pub ends_wanting : (result : Result (List Line) Fault) → Obeys caller asked old new result → wants_memory result ≡ true
-        → Ends (contents caller.setup.now names old refused) (contents caller.setup.now names new true) caller.place caller.name.now asked (told result)
-    ends_wanting (Ok lines) obeyed wanted = absurd (true≢false (sym wanted))
-    ends_wanting (Err (Refused code)) obeyed wanted = absurd (true≢false (sym wanted))
-    ends_wanting (Err Memory) obeyed wanted = GaveUp refl (ap (λ tables. contents caller.setup.now names tables true) obeyed.fails.0)
+  module _ (failing : Bool) (names : List (List ℕ)) (was now : Bool) where
+    pub ends : (result : Result (List Line) Fault) → Obeys caller asked old new failing result → Marks was now failing (told result) → Ended (contents caller.setup.now names old was) (contents caller.setup.now names new now) caller.place caller.name.now asked (told result) failing
+    ends (Ok lines) obeyed mark =
+        let passed = ap (λ refusal. unless refusal session.state (performs (settings_of caller.setup.now) caller.name.now session.state asked)) obeyed.returns.0 in
+        record {
+          settings = refl;
+          names = refl;
+          posts = obeyed.posts;
+          others = obeyed.others;
+          mark = mark;
+          own = Told (ap Some (obeyed.returns.1 ∙ sym (ap (λ effect. effect.lines) passed))) obeyed.done.0 obeyed.done.1;
+          stays = λ refused. some_none_of (session_refusal (settings_of caller.setup.now) caller.name.now session asked) obeyed.returns.0 refused;
+        }
+    ends (Err (Refused code)) obeyed mark =
+        record {
+          settings = refl;
+          names = refl;
+          posts = obeyed.posts;
+          others = obeyed.others;
+          mark = mark;
+          own = Told (ap (λ refusal. Some (unless refusal session.state (performs (settings_of caller.setup.now) caller.name.now session.state asked)).lines) (sym obeyed.returns)) obeyed.done.0 obeyed.done.1;
+          stays = λ refused. obeyed.refused;
+        }
+    ends (Err Memory) obeyed mark = record { settings = refl; names = refl; posts = obeyed.posts; others = obeyed.others; mark = mark; own = GaveUp refl obeyed.fails.0; stays = λ refused. tt }
 
 -- an engine whose session at a place did a command
-module _ (caller : Caller) (asked : Asked) (old new : Tables) (result : Result (List Line) Fault) (obeyed : Obeys caller asked old new result)
-    (names : List (List ℕ)) (refused : Bool) (engine : Contents) (whole : IsWhole (contents caller.setup.now names old refused)) (is : contents caller.setup.now names old refused ≡ engine) (given : Some caller.name.now ≡ slice_get names caller.place) where
+module _ (caller : Caller) (asked : Asked) (old new : Tables) (result : Result (List Line) Fault) (failing : Bool) (obeyed : Obeys caller asked old new failing result)
+    (names : List (List ℕ)) (was now : Bool) (mark : Marks was now failing (told result)) (engine : Contents) (whole : IsWhole (contents caller.setup.now names old was)) (is : contents caller.setup.now names old was ≡ engine) (given : Some caller.name.now ≡ slice_get names caller.place) where
   module _ (name : List ℕ) (there : place engine name ≡ Some caller.place) where
     same : name ≡ caller.name.now
-    same = named_at (contents caller.setup.now names old refused) name caller.place caller.name.now (ap (λ engine. place engine name) is ∙ there) given
+    same = named_at (contents caller.setup.now names old was) name caller.place caller.name.now (ap (λ engine. place engine name) is ∙ there) given
 
-    here : place (contents caller.setup.now names old refused) caller.name.now ≡ Some caller.place
-    here = subst (λ name. place (contents caller.setup.now names old refused) name ≡ Some caller.place) same (ap (λ engine. place engine name) is ∙ there)
+    here : place (contents caller.setup.now names old was) caller.name.now ≡ Some caller.place
+    here = subst (λ name. place (contents caller.setup.now names old was) name ≡ Some caller.place) same (ap (λ engine. place engine name) is ∙ there)
 
-    step_with : (end : Contents) → IsStep (seen (contents caller.setup.now names old refused)) (seen end) caller.name.now asked (told result) → IsStep (seen engine) (seen end) name asked (told result)
-    step_with end step = subst (λ (engine : Contents). IsStep (seen engine) (seen end) name asked (told result)) is
-        (subst (λ name. IsStep (seen (contents caller.setup.now names old refused)) (seen end) name asked (told result)) (sym same) step)
+    its_ending : Ended (contents caller.setup.now names old was) (contents caller.setup.now names new now) caller.place caller.name.now asked (told result) failing
+    its_ending = ends caller asked old new failing names was now result obeyed mark
 
-    pub found_whole : wants_memory result ≡ false → IsWhole (contents caller.setup.now names new refused)
-    found_whole found = whole_after _ _ caller.place caller.name.now asked (told result) whole here (ends_found caller asked old new names refused result obeyed found)
+    pub done_whole : IsWhole (contents caller.setup.now names new now)
+    done_whole = whole_after _ _ caller.place caller.name.now asked (told result) failing whole here its_ending
 
-    pub found_step : wants_memory result ≡ false → IsStep (seen engine) (seen (contents caller.setup.now names new refused)) name asked (told result)
-    found_step found = step_with (contents caller.setup.now names new refused) (step_of _ _ caller.place caller.name.now asked (told result) whole here (ends_found caller asked old new names refused result obeyed found))
-
-    pub wanting_whole : wants_memory result ≡ true → IsWhole (contents caller.setup.now names new true)
-    wanting_whole wanted = whole_after _ _ caller.place caller.name.now asked (told result) whole here (ends_wanting caller asked old new names refused result obeyed wanted)
-
-    pub wanting_step : wants_memory result ≡ true → IsStep (seen engine) (seen (contents caller.setup.now names new true)) name asked (told result)
-    wanting_step wanted = step_with (contents caller.setup.now names new true) (step_of _ _ caller.place caller.name.now asked (told result) whole here (ends_wanting caller asked old new names refused result obeyed wanted))
+    pub done_step : IsStep (seen engine) (seen (contents caller.setup.now names new now)) name asked (told result)
+    done_step = subst (λ (engine : Contents). IsStep (seen engine) (seen (contents caller.setup.now names new now)) name asked (told result)) is
+        (subst (λ name. IsStep (seen (contents caller.setup.now names old was)) (seen (contents caller.setup.now names new now)) name asked (told result)) (sym same)
+        (step_of _ _ caller.place caller.name.now asked (told result) failing whole here its_ending))
 
     -- what the call returns, by the name of its session
     ReturnsIn : Contents → List ℕ → Session → Type 0
@@ -213,4 +340,16 @@ module _ (caller : Caller) (asked : Asked) (old new : Tables) (result : Result (
     returns_named =
         subst (ReturnsIn engine name) (sym (sessions-place engine name caller.place there))
         (subst (λ (engine : Contents). ReturnsIn engine name (session_at engine.tables caller.place)) is
-        (subst (λ name. ReturnsIn (contents caller.setup.now names old refused) name (session_at old caller.place)) (sym same) obeyed.returns))
+        (subst (λ name. ReturnsIn (contents caller.setup.now names old was) name (session_at old caller.place)) (sym same) obeyed.returns))
+
+-- the mark that memory was refused, by what was looked at
+pub marks_loud : (was failing : Bool) (result : Result (List Line) Fault) → (wants_memory result ≡ true) ⊎ (failing ≡ true) → Marks was true failing (told result)
+marks_loud was failing (Ok lines) (inl wanted) = absurd (true≢false (sym wanted))
+marks_loud was failing (Err (Refused code)) (inl wanted) = absurd (true≢false (sym wanted))
+marks_loud was failing (Err Memory) (inl wanted) = Loud (inl refl) refl
+marks_loud was failing result (inr some) = Loud (inr some) refl
+
+pub marks_quiet : (was failing : Bool) (result : Result (List Line) Fault) → wants_memory result ≡ false → failing ≡ false → Marks was was failing (told result)
+marks_quiet was failing (Ok lines) found none = Quiet none refl refl
+marks_quiet was failing (Err (Refused code)) found none = Quiet none refl refl
+marks_quiet was failing (Err Memory) found none = absurd (true≢false found)

@@ -6,7 +6,9 @@ use Rattle.std.specs.Option.{option_map_or}
 use Rattle.std.proofs.Math.Path.{fun_ext}
 use Rattle.std.proofs.lemmas.Bool.{cases_Bool, both_ways, cond-true, cond-false}
 use Rattle.std.proofs.lemmas.Grind.{common_steps}
-use Rattle.std.proofs.lemmas.List.{length-set}
+use Rattle.std.proofs.lemmas.Bool.Decides.{nat_tests}
+use Rattle.std.proofs.Math.Seq.{get_or-append_seam}
+use Rattle.std.proofs.lemmas.List.{get_or_append_left, length-append, length-set}
 use Rattle.std.proofs.lemmas.List.Folds.{position_or_len_push}
 use Rattle.std.proofs.lemmas.List.Sums.{prefix_len-le-length}
 use Rattle.std.proofs.lemmas.List.Quantifiers.{position-Some}
@@ -74,7 +76,7 @@ placed engine name at whole there =
     placed_by engine.tables at whole.even (omega (arith, within, whole.paired))
 
 -- two names with one place are one
-one_name : (engine : Contents) (name other : List ℕ) (at : ℕ) → place engine name ≡ Some at → place engine other ≡ Some at → name ≡ other
+pub one_name : (engine : Contents) (name other : List ℕ) (at : ℕ) → place engine name ≡ Some at → place engine other ≡ Some at → name ≡ other
 one_name engine name other at there there' =
     let found = position-Some (bytes_eq name) engine.names at [] there in
     let found' = position-Some (bytes_eq other) engine.names at [] there' in
@@ -95,6 +97,42 @@ kept_by_name engine name whole = subst (IsKept engine.settings.classes engine.me
 -- so all are sound
 pub sound_by_name : (engine : Contents) → IsWhole engine → AreSound (seen engine)
 sound_by_name engine whole = λ name. ((kept_by_name engine name whole).sound, (kept_by_name engine name whole).declared)
+
+-- where a name is, it is the first
+first_at : (p : List ℕ → Bool) (names : List (List ℕ)) (at : ℕ) → position p names ≡ Some at → (position_or_len p names ≡ at) × (at < length names)
+first_at p names at found = by (ltb (position_or_len p names) (length names)) refl found
+  where
+    by : (within : Bool) → ltb (position_or_len p names) (length names) ≡ within → cond within (Some (position_or_len p names)) None ≡ Some at → (position_or_len p names ≡ at) × (at < length names)
+    by true e f = let is : position_or_len p names ≡ at = cc in (is, grind (arith, nat_tests, e, is))
+    by false e f = absurd (cc)
+
+-- a new name that goes last leaves every name at its place
+named_opened : (names : List (List ℕ)) (name : List ℕ) → position (bytes_eq name) names ≡ None → ((at : ℕ) → at < length names → position (bytes_eq (get_or names at [])) names ≡ Some at)
+    → (at : ℕ) → at < length (names ++ name ∷ []) → position (bytes_eq (get_or (names ++ name ∷ []) at [])) (names ++ name ∷ []) ≡ Some at
+named_opened names name absent named at within = by (ltb at (length names)) refl
+  where
+    longer : length (names ++ name ∷ []) ≡ length names + 1
+    longer = length-append names (name ∷ [])
+
+    found_at : (p : List ℕ → Bool) → position_or_len p (names ++ name ∷ []) ≡ at → position p (names ++ name ∷ []) ≡ Some at
+    found_at p is = let less : ltb (position_or_len p (names ++ name ∷ [])) (length (names ++ name ∷ [])) ≡ true = grind (arith, nat_tests, is, within) in cond-true _ _ _ less ∙ ap Some is
+
+    by : (old : Bool) → ltb at (length names) ≡ old → position (bytes_eq (get_or (names ++ name ∷ []) at [])) (names ++ name ∷ []) ≡ Some at
+    by true e =
+        let less : at < length names = grind (arith, nat_tests, e) in
+        let it = get_or names at [] in
+        let was = first_at (bytes_eq it) names at (named at less) in
+        let apart : eqb (position_or_len (bytes_eq it) names) (length names) ≡ false = grind (arith, nat_tests, was.0, less) in
+        ap (λ (it : List ℕ). position (bytes_eq it) (names ++ name ∷ [])) (get_or_append_left names (name ∷ []) [] at less)
+        ∙ found_at (bytes_eq it) (position_or_len_push (bytes_eq it) names name ∙ cond-false (eqb (position_or_len (bytes_eq it) names) (length names)) _ _ apart ∙ was.0)
+    by false e =
+        let last : at ≡ length names = grind (arith, nat_tests, e, longer, within) in
+        let bound = prefix_len-le-length (λ other. not (bytes_eq name other)) names in
+        let end : position_or_len (bytes_eq name) names ≡ length names = grind (arith, absent, bound) in
+        let itself : bytes_eq name name ≡ true = (bytes_eq-Decides name name).1 refl in
+        let is : get_or (names ++ name ∷ []) at [] ≡ name = ap (λ at. get_or (names ++ name ∷ []) at []) last ∙ get_or-append_seam names name [] [] in
+        ap (λ (it : List ℕ). position (bytes_eq it) (names ++ name ∷ [])) is
+        ∙ found_at (bytes_eq name) (position_or_len_push (bytes_eq name) names name ∙ grind (arith, itself, end, last))
 
 module _ (engine : Contents) (whole : IsWhole engine) where
   -- with another session at a place, its name has that session
@@ -118,36 +156,39 @@ module _ (engine : Contents) (whole : IsWhole engine) where
   whole_with name at session there fine = record {
     even = even_with engine.tables at session whole.even;
     paired = whole.paired ∙ sym (length-set engine.tables.failed.places at session.failed);
+    named = whole.named;
     laid = whole.laid;
     kept = session_each (IsKept engine.settings.classes engine.memory_refused) engine.tables at session (placed engine name at whole there) fine whole.kept;
   }
 
   -- and where memory was refused
   pub whole_refused : IsWhole (refused_growth engine)
-  whole_refused = record { even = whole.even; paired = whole.paired; laid = whole.laid; kept = λ at. record { well = λ found. absurd (true≢false found); sound = (whole.kept at).sound; declared = (whole.kept at).declared } }
+  whole_refused = record { even = whole.even; paired = whole.paired; named = whole.named; laid = whole.laid; kept = λ at. record { well = λ found. absurd (true≢false found); sound = (whole.kept at).sound; declared = (whole.kept at).declared } }
 
   -- so it does where a session has failed for it
   pub whole_given_up : (name : List ℕ) (at : ℕ) → place engine name ≡ Some at → IsWhole (given_up engine at)
   whole_given_up name at there = record {
     even = even_with engine.tables at gone whole.even;
     paired = whole.paired ∙ sym (length-set engine.tables.failed.places at true);
+    named = whole.named;
     laid = whole.laid;
     kept = session_each (IsKept engine.settings.classes true) engine.tables at gone (placed engine name at whole there)
         (record { well = λ found. absurd (true≢false found); sound = keeps_sound.at_first; declared = keeps_declared.at_first engine.settings.classes }) whole_refused.kept;
   }
 
   -- a new place changes no session: the new one is fresh, and was so before
-  pub whole_opened : (name : List ℕ) → IsWhole (opened engine name)
-  whole_opened name = record {
+  pub whole_opened : (name : List ℕ) → place engine name ≡ None → IsWhole (opened engine name)
+  whole_opened name absent = record {
     even = even_opened engine.tables whole.even;
     paired = grind (arith, common_steps, whole.paired);
+    named = named_opened engine.names name absent whole.named;
     laid = whole.laid;
     kept = λ at. subst (IsKept engine.settings.classes engine.memory_refused) (sym (session_opened engine.tables at)) (whole.kept at);
   }
 
-  pub sessions-opened : (name other : List ℕ) → sessions (opened engine name) other ≡ sessions engine other
+  pub sessions-opened : (name other : List ℕ) → place engine name ≡ None → sessions (opened engine name) other ≡ sessions engine other
   unfolding first
-  sessions-opened name other =
+  sessions-opened name other absent =
       let old = first engine other in
       let new = first (opened engine name) other in
       let more : new ≡ cond (eqb old (length engine.names)) (length engine.names + cond (bytes_eq other name) 0 1) old = position_or_len_push (bytes_eq other) engine.names name in
@@ -157,7 +198,7 @@ module _ (engine : Contents) (whole : IsWhole engine) where
       (λ inner. ap (session_at engine.tables) (more ∙ cond-false (eqb old (length engine.names)) _ _ inner))
       (cases_Bool (eqb old (length engine.names)))
       in
-      sessions-first (opened engine name) other (whole_opened name) ∙ session_opened engine.tables new ∙ same ∙ sym (sessions-first engine other whole)
+      sessions-first (opened engine name) other (whole_opened name absent) ∙ session_opened engine.tables new ∙ same ∙ sym (sessions-first engine other whole)
 
 -- the engine with other tables
 abbrev pub with_tables : Contents → Tables → Contents
@@ -168,6 +209,7 @@ pub whole_same : (engine : Contents) (ready : Tables) → AreSame engine.tables 
 whole_same engine ready same whole = record {
   even = even_same engine.tables ready same whole.even;
   paired = whole.paired ∙ sym (ap length same.failed);
+  named = whole.named;
   laid = λ class. ap (λ layouts. fields_in layouts class) same.layouts ∙ whole.laid class;
   kept = λ at. subst (IsKept engine.settings.classes engine.memory_refused) (sym (session_same engine.tables ready at same)) (whole.kept at);
 }
@@ -177,14 +219,15 @@ sessions-same engine ready same =
     ap (λ (session : ℕ → Session). λ name. option_map_or session (place engine name) fresh) (fun_ext (λ at. session_same engine.tables ready at same))
 
 -- with no place there is none to speak of
-pub whole_new : (settings : Settings) (names : List (List ℕ)) (layouts : List (List Field)) (tables : Tables) → names ≡ [] → tables.forests.places ≡ [] → tables.stores.table.places ≡ [] → tables.connections.places ≡ [] → tables.queues.places ≡ [] → tables.failed.places ≡ []
+pub whole_new : (settings : Settings) (names : List (List ℕ)) (layouts : List (List Field)) (tables : Tables) → names ≡ [] → tables.forests.places ≡ [] → tables.stores.table.places ≡ [] → tables.connections.places ≡ [] → tables.queues.places ≡ [] → tables.desks.places ≡ [] → tables.failed.places ≡ []
     → tables.stores.layouts ≡ layouts → ((class : ℕ) → fields_in layouts class ≡ fields_of settings.classes class) → IsWhole (record { settings = settings; names = names; tables = tables; memory_refused = false })
-whole_new settings names layouts tables no_names forests stores connections queues failed same laid =
-    let even : AreEven tables = record { forests = ap length forests ∙ sym (ap length failed); stores = ap length stores ∙ sym (ap length failed); connections = ap length connections ∙ sym (ap length failed); queues = ap length queues ∙ sym (ap length failed) } in
+whole_new settings names layouts tables no_names forests stores connections queues desks failed same laid =
+    let even : AreEven tables = record { forests = ap length forests ∙ sym (ap length failed); stores = ap length stores ∙ sym (ap length failed); connections = ap length connections ∙ sym (ap length failed); queues = ap length queues ∙ sym (ap length failed); desks = ap length desks ∙ sym (ap length failed) } in
     let none : length tables.failed.places ≡ 0 = ap length failed in
     record {
       even = even;
       paired = ap length no_names ∙ sym none;
+      named = λ at within. let nothing : length names ≡ 0 = ap length no_names in absurd (omega (arith, nothing, within));
       laid = λ class. ap (λ layouts. fields_in layouts class) same ∙ laid class;
       kept = λ at. subst (IsKept settings.classes false) (sym (session_past tables at even (omega (arith, none)))) (record { well = λ found. refl; sound = keeps_sound.at_first; declared = keeps_declared.at_first settings.classes });
     }

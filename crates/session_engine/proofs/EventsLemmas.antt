@@ -1,5 +1,5 @@
 -- Taking events one after another.
-use Rattle.std.proofs.Common.{◌≡◌, ◌<◌, ◌≤◌, ◌+◌, ◌-◌, ℕ, true, false, List, [], ◌∷◌, Option, Some, None, Ok, drop, length, nat_lt, refl, sym, subst, ap, ◌∙◌, arith}
+use Rattle.std.proofs.Common.{◌≡◌, ◌<◌, ◌≤◌, ◌+◌, ◌-◌, ℕ, true, false, List, [], ◌∷◌, ◌++◌, Option, Some, None, Ok, drop, length, nat_lt, refl, sym, subst, ap, ◌∙◌, arith}
 use Rattle.std.specs.List.{slice_get}
 use Rattle.std.specs.Option.{option_map_or}
 use Rattle.std.proofs.lemmas.Bool.{cond-false}
@@ -33,13 +33,20 @@ use Rattle.session_tables.specs.declared.tables.Tables.{Tables}
 use Rattle.session_tables.specs.Tables.{IsPlaced, state_at, with_state}
 use Rattle.session_tables.proofs.TablesLemmas.{state_with}
 use Rattle.session_effects.specs.declared.caller.Caller.{Caller}
-use Rattle.session_effects.specs.Actions.{Keeps}
 use Rattle.session_effects.specs.Setup.{settings_of}
 use Rattle.session_engine.specs.Commands.{Performs, reply_after}
 use Rattle.nested_calls.specs.declared.telling.Telling.{Telling}
 use Rattle.nested_calls.specs.Telling.{doing_at, fresh_telling, spent}
 use Rattle.nested_calls.proofs.AgendaLemmas.{spent_is}
-use Rattle.session_engine.proofs.CommandsLemmas.{replied_last}
+use Rattle.session_engine.proofs.CommandsLemmas.{at_first_reaches, replied_last}
+use Rattle.nested_calls.specs.Agenda.{Does}
+use Rattle.nested_calls.proofs.DoesLemmas.{SoFar, here, reaches_none}
+use Rattle.session_tables.specs.Reaching.{Reaches}
+use Rattle.session_tables.proofs.ReachingLemmas.{reaches_twice}
+use Rattle.session_effects.proofs.ActionLemmas.{keeps_with}
+use Rattle.std.proofs.lemmas.List.{append-nil}
+use Rattle.thread_model.specs.declared.post.Post.{Post}
+use Rattle.thread_model.specs.Posting.{spin_after}
 
 -- the first of some events
 pub first_is : (events : List Event) (first : Event) → slice_get events 0 ≡ Some first → events ≡ first ∷ drop 1 events
@@ -62,48 +69,58 @@ items_without_first settings state (event.Call call) = by call.callee
 
 -- an event more was taken, with a turn
 abbrev pub with_event_taken : Telling → Telling
-with_event_taken telling = record { lines = telling.lines; turns = telling.turns - 1; spent = telling.spent; taken = telling.taken + 1 }
+with_event_taken telling = record { lines = telling.lines; turns = telling.turns - 1; spent = telling.spent; taken = telling.taken + 1; failing = telling.failing }
 
-module _ (settings : Settings) (place : ℕ) (old middle : Tables) (before : Telling) (placed : IsPlaced old place) (e : middle ≡ with_state old place (without_first (state_at old place))) where
+module _ (settings : Settings) (place : ℕ) (old middle : Tables) (before : Telling) (placed : IsPlaced old place) (e : middle ≡ with_state old place (without_first (state_at old place))) (earlier : List Post) where
   -- the session with the first event taken
-  pub taken_is : first_taken (turn_taken (doing_at place old before)) ≡ doing_at place middle (with_event_taken before)
+  taken_is : first_taken (turn_taken (doing_at place old before earlier)) ≡ doing_at place middle (with_event_taken before) earlier
   unfolding first_taken turn_taken
-  taken_is = ap (λ (state : State). record { state = state; turns = before.turns - 1; spent = before.spent; taken = before.taken + 1; lines = before.lines }) (sym (state_with old middle place (without_first (state_at old place)) placed e))
+  taken_is = ap (λ (state : State). record { state = state; turns = before.turns - 1; spent = before.spent; taken = before.taken + 1; lines = before.lines; posts = earlier }) (sym (state_with old middle place (without_first (state_at old place)) placed e))
 
-  -- what it comes to is done, and then the next one is taken
-  pub spin_goes_on : (first : Event) (new : Tables) (after : Telling) (start : Doing)
-      → slice_get (state_at old place).queue.events 0 ≡ Some first → 0 < before.turns
-      → run settings (event_items settings (state_at middle place) first) (doing_at place middle (with_event_taken before)) ≡ doing_at place new after
-      → run settings (Spin ∷ []) (doing_at place old before) ≡ start
-      → run settings (Spin ∷ []) (doing_at place new after) ≡ start
-  spin_goes_on first new after start is some does begun =
-      let doing = doing_at place old before in
-      let items = event_items settings (state_at old place) first in
-      let same : event_items settings (state_at middle place) first ≡ items = ap (λ state. event_items settings state first) (state_with old middle place (without_first (state_at old place)) placed e) ∙ items_without_first settings (state_at old place) first in
-      ap (run settings (Spin ∷ [])) (sym (ap (run settings items) taken_is ∙ ap (λ items. run settings items (doing_at place middle (with_event_taken before))) (sym same) ∙ does))
-      ∙ sym (in_parts settings items (Spin ∷ []) (first_taken (turn_taken doing)))
+  -- what it comes to is to be done, and then the next one is taken
+  spin_begins : (first : Event) → slice_get (state_at old place).queue.events 0 ≡ Some first → 0 < before.turns
+      → run settings (event_items settings (state_at middle place) first ++ Spin ∷ []) (doing_at place middle (with_event_taken before) earlier) ≡ run settings (Spin ∷ []) (doing_at place old before earlier)
+  spin_begins first is some =
+      let doing = doing_at place old before earlier in
+      let same : event_items settings (state_at middle place) first ≡ event_items settings (state_at old place) first = ap (λ state. event_items settings state first) (state_with old middle place (without_first (state_at old place)) placed e) ∙ items_without_first settings (state_at old place) first in
+      ap (λ items. run settings (items ++ Spin ∷ []) (doing_at place middle (with_event_taken before) earlier)) same
+      ∙ ap (run settings (event_items settings (state_at old place) first ++ Spin ∷ [])) (sym taken_is)
       ∙ sym (by_step settings Spin doing _ (rule.spin_taken settings doing first _ (first_is _ first is) some))
-      ∙ begun
+
+-- so far events were taken, and the next one is taken too
+pub event_taken : (caller : Caller) (start old middle : Tables) (at_first before : Telling) (placed : IsPlaced start caller.place) → IsPlaced old caller.place → SoFar caller (here caller (Spin ∷ []) start at_first) (here caller (Spin ∷ []) old before) start old at_first before
+    → middle ≡ with_state old caller.place (without_first (state_at old caller.place)) → (first : Event) → slice_get (state_at old caller.place).queue.events 0 ≡ Some first → 0 < before.turns
+    → SoFar caller (here caller (Spin ∷ []) start at_first) (here caller (event_items (settings_of caller.setup.now) (state_at middle caller.place) first ++ Spin ∷ []) middle (with_event_taken before)) start middle at_first (with_event_taken before)
+event_taken caller start old middle at_first before placed still so e first is some = record {
+  posts = so.posts;
+  runs = λ earlier. spin_begins (settings_of caller.setup.now) caller.place old middle before still e (earlier ++ so.posts) first is some ∙ so.runs earlier;
+  reaches = subst (λ posts. Reaches caller.name.now caller.place posts start middle at_first.failing before.failing) (append-nil so.posts)
+      (reaches_twice caller.name.now caller.place so.posts [] start old middle at_first.failing before.failing before.failing placed so.reaches (reaches_none caller old middle before.failing before.failing (keeps_with old middle caller.place _ still e) refl));
+}
+
+-- what it comes to is done, and then the next one is taken
+pub spin_goes_on : (settings : Settings) (items : List Item) (doing new done : Doing) → run settings items doing ≡ new → run settings (items ++ Spin ∷ []) doing ≡ done → run settings (Spin ∷ []) new ≡ done
+spin_goes_on settings items doing new done does begun = ap (run settings (Spin ∷ [])) (sym does) ∙ sym (in_parts settings items (Spin ∷ []) doing) ∙ begun
 
 -- with no event left all is done
 pub spin_ends : (settings : Settings) (doing : Doing) (start : Doing) → nat_lt 0 (length doing.state.queue.events) ≡ false → run settings (Spin ∷ []) doing ≡ start → start ≡ doing
 spin_ends settings doing start none begun = sym begun ∙ by_change settings Spin doing doing (rule.spin_empty settings doing (none_waits _ none))
 
 -- an event that finds no turn left is told of, and none is taken any more
-pub spin_spent : (settings : Settings) (place : ℕ) (tables : Tables) (before after : Telling) (start : Doing) → nat_lt 0 (length (state_at tables place).queue.events) ≡ true → before.turns ≡ 0 → after ≡ spent before
-    → run settings (Spin ∷ []) (doing_at place tables before) ≡ start → start ≡ doing_at place tables after
-spin_spent settings place tables before after start some none e begun = by (state_at tables place).queue.events refl
+pub spin_spent : (settings : Settings) (place : ℕ) (tables : Tables) (before after : Telling) (earlier : List Post) → nat_lt 0 (length (state_at tables place).queue.events) ≡ true → before.turns ≡ 0 → after ≡ spent before
+    → run settings (Spin ∷ []) (doing_at place tables before earlier) ≡ doing_at place tables after earlier
+spin_spent settings place tables before after earlier some none e = by (state_at tables place).queue.events refl
   where
-    by : (events : List Event) → (state_at tables place).queue.events ≡ events → start ≡ doing_at place tables after
+    by : (events : List Event) → (state_at tables place).queue.events ≡ events → run settings (Spin ∷ []) (doing_at place tables before earlier) ≡ doing_at place tables after earlier
     by [] is = let no : false ≡ true = ap (λ (events : List Event). nat_lt 0 (length events)) (sym is) ∙ some in absurd (cc)
     by (first ∷ later) is =
-        sym begun ∙ by_change settings Spin (doing_at place tables before) _ (rule.spin_spent settings (doing_at place tables before) first later is none)
-        ∙ spent_is place tables before after e
+        by_change settings Spin (doing_at place tables before earlier) _ (rule.spin_spent settings (doing_at place tables before earlier) first later is none)
+        ∙ spent_is place tables before after earlier e
 
 -- a call that was queued is made
-module _ (settings : Settings) (place : ℕ) (tables : Tables) (telling : Telling) (call : QueuedCall) where
+module _ (settings : Settings) (place : ℕ) (tables : Tables) (telling : Telling) (earlier : List Post) (call : QueuedCall) where
   abbrev its_doing : Doing
-  its_doing = doing_at place tables telling
+  its_doing = doing_at place tables telling earlier
 
   abbrev its_items : List Item
   its_items = call_items settings (state_at tables place) call call.callee
@@ -133,26 +150,27 @@ module _ (settings : Settings) (place : ℕ) (tables : Tables) (telling : Tellin
           ∙ does
 
 -- no turn is given back
-pub turns_left : (settings : Settings) (agenda : List Item) (place : ℕ) (old new : Tables) (before after : Telling) → run settings agenda (doing_at place old before) ≡ doing_at place new after → after.turns ≤ before.turns
-turns_left settings agenda place old new before after does =
-    subst (λ (doing : Doing). doing.turns ≤ before.turns) does (run_shrinks settings agenda (doing_at place old before)).turns
+pub turns_left : (settings : Settings) (agenda : List Item) (place : ℕ) (old new : Tables) (before after : Telling) (earlier posts : List Post) → run settings agenda (doing_at place old before earlier) ≡ doing_at place new after posts → after.turns ≤ before.turns
+turns_left settings agenda place old new before after earlier posts does =
+    subst (λ (doing : Doing). doing.turns ≤ before.turns) does (run_shrinks settings agenda (doing_at place old before earlier)).turns
 
 -- turns and events that were taken do not grow together
-pub few_taken : (settings : Settings) (agenda : List Item) (place : ℕ) (old new : Tables) (before after : Telling) → run settings agenda (doing_at place old before) ≡ doing_at place new after → after.turns + after.taken ≤ before.turns + before.taken
-few_taken settings agenda place old new before after does =
-    subst (λ (doing : Doing). doing.turns + doing.taken ≤ before.turns + before.taken) does (run_shrinks settings agenda (doing_at place old before)).taken
+pub few_taken : (settings : Settings) (agenda : List Item) (place : ℕ) (old new : Tables) (before after : Telling) (earlier posts : List Post) → run settings agenda (doing_at place old before earlier) ≡ doing_at place new after posts → after.turns + after.taken ≤ before.turns + before.taken
+few_taken settings agenda place old new before after earlier posts does =
+    subst (λ (doing : Doing). doing.turns + doing.taken ≤ before.turns + before.taken) does (run_shrinks settings agenda (doing_at place old before earlier)).taken
 
 -- so the command is performed: what came of it is replied last
-pub performs_spun : (caller : Caller) (old new : Tables) (before after : Telling) (spin : Came) → before ≡ fresh_telling caller.setup.now.turns
-    → run (settings_of caller.setup.now) (Spin ∷ []) (doing_at caller.place old before) ≡ doing_at caller.place new after → Keeps caller.place old new → spin ≡ spin_of (doing_at caller.place new after)
-    → Performs caller asked.Spin old new (reply_after after.lines) (Ok (a.Spun spin))
-performs_spun caller old new before after spin fresh does keeps is =
+pub performs_spun : {T E : Type 0} (caller : Caller) (old new : Tables) (before after : Telling) (value : T) (spin : Came) → before ≡ fresh_telling caller.setup.now.turns
+    → Does {E = E} caller (Spin ∷ []) old new before after (Ok value) → spin ≡ spin_after after.taken (state_at new caller.place).queue
+    → Performs caller asked.Spin old new after.failing (reply_after after.lines) (Ok (a.Spun spin))
+performs_spun caller old new before after value spin fresh does is =
     let settings = settings_of caller.setup.now in
     let state = state_at old caller.place in
-    replied_last caller asked.Spin old new after (a.Spun spin) (rule.refusal_spin settings caller.name.now state)
+    let end = doing_at caller.place new after does.posts in
+    replied_last caller asked.Spin old new after (a.Spun spin) does.posts (rule.refusal_spin settings caller.name.now state)
     (rule.performs_spin settings caller.name.now state
     ∙ spun_last settings state
-    ∙ ap (λ (doing : Doing). ended (told (run settings (Spin ∷ []) doing) (line.Reply (a.Spun (spin_of (run settings (Spin ∷ []) doing)))))) (sym (ap (doing_at caller.place old) fresh))
-    ∙ ap (λ (done : Doing). ended (told done (line.Reply (a.Spun (spin_of done))))) does
-    ∙ ap (λ (spin : Came). ended (told (doing_at caller.place new after) (line.Reply (a.Spun spin)))) (sym is))
-    keeps
+    ∙ ap (λ (doing : Doing). ended (told (run settings (Spin ∷ []) doing) (line.Reply (a.Spun (spin_of (run settings (Spin ∷ []) doing)))))) (sym (ap (λ (telling : Telling). doing_at caller.place old telling []) fresh))
+    ∙ ap (λ (done : Doing). ended (told done (line.Reply (a.Spun (spin_of done))))) (does.runs [])
+    ∙ ap (λ (spin : Came). ended (told end (line.Reply (a.Spun spin)))) (sym is))
+    (at_first_reaches caller old new before after does.posts fresh does.reaches)

@@ -1,5 +1,5 @@
 -- The command that calls a slot or sends a signal.
-use Rattle.std.proofs.Common.{◌≡◌, ◌<◌, ◌-◌, ◌==◌, ◌&&◌, ℕ, Bool, true, false, cond, List, [], ◌∷◌, Option, Some, None, Ok, Err, IsSome, slice_get, sym, ap, refl, subst, ◌∙◌, arith}
+use Rattle.std.proofs.Common.{◌≡◌, ◌<◌, ◌-◌, ◌==◌, ◌&&◌, ℕ, Bool, true, false, cond, List, [], ◌∷◌, Option, Some, None, Result, Ok, Err, IsSome, slice_get, sym, ap, refl, subst, ◌∙◌, arith}
 use Rattle.std.proofs.lemmas.Bool.{cond-true, cond-false}
 use Rattle.std.proofs.lemmas.Bool.Decides.{nat_tests}
 use Rattle.std.proofs.lemmas.List.Quantifiers.{position-Some}
@@ -23,7 +23,7 @@ use Rattle.thread_model.specs.Agenda.{call_line, with_turn}
 use Rattle.thread_model.specs.Asked.{Invoke}
 use Rattle.thread_model.specs.Doing.{Doing, begun, told, turn_taken, used_up}
 use Rattle.thread_model.specs.Effects.{does_next, ended}
-use Rattle.thread_model.specs.Items.{Next, Run, puts}
+use Rattle.thread_model.specs.Items.{Emit, Next, Run, puts}
 use Rattle.thread_model.specs.Methods.{Found, is_signal_at, method_at, methods_of}
 use Rattle.thread_model.specs.Run.{run}
 use Rattle.thread_model.specs.Settings.{Settings}
@@ -41,12 +41,15 @@ use Rattle.session_tables.specs.declared.tables.Tables.{Tables}
 use Rattle.session_tables.specs.Tables.{state_at}
 use Rattle.session_effects.specs.declared.caller.Caller.{Caller}
 use Rattle.nested_calls.specs.declared.telling.Telling.{Telling}
-use Rattle.session_effects.specs.Actions.{Keeps}
-use Rattle.session_engine.specs.Commands.{Performs, reply_after}
+use Rattle.session_engine.specs.Commands.{DoesAtFirst, Performs, reply_after}
 use Rattle.session_effects.specs.Setup.{settings_of}
 use Rattle.nested_calls.specs.Telling.{doing_at, fresh_telling, spent}
 use Rattle.nested_calls.proofs.AgendaLemmas.{spent_is}
-use Rattle.session_engine.proofs.CommandsLemmas.{its_refusal, or_second, replied_last}
+use Rattle.session_engine.proofs.CommandsLemmas.{at_first_reaches, its_refusal, or_second, replied_last}
+use Rattle.nested_calls.specs.Agenda.{DoesNext}
+use Rattle.nested_calls.proofs.DoesLemmas.{OnOk-map}
+use Rattle.session_tables.specs.Reaching.{Reaches}
+use Rattle.thread_model.specs.declared.post.Post.{Post}
 
 -- the signature that a text spells
 pub signature_is : (found : Option Signature) (signature : Signature) → ok_or found BadSignature ≡ Ok signature → found ≡ Some signature
@@ -86,21 +89,21 @@ module _ (caller : Caller) (object index : ℕ) (values : List Value) (tables : 
   is_slot : is_signal_at (methods_of (settings_of caller.setup.now) (state_at tables caller.place) object) index ≡ false
   is_slot = ap (λ (found : Option Method). option_map_or (λ method. method.is_signal) found false) (sym has) ∙ slot
 
-  fresh_doing : begun (settings_of caller.setup.now) (state_at tables caller.place) ≡ doing_at caller.place tables telling
-  fresh_doing = ap (doing_at caller.place tables) (sym fresh)
+  fresh_doing : begun (settings_of caller.setup.now) (state_at tables caller.place) ≡ doing_at caller.place tables telling []
+  fresh_doing = ap (λ (telling : Telling). doing_at caller.place tables telling []) (sym fresh)
 
   -- a slot that finds no turn is not run
-  pub run_spent : (after : Telling) → telling.turns ≡ 0 → after ≡ spent telling → run (settings_of caller.setup.now) next.items next.doing ≡ doing_at caller.place tables after
+  pub run_spent : (after : Telling) → telling.turns ≡ 0 → after ≡ spent telling → run (settings_of caller.setup.now) next.items next.doing ≡ doing_at caller.place tables after []
   run_spent after none e =
       let turns : caller.setup.now.turns ≡ 0 = sym (ap (λ (telling : Telling). telling.turns) fresh) ∙ none in
       ap (λ (next : Next). run (settings_of caller.setup.now) next.items next.doing) (invoked_spent (settings_of caller.setup.now) (state_at tables caller.place) object index values is_slot turns)
       ∙ at_end (settings_of caller.setup.now) (used_up (begun (settings_of caller.setup.now) (state_at tables caller.place)))
-      ∙ ap used_up fresh_doing ∙ spent_is caller.place tables telling after e
+      ∙ ap used_up fresh_doing ∙ spent_is caller.place tables telling after [] e
 
   -- and else it takes one, and is run
   pub run_called : (done : Doing) → 0 < telling.turns
       → run (settings_of caller.setup.now) (acts (acts_of method.body.actions) values object 0 1)
-      (told (doing_at caller.place tables (record { lines = telling.lines; turns = telling.turns - 1; spent = telling.spent; taken = telling.taken })) (call_line method object 0 values)) ≡ done
+      (told (doing_at caller.place tables (record { lines = telling.lines; turns = telling.turns - 1; spent = telling.spent; taken = telling.taken; failing = telling.failing }) []) (call_line method object 0 values)) ≡ done
       → run (settings_of caller.setup.now) next.items next.doing ≡ done
   unfolding turn_taken
   run_called done some does =
@@ -108,9 +111,22 @@ module _ (caller : Caller) (object index : ℕ) (values : List Value) (tables : 
       let turns : 0 < caller.setup.now.turns = omega (arith, same, some) in
       ap (λ (next : Next). run (settings_of caller.setup.now) next.items next.doing) (invoked_slot (settings_of caller.setup.now) (state_at tables caller.place) object index values is_slot turns)
       ∙ ap (λ doing. run (settings_of caller.setup.now) (Run object index 0 values 0 ∷ []) (turn_taken doing)) fresh_doing
-      ∙ by_step (settings_of caller.setup.now) (Run object index 0 values 0) (turn_taken (doing_at caller.place tables telling)) _
-      (rule.run_slot (settings_of caller.setup.now) object index 0 values 0 (turn_taken (doing_at caller.place tables telling)) method (sym has))
+      ∙ by_step (settings_of caller.setup.now) (Run object index 0 values 0) (turn_taken (doing_at caller.place tables telling [])) _
+      (rule.run_slot (settings_of caller.setup.now) object index 0 values 0 (turn_taken (doing_at caller.place tables telling [])) method (sym has))
       ∙ does
+
+-- a signal is sent
+pub run_sent : (caller : Caller) (object index : ℕ) (values : List Value) (tables : Tables) (telling : Telling) → telling ≡ fresh_telling caller.setup.now.turns
+    → (method : Method) → Some method ≡ method_at (settings_of caller.setup.now) (state_at tables caller.place) object index → (done : Doing) → method.is_signal ≡ true
+    → run (settings_of caller.setup.now) (Emit object index values 0 ∷ []) (doing_at caller.place tables telling []) ≡ done
+    → run (settings_of caller.setup.now) (invoked (settings_of caller.setup.now) (state_at tables caller.place) object index values).items (invoked (settings_of caller.setup.now) (state_at tables caller.place) object index values).doing ≡ done
+run_sent caller object index values tables telling fresh method has done signal does =
+    let settings = settings_of caller.setup.now in
+    let state = state_at tables caller.place in
+    let is_signal : is_signal_at (methods_of settings state object) index ≡ true = ap (λ (found : Option Method). option_map_or (λ method. method.is_signal) found false) (sym has) ∙ signal in
+    ap (λ (next : Next). run settings next.items next.doing) (cond-true (is_signal_at (methods_of settings state object) index) (puts (Emit object index values 0 ∷ []) (begun settings state)) (with_turn (begun settings state) (puts (Run object index 0 values 0 ∷ []))) is_signal)
+    ∙ ap (λ (telling : Telling). run settings (Emit object index values 0 ∷ []) (doing_at caller.place tables telling [])) (sym fresh)
+    ∙ does
 
 -- why a method is not invoked, where the object is there and the signature spelled
 module _ (caller : Caller) (object : ℕ) (text : List ℕ) (args : List Data) (mode : ConnectionType) (old new : Tables) (signature : Signature)
@@ -152,24 +168,33 @@ module _ (caller : Caller) (object : ℕ) (text : List ℕ) (args : List Data) (
     refusal_later later = refusal_given ∙ ap (λ (b : Bool). cond (b && true) (post_refusal the_state.queue) None) later
 
 -- what was invoked at once tells its reply last
-pub performs_invoked : (caller : Caller) (object : ℕ) (text : List ℕ) (args : List Data) (mode : ConnectionType) (old new : Tables) (telling : Telling) (index : ℕ) (values : List Value)
+pub performs_invoked : {T E : Type 0} (caller : Caller) (object : ℕ) (text : List ℕ) (args : List Data) (mode : ConnectionType) (old new : Tables) (before after : Telling) (value : T) (index : ℕ) (values : List Value) → before ≡ fresh_telling caller.setup.now.turns
     → is_queued mode ≡ false → its_refusal caller (Invoke object text args mode) old new ≡ None
     → asked_method (settings_of caller.setup.now) (state_at old caller.place) object text ≡ Some index
     → asked_values (settings_of caller.setup.now) (state_at old caller.place) object index args ≡ Ok values
-    → run (settings_of caller.setup.now) (invoked (settings_of caller.setup.now) (state_at old caller.place) object index values).items (invoked (settings_of caller.setup.now) (state_at old caller.place) object index values).doing ≡ doing_at caller.place new telling
-    → Keeps caller.place old new
-    → Performs caller (Invoke object text args mode) old new (reply_after telling.lines) (Ok (a.Truth true))
-performs_invoked caller object text args mode old new telling index values at_once passed found given does keeps =
+    → DoesAtFirst {E = E} caller (invoked (settings_of caller.setup.now) (state_at old caller.place) object index values) old new before after (Ok value)
+    → Performs caller (Invoke object text args mode) old new after.failing (reply_after after.lines) (Ok (a.Truth true))
+performs_invoked caller object text args mode old new before after value index values fresh at_once passed found given does =
     let settings = settings_of caller.setup.now in
     let state = state_at old caller.place in
-    replied_last caller (Invoke object text args mode) old new telling (a.Truth true) passed
+    replied_last caller (Invoke object text args mode) old new after (a.Truth true) does.posts passed
     (performs_invoke settings caller.name.now state object text args mode
     ∙ ap (invokes settings state object args mode) found
     ∙ cond-false (is_queued mode) _ _ at_once
     ∙ ap (λ (given : Found (List Value)). does_next settings (invoked settings state object index (result_unwrap_or given [])) (a.Truth true)) given
     ∙ replies_last settings (invoked settings state object index values) (a.Truth true)
-    ∙ ap (λ done. ended (told done (line.Reply (a.Truth true)))) does)
-    keeps
+    ∙ ap (λ done. ended (told done (line.Reply (a.Truth true)))) does.runs)
+    (at_first_reaches caller old new before after does.posts fresh does.reaches)
+
+-- what a command begins with is done by nested calls
+pub at_first : {T E : Type 0} (caller : Caller) (next : List Post → Next) (begins : Next) (old new : Tables) (before between after : Telling) (result : Result T E) → between.failing ≡ before.failing
+    → ((done : Doing) → run (settings_of caller.setup.now) (next []).items (next []).doing ≡ done → run (settings_of caller.setup.now) begins.items begins.doing ≡ done)
+    → DoesNext caller next old new between after result → DoesAtFirst caller begins old new before after result
+at_first caller next begins old new before between after result same by does = record {
+  posts = does.posts;
+  runs = OnOk-map result (λ h. by _ (h [])) does.runs;
+  reaches = subst (λ flag. Reaches caller.name.now caller.place does.posts old new flag after.failing) same does.reaches;
+}
 
 -- what is invoked later is posted, and replied at once
 pub posts_invoked : (caller : Caller) (object : ℕ) (text : List ℕ) (args : List Data) (mode : ConnectionType) (state : State) (index : ℕ) (values : List Value)

@@ -1,5 +1,5 @@
 -- What JSON is written to a property.
-use Rattle.std.proofs.Common.{◌≡◌, ℕ, Bool, true, false, List, Option, Some, None, Result, Ok, Err, IsErrAnd, is_some, refl, sym, ap, ◌∙◌}
+use Rattle.std.proofs.Common.{◌≡◌, ℕ, Bool, true, false, List, [], Option, Some, None, Result, Ok, Err, IsErrAnd, is_some, refl, sym, ap, ◌∙◌}
 use Rattle.std.specs.Prelude.{option_map}
 use Rattle.std.specs.Option.{option_map_or}
 use Rattle.std.specs.Result.{result_err}
@@ -31,7 +31,7 @@ use Rattle.thread_model.proofs.PropertyLemmas.{refusal_set, set_written}
 use Rattle.thread_model.proofs.ThreadLemmas.{replies_last}
 use Rattle.session_tables.specs.declared.tables.Tables.{Tables}
 use Rattle.session_tables.specs.Refused.{OnRefused}
-use Rattle.session_tables.specs.Tables.{ChangesOnly, state_at}
+use Rattle.session_tables.specs.Tables.{ChangesOnly, IsPlaced, state_at}
 use Rattle.session_effects.specs.Actions.{Keeps}
 use Rattle.session_effects.specs.declared.caller.Caller.{Caller}
 use Rattle.session_effects.specs.declared.writing.Notice.{Notice}
@@ -40,7 +40,15 @@ use Rattle.session_effects.specs.Writing.{TriesToWrite, Writes, items_of}
 use Rattle.nested_calls.specs.declared.telling.Telling.{Telling}
 use Rattle.session_engine.specs.Commands.{Performs, reply_after}
 use Rattle.nested_calls.specs.Telling.{doing_at, fresh_telling}
-use Rattle.session_engine.proofs.CommandsLemmas.{its_refusal, or_second, replied_last, starved, stopped}
+use Rattle.session_engine.proofs.CommandsLemmas.{at_first_reaches, its_refusal, or_second, replied_last, starved, stopped}
+use Rattle.nested_calls.specs.Agenda.{Does}
+use Rattle.nested_calls.proofs.DoesLemmas.{does_none, reaches_none}
+use Rattle.session_effects.proofs.ActionLemmas.{keeps_same}
+use Rattle.thread_model.proofs.RunLemmas.{at_end}
+use Rattle.std.specs.declared.alloc.AllocError.{AllocError}
+use Rattle.session_tables.specs.Reaching.{Reaches}
+use Rattle.session_tables.proofs.ReachingLemmas.{reaches_twice}
+use Rattle.thread_model.specs.declared.post.Post.{Post}
 
 pub is_null : (json : Data) → is_some (as_null json) ≡ true → json ≡ d.null
 is_null d.null h = refl
@@ -98,29 +106,37 @@ dynamic_undeclared state object name value writing e = by value e
 
 -- a property's writing that is refused, or for which memory was wanted
 pub written_fault : {T U : Type 0} (caller : Caller) (asked : Asked) (old new : Tables) (lines : T → List Line) (object : ℕ) (wanted : Found Writing) (tell : U → Option Notice) (fault : Fault) (result : Result T Fault) → IsErrAnd result (λ other. other ≡ fault)
-    → its_refusal caller asked old new ≡ result_err wanted → TriesToWrite caller object wanted old tell new (Err fault) → OnRefused {T = U} (Err fault) (new ≡ old) → ChangesOnly caller.place old new → Performs caller asked old new lines result
+    → its_refusal caller asked old new ≡ result_err wanted → TriesToWrite caller object wanted old tell new (Err fault) → OnRefused {T = U} (Err fault) (new ≡ old) → ChangesOnly caller.place old new → Performs caller asked old new false lines result
 written_fault caller asked old new lines object wanted tell (Refused code) result h is why same only = stopped caller asked old new lines code result h (is ∙ ap result_err why) same
 written_fault caller asked old new lines object wanted tell Memory result h is why same only = starved caller asked old new lines result h only
 
+-- what was written has not posted anything
+pub written_reaches : (caller : Caller) (old middle new : Tables) (before after : Bool) (posts : List Post) → IsPlaced old caller.place → Keeps caller.place old middle → Reaches caller.name.now caller.place posts middle new before after → Reaches caller.name.now caller.place posts old new before after
+written_reaches caller old middle new before after posts placed keeps reaches = reaches_twice caller.name.now caller.place [] posts old middle new before before after placed (reaches_none caller old middle before before keeps refl) reaches
+
 -- what is written is told of, and then replied
-pub performs_written : (caller : Caller) (object : ℕ) (property : List ℕ) (json : Data) (old middle new : Tables) (before after : Telling) (writing : Writing) (replied : Bool) (tell : Option Notice)
+pub performs_written : {T E : Type 0} (caller : Caller) (object : ℕ) (property : List ℕ) (json : Data) (old middle new : Tables) (before after : Telling) (value : T) (writing : Writing) (replied : Bool) (tell : Option Notice)
     → is_declared writing ≡ replied
     → None ≡ absence (state_at old caller.place) object → before ≡ fresh_telling caller.setup.now.turns
     → asked_writing (state_at old caller.place) object property json ≡ Ok writing
     → Writes caller object writing old tell middle
-    → run (settings_of caller.setup.now) (items_of (settings_of caller.setup.now) (state_at middle caller.place) 0 tell) (doing_at caller.place middle before) ≡ doing_at caller.place new after
-    → Keeps caller.place old new
-    → Performs caller (Set object property json) old new (reply_after after.lines) (Ok (a.Truth replied))
-performs_written caller object property json old middle new before after writing replied tell is there fresh asked writes does keeps =
+    → IsPlaced old caller.place → Keeps caller.place old middle
+    → Does {E = E} caller (items_of (settings_of caller.setup.now) (state_at middle caller.place) 0 tell) middle new before after (Ok value)
+    → Performs caller (Set object property json) old new after.failing (reply_after after.lines) (Ok (a.Truth replied))
+performs_written caller object property json old middle new before after value writing replied tell is there fresh asked writes placed keeps does =
     let settings = settings_of caller.setup.now in
     let state = state_at old caller.place in
     let answer = a.Truth replied in
-    replied_last caller (Set object property json) old new after answer
+    replied_last caller (Set object property json) old new after answer does.posts
     (refusal_set settings caller.name.now state object property json ∙ or_second _ _ there ∙ ap result_err asked)
     (set_written settings caller.name.now state object property json writing asked
     ∙ ap (λ truth. does_next settings (written settings (begun settings state) object 0 writing) (a.Truth truth)) is
     ∙ ap (λ (next : Next). does_next settings next answer) (writes 0 (begun settings state))
     ∙ replies_last settings _ answer
-    ∙ ap (λ (telling : Telling). ended (told (run settings (items_of settings (state_at middle caller.place) 0 tell) (doing_at caller.place middle telling)) (line.Reply answer))) (sym fresh)
-    ∙ ap (λ doing. ended (told doing (line.Reply answer))) does)
-    keeps
+    ∙ ap (λ (telling : Telling). ended (told (run settings (items_of settings (state_at middle caller.place) 0 tell) (doing_at caller.place middle telling [])) (line.Reply answer))) (sym fresh)
+    ∙ ap (λ doing. ended (told doing (line.Reply answer))) (does.runs []))
+    (at_first_reaches caller old new before after does.posts fresh (written_reaches caller old middle new before.failing after.failing does.posts placed keeps does.reaches))
+
+-- what is not told of comes to nothing
+pub tells_none : (caller : Caller) (tables : Tables) (telling : Telling) → Does {T = Unit {0}} {E = AllocError} caller [] tables tables telling telling (Ok tt)
+tells_none caller tables telling = does_none caller _ tables telling tables telling (Ok tt) (keeps_same tables tables caller.place refl) refl (λ earlier. at_end (settings_of caller.setup.now) (doing_at caller.place tables telling earlier))

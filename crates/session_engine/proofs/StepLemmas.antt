@@ -1,13 +1,17 @@
 -- What a command of one session makes of an engine, by names.
-use Rattle.std.proofs.Common.{◌≡◌, inl, ℕ, Bool, true, false, List, [], ◌∷◌, Option, Some, None, Result, Ok, Err, IfOk, OnOk, OnErr, IfSome, IsSome, OnSome, IsFalse, refl, sym, ap, subst, ◌∙◌, ⊎_elim}
+use Rattle.std.proofs.Common.{◌≡◌, ◌<◌, ◌≤◌, ◌⊎◌, inl, inr, ℕ, Bool, true, false, true≢false, cond, eqb, ltb, List, [], ◌∷◌, length, position, get_or, Option, Some, None, is_some, Result, Ok, Err, IfOk, OnOk, OnErr, IfSome, IsSome, OnSome, IsFalse, IsTrue, refl, sym, ap, subst, ◌∙◌, ⊎_elim, arith}
 use Rattle.std.specs.Prelude.{bytes_eq, if◌then◌else◌}
 use Rattle.std.specs.Result.{result_ok}
 use Rattle.std.specs.declared.alloc.AllocError.{AllocError}
 use Rattle.std.proofs.Math.Path.{fun_ext}
-use Rattle.std.proofs.lemmas.Bool.{cases_Bool, both_ways}
+use Rattle.std.specs.Option.{option_map_or}
+use Rattle.std.proofs.lemmas.Bool.{cases_Bool, both_ways, cond-false}
+use Rattle.std.proofs.lemmas.Bool.Decides.{nat_tests}
+use Rattle.class_table.specs.declared.class.Class.{Class}
+use Rattle.property_store.specs.Store.{fields_in}
 use Rattle.std.proofs.lemmas.Slice.Eq.{bytes_eq-Decides}
-use Rattle.isolation.specs.World.{after}
-use Rattle.isolation.proofs.Worlds.{after-own, strangers}
+use Rattle.isolation.specs.World.{after, all_arrive}
+use Rattle.isolation.proofs.Worlds.{after-other, after-own}
 use Rattle.refusals.specs.declared.code.Code.{Code}
 use Rattle.refusals.specs.declared.code.Code.TheVariants.{SessionFailed}
 use Rattle.thread_model.specs.declared.line.Line.{Line}
@@ -16,16 +20,21 @@ use Rattle.thread_model.specs.Asked.{Asked}
 use Rattle.thread_model.specs.Effects.{unless}
 use Rattle.thread_model.specs.Machine.{machine}
 use Rattle.thread_model.specs.Refusing.{refusal}
-use Rattle.thread_model.specs.State.{IsDeclared, IsSound}
-use Rattle.thread_model.specs.Thread.{Settings, does, joins_name, performs}
+use Rattle.thread_model.specs.declared.post.Post.{Post}
+use Rattle.thread_model.specs.State.{IsDeclared, IsSound, State, empty, fields_of}
+use Rattle.thread_model.specs.Thread.{Settings, arrive_all, arrives, does, performs}
 use Rattle.thread_model.proofs.DeclaredLemmas.{keeps_declared}
 use Rattle.thread_model.proofs.Lawful.{lawful}
 use Rattle.thread_model.proofs.LawLemmas.{keeps_sound}
-use Rattle.session_tables.specs.Session.{Session, gone}
-use Rattle.session_tables.specs.Tables.{session_at}
-use Rattle.session_engine.specs.Core.{Contents, IsWhole, given_up, place, seen, sessions, states, with_session_at}
-use Rattle.session_engine.specs.Sessions.{Fails, IsStep, Sessions, given_by, session_after, session_does, session_refusal}
-use Rattle.session_engine.proofs.EngineLemmas.{kept_by_name, sessions-others, sessions-own, sessions-place, sound_by_name, whole_given_up, whole_with}
+use Rattle.thread_model.proofs.ArrivingLemmas.{arrive_all-is, arrive_all-stranger}
+use Rattle.session_tables.specs.Session.{Session, fresh, gone}
+use Rattle.session_tables.specs.Reaching.{Hears, heard}
+use Rattle.session_tables.specs.Tables.{AreEven, IsPlaced, session_at}
+use Rattle.session_tables.proofs.TablesLemmas.{placed_by, session_past}
+use Rattle.session_engine.specs.Commands.{OthersHear}
+use Rattle.session_engine.specs.Core.{Contents, IsKept, IsWhole, place, seen, sessions, states}
+use Rattle.session_engine.specs.Sessions.{AnotherFails, Fails, IsStep, Sessions, given_by, session_after, session_does, session_refusal}
+use Rattle.session_engine.proofs.EngineLemmas.{kept_by_name, one_name, placed, sessions-place, sound_by_name}
 
 some_if : {T : Type 0} (P : T → Type 0) (value : Option T) (x : T) → value ≡ Some x → P x → IfSome value P
 some_if P value x e h = subst (λ value. IfSome value P) (sym e) h
@@ -73,87 +82,249 @@ module _ (settings : Settings) (name : List ℕ) (session : Session) (asked : As
       by true = declared
       by false = keeps_declared.by_command settings name session.state asked sound declared
 
-module _ (old new : Contents) (at : ℕ) (name : List ℕ) (asked : Asked) (told : Option (List Line)) where
-  -- what became of a command of the session at a place: it was told what the session does with it, or memory was wanted
-  pub data Ends : Type 0 where
-    Told : told ≡ Some (session_does old.settings name (session_at old.tables at) asked).lines → new ≡ with_session_at old at (session_after old.settings name (session_at old.tables at) asked) → Ends
-    GaveUp : told ≡ None → new ≡ given_up old at → Ends
+-- what is refused is no value
+pub some_none_of : {T P : Type 0} (refusal : Option T) → refusal ≡ None → IsSome refusal → P
+some_none_of (Some code) none some = absurd (cc)
+some_none_of None none some = absurd (cc)
 
-  module _ (whole : IsWhole old) (there : place old name ≡ Some at) where
-    own : sessions old name ≡ session_at old.tables at
-    own = sessions-place old name at there
+-- the mark that memory was refused: it stays where none was wanted and no other session has failed, and is set else
+pub data Marks (was now failing : Bool) (told : Option (List Line)) : Type 0 where
+  Quiet : failing ≡ false → is_some told ≡ true → now ≡ was → Marks was now failing told
+  Loud : (told ≡ None) ⊎ (failing ≡ true) → now ≡ true → Marks was now failing told
 
-    pub whole_after : Ends → IsWhole new
-    whole_after (Told lines e) = subst IsWhole (sym e) (whole_with old whole name at _ there
-        (record {
-          well = (whole.kept at).well;
-          sound = sound_after old.settings name (session_at old.tables at) asked (whole.kept at).sound;
-          declared = declared_after old.settings name (session_at old.tables at) asked (whole.kept at).sound (whole.kept at).declared;
-        }))
-    whole_after (GaveUp nothing e) = subst IsWhole (sym e)
-        (whole_given_up old whole name at there)
+-- what became of the session itself: it was told what it does with the command and is left so, with these posts, or memory was wanted
+pub data Own (settings : Settings) (name : List ℕ) (asked : Asked) (told : Option (List Line)) (posts : List Post) (old new : Session) : Type 0 where
+  Told : told ≡ Some (session_does settings name old asked).lines → new ≡ session_after settings name old asked → posts ≡ (session_does settings name old asked).posts → Own settings name asked told posts old new
+  GaveUp : told ≡ None → new ≡ gone → Own settings name asked told posts old new
 
-    others : (other : List ℕ) → bytes_eq other name ≡ false → Ends → sessions new other ≡ sessions old other
-    others other differ (Told lines e) = ap (λ engine. sessions engine other) e ∙ sessions-others old whole name other at _ there differ
-    others other differ (GaveUp nothing e) = ap (λ engine. sessions engine other) e ∙ sessions-others old whole name other at gone there differ
+-- what became of a command of the session at a place
+pub record Ended (old new : Contents) (at : ℕ) (name : List ℕ) (asked : Asked) (told : Option (List Line)) (failing : Bool) : Type 0 where
+  pub settings : new.settings ≡ old.settings
+  pub names : new.names ≡ old.names
+  pub posts : List Post
+  pub others : OthersHear name at posts old.tables new.tables failing
+  pub mark : Marks old.memory_refused new.memory_refused failing told
+  pub own : Own old.settings name asked told posts (session_at old.tables at) (session_at new.tables at)
+  pub stays : IsSome (session_refusal old.settings name (session_at old.tables at) asked) → OnSome told (new.tables ≡ old.tables)
 
-    -- the session of that name is as the command leaves it
-    left : new ≡ with_session_at old at (session_after old.settings name (session_at old.tables at) asked) → sessions new name ≡ session_after old.settings name (sessions old name) asked
-    left e = ap (λ engine. sessions engine name) e ∙ sessions-own old whole name at _ there ∙ ap (λ session. session_after old.settings name session asked) (sym own)
+-- a session that has had no command hears nothing
+heard_fresh : (from : List ℕ) (posts : List Post) → fresh ≡ heard from posts fresh
+heard_fresh from posts = ap (λ state. record { state = state; failed = false }) (sym (arrive_all-stranger empty from posts refl))
 
-    pub gave_up : new ≡ given_up old at → sessions new name ≡ gone
-    gave_up e = ap (λ engine. sessions engine name) e ∙ sessions-own old whole name at gone there
+-- a session that has not failed is in the state that posts leave
+heard_state : (settings : Settings) (from : List ℕ) (posts : List Post) (session : Session) → session.failed ≡ false → (heard from posts session).state ≡ all_arrive (machine settings) session.state from posts
+heard_state settings from posts session fine =
+    ap (λ (session : Session). session.state) (cond-false session.failed session (record { state = arrive_all session.state from posts; failed = false }) fine) ∙ sym (arrive_all-is settings session.state from posts)
 
-    -- by name: this one, or any other
-    each : (P : List ℕ → Type 0) → P name → ((other : List ℕ) → bytes_eq other name ≡ false → P other) → (other : List ℕ) → P other
-    each P here elsewhere other = ⊎_elim
-        (λ same. subst P (sym ((bytes_eq-Decides other name).0 same)) here)
-        (elsewhere other)
-        (cases_Bool (bytes_eq other name))
+-- what a session must be, it is when it has heard posts
+kept_heard : (classes : List Class) (was now : Bool) (from : List ℕ) (posts : List Post) (session : Session) → (IsFalse now → IsFalse was) → IsKept classes was session → IsKept classes now (heard from posts session)
+kept_heard classes was now from posts session less kept = by session.failed refl
+  where
+    arrived : (state : State) (posts : List Post) → IsSound state → IsSound (arrive_all state from posts)
+    arrived state [] sound = sound
+    arrived state (post ∷ posts) sound = arrived (arrives state from post) posts (keeps_sound.by_post state from post sound)
 
-    pub step_of : Ends → IsStep (seen old) (seen new) name asked told
-    unfolding joins_name
-    step_of (Told lines e) =
-        let flag : new.memory_refused ≡ old.memory_refused = ap (λ engine. engine.memory_refused) e in
-        let settings = old.settings in
-        let fine = λ (found : IsFalse new.memory_refused). (kept_by_name old name whole).well (sym flag ∙ found) in
-        let ends : Ends = Told lines e in
-        record {
-          lines = λ found. lines ∙ ap (λ session. Some (session_does settings name session asked).lines) (sym own) ∙ ap (λ effect. Some effect.lines) (does_fine settings name (sessions old name) asked (fine found));
-          states = λ found. fun_ext (each (λ other. states new other ≡ after (machine settings) (states old) (given_by name asked) other)
-              (ap (λ session. session.state) (left e) ∙ ap (λ effect. effect.state) (does_fine settings name (sessions old name) asked (fine found))
-              ∙ sym (after-own (machine settings) (lawful settings) (states old) (given_by name asked) name ((bytes_eq-Decides name name).1 refl)))
-              (λ other elsewhere. ap (λ session. session.state) (others other elsewhere ends) ∙ sym (strangers (machine settings) (lawful settings) (states old) (given_by name asked) other elsewhere refl)));
-          tells = some_if _ told _ lines (ap (λ session. (session_does settings name session asked).lines) (sym own));
-          leaves = on_some told (left e);
-          refused = λ refused. on_some told (fun_ext (each (λ other. sessions new other ≡ sessions old other)
-              (left e ∙ (let code = some_is _ refused in refused_after settings name (sessions old name) asked code.0 code.1))
-              (λ other elsewhere. others other elsewhere ends)));
-          others = λ other elsewhere. others other elsewhere ends;
-          settings = ap (λ engine. engine.settings) e;
-          kept = λ was. flag ∙ was;
-          memory = λ none. absurd (some_none _ (sym lines ∙ none));
-          blame = λ was now. absurd (both_ways _ was (sym flag ∙ now));
-          well = λ found other. (kept_by_name old other whole).well found;
-          sound = sound_by_name new (whole_after ends);
-        }
-    step_of (GaveUp nothing e) =
-        let flag : new.memory_refused ≡ true = ap (λ engine. engine.memory_refused) e in
-        let ends : Ends = GaveUp nothing e in
-        record {
-          lines = λ found. absurd (both_ways _ found flag);
-          states = λ found. absurd (both_ways _ found flag);
-          tells = none_if _ told nothing;
-          leaves = on_none _ told nothing;
-          refused = λ refused. on_none _ told nothing;
-          others = λ other elsewhere. others other elsewhere ends;
-          settings = ap (λ engine. engine.settings) e;
-          kept = λ was. flag;
-          memory = λ none. flag;
-          blame = λ was now. inl nothing;
-          well = λ found other. (kept_by_name old other whole).well found;
-          sound = sound_by_name new (whole_after ends);
-        }
+    declares : (state : State) (posts : List Post) → IsDeclared classes state → IsDeclared classes (arrive_all state from posts)
+    declares state [] declared = declared
+    declares state (post ∷ posts) declared = declares (arrives state from post) posts (keeps_declared.by_post classes state from post declared)
+
+    by : (failed : Bool) → session.failed ≡ failed → IsKept classes now (cond failed session (record { state = arrive_all session.state from posts; failed = false }))
+    by true e = record { well = λ none. kept.well (less none); sound = kept.sound; declared = kept.declared }
+    by false e = record { well = λ none. refl; sound = arrived session.state posts kept.sound; declared = declares session.state posts kept.declared }
+
+kept_gone : (classes : List Class) → IsKept classes true gone
+kept_gone classes = record { well = λ none. absurd (true≢false none); sound = keeps_sound.at_first; declared = keeps_declared.at_first classes }
+
+module _ (old new : Contents) (at : ℕ) (name : List ℕ) (asked : Asked) (told : Option (List Line)) (failing : Bool) (whole : IsWhole old) (there : place old name ≡ Some at) (ended : Ended old new at name asked told failing) where
+  own : sessions old name ≡ session_at old.tables at
+  own = sessions-place old name at there
+
+  now_own : sessions new name ≡ session_at new.tables at
+  now_own = sessions-place new name at (ap (position (bytes_eq name)) ended.names ∙ there)
+
+  -- by name: this one, or any other
+  each : (P : List ℕ → Type 0) → P name → ((other : List ℕ) → bytes_eq other name ≡ false → P other) → (other : List ℕ) → P other
+  each P here elsewhere other = ⊎_elim
+      (λ same. subst P (sym ((bytes_eq-Decides other name).0 same)) here)
+      (elsewhere other)
+      (cases_Bool (bytes_eq other name))
+
+  -- what holds of every other place holds of every other name
+  by_name : (P : Session → Session → Type 0) → P fresh fresh → ((other : ℕ) → IsFalse (eqb other at) → IsPlaced old.tables other → P (session_at old.tables other) (session_at new.tables other))
+      → (other : List ℕ) → bytes_eq other name ≡ false → P (sessions old other) (sessions new other)
+  by_name P none some other differ = by (place old other) refl
+    where
+      moved : (found : Option ℕ) → place old other ≡ found → sessions new other ≡ option_map_or (session_at new.tables) found fresh
+      moved found e = ap (λ found. option_map_or (session_at new.tables) found fresh) (ap (position (bytes_eq other)) ended.names ∙ e)
+
+      stood : (found : Option ℕ) → place old other ≡ found → sessions old other ≡ option_map_or (session_at old.tables) found fresh
+      stood found e = ap (λ found. option_map_or (session_at old.tables) found fresh) e
+
+      by : (found : Option ℕ) → place old other ≡ found → P (sessions old other) (sessions new other)
+      by None e = subst (λ (session : Session). P session (sessions new other)) (sym (stood None e)) (subst (P fresh) (sym (moved None e)) none)
+      by (Some other') e =
+          let apart : eqb other' at ≡ false = apart_of other' e in
+          subst (λ (session : Session). P session (sessions new other)) (sym (stood (Some other') e)) (subst (P (session_at old.tables other')) (sym (moved (Some other') e)) (some other' apart (placed old other other' whole e)))
+        where
+          apart_of : (other' : ℕ) → place old other ≡ Some other' → eqb other' at ≡ false
+          apart_of other' e = ⊎_elim
+              (λ same. let is : other' ≡ at = grind (arith, same) in absurd (both_ways _ differ ((bytes_eq-Decides other name).1 (sym (one_name old name other at there (e ∙ ap Some is))))))
+              (λ apart. apart)
+              (cases_Bool (eqb other' at))
+
+  hears_other : (other : List ℕ) → bytes_eq other name ≡ false → Hears name ended.posts (sessions old other) (sessions new other)
+  hears_other = by_name (Hears name ended.posts) (inl (heard_fresh name ended.posts)) ended.others.hear
+
+  heard_other : failing ≡ false → (other : List ℕ) → bytes_eq other name ≡ false → sessions new other ≡ heard name ended.posts (sessions old other)
+  heard_other none = by_name (λ old new. new ≡ heard name ended.posts old) (heard_fresh name ended.posts) (ended.others.all none)
+
+  -- the mark falls from what was found
+  less : IsFalse new.memory_refused → IsFalse old.memory_refused
+  less found = by ended.mark
+    where
+      by : Marks old.memory_refused new.memory_refused failing told → IsFalse old.memory_refused
+      by (Quiet none some e) = sym e ∙ found
+      by (Loud either e) = absurd (both_ways _ found e)
+
+  kept_own : IsKept old.settings.classes new.memory_refused (session_at new.tables at)
+  kept_own = by ended.own ended.mark
+    where
+      by : Own old.settings name asked told ended.posts (session_at old.tables at) (session_at new.tables at) → Marks old.memory_refused new.memory_refused failing told → IsKept old.settings.classes new.memory_refused (session_at new.tables at)
+      by (Told lines e posts) mark = subst (IsKept old.settings.classes new.memory_refused) (sym e)
+          (record {
+            well = λ found. (whole.kept at).well (less found);
+            sound = sound_after old.settings name (session_at old.tables at) asked (whole.kept at).sound;
+            declared = declared_after old.settings name (session_at old.tables at) asked (whole.kept at).sound (whole.kept at).declared;
+          })
+      by (GaveUp nothing e) (Quiet none some f) = let no : false ≡ true = ap is_some (sym nothing) ∙ some in absurd (true≢false (sym no))
+      by (GaveUp nothing e) (Loud either f) = subst (λ mark. IsKept old.settings.classes mark (session_at new.tables at)) (sym f) (subst (IsKept old.settings.classes true) (sym e) (kept_gone old.settings.classes))
+
+  kept_other : (other : ℕ) → eqb other at ≡ false → IsPlaced old.tables other → IsKept old.settings.classes new.memory_refused (session_at new.tables other)
+  kept_other other apart placed = by ended.mark
+    where
+      heard_one : IsKept old.settings.classes new.memory_refused (heard name ended.posts (session_at old.tables other))
+      heard_one = kept_heard old.settings.classes old.memory_refused new.memory_refused name ended.posts (session_at old.tables other) less (whole.kept other)
+
+      by : Marks old.memory_refused new.memory_refused failing told → IsKept old.settings.classes new.memory_refused (session_at new.tables other)
+      by (Quiet none some e) = subst (IsKept old.settings.classes new.memory_refused) (sym (ended.others.all none other apart placed)) heard_one
+      by (Loud either e) = either_way (ended.others.hear other apart placed)
+        where
+          either_way : Hears name ended.posts (session_at old.tables other) (session_at new.tables other) → IsKept old.settings.classes new.memory_refused (session_at new.tables other)
+          either_way (inl f) = subst (IsKept old.settings.classes new.memory_refused) (sym f) heard_one
+          either_way (inr f) = subst (λ mark. IsKept old.settings.classes mark (session_at new.tables other)) (sym e) (subst (IsKept old.settings.classes true) (sym f.1) (kept_gone old.settings.classes))
+
+  pub whole_after : IsWhole new
+  whole_after = record {
+    even = even;
+    paired = ap length ended.names ∙ whole.paired ∙ sym ended.others.shape.places;
+    named = subst (λ (names : List (List ℕ)). (at : ℕ) → at < length names → position (bytes_eq (get_or names at [])) names ≡ Some at) (sym ended.names) whole.named;
+    laid = λ class. ap (λ layouts. fields_in layouts class) ended.others.shape.layouts ∙ whole.laid class ∙ ap (λ (settings : Settings). fields_of settings.classes class) (sym ended.settings);
+    kept = λ other. subst (λ (settings : Settings). IsKept settings.classes new.memory_refused (session_at new.tables other)) (sym ended.settings) (kept other);
+  }
+    where
+      even : AreEven new.tables
+      even = ended.others.shape.even whole.even
+
+      kept : (other : ℕ) → IsKept old.settings.classes new.memory_refused (session_at new.tables other)
+      kept other = by (eqb other at) (ltb other (length new.tables.failed.places)) refl refl
+        where
+          by : (same within : Bool) → eqb other at ≡ same → ltb other (length new.tables.failed.places) ≡ within → IsKept old.settings.classes new.memory_refused (session_at new.tables other)
+          by true within e f = let is : at ≡ other = grind (arith, nat_tests, e) in subst (λ other. IsKept old.settings.classes new.memory_refused (session_at new.tables other)) is kept_own
+          by false true e f = let less : other < length old.tables.failed.places = grind (arith, nat_tests, f, ended.others.shape.places) in kept_other other e (placed_by old.tables other whole.even less)
+          by false false e f = let past : length new.tables.failed.places ≤ other = grind (arith, nat_tests, f) in
+              subst (IsKept old.settings.classes new.memory_refused) (sym (session_past new.tables other even past)) (record { well = λ found. refl; sound = keeps_sound.at_first; declared = keeps_declared.at_first old.settings.classes })
+
+  -- where memory was never refused no session had failed
+  fine : IsFalse new.memory_refused → (other : List ℕ) → (sessions old other).failed ≡ false
+  fine found other = (kept_by_name old other whole).well (less found)
+
+  quiet : IsFalse new.memory_refused → failing ≡ false
+  quiet found = by ended.mark
+    where
+      by : Marks old.memory_refused new.memory_refused failing told → failing ≡ false
+      by (Quiet none some e) = none
+      by (Loud either e) = absurd (both_ways _ found e)
+
+  pub step_of : IsStep (seen old) (seen new) name asked told
+  step_of = by ended.own ended.mark
+    where
+      kept_mark : Marks old.memory_refused new.memory_refused failing told → IsTrue old.memory_refused → IsTrue new.memory_refused
+      kept_mark (Quiet none some e) was = e ∙ was
+      kept_mark (Loud either e) was = e
+
+      on_same : (told : Option (List Line)) → OnSome told (new.tables ≡ old.tables) → OnSome told (sessions new ≡ sessions old)
+      on_same None same = tt
+      on_same (Some lines) same = fun_ext (λ other.
+          ap (λ found. option_map_or (session_at new.tables) found fresh) (ap (position (bytes_eq other)) ended.names) ∙ ap (λ tables. option_map_or (session_at tables) (place old other) fresh) same)
+
+      another : failing ≡ true → AnotherFails (seen old) (seen new) name
+      another some =
+          let it = ended.others.one some in
+          let within : it.0 < length old.names = omega (arith, whole.paired, it.2.4) in
+          let other = get_or old.names it.0 [] in
+          let found = whole.named it.0 within in
+          (other, apart_of other it.0 found it.1, ap (λ (session : Session). session.failed) (sessions-place old other it.0 found) ∙ it.3, ap (λ (session : Session). session.failed) (sessions-place new other it.0 (ap (position (bytes_eq other)) ended.names ∙ found)) ∙ it.4)
+        where
+          apart_of : (other : List ℕ) (at' : ℕ) → place old other ≡ Some at' → eqb at' at ≡ false → bytes_eq other name ≡ false
+          apart_of other at' found apart = ⊎_elim
+              (λ same. let two : Some at' ≡ Some at = sym found ∙ ap (place old) ((bytes_eq-Decides other name).0 same) ∙ there in let is : at' ≡ at = cc in absurd (grind (arith, nat_tests, is, apart)))
+              (λ differ. differ)
+              (cases_Bool (bytes_eq other name))
+
+      blames : Marks old.memory_refused new.memory_refused failing told → IsFalse old.memory_refused → IsTrue new.memory_refused → (told ≡ None) ⊎ AnotherFails (seen old) (seen new) name
+      blames (Quiet none some e) was now = absurd (both_ways _ was (sym e ∙ now))
+      blames (Loud (inl nothing) e) was now = inl nothing
+      blames (Loud (inr some) e) was now = inr (another some)
+
+      by : Own old.settings name asked told ended.posts (session_at old.tables at) (session_at new.tables at) → Marks old.memory_refused new.memory_refused failing told → IsStep (seen old) (seen new) name asked told
+      by (Told lines e posts) mark =
+          let left : sessions new name ≡ session_after old.settings name (sessions old name) asked = now_own ∙ e ∙ ap (λ session. session_after old.settings name session asked) (sym own) in
+          let made : ended.posts ≡ (session_does old.settings name (sessions old name) asked).posts = posts ∙ ap (λ session. (session_does old.settings name session asked).posts) (sym own) in
+          record {
+            lines = λ found. lines ∙ ap (λ session. Some (session_does old.settings name session asked).lines) (sym own) ∙ ap (λ effect. Some effect.lines) (does_fine old.settings name (sessions old name) asked (fine found name));
+            states = λ found. fun_ext (each (λ other. states new other ≡ after (machine old.settings) (states old) (given_by name asked) other)
+                (ap (λ session. session.state) left ∙ ap (λ effect. effect.state) (does_fine old.settings name (sessions old name) asked (fine found name))
+                ∙ sym (after-own (machine old.settings) (lawful old.settings) (states old) (given_by name asked) name ((bytes_eq-Decides name name).1 refl)))
+                (λ other elsewhere.
+                ap (λ session. session.state) (heard_other (quiet found) other elsewhere)
+                ∙ heard_state old.settings name ended.posts (sessions old other) (fine found other)
+                ∙ ap (all_arrive (machine old.settings) (states old other) name) (made ∙ ap (λ effect. effect.posts) (does_fine old.settings name (sessions old name) asked (fine found name)))
+                ∙ sym (after-other (machine old.settings) (states old) (given_by name asked) other elsewhere)));
+            tells = some_if _ told _ lines (ap (λ session. (session_does old.settings name session asked).lines) (sym own));
+            leaves = on_some told left;
+            refused = λ refused. on_same told (ended.stays (subst (λ session. IsSome (session_refusal old.settings name session asked)) own refused));
+            posts = ended.posts;
+            posted = on_some told made;
+            others = hears_other;
+            settings = ended.settings;
+            kept = kept_mark mark;
+            memory = λ none. absurd (some_none _ (sym lines ∙ none));
+            blame = λ was now. blames mark was now;
+            well = λ found other. (kept_by_name old other whole).well found;
+            sound = sound_by_name new whole_after;
+          }
+      by (GaveUp nothing e) mark =
+          let flag : new.memory_refused ≡ true = loud mark in
+          record {
+            lines = λ found. absurd (both_ways _ found flag);
+            states = λ found. absurd (both_ways _ found flag);
+            tells = none_if _ told nothing;
+            leaves = on_none _ told nothing;
+            refused = λ refused. on_none _ told nothing;
+            posts = ended.posts;
+            posted = on_none _ told nothing;
+            others = hears_other;
+            settings = ended.settings;
+            kept = kept_mark mark;
+            memory = λ none. flag;
+            blame = λ was now. inl nothing;
+            well = λ found other. (kept_by_name old other whole).well found;
+            sound = sound_by_name new whole_after;
+          }
+        where
+          loud : Marks old.memory_refused new.memory_refused failing told → new.memory_refused ≡ true
+          loud (Quiet none some f) = let no : false ≡ true = ap is_some (sym nothing) ∙ some in absurd (true≢false (sym no))
+          loud (Loud either f) = f
 
 -- what memory was refused for, also while it told a refusal
 pub step_fails : (old middle new : Sessions) (name : List ℕ) (asked : Asked) (told : Option (List Line)) → IsStep old middle name asked told → Fails middle new name → IsStep old new name asked None
@@ -163,7 +334,9 @@ step_fails old middle new name asked told step fails = record {
   tells = tt;
   leaves = tt;
   refused = λ refused. tt;
-  others = λ other elsewhere. fails.others other elsewhere ∙ step.others other elsewhere;
+  posts = step.posts;
+  posted = tt;
+  others = λ other elsewhere. subst (Hears name step.posts (old.session other)) (sym (fails.others other elsewhere)) (step.others other elsewhere);
   settings = fails.settings ∙ step.settings;
   kept = λ was. fails.memory;
   memory = λ none. fails.memory;

@@ -1,5 +1,5 @@
 -- What a command makes of the session at a place.
-use Rattle.std.specs.Prelude.{◌≡◌, List, [], ◌∷◌, ◌++◌, Result, OnOk, IsFalse}
+use Rattle.std.specs.Prelude.{◌≡◌, ℕ, Bool, eqb, List, [], ◌∷◌, ◌++◌, Result, OnOk, IsFalse, IsTrue}
 use Rattle.refusals.specs.Answers.{OnDone, OnMemory}
 use Rattle.refusals.specs.declared.fault.Fault.{Fault}
 use Rattle.thread_model.specs.declared.line.Answer.{Answer}
@@ -11,10 +11,16 @@ use Rattle.thread_model.specs.Thread.{performs}
 use Rattle.session_tables.specs.declared.tables.Tables.{Tables}
 use Rattle.session_tables.specs.Refused.{OnRefused}
 use Rattle.session_tables.specs.Session.{gone}
-use Rattle.session_tables.specs.Tables.{AreLaid, AreStored, ChangesOnly, failed_at, session_at, state_at, with_session, with_state}
+use Rattle.session_tables.specs.Reaching.{AreShaped, Hears, Reaches, heard}
+use Rattle.session_tables.specs.Tables.{AreLaid, AreStored, IsPlaced, failed_at, session_at, state_at}
+use Rattle.thread_model.specs.declared.post.Post.{Post}
 use Rattle.session_effects.specs.declared.caller.Caller.{Caller}
+use Rattle.thread_model.specs.Items.{Next}
+use Rattle.thread_model.specs.Run.{run}
+use Rattle.nested_calls.specs.declared.telling.Telling.{Telling}
+use Rattle.nested_calls.specs.Telling.{doing_at}
 use Rattle.session_engine.specs.Returning.{Returns}
-use Rattle.session_engine.specs.Sessions.{session_after, session_refusal}
+use Rattle.session_engine.specs.Sessions.{session_after, session_does, session_refusal}
 use Rattle.session_effects.specs.Setup.{settings_of}
 
 -- what is told of a reply
@@ -30,21 +36,42 @@ pub record KnowsProperties (caller : Caller) (tables : Tables) : Type 0 where
   pub laid : AreLaid caller.setup.now.classes tables
   pub stored : AreStored (state_at tables caller.place)
 
--- a command of a session that has not failed; `lines` says what is told by what the call returns
-pub record Performs {T : Type 0} (caller : Caller) (asked : Asked) (old new : Tables) (lines : T → List Line) (result : Result T Fault) : Type 0 where
+-- all sessions but the one at a place have heard its posts, and whether one of them has failed by that
+pub record OthersHear (from : List ℕ) (place : ℕ) (posts : List Post) (old new : Tables) (failing : Bool) : Type 0 where
+  pub shape : AreShaped old new
+  pub hear : (at : ℕ) → IsFalse (eqb at place) → IsPlaced old at → Hears from posts (session_at old at) (session_at new at)
+  pub all : IsFalse failing → (at : ℕ) → IsFalse (eqb at place) → IsPlaced old at → session_at new at ≡ heard from posts (session_at old at)
+  pub one : IsTrue failing → (at : ℕ) × IsFalse (eqb at place) × IsPlaced old at × IsFalse (failed_at old at) × IsTrue (failed_at new at)
+
+-- what a command begins with is done, and makes these posts, which all other sessions have heard
+pub record DoesAtFirst {T E : Type 0} (caller : Caller) (next : Next) (old new : Tables) (before after : Telling) (result : Result T E) : Type 0 where
+  pub posts : List Post
+  pub runs : OnOk result (run (settings_of caller.setup.now) next.items next.doing ≡ doing_at caller.place new after posts)
+  pub reaches : Reaches caller.name.now caller.place posts old new before.failing after.failing
+
+-- a command of a session that has not failed; `failing` says whether another session has failed by its posts,
+-- and `lines` what is told by what the call returns
+pub record Performs {T : Type 0} (caller : Caller) (asked : Asked) (old new : Tables) (failing : Bool) (lines : T → List Line) (result : Result T Fault) : Type 0 where
   -- it is refused exactly by its refusal, and else tells its lines, unless memory was wanted
   pub returns : Returns (refusal (settings_of caller.setup.now) caller.name.now (state_at old caller.place) asked)
       (λ value. (performs (settings_of caller.setup.now) caller.name.now (state_at old caller.place) asked).lines ≡ lines value) result
-  -- and has changed the state of its session as it says, and nothing else
-  pub done : OnOk result (new ≡ with_state old caller.place (performs (settings_of caller.setup.now) caller.name.now (state_at old caller.place) asked).state)
+  -- its posts, up to where memory was wanted
+  pub posts : List Post
+  -- it has posted what it says, and changed the state of its session as it says
+  pub posted : OnOk result (posts ≡ (performs (settings_of caller.setup.now) caller.name.now (state_at old caller.place) asked).posts)
+  pub done : OnOk result (session_at new caller.place ≡ record { state = (performs (settings_of caller.setup.now) caller.name.now (state_at old caller.place) asked).state; failed = failed_at old caller.place })
   pub refused : OnRefused result (new ≡ old)
-  -- where memory was wanted, its session may be between before and after
-  pub only : OnMemory result (ChangesOnly caller.place old new)
+  -- and all other sessions have heard the posts
+  pub others : OthersHear caller.name.now caller.place posts old new failing
 
 -- a command of any session
-pub record Obeys (caller : Caller) (asked : Asked) (old new : Tables) (result : Result (List Line) Fault) : Type 0 where
+pub record Obeys (caller : Caller) (asked : Asked) (old new : Tables) (failing : Bool) (result : Result (List Line) Fault) : Type 0 where
   pub returns : Returns (session_refusal (settings_of caller.setup.now) caller.name.now (session_at old caller.place) asked)
       (λ lines. lines ≡ (performs (settings_of caller.setup.now) caller.name.now (state_at old caller.place) asked).lines) result
-  pub done : OnDone result (new ≡ with_session old caller.place (session_after (settings_of caller.setup.now) caller.name.now (session_at old caller.place) asked))
+  pub posts : List Post
+  pub done : OnDone result ((session_at new caller.place ≡ session_after (settings_of caller.setup.now) caller.name.now (session_at old caller.place) asked)
+      × (posts ≡ (session_does (settings_of caller.setup.now) caller.name.now (session_at old caller.place) asked).posts))
+  pub refused : OnRefused result (new ≡ old)
   -- where memory was wanted, its session has failed, and had not before
-  pub fails : OnMemory result ((new ≡ with_session old caller.place gone) × IsFalse (failed_at old caller.place))
+  pub fails : OnMemory result ((session_at new caller.place ≡ gone) × IsFalse (failed_at old caller.place))
+  pub others : OthersHear caller.name.now caller.place posts old new failing

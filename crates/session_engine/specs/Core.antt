@@ -1,5 +1,5 @@
 -- What contracts see of the core of an engine.
-use Rattle.std.specs.Prelude.{◌≡◌, ℕ, Bool, true, List, ◌∷◌, ◌++◌, [], Option, Some, IsFalse, bytes_eq, length, position}
+use Rattle.std.specs.Prelude.{◌≡◌, ℕ, Bool, true, List, ◌∷◌, ◌++◌, [], Option, Some, IsFalse, bytes_eq, length, position, ◌<◌, slice_index_or as get_or}
 use Rattle.std.specs.Option.{option_map_or}
 use Rattle.class_table.specs.declared.class.Class.{Class}
 use Rattle.thread_model.specs.State.{IsDeclared, IsSound, State}
@@ -94,5 +94,7 @@ pub record IsKept (classes : List Class) (memory_refused : Bool) (session : Sess
 pub record IsWhole (engine : Contents) : Type 0 where
   pub even : AreEven engine.tables
   pub paired : length engine.names ≡ length engine.tables.failed.places
+  -- no two places have one name
+  pub named : (at : ℕ) → at < length engine.names → place engine (get_or engine.names at []) ≡ Some at
   pub laid : AreLaid engine.settings.classes engine.tables
   pub kept : (at : ℕ) → IsKept engine.settings.classes engine.memory_refused (session_at engine.tables at)

@@ -12,6 +12,7 @@ use Rattle.thread_model.specs.Machine.{machine}
 use Rattle.thread_model.specs.Refusing.{refusal}
 use Rattle.thread_model.specs.State.{IsDeclared, IsSound, State}
 use Rattle.thread_model.specs.Thread.{Settings, performs}
+use Rattle.session_tables.specs.Reaching.{Hears}
 use Rattle.session_tables.specs.Session.{Session, gone}
 
 -- what is seen of all sessions
@@ -76,7 +77,11 @@ pub record IsStep (old new : Sessions) (name : List ℕ) (asked : Asked) (told :
   pub leaves : OnSome told (new.session name ≡ session_after old.settings name (old.session name) asked)
   -- a refused command changes nothing
   pub refused : IsSome (session_refusal old.settings name (old.session name) asked) → OnSome told (new.session ≡ old.session)
-  pub others : OthersStay old new name
+  -- what it posts, up to where memory was wanted
+  pub posts : List Post
+  pub posted : OnSome told (posts ≡ (session_does old.settings name (old.session name) asked).posts)
+  -- every other session has heard that, or has failed by it for want of memory
+  pub others : (other : List ℕ) → IsFalse (bytes_eq other name) → Hears name posts (old.session other) (new.session other)
   pub settings : new.settings ≡ old.settings
   -- that memory was refused is remembered, from the first command that wanted it in vain
   pub kept : IsTrue old.memory_refused → IsTrue new.memory_refused

@@ -1,5 +1,5 @@
 //! The commands for classes.
-ghost use Rattle.std.specs.Prelude.{◌≡◌, IfOk, map, option_and_then, string_bytes};
+ghost use Rattle.std.specs.Prelude.{◌≡◌, IfOk, map, option_and_then, string_bytes, false};
 ghost use Rattle.thread_model.specs.Asked.{Meta};
 ghost use Rattle.thread_model.specs.Classes.{class_name};
 ghost use Rattle.session_tables.specs.Tables.{IsPlaced};
@@ -16,7 +16,7 @@ use thread_model::{Answer, Boxed, MetaObject};
 /// What there is in the class of this name.
 pub fn describe(caller: &Caller, tables: &Tables, class: &Text) -> Result<Answer, Fault>
     requires { IsPlaced tables.now caller.now.place }
-    ensures { Performs caller.now (Meta class.now) tables.now tables.now reply_lines result }
+    ensures { Performs caller.now (Meta class.now) tables.now tables.now false reply_lines result }
 {
     let (alloc, classes) = (caller.setup.alloc, &caller.setup.classes);
     let index = caller.setup.class_index(class)?;

@@ -1,41 +1,43 @@
 //! What a command does to the session that gives it.
-ghost use Rattle.std.specs.Prelude.{◌≡◌, ◌∷◌, [], IfOk};
-ghost use Rattle.thread_model.specs.Asked.{asked};
+ghost use Rattle.std.specs.Prelude.{◌≡◌, ◌∷◌, [], IfOk, IsFalse, false};
+ghost use Rattle.thread_model.specs.Asked.{Do, asked};
 ghost use Rattle.session_tables.specs.Tables.{IsPlaced};
-ghost use Rattle.session_engine.specs.Commands.{KnowsProperties, Obeys, Performs, reply_after};
+ghost use Rattle.session_engine.specs.Commands.{KnowsProperties, Obeys, Performs, reply_after, reply_lines};
 ghost use Rattle.nested_calls.specs.Telling.{fresh_telling};
 ghost use Rattle.session_engine.specs.Returning.{wants_memory};
 
 use crate::classes::describe;
 use crate::connections::{connect, connect_functor, disconnect, disconnect_one};
-use crate::events::{block, delete_later, spin, status};
+use crate::events::{spin, status};
 use crate::invocation::invoke;
 use crate::properties::{dynamic_names, get, set};
-use crate::trees::{children, delete_object, find, new_object, set_parent};
+use crate::trees::{children, delete_object, find, new_object};
 use nested_calls::{Actor, Answering, Telling};
 use plain_types::Items;
 use refusals::{Code, Fault};
-use session_effects::Options;
+use session_effects::{Caller, Options, do_deed};
 use session_tables::Tables;
 use std::alloc::{AllocError, Global};
-use thread_model::{Answer, Command, Line};
+use thread_model::{Answer, Command, Deed, Line};
 
 /// Lets a session do a command. Where memory is wanted and not found, it has failed.
 pub fn obey<F: Answering>(
     actor: &Actor<F>,
     tables: &mut Tables,
+    failing: &mut bool,
     command: &Command,
 ) -> Result<Items<Line>, Fault>
     requires placed { IsPlaced tables.old actor.now.caller.place }
     requires known { KnowsProperties actor.now.caller tables.old }
-    ensures { Obeys actor.now.caller (asked command.now) tables.old tables.new result }
+    requires quiet { IsFalse failing.old }
+    ensures { Obeys actor.now.caller (asked command.now) tables.old tables.new failing.new result }
 {
     if tables.failed(actor.caller.place) {
         return Err(Fault::Refused(Code::SessionFailed));
     }
-    let replied = reply(actor, tables, command);
+    let replied = reply(actor, tables, failing, command);
     if wants_memory(&replied) {
-        tables.give_up(actor.caller.place);
+        tables.give_up(actor.caller.setup.alloc, actor.caller.place);
     }
     replied
 }
@@ -44,15 +46,17 @@ pub fn obey<F: Answering>(
 fn reply<F: Answering>(
     actor: &Actor<F>,
     tables: &mut Tables,
+    failing: &mut bool,
     command: &Command,
 ) -> Result<Items<Line>, Fault>
     requires placed { IsPlaced tables.old actor.now.caller.place }
     requires known { KnowsProperties actor.now.caller tables.old }
-    ensures { Performs actor.now.caller (asked command.now) tables.old tables.new (λ lines. lines) result }
+    ensures { Performs actor.now.caller (asked command.now) tables.old tables.new failing.new (λ lines. lines) result }
 {
     let mut telling = Telling::new(actor.caller.setup);
-    let answer = perform(actor, tables, &mut telling, command)?;
-    telling.tell(Line::Reply(answer))?;
+    let answer = perform(actor, tables, &mut telling, command);
+    *failing = telling.failing;
+    telling.tell(Line::Reply(answer?))?;
     Ok(telling.lines)
 }
 
@@ -67,17 +71,11 @@ fn perform<F: Answering>(
     requires placed { IsPlaced tables.old actor.now.caller.place }
     requires known { KnowsProperties actor.now.caller tables.old }
     requires fresh { telling.old ≡ fresh_telling actor.now.caller.setup.now.turns }
-    ensures { Performs actor.now.caller (asked command.now) tables.old tables.new (reply_after telling.new.lines) result }
+    ensures { Performs actor.now.caller (asked command.now) tables.old tables.new telling.new.failing (reply_after telling.new.lines) result }
 {
     match command {
         Command::New { class, parent } => new_object(&actor.caller, tables, class, *parent),
         Command::Delete { object } => delete_object(actor, tables, telling, *object),
-        Command::SetParent { object, parent } => set_parent(
-            &actor.caller,
-            tables,
-            *object,
-            *parent,
-        ),
         Command::Children { object } => children(&actor.caller, tables, *object),
         Command::Find {
             object,
@@ -162,10 +160,17 @@ fn perform<F: Answering>(
             *mode,
         ),
         Command::Spin => spin(actor, tables, telling),
-        Command::DeleteLater { object } => delete_later(&actor.caller, tables, *object),
-        Command::Block { object, on } => block(&actor.caller, tables, *object, *on),
+        Command::Do(deed) => deed_command(&actor.caller, tables, *deed),
         Command::Status => status(&actor.caller, tables),
     }
+}
+
+/// Does a deed.
+fn deed_command(caller: &Caller, tables: &mut Tables, deed: Deed) -> Result<Answer, Fault>
+    requires { IsPlaced tables.old caller.now.place }
+    ensures { Performs caller.now (Do deed) tables.old tables.new false reply_lines result }
+{
+    do_deed(tables, caller.place, deed)
 }
 
 /// A list of one line.

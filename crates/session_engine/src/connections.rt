@@ -1,13 +1,16 @@
 //! The commands for connections.
+ghost use Rattle.std.specs.Prelude.{false};
 ghost use Rattle.thread_model.specs.Asked.{Connect, ConnectFunctor, Disconnect, DisconnectOne};
 ghost use Rattle.session_tables.specs.Tables.{IsPlaced};
 ghost use Rattle.session_engine.specs.Commands.{Performs, reply_lines};
 
 use plain_types::Text;
 use refusals::{Code, Fault};
-use session_effects::{Caller, Options, asked_connection, asked_functor_connection, asked_pattern};
+use session_effects::{
+    Caller, Options, asked_connection, asked_functor_connection, asked_pattern, do_deed,
+};
 use session_tables::Tables;
-use thread_model::Answer;
+use thread_model::{Answer, Deed};
 
 /// Connects a signal to a method, and replies the connection's number.
 pub fn connect(
@@ -20,13 +23,16 @@ pub fn connect(
     options: Options,
 ) -> Result<Answer, Fault>
     requires { IsPlaced tables.old caller.now.place }
-    ensures { Performs caller.now (Connect sender signal.now receiver method.now options.mode options.unique options.single) tables.old tables.new reply_lines result }
+    ensures { Performs caller.now (Connect sender signal.now receiver method.now options.mode options.unique options.single) tables.old tables.new false reply_lines result }
 {
     tables.check_object(caller.place, sender)?;
     tables.check_object(caller.place, receiver)?;
     let new = asked_connection(caller, tables, sender, signal, receiver, method, options)?;
-    let number = tables.connect(caller.place, new, options.unique)?;
-    Ok(Answer::Number(number))
+    let deed = Deed::Connect {
+        new,
+        unique: options.unique,
+    };
+    do_deed(tables, caller.place, deed)
 }
 
 /// Connects a signal to a functor, and replies the connection's number. A functor's connection is never
@@ -41,7 +47,7 @@ pub fn connect_functor(
     options: Options,
 ) -> Result<Answer, Fault>
     requires { IsPlaced tables.old caller.now.place }
-    ensures { Performs caller.now (ConnectFunctor sender signal.now context functor.now options.mode options.unique options.single) tables.old tables.new reply_lines result }
+    ensures { Performs caller.now (ConnectFunctor sender signal.now context functor.now options.mode options.unique options.single) tables.old tables.new false reply_lines result }
 {
     tables.check_object(caller.place, sender)?;
     tables.check_object(caller.place, context)?;
@@ -49,8 +55,7 @@ pub fn connect_functor(
     if options.unique {
         return Err(Fault::Refused(Code::UniqueFunctor));
     }
-    let number = tables.connect(caller.place, new, false)?;
-    Ok(Answer::Number(number))
+    do_deed(tables, caller.place, Deed::Connect { new, unique: false })
 }
 
 /// Breaks the connection of this number, and replies whether it stood.
@@ -60,7 +65,7 @@ pub fn disconnect_one(
     connection: u32,
 ) -> Result<Answer, Fault>
     requires { IsPlaced tables.old caller.now.place }
-    ensures { Performs caller.now (DisconnectOne connection) tables.old tables.new reply_lines result }
+    ensures { Performs caller.now (DisconnectOne connection) tables.old tables.new false reply_lines result }
 {
     Ok(Answer::Truth(tables.disconnect_one(caller.place, connection)))
 }
@@ -75,10 +80,10 @@ pub fn disconnect(
     method: &Option<Text>,
 ) -> Result<Answer, Fault>
     requires { IsPlaced tables.old caller.now.place }
-    ensures { Performs caller.now (Disconnect sender signal.now receiver method.now) tables.old tables.new reply_lines result }
+    ensures { Performs caller.now (Disconnect sender signal.now receiver method.now) tables.old tables.new false reply_lines result }
 {
     tables.check_object(caller.place, sender)?;
     tables.check_named(caller.place, receiver)?;
     let pattern = asked_pattern(caller, tables, sender, signal, receiver, method)?;
-    Ok(Answer::Number(tables.disconnect(caller.place, &pattern)))
+    do_deed(tables, caller.place, Deed::Disconnect { pattern })
 }

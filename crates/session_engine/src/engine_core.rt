@@ -161,8 +161,9 @@ impl Core {
             place: at,
         };
         let actor = Actor::new(caller, answering);
-        let done = obey(&actor, &mut self.tables, command);
-        if wants_memory(&done) {
+        let mut failing = false;
+        let done = obey(&actor, &mut self.tables, &mut failing, command);
+        if wants_memory(&done) || failing {
             self.memory_refused = true;
         }
         done
@@ -209,7 +210,7 @@ impl Core {
         ensures fails { OfSession self.old at (λ name. Fails (seen self.old) (seen self.new) name) }
         ensures places { KeepsPlaces self.old self.new at }
     {
-        self.tables.give_up(at);
+        self.tables.give_up(self.setup.alloc, at);
         self.memory_refused = true;
     }
 

@@ -1,11 +1,10 @@
 //! The commands for events.
-ghost use Rattle.std.specs.Prelude.{◌≡◌, ◌∷◌, [], OnOk};
+ghost use Rattle.std.specs.Prelude.{◌≡◌, ◌∷◌, [], OnOk, false};
 ghost use Rattle.connection_types.specs.declared.callee.Callee.TheVariants.{Functor};
 ghost use Rattle.thread_model.specs.Agenda.{call_items, event_items};
-ghost use Rattle.thread_model.specs.Asked.{Block, DeleteLater, Spin, Status};
+ghost use Rattle.thread_model.specs.Asked.{Spin, Status};
 ghost use Rattle.thread_model.specs.Items as item;
 ghost use Rattle.session_tables.specs.Tables.{IsPlaced, state_at};
-ghost use Rattle.session_effects.specs.Actions.{Keeps};
 ghost use Rattle.session_effects.specs.Setup.{settings_of};
 ghost use Rattle.nested_calls.specs.Agenda.{Does};
 ghost use Rattle.session_engine.specs.Commands.{Performs, reply_after, reply_lines};
@@ -28,7 +27,7 @@ pub fn spin<F: Answering>(
 ) -> Result<Answer, Fault>
     requires placed { IsPlaced tables.old actor.now.caller.place }
     requires fresh { telling.old ≡ fresh_telling actor.now.caller.setup.now.turns }
-    ensures { Performs actor.now.caller Spin tables.old tables.new (reply_after telling.new.lines) result }
+    ensures { Performs actor.now.caller Spin tables.old tables.new telling.new.failing (reply_after telling.new.lines) result }
 {
     take_events(actor, tables, telling)?;
     Ok(Answer::Spun(tables.spun(actor.caller.place, telling.taken)))
@@ -42,8 +41,7 @@ fn take_events<F: Answering>(
 ) -> Result<(), AllocError>
     requires placed { IsPlaced tables.old actor.now.caller.place }
     requires none { telling.old.taken ≡ 0 }
-    ensures does { OnOk result (Does actor.now.caller (item.Spin ∷ []) (doing_at actor.now.caller.place tables.old telling.old) tables.new telling.new) }
-    ensures keeps { Keeps actor.now.caller.place tables.old tables.new }
+    ensures { Does actor.now.caller (item.Spin ∷ []) tables.old tables.new telling.old telling.new result }
 {
     'events: while tables.has_events(actor.caller.place) {
         if telling.turns == 0 {
@@ -67,9 +65,8 @@ fn deliver<F: Answering>(
     event: Event,
 ) -> Result<(), AllocError>
     requires placed { IsPlaced tables.old actor.now.caller.place }
-    ensures does { OnOk result (Does actor.now.caller (event_items (settings_of actor.now.caller.setup.now) (state_at tables.old actor.now.caller.place) event)
-        (doing_at actor.now.caller.place tables.old telling.old) tables.new telling.new) }
-    ensures keeps { Keeps actor.now.caller.place tables.old tables.new }
+    ensures { Does actor.now.caller (event_items (settings_of actor.now.caller.setup.now) (state_at tables.old actor.now.caller.place) event)
+        tables.old tables.new telling.old telling.new result }
 {
     match &event {
         Event::Call(call) => deliver_call(actor, tables, telling, call),
@@ -85,9 +82,8 @@ fn deliver_call<F: Answering>(
     call: &QueuedCall,
 ) -> Result<(), AllocError>
     requires placed { IsPlaced tables.old actor.now.caller.place }
-    ensures does { OnOk result (Does actor.now.caller (call_items (settings_of actor.now.caller.setup.now) (state_at tables.old actor.now.caller.place) call.now call.now.callee)
-        (doing_at actor.now.caller.place tables.old telling.old) tables.new telling.new) }
-    ensures keeps { Keeps actor.now.caller.place tables.old tables.new }
+    ensures { Does actor.now.caller (call_items (settings_of actor.now.caller.setup.now) (state_at tables.old actor.now.caller.place) call.now call.now.callee)
+        tables.old tables.new telling.old telling.new result }
 {
     let index = match call.callee {
         Callee::Method(index) => index,
@@ -127,9 +123,8 @@ fn deliver_to_functor<F: Answering>(
     index: u32,
 ) -> Result<(), AllocError>
     requires placed { IsPlaced tables.old actor.now.caller.place }
-    ensures does { OnOk result (Does actor.now.caller (call_items (settings_of actor.now.caller.setup.now) (state_at tables.old actor.now.caller.place) call.now (Functor index))
-        (doing_at actor.now.caller.place tables.old telling.old) tables.new telling.new) }
-    ensures keeps { Keeps actor.now.caller.place tables.old tables.new }
+    ensures { Does actor.now.caller (call_items (settings_of actor.now.caller.setup.now) (state_at tables.old actor.now.caller.place) call.now (Functor index))
+        tables.old tables.new telling.old telling.new result }
 {
     let Some(functor) = functor_at(&actor.caller, index) else {
         return Ok(());
@@ -144,30 +139,10 @@ fn deliver_to_functor<F: Answering>(
     run_functor(actor, tables, telling, index, functor, &slot)
 }
 
-/// Posts the deletion of an object.
-pub fn delete_later(caller: &Caller, tables: &mut Tables, object: u32) -> Result<Answer, Fault>
-    requires { IsPlaced tables.old caller.now.place }
-    ensures { Performs caller.now (DeleteLater object) tables.old tables.new reply_lines result }
-{
-    tables.check_object(caller.place, object)?;
-    tables.check_room(caller.place)?;
-    tables.post(caller.place, Event::Deletion(object))?;
-    Ok(Answer::Truth(true))
-}
-
-/// Blocks the signals of an object or lets them through, and replies whether they were blocked.
-pub fn block(caller: &Caller, tables: &mut Tables, object: u32, on: bool) -> Result<Answer, Fault>
-    requires { IsPlaced tables.old caller.now.place }
-    ensures { Performs caller.now (Block object on) tables.old tables.new reply_lines result }
-{
-    tables.check_object(caller.place, object)?;
-    Ok(Answer::Truth(tables.set_blocked(caller.place, object, on)))
-}
-
 /// Replies how much there is in the session.
 pub fn status(caller: &Caller, tables: &Tables) -> Result<Answer, Fault>
     requires { IsPlaced tables.now caller.now.place }
-    ensures { Performs caller.now Status tables.now tables.now reply_lines result }
+    ensures { Performs caller.now Status tables.now tables.now false reply_lines result }
 {
     Ok(Answer::Status(tables.status(caller.place)))
 }

@@ -9,11 +9,9 @@ ghost use Rattle.thread_model.specs.State.{with_event};
 ghost use Rattle.thread_model.specs.Asked.{Invoke};
 ghost use Rattle.thread_model.specs.Signals.{invoked, values_of};
 ghost use Rattle.session_tables.specs.Tables.{IsPlaced, state_at, with_state};
-ghost use Rattle.session_effects.specs.Actions.{Keeps};
 ghost use Rattle.session_effects.specs.Methods.{its_methods};
 ghost use Rattle.session_effects.specs.Setup.{settings_of};
-ghost use Rattle.nested_calls.specs.Agenda.{Does};
-ghost use Rattle.session_engine.specs.Commands.{Performs, reply_after};
+ghost use Rattle.session_engine.specs.Commands.{DoesAtFirst, Performs, reply_after};
 ghost use Rattle.session_engine.specs.Invocation.{is_limit};
 ghost use Rattle.nested_calls.specs.Telling.{fresh_telling};
 
@@ -42,7 +40,7 @@ pub fn invoke<F: Answering>(
 ) -> Result<Answer, Fault>
     requires placed { IsPlaced tables.old actor.now.caller.place }
     requires fresh { telling.old ≡ fresh_telling actor.now.caller.setup.now.turns }
-    ensures { Performs actor.now.caller (Invoke object method.now (map view args.now) mode) tables.old tables.new (reply_after telling.new.lines) result }
+    ensures { Performs actor.now.caller (Invoke object method.now (map view args.now) mode) tables.old tables.new telling.new.failing (reply_after telling.new.lines) result }
 {
     tables.check_object(actor.caller.place, object)?;
     let signature = Signature::normalise(actor.caller.setup.alloc, method.as_str())?;
@@ -96,9 +94,8 @@ fn run<F: Answering>(
     requires placed { IsPlaced tables.old actor.now.caller.place }
     requires fresh { telling.old ≡ fresh_telling actor.now.caller.setup.now.turns }
     requires there { IsSome (slice_get (its_methods actor.now.caller tables.old object) index) }
-    ensures does { OnOk result (Does actor.now.caller (invoked (settings_of actor.now.caller.setup.now) (state_at tables.old actor.now.caller.place) object index values.now).items
-        (invoked (settings_of actor.now.caller.setup.now) (state_at tables.old actor.now.caller.place) object index values.now).doing tables.new telling.new) }
-    ensures keeps { Keeps actor.now.caller.place tables.old tables.new }
+    ensures { DoesAtFirst actor.now.caller (invoked (settings_of actor.now.caller.setup.now) (state_at tables.old actor.now.caller.place) object index values.now)
+        tables.old tables.new telling.old telling.new result }
 {
     let Some(method) = method_at(&actor.caller, tables, object, index) else {
         return Ok(());

@@ -1,5 +1,5 @@
 //! The commands for properties.
-ghost use Rattle.std.specs.Prelude.{◌≡◌};
+ghost use Rattle.std.specs.Prelude.{◌≡◌, false};
 ghost use Rattle.serde_json.specs.View.{view};
 ghost use Rattle.thread_model.specs.Asked.{DynamicNames, Get, Set};
 ghost use Rattle.session_tables.specs.Tables.{IsPlaced};
@@ -26,7 +26,7 @@ pub fn set<F: Answering>(
 ) -> Result<Answer, Fault>
     requires placed { IsPlaced tables.old actor.now.caller.place }
     requires fresh { telling.old ≡ fresh_telling actor.now.caller.setup.now.turns }
-    ensures { Performs actor.now.caller (Set object property.now (view value.now)) tables.old tables.new (reply_after telling.new.lines) result }
+    ensures { Performs actor.now.caller (Set object property.now (view value.now)) tables.old tables.new telling.new.failing (reply_after telling.new.lines) result }
 {
     let class = tables.class_there(actor.caller.place, object)?;
     let Some((number, kind)) = tables.declared(actor.caller.place, object, property.as_str()) else {
@@ -46,7 +46,7 @@ pub fn set<F: Answering>(
 /// Reads a property of an object, which is invalid where there is none of this name.
 pub fn get(caller: &Caller, tables: &Tables, object: u32, property: &Text) -> Result<Answer, Fault>
     requires { IsPlaced tables.now caller.now.place }
-    ensures { Performs caller.now (Get object property.now) tables.now tables.now reply_lines result }
+    ensures { Performs caller.now (Get object property.now) tables.now tables.now false reply_lines result }
 {
     tables.check_object(caller.place, object)?;
     let value = tables.property(caller.place, object, property.as_str())?;
@@ -56,7 +56,7 @@ pub fn get(caller: &Caller, tables: &Tables, object: u32, property: &Text) -> Re
 /// The names of an object's dynamic properties, that first set first.
 pub fn dynamic_names(caller: &Caller, tables: &Tables, object: u32) -> Result<Answer, Fault>
     requires { IsPlaced tables.now caller.now.place }
-    ensures { Performs caller.now (DynamicNames object) tables.now tables.now reply_lines result }
+    ensures { Performs caller.now (DynamicNames object) tables.now tables.now false reply_lines result }
 {
     tables.check_object(caller.place, object)?;
     let names = tables.dynamic_names(caller.place, object)?;

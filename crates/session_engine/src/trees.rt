@@ -1,6 +1,6 @@
 //! The commands for objects and their trees.
-ghost use Rattle.std.specs.Prelude.{◌≡◌};
-ghost use Rattle.thread_model.specs.Asked.{Children, Delete, Find, New, SetParent};
+ghost use Rattle.std.specs.Prelude.{◌≡◌, false};
+ghost use Rattle.thread_model.specs.Asked.{Children, Delete, Find, New};
 ghost use Rattle.session_tables.specs.Tables.{IsPlaced};
 ghost use Rattle.session_engine.specs.Commands.{KnowsProperties, Performs, reply_after, reply_lines};
 ghost use Rattle.nested_calls.specs.Telling.{fresh_telling};
@@ -20,7 +20,7 @@ pub fn new_object(
 ) -> Result<Answer, Fault>
     requires placed { IsPlaced tables.old caller.now.place }
     requires known { KnowsProperties caller.now tables.old }
-    ensures { Performs caller.now (New class.now parent) tables.old tables.new reply_lines result }
+    ensures { Performs caller.now (New class.now parent) tables.old tables.new false reply_lines result }
 {
     tables.check_parent(caller.place, parent)?;
     let class = caller.setup.class_index(class)?;
@@ -37,30 +37,17 @@ pub fn delete_object<F: Answering>(
 ) -> Result<Answer, Fault>
     requires placed { IsPlaced tables.old actor.now.caller.place }
     requires fresh { telling.old ≡ fresh_telling actor.now.caller.setup.now.turns }
-    ensures { Performs actor.now.caller (Delete object) tables.old tables.new (reply_after telling.new.lines) result }
+    ensures { Performs actor.now.caller (Delete object) tables.old tables.new telling.new.failing (reply_after telling.new.lines) result }
 {
     tables.check_object(actor.caller.place, object)?;
     delete(actor, tables, telling, object, 0)?;
     Ok(Answer::Truth(true))
 }
 
-pub fn set_parent(
-    caller: &Caller,
-    tables: &mut Tables,
-    object: u32,
-    parent: Option<u32>,
-) -> Result<Answer, Fault>
-    requires { IsPlaced tables.old caller.now.place }
-    ensures { Performs caller.now (SetParent object parent) tables.old tables.new reply_lines result }
-{
-    tables.set_parent(caller.place, object, parent)?;
-    Ok(Answer::Truth(true))
-}
-
 /// The children of an object, or the roots.
 pub fn children(caller: &Caller, tables: &Tables, object: Option<u32>) -> Result<Answer, Fault>
     requires { IsPlaced tables.now caller.now.place }
-    ensures { Performs caller.now (Children object) tables.now tables.now reply_lines result }
+    ensures { Performs caller.now (Children object) tables.now tables.now false reply_lines result }
 {
     tables.check_named(caller.place, object)?;
     let found = tables.children(caller.place, object)?;
@@ -76,7 +63,7 @@ pub fn find(
     class: &Option<Text>,
 ) -> Result<Answer, Fault>
     requires { IsPlaced tables.now caller.now.place }
-    ensures { Performs caller.now (Find object title.now class.now) tables.now tables.now reply_lines result }
+    ensures { Performs caller.now (Find object title.now class.now) tables.now tables.now false reply_lines result }
 {
     tables.check_object(caller.place, object)?;
     let base = caller.setup.named_index(class)?;

@@ -1,3 +1,5 @@
 pub mod TablesLemmas
 pub mod StoredLemmas
 pub mod PropertyLemmas
+pub mod ReachingLemmas
+pub mod PostLemmas

@@ -11,18 +11,19 @@ use Rattle.object_tree.specs.Forest.{Forest, empty_forest}
 use Rattle.property_store.specs.declared.field.Field.{Field}
 use Rattle.property_store.specs.Store.{Store}
 use Rattle.property_store.specs.Table.{Shelves, with_store}
-use Rattle.thread_model.specs.State.{State}
+use Rattle.thread_model.specs.declared.post.Desk.{Desk}
+use Rattle.thread_model.specs.State.{State, no_desk}
 use Rattle.session_tables.specs.declared.tables.Tables.{Tables}
 use Rattle.session_tables.specs.Session.{Session, fresh}
 use Rattle.session_tables.specs.Tables.{AreEven, AreSame, ChangesOnly, IsPlaced, failed_at, opened, session_at, state_at, with_session, with_state}
 
 -- tables of these columns
-abbrev pub of_columns : Table Forest → Shelves → Table Rows → Table Queue → Table Bool → Tables
-of_columns forests stores connections queues failed = record { forests = forests; stores = stores; connections = connections; queues = queues; failed = failed }
+abbrev pub of_columns : Table Forest → Shelves → Table Rows → Table Queue → Table Desk → Table Bool → Tables
+of_columns forests stores connections queues desks failed = record { forests = forests; stores = stores; connections = connections; queues = queues; desks = desks; failed = failed }
 
 -- the session that these make
-abbrev made : Forest → Store → Rows → Queue → Bool → Session
-made forest store connections queue failed = record { state = record { forest = forest; store = store; connections = connections; queue = queue }; failed = failed }
+abbrev made : Forest → Store → Rows → Queue → Desk → Bool → Session
+made forest store connections queue desk failed = record { state = record { forest = forest; store = store; connections = connections; queue = queue; desk = desk }; failed = failed }
 
 -- the stores of these layouts and places
 abbrev pub of_layouts : List (List Field) → Table Store → Shelves
@@ -33,31 +34,33 @@ pub shelved : (old new : Shelves) → new.layouts ≡ old.layouts → new.table 
 shelved old new a b = ap (λ layouts. of_layouts layouts new.table) a ∙ ap (of_layouts old.layouts) b
 
 -- equal columns make equal tables
-pub columns : (old new : Tables) → new.forests ≡ old.forests → new.stores ≡ old.stores → new.connections ≡ old.connections → new.queues ≡ old.queues → new.failed ≡ old.failed → new ≡ old
-columns old new a b c d e =
-    ap (λ forests. of_columns forests new.stores new.connections new.queues new.failed) a
-    ∙ ap (λ stores. of_columns old.forests stores new.connections new.queues new.failed) b
-    ∙ ap (λ connections. of_columns old.forests old.stores connections new.queues new.failed) c
-    ∙ ap (λ queues. of_columns old.forests old.stores old.connections queues new.failed) d
-    ∙ ap (λ failed. of_columns old.forests old.stores old.connections old.queues failed) e
+pub columns : (old new : Tables) → new.forests ≡ old.forests → new.stores ≡ old.stores → new.connections ≡ old.connections → new.queues ≡ old.queues → new.desks ≡ old.desks → new.failed ≡ old.failed → new ≡ old
+columns old new a b c d f e =
+    ap (λ forests. of_columns forests new.stores new.connections new.queues new.desks new.failed) a
+    ∙ ap (λ stores. of_columns old.forests stores new.connections new.queues new.desks new.failed) b
+    ∙ ap (λ connections. of_columns old.forests old.stores connections new.queues new.desks new.failed) c
+    ∙ ap (λ queues. of_columns old.forests old.stores old.connections queues new.desks new.failed) d
+    ∙ ap (λ desks. of_columns old.forests old.stores old.connections old.queues desks new.failed) f
+    ∙ ap (λ failed. of_columns old.forests old.stores old.connections old.queues old.desks failed) e
 
 -- equal parts make equal sessions
-session_of : {a b : Forest} {c d : Store} {e f : Rows} {g h : Queue} {i j : Bool} → a ≡ b → c ≡ d → e ≡ f → g ≡ h → i ≡ j
-    → made a c e g i ≡ made b d f h j
-session_of {a} {b} {c} {d} {e} {f} {g} {h} {i} {j} forest store connections queue failed =
-    ap (λ forest. made forest c e g i) forest ∙ ap (λ store. made b store e g i) store
-    ∙ ap (λ connections. made b d connections g i) connections ∙ ap (λ queue. made b d f queue i) queue
-    ∙ ap (λ failed. made b d f h failed) failed
+pub session_of : {a b : Forest} {c d : Store} {e f : Rows} {g h : Queue} {k l : Desk} {i j : Bool} → a ≡ b → c ≡ d → e ≡ f → g ≡ h → k ≡ l → i ≡ j
+    → made a c e g k i ≡ made b d f h l j
+session_of {a} {b} {c} {d} {e} {f} {g} {h} {k} {l} {i} {j} forest store connections queue desk failed =
+    ap (λ forest. made forest c e g k i) forest ∙ ap (λ store. made b store e g k i) store
+    ∙ ap (λ connections. made b d connections g k i) connections ∙ ap (λ queue. made b d f queue k i) queue
+    ∙ ap (λ desk. made b d f h desk i) desk
+    ∙ ap (λ failed. made b d f h l failed) failed
 
 -- what stands at a place, put there again
 pub with_state_same : (tables : Tables) (place : ℕ) → with_state tables place (state_at tables place) ≡ tables
-with_state_same tables place = columns tables _ (column.with_same empty_forest tables.forests place) (ap (of_layouts tables.stores.layouts) (column.with_same [] tables.stores.table place)) (column.with_same no_rows tables.connections place) (column.with_same empty_queue tables.queues place) refl
+with_state_same tables place = columns tables _ (column.with_same empty_forest tables.forests place) (ap (of_layouts tables.stores.layouts) (column.with_same [] tables.stores.table place)) (column.with_same no_rows tables.connections place) (column.with_same empty_queue tables.queues place) (column.with_same no_desk tables.desks place) refl
 
 pub with_state_there : (tables : Tables) (place : ℕ) (state : State) → IsPlaced tables place → state_at (with_state tables place state) place ≡ state
 with_state_there tables place state placed =
     ap (λ (session : Session). session.state) (session_of {i = false} (column.with_there empty_forest tables.forests place state.forest placed.0)
     (column.with_there [] tables.stores.table place state.store placed.1) (column.with_there no_rows tables.connections place state.connections placed.2)
-    (column.with_there empty_queue tables.queues place state.queue placed.3) refl)
+    (column.with_there empty_queue tables.queues place state.queue placed.3) (column.with_there no_desk tables.desks place state.desk placed.5) refl)
 
 -- so where a state was put, it stands
 pub state_with : (old new : Tables) (place : ℕ) (state : State) → IsPlaced old place → new ≡ with_state old place state → state_at new place ≡ state
@@ -71,6 +74,7 @@ changes_with old new place state placed e = record {
   stores = column.changes_with [] old.stores.table new.stores.table place state.store placed.1 (ap (λ tables. tables.stores.table) e);
   connections = column.changes_with no_rows old.connections new.connections place state.connections placed.2 (ap (λ tables. tables.connections) e);
   queues = column.changes_with empty_queue old.queues new.queues place state.queue placed.3 (ap (λ tables. tables.queues) e);
+  desks = column.changes_with no_desk old.desks new.desks place state.desk placed.5 (ap (λ tables. tables.desks) e);
   failed = column.changes_same false old.failed new.failed place (ap (λ tables. tables.failed) e);
 }
 
@@ -81,6 +85,7 @@ changes_same old new place e = record {
   stores = column.changes_same [] old.stores.table new.stores.table place (ap (λ tables. tables.stores.table) e);
   connections = column.changes_same no_rows old.connections new.connections place (ap (λ tables. tables.connections) e);
   queues = column.changes_same empty_queue old.queues new.queues place (ap (λ tables. tables.queues) e);
+  desks = column.changes_same no_desk old.desks new.desks place (ap (λ tables. tables.desks) e);
   failed = column.changes_same false old.failed new.failed place (ap (λ tables. tables.failed) e);
 }
 
@@ -91,8 +96,20 @@ changes_twice old middle new place first second = record {
   stores = column.changes_twice [] old.stores.table middle.stores.table new.stores.table place first.stores second.stores;
   connections = column.changes_twice no_rows old.connections middle.connections new.connections place first.connections second.connections;
   queues = column.changes_twice empty_queue old.queues middle.queues new.queues place first.queues second.queues;
+  desks = column.changes_twice no_desk old.desks middle.desks new.desks place first.desks second.desks;
   failed = column.changes_twice false old.failed middle.failed new.failed place first.failed second.failed;
 }
+
+-- the tables stay even
+pub even_changed : (old new : Tables) (place : ℕ) → ChangesOnly place old new → AreEven old → AreEven new
+even_changed old new place changes even =
+    let marks = column.changes_length false old.failed new.failed place changes.failed in record {
+      forests = column.changes_length empty_forest old.forests new.forests place changes.forests ∙ even.forests ∙ sym marks;
+      stores = column.changes_length [] old.stores.table new.stores.table place changes.stores ∙ even.stores ∙ sym marks;
+      connections = column.changes_length no_rows old.connections new.connections place changes.connections ∙ even.connections ∙ sym marks;
+      queues = column.changes_length empty_queue old.queues new.queues place changes.queues ∙ even.queues ∙ sym marks;
+      desks = column.changes_length no_desk old.desks new.desks place changes.desks ∙ even.desks ∙ sym marks;
+    }
 
 -- a place stays one
 pub placed_after : (old new : Tables) (place : ℕ) → ChangesOnly place old new → IsPlaced old place → IsPlaced new place
@@ -102,6 +119,8 @@ placed_after old new place changes placed = (
   column.changes_open no_rows old.connections new.connections place changes.connections placed.2,
   column.changes_open empty_queue old.queues new.queues place changes.queues placed.3,
   column.changes_open false old.failed new.failed place changes.failed placed.4,
+  column.changes_open no_desk old.desks new.desks place changes.desks placed.5,
+  even_changed old new place changes placed.6,
 )
 
 -- whatever became of a session before another is put in its place
@@ -112,15 +131,16 @@ with_session_after old middle place session changes = columns (with_session old 
     (column.with_after [] old.stores.table middle.stores.table place session.state.store changes.stores))
     (column.with_after no_rows old.connections middle.connections place session.state.connections changes.connections)
     (column.with_after empty_queue old.queues middle.queues place session.state.queue changes.queues)
+    (column.with_after no_desk old.desks middle.desks place session.state.desk changes.desks)
     (column.with_after false old.failed middle.failed place session.failed changes.failed)
 
 -- a state put where the mark stays
 pub with_state_session : (tables : Tables) (place : ℕ) (state : State) → with_state tables place state ≡ with_session tables place (record { state = state; failed = failed_at tables place })
-with_state_session tables place state = columns _ _ refl refl refl refl (sym (column.with_same false tables.failed place))
+with_state_session tables place state = columns _ _ refl refl refl refl refl (sym (column.with_same false tables.failed place))
 
 -- a change of one session's state alone
 pub changes_state : (old new : Tables) (place : ℕ) → ChangesOnly place old new → new.failed ≡ old.failed → new ≡ with_state old place (state_at new place)
-changes_state old new place changes kept = columns (with_state old place (state_at new place)) new changes.forests (shelved (with_store old.stores place (state_at new place).store) new.stores changes.layouts changes.stores) changes.connections changes.queues kept
+changes_state old new place changes kept = columns (with_state old place (state_at new place)) new changes.forests (shelved (with_store old.stores place (state_at new place).store) new.stores changes.layouts changes.stores) changes.connections changes.queues changes.desks kept
 
 -- past the last place every session is as one that has had no command
 pub session_past : (tables : Tables) (place : ℕ) → AreEven tables → length tables.failed.places ≤ place → session_at tables place ≡ fresh
@@ -129,19 +149,20 @@ session_past tables place even past = session_of
     (get_or_past tables.stores.table.places place [] (omega (arith, even.stores, past)))
     (get_or_past tables.connections.places place no_rows (omega (arith, even.connections, past)))
     (get_or_past tables.queues.places place empty_queue (omega (arith, even.queues, past)))
+    (get_or_past tables.desks.places place no_desk (omega (arith, even.desks, past)))
     (get_or_past tables.failed.places place false past)
 
 -- so opening a place changes no session
 pub session_opened : (tables : Tables) (place : ℕ) → session_at (opened tables) place ≡ session_at tables place
 session_opened tables place = session_of
     (column.default_pushed empty_forest tables.forests.places place) (column.default_pushed [] tables.stores.table.places place) (column.default_pushed no_rows tables.connections.places place)
-    (column.default_pushed empty_queue tables.queues.places place) (column.default_pushed false tables.failed.places place)
+    (column.default_pushed empty_queue tables.queues.places place) (column.default_pushed no_desk tables.desks.places place) (column.default_pushed false tables.failed.places place)
 
 -- nor does room for it
 pub session_same : (old new : Tables) (place : ℕ) → AreSame old new → session_at new place ≡ session_at old place
 session_same old new place same = session_of
     (ap (λ places. get_or places place empty_forest) same.forests) (ap (λ places. get_or places place []) same.stores) (ap (λ places. get_or places place no_rows) same.connections)
-    (ap (λ places. get_or places place empty_queue) same.queues) (ap (λ places. get_or places place false) same.failed)
+    (ap (λ places. get_or places place empty_queue) same.queues) (ap (λ places. get_or places place no_desk) same.desks) (ap (λ places. get_or places place false) same.failed)
 
 -- with another session at a place, it stands there
 pub session_there : (tables : Tables) (place : ℕ) (session : Session) → IsPlaced tables place → session_at (with_session tables place session) place ≡ session
@@ -150,6 +171,7 @@ session_there tables place session placed = session_of
     (column.with_there [] tables.stores.table place session.state.store placed.1)
     (column.with_there no_rows tables.connections place session.state.connections placed.2)
     (column.with_there empty_queue tables.queues place session.state.queue placed.3)
+    (column.with_there no_desk tables.desks place session.state.desk placed.5)
     (column.with_there false tables.failed place session.failed placed.4)
 
 -- and every other place has the session that it had
@@ -159,6 +181,7 @@ session_elsewhere tables place other session differ = session_of
     (get_or-set_other tables.stores.table.places place other session.state.store [] differ)
     (get_or-set_other tables.connections.places place other session.state.connections no_rows differ)
     (get_or-set_other tables.queues.places place other session.state.queue empty_queue differ)
+    (get_or-set_other tables.desks.places place other session.state.desk no_desk differ)
     (get_or-set_other tables.failed.places place other session.failed false differ)
 
 pub even_with : (tables : Tables) (place : ℕ) (session : Session) → AreEven tables → AreEven (with_session tables place session)
@@ -168,10 +191,11 @@ even_with tables place session even =
       stores = length-set tables.stores.table.places place session.state.store ∙ even.stores ∙ sym marks;
       connections = length-set tables.connections.places place session.state.connections ∙ even.connections ∙ sym marks;
       queues = length-set tables.queues.places place session.state.queue ∙ even.queues ∙ sym marks;
+      desks = length-set tables.desks.places place session.state.desk ∙ even.desks ∙ sym marks;
     }
 
 pub even_opened : (tables : Tables) → AreEven tables → AreEven (opened tables)
-even_opened tables even = record { forests = grind (arith, common_steps, even.forests); stores = grind (arith, common_steps, even.stores); connections = grind (arith, common_steps, even.connections); queues = grind (arith, common_steps, even.queues) }
+even_opened tables even = record { forests = grind (arith, common_steps, even.forests); stores = grind (arith, common_steps, even.stores); connections = grind (arith, common_steps, even.connections); queues = grind (arith, common_steps, even.queues); desks = grind (arith, common_steps, even.desks) }
 
 pub even_same : (old new : Tables) → AreSame old new → AreEven old → AreEven new
 even_same old new same even = record {
@@ -179,11 +203,12 @@ even_same old new same even = record {
   stores = ap length same.stores ∙ even.stores ∙ sym (ap length same.failed);
   connections = ap length same.connections ∙ even.connections ∙ sym (ap length same.failed);
   queues = ap length same.queues ∙ even.queues ∙ sym (ap length same.failed);
+  desks = ap length same.desks ∙ even.desks ∙ sym (ap length same.failed);
 }
 
 -- a place of one table is one of all
 pub placed_by : (tables : Tables) (place : ℕ) → AreEven tables → place < length tables.failed.places → IsPlaced tables place
-placed_by tables place even within = (omega (arith, even.forests, within), omega (arith, even.stores, within), omega (arith, even.connections, within), omega (arith, even.queues, within), within)
+placed_by tables place even within = (omega (arith, even.forests, within), omega (arith, even.stores, within), omega (arith, even.connections, within), omega (arith, even.queues, within), within, omega (arith, even.desks, within), even)
 
 -- what holds of every session still does, where it holds of the one that was put
 pub session_each : (P : Session → Type 0) (tables : Tables) (place : ℕ) (session : Session) → IsPlaced tables place → P session → ((at : ℕ) → P (session_at tables at)) → (at : ℕ) → P (session_at (with_session tables place session) at)

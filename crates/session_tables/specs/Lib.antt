@@ -2,3 +2,4 @@ pub mod Classes
 pub mod Session
 pub mod Refused
 pub mod Tables
+pub mod Reaching

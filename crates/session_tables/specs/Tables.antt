@@ -12,25 +12,38 @@ use Rattle.object_tree.specs.Rows.{numbers}
 use Rattle.object_tree.specs.Table.{forest_at, with_forest}
 use Rattle.property_store.specs.Table as shelves
 use Rattle.property_store.specs.Table.{store_at, with_store}
-use Rattle.thread_model.specs.State.{State, fields_of}
+use Rattle.thread_model.specs.declared.post.Desk.{Desk}
+use Rattle.thread_model.specs.State.{State, fields_of, no_desk}
 use Rattle.session_tables.specs.declared.tables.Tables.{Tables}
 use Rattle.session_tables.specs.Session.{Session}
 
--- the place has been opened in each table
+-- the tables have as many places
+pub record AreEven (tables : Tables) : Type 0 where
+  pub forests : length tables.forests.places ≡ length tables.failed.places
+  pub stores : length tables.stores.table.places ≡ length tables.failed.places
+  pub connections : length tables.connections.places ≡ length tables.failed.places
+  pub queues : length tables.queues.places ≡ length tables.failed.places
+  pub desks : length tables.desks.places ≡ length tables.failed.places
+
+-- the place has been opened in each table, and so has any place that one of them has
 abbrev pub IsPlaced : Tables → ℕ → Type 0
-IsPlaced tables place = IsPlace tables.forests place × IsPlace tables.stores.table place × IsPlace tables.connections place × IsPlace tables.queues place × IsPlace tables.failed place
+IsPlaced tables place = IsPlace tables.forests place × IsPlace tables.stores.table place × IsPlace tables.connections place × IsPlace tables.queues place × IsPlace tables.failed place × IsPlace tables.desks place × AreEven tables
 
 -- one more place can be opened in each without memory
 abbrev pub HasRoom : Tables → Type 0
-HasRoom tables = (1 ≤ tables.forests.room) × (1 ≤ tables.stores.table.room) × (1 ≤ tables.connections.room) × (1 ≤ tables.queues.room) × (1 ≤ tables.failed.room)
+HasRoom tables = (1 ≤ tables.forests.room) × (1 ≤ tables.stores.table.room) × (1 ≤ tables.connections.room) × (1 ≤ tables.queues.room) × (1 ≤ tables.desks.room) × (1 ≤ tables.failed.room)
 
 -- with one more place, for a session that has had no command
 abbrev pub opened : Tables → Tables
-opened tables = record { forests = places.opened tables.forests empty_forest; stores = record tables.stores { table = places.opened tables.stores.table [] }; connections = places.opened tables.connections no_rows; queues = places.opened tables.queues empty_queue; failed = places.opened tables.failed false }
+opened tables = record { forests = places.opened tables.forests empty_forest; stores = record tables.stores { table = places.opened tables.stores.table [] }; connections = places.opened tables.connections no_rows; queues = places.opened tables.queues empty_queue; desks = places.opened tables.desks no_desk; failed = places.opened tables.failed false }
+
+-- what the session at a place publishes and joins
+abbrev pub desk_at : Tables → ℕ → Desk
+desk_at tables place = slice_index_or tables.desks.places place no_desk
 
 -- the state of the session at a place
 abbrev pub state_at : Tables → ℕ → State
-state_at tables place = record { forest = forest_at tables.forests place; store = store_at tables.stores place; connections = rows_at tables.connections place; queue = queue_at tables.queues place }
+state_at tables place = record { forest = forest_at tables.forests place; store = store_at tables.stores place; connections = rows_at tables.connections place; queue = queue_at tables.queues place; desk = desk_at tables place }
 
 -- has the session at a place failed
 abbrev pub failed_at : Tables → ℕ → Bool
@@ -42,11 +55,11 @@ session_at tables place = record { state = state_at tables place; failed = faile
 
 -- with another state at a place, and all else as before
 abbrev pub with_state : Tables → ℕ → State → Tables
-with_state tables place state = record { forests = with_forest tables.forests place state.forest; stores = with_store tables.stores place state.store; connections = with_rows tables.connections place state.connections; queues = with_queue tables.queues place state.queue; failed = tables.failed }
+with_state tables place state = record { forests = with_forest tables.forests place state.forest; stores = with_store tables.stores place state.store; connections = with_rows tables.connections place state.connections; queues = with_queue tables.queues place state.queue; desks = with_place tables.desks place state.desk; failed = tables.failed }
 
 -- with another session at a place, and all else as before
 abbrev pub with_session : Tables → ℕ → Session → Tables
-with_session tables place session = record { forests = with_forest tables.forests place session.state.forest; stores = with_store tables.stores place session.state.store; connections = with_rows tables.connections place session.state.connections; queues = with_queue tables.queues place session.state.queue; failed = with_place tables.failed place session.failed }
+with_session tables place session = record { forests = with_forest tables.forests place session.state.forest; stores = with_store tables.stores place session.state.store; connections = with_rows tables.connections place session.state.connections; queues = with_queue tables.queues place session.state.queue; desks = with_place tables.desks place session.state.desk; failed = with_place tables.failed place session.failed }
 
 -- no session but the one at this place has changed
 pub record ChangesOnly (place : ℕ) (old new : Tables) : Type 0 where
@@ -56,6 +69,7 @@ pub record ChangesOnly (place : ℕ) (old new : Tables) : Type 0 where
   pub stores : ChangesAt [] place old.stores.table new.stores.table
   pub connections : ChangesAt no_rows place old.connections new.connections
   pub queues : ChangesAt empty_queue place old.queues new.queues
+  pub desks : ChangesAt no_desk place old.desks new.desks
   pub failed : ChangesAt false place old.failed new.failed
 
 -- each place is as before, and there may be more room
@@ -65,14 +79,8 @@ pub record AreSame (old new : Tables) : Type 0 where
   pub stores : new.stores.table.places ≡ old.stores.table.places
   pub connections : new.connections.places ≡ old.connections.places
   pub queues : new.queues.places ≡ old.queues.places
+  pub desks : new.desks.places ≡ old.desks.places
   pub failed : new.failed.places ≡ old.failed.places
-
--- the tables have as many places
-pub record AreEven (tables : Tables) : Type 0 where
-  pub forests : length tables.forests.places ≡ length tables.failed.places
-  pub stores : length tables.stores.table.places ≡ length tables.failed.places
-  pub connections : length tables.connections.places ≡ length tables.failed.places
-  pub queues : length tables.queues.places ≡ length tables.failed.places
 
 -- the tables know the properties that each class declares
 abbrev pub AreLaid : List Class → Tables → Type 0

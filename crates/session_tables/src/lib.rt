@@ -4,9 +4,11 @@
 #![tactic(auto)]
 
 mod events;
+mod posts;
 mod properties;
 mod signals;
 mod tables;
 mod trees;
 
+pub use posts::Sending;
 pub use tables::Tables;

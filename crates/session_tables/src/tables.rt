@@ -11,6 +11,7 @@ use places::Places;
 use plain_types::Items;
 use property_store::{Field, Stores};
 use std::alloc::{AllocError, Global};
+use thread_model::Desk;
 
 /// What a server keeps of each session.
 pub struct Tables {
@@ -18,6 +19,7 @@ pub struct Tables {
     pub(crate) stores: Stores,
     pub(crate) connections: Connections,
     pub(crate) queues: Queues,
+    pub(crate) desks: Places<Desk>,
     /// Memory was wanted for the session and not found. Its objects, connections and events are gone,
     /// and it refuses every command.
     pub(crate) failed: Places<bool>,
@@ -30,6 +32,7 @@ impl Drop for Tables {
             stores: _,
             connections: _,
             queues: _,
+            desks: _,
             failed: _,
         } = self;
     }
@@ -44,6 +47,7 @@ impl Tables {
         ensures stores { result.stores.table.places ≡ [] }
         ensures connections { result.connections.places ≡ [] }
         ensures queues { result.queues.places ≡ [] }
+        ensures desks { result.desks.places ≡ [] }
         ensures failed { result.failed.places ≡ [] }
     {
         Tables {
@@ -51,6 +55,7 @@ impl Tables {
             stores: Stores::new(alloc, layouts),
             connections: Connections::new(alloc),
             queues: Queues::new(alloc),
+            desks: Places::new(alloc),
             failed: Places::new(alloc),
         }
     }
@@ -64,6 +69,7 @@ impl Tables {
         self.stores.ready()?;
         self.connections.ready()?;
         self.queues.ready()?;
+        self.desks.ready()?;
         self.failed.ready()
     }
 
@@ -77,12 +83,16 @@ impl Tables {
         self.stores.open();
         self.connections.open();
         self.queues.open();
+        self.desks.open(Desk {
+            publications: Items::new(alloc),
+            joins: Items::new(alloc),
+        });
         self.failed.open(false)
     }
 
     /// Takes all that a session holds out; the numbers of its objects and connections are then given
     /// again.
-    pub fn clear(&mut self, place: usize)
+    pub fn clear(&mut self, alloc: Global, place: usize)
         requires { IsPlaced self.old place }
         ensures { self.new ≡ with_state self.old place empty }
     {
@@ -90,14 +100,18 @@ impl Tables {
         self.stores.clear(place);
         self.connections.clear(place);
         self.queues.clear(place);
+        *self.desks.get_mut(place) = Desk {
+            publications: Items::new(alloc),
+            joins: Items::new(alloc),
+        };
     }
 
     /// Lets a session fail.
-    pub fn give_up(&mut self, place: usize)
+    pub fn give_up(&mut self, alloc: Global, place: usize)
         requires { IsPlaced self.old place }
         ensures { self.new ≡ with_session self.old place gone }
     {
-        self.clear(place);
+        self.clear(alloc, place);
         *self.failed.get_mut(place) = true;
     }
 

@@ -1,9 +1,9 @@
 -- The rules by which an action of a slot's body is done: one for each way that it goes.
-use Rattle.std.proofs.Common.{◌≡◌, ℕ, Bool, true, false, cond, List, [], ◌∷◌, Option, Some, None, Ok, Err, refl, sym, ap, ◌∙◌}
-use Rattle.std.specs.Option.{option_or}
+use Rattle.std.proofs.Common.{◌≡◌, ℕ, Bool, true, false, cond, List, [], ◌∷◌, Option, Some, None, Ok, Err, sym, ap, ◌∙◌}
+use Rattle.std.specs.Option.{option_map_or, option_or}
 use Rattle.std.specs.Result.{result_err}
 use Rattle.refusals.specs.declared.code.Code.{Code}
-use Rattle.refusals.specs.declared.code.Code.TheVariants.{Limit, NoSuchObject}
+use Rattle.refusals.specs.declared.code.Code.TheVariants.{NoSuchObject}
 use Rattle.signature_core.specs.declared.signature.Signature.{Signature}
 use Rattle.variant_value.specs.declared.value.Value.{Value}
 use Rattle.term_core.specs.declared.action.Effect.{Effect}
@@ -11,22 +11,15 @@ use Rattle.term_core.specs.declared.action.Effect.TheVariants as e
 use Rattle.term_core.specs.declared.target.Target.{Target}
 use Rattle.term_core.specs.Act.{Acts, effect, when}
 use Rattle.term_core.specs.Term.{Term}
-use Rattle.connection_types.specs.declared.connection_type.ConnectionType.{ConnectionType}
-use Rattle.connection_list.specs.declared.connection.NewConnection.{NewConnection}
-use Rattle.connection_list.specs.declared.pattern.Pattern.{Pattern}
-use Rattle.connection_list.specs.Rows.{connect_refusal}
-use Rattle.event_queue.specs.declared.event.Event.TheVariants.{Deletion}
-use Rattle.event_queue.specs.Queue.{has_room}
-use Rattle.object_tree.specs.Refusing.{object_refusal, set_parent_refusal}
+use Rattle.thread_model.specs.declared.deed.Deed.{Deed}
+use Rattle.object_tree.specs.Refusing.{object_refusal}
 use Rattle.object_tree.specs.Rows.{is_there}
-use Rattle.thread_model.specs.Absence.{named_absence}
-use Rattle.thread_model.specs.Acts.{act_refusal, acted, acts, chosen, connection, emission, pattern, warns_or, with_found, writing}
+use Rattle.thread_model.specs.Acts.{act_deed, act_refusal, acted, acts, chosen, emission, warns_or, with_found, writing}
 use Rattle.thread_model.specs.Agenda.{step}
-use Rattle.thread_model.specs.Connecting.{connection_refusal}
-use Rattle.thread_model.specs.Doing.{Doing, adopted, blocking, linked, posted, unlinked}
+use Rattle.thread_model.specs.Deeds.{deed_done, deed_refusal, found_refusal}
+use Rattle.thread_model.specs.Doing.{Doing}
 use Rattle.thread_model.specs.Items.{Act, Delete, Emit, Next, Warn, puts}
 use Rattle.thread_model.specs.Methods.{Found}
-use Rattle.thread_model.specs.Posting.{post_refusal}
 use Rattle.thread_model.specs.Settings.{Settings}
 use Rattle.thread_model.specs.Targets.{named_object_of, object_of, truth_evaluated}
 use Rattle.thread_model.specs.Writing.{Writing, written}
@@ -108,87 +101,6 @@ module _ (settings : Settings) (self sender : ℕ) (args : List Value) (depth : 
     unfolding emit_next
     emit_done index values there found = by_sender true there ∙ ap (emit_next target true) found
 
-  -- connecting
-  module _ (of : Target) (signal : Signature) (to : Target) (method : Signature) (mode : ConnectionType) (unique single : Bool) where
-    abbrev connect : Effect
-    connect = e.Connect of signal to method mode unique single
-
-    connect_next : Option Code → Option Code → Found NewConnection → Next
-    connect_next one other found =
-        warns_or (option_or one (option_or other (connection_refusal doing.state.connections found unique))) self doing (with_found found (λ new. puts [] (linked doing new)) doing)
-
-    module _ (target receiver : ℕ) (is : target ≡ object of) (is_to : receiver ≡ object to) where
-      by_ends : comes_to connect ≡ connect_next (object_refusal doing.state.forest.rows target) (object_refusal doing.state.forest.rows receiver) (connection settings doing.state target signal receiver method mode single)
-      unfolding connect_next
-      by_ends =
-          ap (λ target. connect_next (object_refusal doing.state.forest.rows target) (object_refusal doing.state.forest.rows (object to)) (connection settings doing.state target signal (object to) method mode single)) (sym is)
-          ∙ ap (λ receiver. connect_next (object_refusal doing.state.forest.rows target) (object_refusal doing.state.forest.rows receiver) (connection settings doing.state target signal receiver method mode single)) (sym is_to)
-
-      pub connect_no_sender : (code : Code) → object_refusal doing.state.forest.rows target ≡ Some code → comes_to connect ≡ warned code
-      unfolding connect_next
-      connect_no_sender code one = by_ends ∙ ap (λ one. connect_next one (object_refusal doing.state.forest.rows receiver) (connection settings doing.state target signal receiver method mode single)) one
-
-      module _ (one : object_refusal doing.state.forest.rows target ≡ None) where
-        by_sender' : (refusal : Option Code) → object_refusal doing.state.forest.rows receiver ≡ refusal → comes_to connect ≡ connect_next None refusal (connection settings doing.state target signal receiver method mode single)
-        by_sender' refusal e =
-            by_ends
-            ∙ ap (λ one. connect_next one (object_refusal doing.state.forest.rows receiver) (connection settings doing.state target signal receiver method mode single)) one
-            ∙ ap (λ other. connect_next None other (connection settings doing.state target signal receiver method mode single)) e
-
-        pub connect_no_receiver : (code : Code) → object_refusal doing.state.forest.rows receiver ≡ Some code → comes_to connect ≡ warned code
-        unfolding connect_next
-        connect_no_receiver code other = by_sender' (Some code) other
-
-        module _ (other : object_refusal doing.state.forest.rows receiver ≡ None) where
-          -- a signal or a method is missing, or they do not fit
-          pub connect_faulty : (code : Code) → connection settings doing.state target signal receiver method mode single ≡ Err code → comes_to connect ≡ warned code
-          unfolding connect_next
-          connect_faulty code found = by_sender' None other ∙ ap (connect_next None None) found
-
-          by_found : (new : NewConnection) → connection settings doing.state target signal receiver method mode single ≡ Ok new → (refusal : Option Code) → connect_refusal doing.state.connections new unique ≡ refusal
-              → comes_to connect ≡ warns_or refusal self doing (puts [] (linked doing new))
-          unfolding connect_next
-          by_found new found refusal e =
-              by_sender' None other ∙ ap (connect_next None None) found
-              ∙ ap (λ refusal. warns_or refusal self doing (puts [] (linked doing new))) e
-
-          pub connect_refused : (new : NewConnection) (code : Code) → connection settings doing.state target signal receiver method mode single ≡ Ok new → connect_refusal doing.state.connections new unique ≡ Some code → comes_to connect ≡ warned code
-          connect_refused new code found refused = by_found new found (Some code) refused
-
-          pub connect_done : (new : NewConnection) → connection settings doing.state target signal receiver method mode single ≡ Ok new → connect_refusal doing.state.connections new unique ≡ None → comes_to connect ≡ puts [] (linked doing new)
-          connect_done new found passed = by_found new found None passed
-
-  -- disconnecting
-  module _ (of : Target) (signal : Option Signature) (to : Option Target) (method : Option Signature) (target : ℕ) (receiver : Option ℕ) (is : target ≡ object of) (is_to : receiver ≡ named_object to) where
-    disconnect_next : Bool → Option Code → Found Pattern → Next
-    disconnect_next there named found = warns_or (option_or (absent there) (option_or named (result_err found))) self doing (with_found found (λ broken. puts [] (unlinked doing broken)) doing)
-
-    by_pattern : (there : Bool) (named : Option Code) → is_there doing.state.forest.rows target ≡ there → named_absence doing.state receiver ≡ named
-        → comes_to (e.Disconnect of signal to method) ≡ disconnect_next there named (pattern settings doing.state target signal receiver method)
-    unfolding disconnect_next
-    by_pattern there named e f =
-        ap (λ target. disconnect_next (is_there doing.state.forest.rows target) (named_absence doing.state (named_object to)) (pattern settings doing.state target signal (named_object to) method)) (sym is)
-        ∙ ap (λ receiver. disconnect_next (is_there doing.state.forest.rows target) (named_absence doing.state receiver) (pattern settings doing.state target signal receiver method)) (sym is_to)
-        ∙ ap (λ there. disconnect_next there (named_absence doing.state receiver) (pattern settings doing.state target signal receiver method)) e
-        ∙ ap (λ named. disconnect_next there named (pattern settings doing.state target signal receiver method)) f
-
-    pub disconnect_absent : is_there doing.state.forest.rows target ≡ false → comes_to (e.Disconnect of signal to method) ≡ warned NoSuchObject
-    unfolding disconnect_next
-    disconnect_absent there = by_pattern false (named_absence doing.state receiver) there refl
-
-    module _ (there : is_there doing.state.forest.rows target ≡ true) where
-      pub disconnect_no_receiver : (code : Code) → named_absence doing.state receiver ≡ Some code → comes_to (e.Disconnect of signal to method) ≡ warned code
-      unfolding disconnect_next
-      disconnect_no_receiver code named = by_pattern true (Some code) there named
-
-      pub disconnect_faulty : (code : Code) → named_absence doing.state receiver ≡ None → pattern settings doing.state target signal receiver method ≡ Err code → comes_to (e.Disconnect of signal to method) ≡ warned code
-      unfolding disconnect_next
-      disconnect_faulty code named found = by_pattern true None there named ∙ ap (disconnect_next true None) found
-
-      pub disconnect_done : (broken : Pattern) → named_absence doing.state receiver ≡ None → pattern settings doing.state target signal receiver method ≡ Ok broken → comes_to (e.Disconnect of signal to method) ≡ puts [] (unlinked doing broken)
-      unfolding disconnect_next
-      disconnect_done broken named found = by_pattern true None there named ∙ ap (disconnect_next true None) found
-
   -- deleting an object
   module _ (of : Target) (target : ℕ) (is : target ≡ object of) where
     by_deleted : (refusal : Option Code) → object_refusal doing.state.forest.rows target ≡ refusal → comes_to (e.Delete of) ≡ warns_or refusal self doing (puts (Delete target depth ∷ []) doing)
@@ -202,51 +114,35 @@ module _ (settings : Settings) (self sender : ℕ) (args : List Value) (depth : 
     pub delete_done : object_refusal doing.state.forest.rows target ≡ None → comes_to (e.Delete of) ≡ puts (Delete target depth ∷ []) doing
     delete_done passed = by_deleted None passed
 
-  -- deleting an object later
-  module _ (of : Target) (target : ℕ) (is : target ≡ object of) where
-    by_posted : (refusal : Option Code) (room : Bool) → object_refusal doing.state.forest.rows target ≡ refusal → has_room doing.state.queue ≡ room
-        → comes_to (e.DeleteLater of) ≡ warns_or (option_or refusal (cond room None (Some Limit))) self doing (puts [] (posted doing (Deletion target)))
-    by_posted refusal room e f =
-        ap (λ target. warns_or (option_or (object_refusal doing.state.forest.rows target) (post_refusal doing.state.queue)) self doing (puts [] (posted doing (Deletion target)))) (sym is)
-        ∙ ap (λ refusal. warns_or (option_or refusal (post_refusal doing.state.queue)) self doing (puts [] (posted doing (Deletion target)))) e
-        ∙ ap (λ room. warns_or (option_or refusal (cond room None (Some Limit))) self doing (puts [] (posted doing (Deletion target)))) f
+  -- what comes of a deed
+  abbrev pub found_next : Found Deed → Next
+  found_next found = warns_or (found_refusal doing.state found) self doing (with_found found (λ deed. puts [] (deed_done doing deed)) doing)
 
-    pub delete_later_refused : (code : Code) → object_refusal doing.state.forest.rows target ≡ Some code → comes_to (e.DeleteLater of) ≡ warned code
-    delete_later_refused code refused = by_posted (Some code) (has_room doing.state.queue) refused refl
+  next_of : Option (Found Deed) → Next
+  next_of found = option_map_or found_next found (puts [] doing)
 
-    -- there are as many events as there may be
-    pub delete_later_full : object_refusal doing.state.forest.rows target ≡ None → has_room doing.state.queue ≡ false → comes_to (e.DeleteLater of) ≡ warned Limit
-    delete_later_full passed full = by_posted None false passed full
+  pub by_deed : (plain : Effect) (found : Found Deed) → act_deed settings doing.state self sender plain ≡ Some found → comes_to plain ≡ found_next found
+  unfolding next_of
+  by_deed (e.Connect of signal to method mode unique single) found is = ap next_of is
+  by_deed (e.Disconnect of signal to method) found is = ap next_of is
+  by_deed (e.DeleteLater of) found is = ap next_of is
+  by_deed (e.Block of on) found is = ap next_of is
+  by_deed (e.SetParent of above) found is = ap next_of is
+  by_deed (e.Set of property value) found is = absurd (cc)
+  by_deed (e.Emit of signal sent) found is = absurd (cc)
+  by_deed (e.Delete of) found is = absurd (cc)
 
-    pub delete_later_done : object_refusal doing.state.forest.rows target ≡ None → has_room doing.state.queue ≡ true → comes_to (e.DeleteLater of) ≡ puts [] (posted doing (Deletion target))
-    delete_later_done passed room = by_posted None true passed room
+  -- doing a deed
+  module _ (plain : Effect) where
+    pub deed_faulty : (code : Code) → act_deed settings doing.state self sender plain ≡ Some (Err code) → comes_to plain ≡ warned code
+    deed_faulty code is = by_deed plain (Err code) is
 
-  -- blocking the signals of an object, or letting them through
-  module _ (of : Target) (on : Bool) (target : ℕ) (is : target ≡ object of) where
-    by_blocked : (there : Bool) → is_there doing.state.forest.rows target ≡ there → comes_to (e.Block of on) ≡ warns_or (absent there) self doing (puts [] (blocking doing target on))
-    by_blocked there e =
-        ap (λ target. warns_or (absent (is_there doing.state.forest.rows target)) self doing (puts [] (blocking doing target on))) (sym is)
-        ∙ ap (λ there. warns_or (absent there) self doing (puts [] (blocking doing target on))) e
+    module _ (deed : Deed) (is : act_deed settings doing.state self sender plain ≡ Some (Ok deed)) where
+      pub deed_refused : (code : Code) → deed_refusal doing.state deed ≡ Some code → comes_to plain ≡ warned code
+      deed_refused code refused = by_deed plain (Ok deed) is ∙ ap (λ refusal. warns_or refusal self doing (puts [] (deed_done doing deed))) refused
 
-    pub block_refused : is_there doing.state.forest.rows target ≡ false → comes_to (e.Block of on) ≡ warned NoSuchObject
-    block_refused there = by_blocked false there
-
-    pub block_done : is_there doing.state.forest.rows target ≡ true → comes_to (e.Block of on) ≡ puts [] (blocking doing target on)
-    block_done there = by_blocked true there
-
-  -- giving another parent
-  module _ (of : Target) (above : Option Target) (target : ℕ) (parent : Option ℕ) (is : target ≡ object of) (is_above : parent ≡ named_object above) where
-    by_moved : (refusal : Option Code) → set_parent_refusal doing.state.forest target parent ≡ refusal → comes_to (e.SetParent of above) ≡ warns_or refusal self doing (puts [] (adopted doing target parent))
-    by_moved refusal e =
-        ap (λ target. warns_or (set_parent_refusal doing.state.forest target (named_object above)) self doing (puts [] (adopted doing target (named_object above)))) (sym is)
-        ∙ ap (λ parent. warns_or (set_parent_refusal doing.state.forest target parent) self doing (puts [] (adopted doing target parent))) (sym is_above)
-        ∙ ap (λ refusal. warns_or refusal self doing (puts [] (adopted doing target parent))) e
-
-    pub set_parent_refused : (code : Code) → set_parent_refusal doing.state.forest target parent ≡ Some code → comes_to (e.SetParent of above) ≡ warned code
-    set_parent_refused code refused = by_moved (Some code) refused
-
-    pub set_parent_done : set_parent_refusal doing.state.forest target parent ≡ None → comes_to (e.SetParent of above) ≡ puts [] (adopted doing target parent)
-    set_parent_done passed = by_moved None passed
+      pub deed_is_done : deed_refusal doing.state deed ≡ None → comes_to plain ≡ puts [] (deed_done doing deed)
+      deed_is_done passed = by_deed plain (Ok deed) is ∙ ap (λ refusal. warns_or refusal self doing (puts [] (deed_done doing deed))) passed
 
   -- choosing a branch
   module _ (test : Term) (held failed : Acts) where

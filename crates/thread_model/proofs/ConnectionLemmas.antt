@@ -1,6 +1,7 @@
 -- What each change leaves of the connections of a session.
-use Rattle.std.proofs.Common.{◌≡◌, ◌+◌, ◌-◌, ◌^◌, ◌<◌, ◌≤◌, ◌==◌, ◌&&◌, ℕ, Bool, true, false, not, cond, List, [], ◌∷◌, ◌++◌, All, Some, None, filter, find, length, nat_le, refl, sym, ap, ◌∙◌, subst, arith, ⊎_elim}
+use Rattle.std.proofs.Common.{◌≡◌, ◌+◌, ◌-◌, ◌^◌, ◌<◌, ◌≤◌, ◌==◌, ◌&&◌, ℕ, Bool, true, false, not, cond, List, [], ◌∷◌, ◌++◌, All, Option, Some, None, filter, find, length, nat_le, refl, sym, ap, ◌∙◌, subst, arith, ⊎_elim}
 use Rattle.std.specs.List.{list_any}
+use Rattle.std.specs.Option.{option_or}
 use Rattle.std.proofs.lemmas.Bool.{cases_Bool, eqb-true, or_left}
 use Rattle.std.proofs.lemmas.Bool.Decides.{nat_tests}
 use Rattle.std.proofs.lemmas.List.Elements.{All-head, All-push, All-tail, All-weaker}
@@ -31,6 +32,11 @@ sound_empty = record {
 pub record IsAllowed (place : Rows) : Type 0 where
   pub room : length place.rows < CONNECTIONS
   pub number : place.last_number < 2 ^ 32 - 1
+
+-- nothing is refused where neither of two refusals stands
+pub or_none : {A : Type 0} (first second : Option A) → option_or first second ≡ None → (first ≡ None) × (second ≡ None)
+or_none None second passed = (refl, passed)
+or_none (Some code) second passed = absurd (cc)
 
 pub allowed : (place : Rows) (new : NewConnection) (unique : Bool) → connect_refusal place new unique ≡ None → IsAllowed place
 allowed place new unique passed = by (unique && list_any (same_ends new) place.rows) passed

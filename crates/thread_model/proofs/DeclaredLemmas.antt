@@ -17,8 +17,6 @@ use Rattle.connection_types.specs.declared.callee.Callee.{Callee}
 use Rattle.connection_types.specs.declared.callee.Callee.TheVariants as callee
 use Rattle.connection_types.specs.declared.connection_type.ConnectionType.{ConnectionType}
 use Rattle.connection_list.specs.declared.connection.Connection.{Connection}
-use Rattle.connection_list.specs.declared.connection.NewConnection.{NewConnection}
-use Rattle.connection_list.specs.declared.pattern.Pattern.{Pattern}
 use Rattle.connection_list.specs.Rows.{has_number as has_connection_number}
 use Rattle.event_queue.specs.declared.event.Event.{Event}
 use Rattle.event_queue.specs.declared.event.Event.TheVariants as event
@@ -39,9 +37,13 @@ use Rattle.thread_model.specs.declared.line.Line.{Line}
 use Rattle.thread_model.specs.declared.line.Line.TheVariants as line
 use Rattle.thread_model.specs.declared.post.Post.{Post}
 use Rattle.thread_model.specs.Acts.{chosen}
+use Rattle.thread_model.specs.Arriving.{posts_of}
 use Rattle.thread_model.specs.Agenda.{call_line, called, callee_called, calls_of, connection_of, emitted, event_items, functor_called, functor_line, functor_ran, is_held_back, lives, lives_below, method_called, method_items, queued, ran, spun, step, with_turn}
-use Rattle.thread_model.specs.Asked.{Asked, New, Delete, SetParent, Children, Find, Set, Get, DynamicNames, Meta, Connect, ConnectFunctor, DisconnectOne, Disconnect, Invoke, Spin as TakeEvents, DeleteLater, Block, Status}
-use Rattle.thread_model.specs.Doing.{Doing, adopted, begun, blocking, dying, first_taken, forgotten, gone, in_state, linked, lost, posted, shot, told, turn_taken, unlinked, untied, used_up}
+use Rattle.thread_model.specs.Asked.{Asked, New, Delete, Children, Find, Set, Get, DynamicNames, Meta, Connect, ConnectFunctor, DisconnectOne, Disconnect, Invoke, Spin as TakeEvents, Do, Status}
+use Rattle.thread_model.specs.declared.deed.Deed.{Deed}
+use Rattle.thread_model.specs.declared.deed.Deed.TheVariants as d
+use Rattle.thread_model.specs.Deeds.{deed_done, with_deed}
+use Rattle.thread_model.specs.Doing.{Doing, begun, dying, first_taken, forgotten, gone, in_state, lost, posted, shot, told, turn_taken, untied, used_up, posting}
 use Rattle.thread_model.specs.Effects.{does_next, unless}
 use Rattle.thread_model.specs.Items.{Act, Call, Cut, Delete as ToDelete, Emit, Gone, Item, Kin, Next, Reply, ReplySpun, Run, RunFunctor, Spin, Warn, puts}
 use Rattle.thread_model.specs.Laws.{KeepsDeclared}
@@ -51,7 +53,7 @@ use Rattle.thread_model.specs.Posting.{is_queued, spin_of}
 use Rattle.thread_model.specs.Properties.{is_declared, sets}
 use Rattle.thread_model.specs.Refusing.{refusal}
 use Rattle.thread_model.specs.Run.{run}
-use Rattle.thread_model.specs.Signals.{asked_connection, asked_functor_connection, asked_method, asked_pattern, connects, disconnects, invoked, invoked_later, invokes}
+use Rattle.thread_model.specs.Signals.{asked_connect, asked_connect_functor, asked_disconnect, asked_method, does_found, invoked, invoked_later, invokes}
 use Rattle.thread_model.specs.State.{IsDeclared, IsSound, State, fields_of, with_object, with_properties, without_connections}
 use Rattle.thread_model.specs.Targets.{truth_evaluated}
 use Rattle.thread_model.specs.Thread.{Settings, arrives, does, performs}
@@ -137,6 +139,10 @@ module _ (classes : List Class) (doing : Doing) (declared : IsDeclared classes d
   unfolding told
   told_declared said = declared
 
+  posting_declared : (more : List Post) → IsDeclared classes (posting doing more).state
+  unfolding posting
+  posting_declared more = declared
+
   turn_declared : IsDeclared classes (turn_taken doing).state
   unfolding turn_taken
   turn_declared = declared
@@ -153,14 +159,6 @@ module _ (classes : List Class) (doing : Doing) (declared : IsDeclared classes d
   unfolding forgotten untied
   cut_declared target = declared
 
-  unlinked_declared : (pattern : Pattern) → IsDeclared classes (unlinked doing pattern).state
-  unfolding unlinked
-  unlinked_declared pattern = declared
-
-  linked_declared : (new : NewConnection) → IsDeclared classes (linked doing new).state
-  unfolding linked
-  linked_declared new = declared
-
   posted_declared : (event : Event) → IsDeclared classes (posted doing event).state
   unfolding posted
   posted_declared event = declared
@@ -173,13 +171,16 @@ module _ (classes : List Class) (doing : Doing) (declared : IsDeclared classes d
   unfolding first_taken
   first_declared = declared
 
-  blocking_declared : (target : ℕ) (on : Bool) → IsDeclared classes (blocking doing target on).state
-  unfolding blocking
-  blocking_declared target on = each_blocked (Has classes doing.state) doing.state.forest target on declared
+  deed_declared : (deed : Deed) → IsDeclared classes (with_deed doing.state deed)
+  deed_declared (d.Connect new unique) = declared
+  deed_declared (d.Disconnect pattern) = declared
+  deed_declared (d.SetParent target parent) = each_reparented (Has classes doing.state) doing.state.forest target parent declared
+  deed_declared (d.DeleteLater target) = declared
+  deed_declared (d.Block target on) = each_blocked (Has classes doing.state) doing.state.forest target on declared
 
-  adopted_declared : (target : ℕ) (parent : Option ℕ) → IsDeclared classes (adopted doing target parent).state
-  unfolding adopted
-  adopted_declared target parent = each_reparented (Has classes doing.state) doing.state.forest target parent declared
+  change_declared : (deed : Deed) → IsDeclared classes (deed_done doing deed).state
+  unfolding deed_done
+  change_declared deed = deed_declared deed
 
   dying_declared : (target : ℕ) → IsDeclared classes (dying doing target).state
   unfolding dying
@@ -198,9 +199,9 @@ module _ (settings : Settings) (doing : Doing) (declared : IsDeclared settings.c
   emitted_declared : (target signal : ℕ) (args : List Value) (depth : ℕ) (found : Option Row) → Keeps settings.classes (option_map_or (emitted doing target signal args depth) found (puts [] doing))
   emitted_declared target signal args depth None = declared
   emitted_declared target signal args depth (Some row) =
-      cond_both (is_held_back signal row) (puts [] doing) (cond (nat_le NESTED_SIGNALS depth) (puts (Warn Limit (Some target) ∷ []) doing) (puts (calls_of doing target signal args depth) doing)) (Keeps settings.classes)
+      cond_both (is_held_back signal row) (puts [] doing) (cond (nat_le NESTED_SIGNALS depth) (puts (Warn Limit (Some target) ∷ []) doing) (puts (calls_of doing target signal args depth) (posting doing (posts_of doing.state.desk target signal args)))) (Keeps settings.classes)
       (λ held. declared)
-      (λ free. cond_both (nat_le NESTED_SIGNALS depth) (puts (Warn Limit (Some target) ∷ []) doing) (puts (calls_of doing target signal args depth) doing) (Keeps settings.classes) (λ deep. declared) (λ shallow. declared))
+      (λ free. cond_both (nat_le NESTED_SIGNALS depth) (puts (Warn Limit (Some target) ∷ []) doing) (puts (calls_of doing target signal args depth) (posting doing (posts_of doing.state.desk target signal args))) (Keeps settings.classes) (λ deep. declared) (λ shallow. posting_declared settings.classes doing declared (posts_of doing.state.desk target signal args)))
 
   callee_declared : (connection : Connection) (args : List Value) (depth : ℕ) (to : Callee) → Keeps settings.classes (callee_called settings connection args depth doing to)
   callee_declared connection args depth (callee.Functor index) = by (functor_at settings index)
@@ -264,11 +265,7 @@ item_declared settings (Act (effect plain) args self sender depth) doing declare
     (λ target signal values. declared)
     (λ target. declared)
     (λ target name value writing there found. declared_with_writing settings.classes doing.state declared target writing)
-    (λ target parent passed. adopted_declared settings.classes doing declared target parent)
-    (λ new allowed sender' receiver'. linked_declared settings.classes doing declared new)
-    (λ pattern. unlinked_declared settings.classes doing declared pattern)
-    (λ target passed. posted_declared settings.classes doing declared (event.Deletion target))
-    (λ target on. blocking_declared settings.classes doing declared target on)
+    (λ deed passed. change_declared settings.classes doing declared deed)
     plain
 item_declared settings (Act (when test held failed) args self sender depth) doing declared = chosen_declared settings doing declared (truth_evaluated doing.state self sender args test) held failed args self sender depth
 item_declared settings (Warn code object) doing declared = told_declared settings.classes doing declared (line.Warning code object)
@@ -296,13 +293,9 @@ module _ (settings : Settings) (state : State) (declared : IsDeclared settings.c
   set_declared target (Err code) = declared
   set_declared target (Ok writing) = done_declared (written settings (begun settings state) target 0 writing) (a.Truth (is_declared writing)) (declared_with_writing settings.classes state declared target writing)
 
-  connected_declared : (found : Found NewConnection) → IsDeclared settings.classes (connects state found).state
-  connected_declared (Err code) = declared
-  connected_declared (Ok new) = declared
-
-  disconnected_declared : (found : Found Pattern) → IsDeclared settings.classes (disconnects state found).state
-  disconnected_declared (Err code) = declared
-  disconnected_declared (Ok pattern) = declared
+  found_declared' : (found : Found Deed) → IsDeclared settings.classes (does_found state found).state
+  found_declared' (Ok deed) = deed_declared settings.classes (begun settings state) declared deed
+  found_declared' (Err code) = declared
 
   invoked_declared : (target index : ℕ) (values : List Value) → Keeps settings.classes (invoked settings state target index values)
   invoked_declared target index values =
@@ -322,21 +315,19 @@ module _ (settings : Settings) (state : State) (declared : IsDeclared settings.c
   unfolding performs
   performed_declared self (New class parent) sound = declared_with_object settings.classes state declared parent _ sound.whole.forest.numbers_given
   performed_declared self (Delete target) sound = done_declared (puts (ToDelete target 0 ∷ []) (begun settings state)) (a.Truth true) declared
-  performed_declared self (SetParent target parent) sound = each_reparented (Has settings.classes state) state.forest target parent declared
   performed_declared self (Children target) sound = declared
   performed_declared self (Find target title class) sound = declared
   performed_declared self (Set target property value) sound = set_declared target (asked_writing state target property value)
   performed_declared self (Get target property) sound = declared
   performed_declared self (DynamicNames target) sound = declared
   performed_declared self (Meta class) sound = declared
-  performed_declared self (Connect sender signal receiver method mode unique single) sound = connected_declared (asked_connection settings state sender signal receiver method mode single)
-  performed_declared self (ConnectFunctor sender signal context functor mode unique single) sound = connected_declared (asked_functor_connection settings state sender signal context functor mode single)
+  performed_declared self (Connect sender signal receiver method mode unique single) sound = found_declared' (asked_connect settings state sender signal receiver method mode unique single)
+  performed_declared self (ConnectFunctor sender signal context functor mode unique single) sound = found_declared' (asked_connect_functor settings state sender signal context functor mode unique single)
   performed_declared self (DisconnectOne connection) sound = declared
-  performed_declared self (Disconnect sender signal receiver method) sound = disconnected_declared (asked_pattern settings state sender signal receiver method)
+  performed_declared self (Disconnect sender signal receiver method) sound = found_declared' (asked_disconnect settings state sender signal receiver method)
   performed_declared self (Invoke target method args mode) sound = invokes_declared target args mode (asked_method settings state target method)
   performed_declared self TakeEvents sound = run_declared settings (Spin ∷ ReplySpun ∷ []) (begun settings state) declared
-  performed_declared self (DeleteLater target) sound = declared
-  performed_declared self (Block target on) sound = each_blocked (Has settings.classes state) state.forest target on declared
+  performed_declared self (Do deed) sound = found_declared' (Ok deed)
   performed_declared self Status sound = declared
 
   -- a refused command leaves the state

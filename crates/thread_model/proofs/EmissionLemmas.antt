@@ -24,8 +24,9 @@ use Rattle.thread_model.specs.declared.line.Answer.{Answer}
 use Rattle.thread_model.specs.declared.line.Line.TheVariants as line
 use Rattle.thread_model.specs.declared.line.Line.TheVariants.{Warning}
 use Rattle.thread_model.specs.Acts.{acts}
+use Rattle.thread_model.specs.Arriving.{posts_of}
 use Rattle.thread_model.specs.Agenda.{call_line, callee_called, called, calls_of, connection_of, emitted, functor_called, functor_line, functor_ran, is_held_back, method_called, method_items, ran, step, with_turn}
-use Rattle.thread_model.specs.Doing.{Doing, in_state, lost, posted, shot, told, turn_taken, used_up}
+use Rattle.thread_model.specs.Doing.{Doing, in_state, lost, posted, posting, shot, told, turn_taken, used_up}
 use Rattle.thread_model.specs.Items.{Call, Emit, Reply, Run, RunFunctor, Warn, puts}
 use Rattle.thread_model.specs.Functors.{functor_at}
 use Rattle.thread_model.specs.Methods.{method_at}
@@ -52,15 +53,15 @@ module _ (settings : Settings) (target signal : ℕ) (args : List Value) (depth 
 
     module _ (sent : is_held_back signal row ≡ false) where
       is_sent : step settings (Emit target signal args depth) doing
-          ≡ cond (nat_le NESTED_SIGNALS depth) (puts (Warn Limit (Some target) ∷ []) doing) (puts (calls_of doing target signal args depth) doing)
+          ≡ cond (nat_le NESTED_SIGNALS depth) (puts (Warn Limit (Some target) ∷ []) doing) (puts (calls_of doing target signal args depth) (posting doing (posts_of doing.state.desk target signal args)))
       is_sent = is_emitted ∙ cond-false (is_held_back signal row) _ _ sent
 
       -- a signal that is nested too deep is not sent, and its object is warned of
       pub emit_deep : NESTED_SIGNALS ≤ depth → step settings (Emit target signal args depth) doing ≡ puts (Warn Limit (Some target) ∷ []) doing
       emit_deep deep = let is : nat_le NESTED_SIGNALS depth ≡ true = grind (arith, nat_tests, deep) in is_sent ∙ cond-true (nat_le NESTED_SIGNALS depth) _ _ is
 
-      -- a signal that is not nested too deep calls what is connected to it
-      pub emit_calls : depth < NESTED_SIGNALS → step settings (Emit target signal args depth) doing ≡ puts (calls_of doing target signal args depth) doing
+      -- a signal that is not nested too deep is posted, and calls what is connected to it
+      pub emit_calls : depth < NESTED_SIGNALS → step settings (Emit target signal args depth) doing ≡ puts (calls_of doing target signal args depth) (posting doing (posts_of doing.state.desk target signal args))
       emit_calls shallow = let is : nat_le NESTED_SIGNALS depth ≡ false = grind (arith, nat_tests, shallow) in is_sent ∙ cond-false (nat_le NESTED_SIGNALS depth) _ _ is
 
 module _ (signal : ℕ) (row : Row) where

@@ -1,7 +1,7 @@
 -- The rules by which events are taken, one for each way that it goes; and the rule of each command for
 -- events: why it is refused, what it does where it is not, and both together.
-use Rattle.std.proofs.Common.{◌≡◌, ◌<◌, ◌==◌, ℕ, Bool, true, false, List, [], ◌∷◌, ◌++◌, Option, Some, None, refl, ap, ◌∙◌, arith}
-use Rattle.std.specs.Option.{option_map_or, option_or}
+use Rattle.std.proofs.Common.{◌≡◌, ◌<◌, ◌==◌, ℕ, true, false, List, [], ◌∷◌, ◌++◌, Option, Some, None, refl, ap, ◌∙◌, arith}
+use Rattle.std.specs.Option.{option_map_or}
 use Rattle.std.proofs.lemmas.Bool.{cond-false, cond-true}
 use Rattle.std.proofs.lemmas.Bool.Decides.{nat_tests}
 use Rattle.class_table.specs.declared.class.Method.{Method}
@@ -11,15 +11,16 @@ use Rattle.event_queue.specs.declared.event.Event.TheVariants as event
 use Rattle.event_queue.specs.declared.event.QueuedCall.{QueuedCall}
 use Rattle.thread_model.specs.declared.line.Answer.TheVariants as a
 use Rattle.thread_model.specs.declared.line.Line.TheVariants as line
-use Rattle.thread_model.specs.Absence.{absence}
 use Rattle.thread_model.specs.Agenda.{call_items, event_items, method_items, spun, step}
-use Rattle.thread_model.specs.Asked.{Block, DeleteLater, Spin as spin, Status}
+use Rattle.thread_model.specs.Asked.{Do, Spin as spin, Status}
+use Rattle.thread_model.specs.declared.deed.Deed.{Deed}
+use Rattle.thread_model.specs.Deeds.{deed_answer, deed_refusal, with_deed}
 use Rattle.thread_model.specs.Doing.{Doing, first_taken, told, turn_taken, used_up}
-use Rattle.thread_model.specs.Effects.{unless}
-use Rattle.thread_model.specs.Events.{blocks, counts, deletes_later, spins}
+use Rattle.thread_model.specs.Effects.{replies, unless}
+use Rattle.thread_model.specs.Events.{counts, spins}
 use Rattle.thread_model.specs.Items.{Delete, Emit, Item, ReplySpun, Run, RunFunctor, Spin, puts}
 use Rattle.thread_model.specs.Methods.{method_at}
-use Rattle.thread_model.specs.Posting.{post_refusal, spin_of}
+use Rattle.thread_model.specs.Posting.{spin_of}
 use Rattle.thread_model.specs.Refusing.{refusal}
 use Rattle.thread_model.specs.State.{State}
 use Rattle.thread_model.specs.Thread.{Settings, does, performs}
@@ -93,29 +94,17 @@ module _ (settings : Settings) (self : List ℕ) (state : State) where
   unfolding does refusal performs
   does_spin = refl
 
-  pub refusal_delete_later : (target : ℕ) → refusal settings self state (DeleteLater target) ≡ option_or (absence state target) (post_refusal state.queue)
+  pub refusal_do : (deed : Deed) → refusal settings self state (Do deed) ≡ deed_refusal state deed
   unfolding refusal
-  refusal_delete_later target = refl
+  refusal_do deed = refl
 
-  pub performs_delete_later : (target : ℕ) → performs settings self state (DeleteLater target) ≡ deletes_later state target
+  pub performs_do : (deed : Deed) → performs settings self state (Do deed) ≡ replies (with_deed state deed) (deed_answer state deed)
   unfolding performs
-  performs_delete_later target = refl
+  performs_do deed = refl
 
-  pub does_delete_later : (target : ℕ) → does settings self state (DeleteLater target) ≡ unless (option_or (absence state target) (post_refusal state.queue)) state (deletes_later state target)
+  pub does_do : (deed : Deed) → does settings self state (Do deed) ≡ unless (deed_refusal state deed) state (replies (with_deed state deed) (deed_answer state deed))
   unfolding does refusal performs
-  does_delete_later target = refl
-
-  pub refusal_block : (target : ℕ) (on : Bool) → refusal settings self state (Block target on) ≡ absence state target
-  unfolding refusal
-  refusal_block target on = refl
-
-  pub performs_block : (target : ℕ) (on : Bool) → performs settings self state (Block target on) ≡ blocks state target on
-  unfolding performs
-  performs_block target on = refl
-
-  pub does_block : (target : ℕ) (on : Bool) → does settings self state (Block target on) ≡ unless (absence state target) state (blocks state target on)
-  unfolding does refusal performs
-  does_block target on = refl
+  does_do deed = refl
 
   pub refusal_status : refusal settings self state Status ≡ None
   unfolding refusal

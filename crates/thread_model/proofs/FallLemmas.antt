@@ -23,8 +23,10 @@ use Rattle.thread_model.specs.declared.line.Answer.TheVariants as a
 use Rattle.thread_model.specs.declared.line.Line.TheVariants as line
 use Rattle.thread_model.specs.declared.line.Line.TheVariants.{Warning}
 use Rattle.thread_model.specs.Acts.{acts, chosen}
+use Rattle.thread_model.specs.Arriving.{posts_of}
 use Rattle.thread_model.specs.Agenda.{call_items, call_line, callee_called, called, calls_of, connection_of, emitted, event_items, functor_called, functor_line, functor_ran, is_held_back, kins, lives, lives_below, method_called, method_items, queued, ran, spun, step, with_turn}
-use Rattle.thread_model.specs.Doing.{Doing, adopted, blocking, dying, first_taken, forgotten, gone, in_state, linked, posted, shot, told, turn_taken, unlinked, untied, used_up}
+use Rattle.thread_model.specs.Deeds.{deed_done}
+use Rattle.thread_model.specs.Doing.{Doing, dying, first_taken, forgotten, gone, in_state, shot, told, turn_taken, untied, used_up, posting}
 use Rattle.thread_model.specs.Items.{Act, Call, Cut, Delete, Emit, Gone, Item, Kin, Next, Reply, ReplySpun, Run, RunFunctor, Spin, Warn, puts}
 use Rattle.thread_model.specs.Functors.{functor_at}
 use Rattle.thread_model.specs.Methods.{Found, method_at}
@@ -38,7 +40,7 @@ use Rattle.thread_model.proofs.ActLemmas.{acted_cases}
 use Rattle.thread_model.proofs.LivingLemmas.{few_children, filter-fewer, living_rows}
 use Rattle.thread_model.proofs.WeightLemmas.{act-some, acts-weight, body-size, calls-weight, choice-weight, functor-size, kins-weight, weight-some, weights-append}
 use Rattle.thread_model.proofs.WritingLemmas.{written_cases}
-use Rattle.thread_model.proofs.ShrinkLemmas.{Shrinks, adopted_shrinks, blocking_shrinks, both, dying_less, dying_shrinks, first_taken-turns, forgotten_shrinks, gone_shrinks, linked_shrinks, posted_shrinks, queued_shrinks, same, shot_shrinks, taken_shrinks, told_shrinks, turn_shrinks, turn_taken-less, unlinked_shrinks, untied_shrinks, used_up_shrinks, written_shrinks}
+use Rattle.thread_model.proofs.ShrinkLemmas.{Shrinks, both, deed_shrinks, dying_less, dying_shrinks, first_taken-turns, forgotten_shrinks, gone_shrinks, queued_shrinks, same, shot_shrinks, taken_shrinks, told_shrinks, turn_shrinks, turn_taken-less, untied_shrinks, used_up_shrinks, written_shrinks, posting_shrinks}
 
 abbrev pub total : Most → Doing → ℕ → ℕ
 total n doing items = doing.turns * turn_weight n + living_rows doing.state.forest.rows * deletion_weight n + items
@@ -169,13 +171,13 @@ spun_falls settings doing (event ∷ later) =
     (λ some. by_turn settings Spin doing (puts (items ++ Spin ∷ []) (first_taken taken)) (taken_shrinks doing some)
     (let less = turn_taken-less doing some in omega (arith, less, turns)) (omega (arith, few, parts)))
 
-calls_fall : (settings : Settings) (target signal : ℕ) (args : List Value) (depth : ℕ) (doing : Doing) → FallsTo settings (Emit target signal args depth) doing (puts (calls_of doing target signal args depth) doing)
+calls_fall : (settings : Settings) (target signal : ℕ) (args : List Value) (depth : ℕ) (doing : Doing) → FallsTo settings (Emit target signal args depth) doing (puts (calls_of doing target signal args depth) (posting doing (posts_of doing.state.desk target signal args)))
 unfolding calls_of
 calls_fall settings target signal args depth doing =
     let rows = doing.state.connections.rows in
     let one = calls-weight (most settings doing) args depth (filter (calls target signal) rows) in
     let few = filter-fewer (calls target signal) rows in
-    lighter settings (Emit target signal args depth) doing (puts _ doing) (same doing) (omega (arith, one, few))
+    lighter settings (Emit target signal args depth) doing (puts _ (posting doing (posts_of doing.state.desk target signal args))) (posting_shrinks doing (posts_of doing.state.desk target signal args)) (omega (arith, one, few))
 
 cut_falls : (settings : Settings) (target depth : ℕ) (doing : Doing) → FallsTo settings (Cut target depth) doing (puts (kins doing target depth) (forgotten (untied doing target) target))
 unfolding kins
@@ -224,9 +226,9 @@ emitted_falls : (settings : Settings) (target signal : ℕ) (args : List Value) 
 emitted_falls settings target signal args depth doing None = idle settings (Emit target signal args depth) doing doing (same doing)
 emitted_falls settings target signal args depth doing (Some row) =
     let item = Emit target signal args depth in
-    cond_both (is_held_back signal row) (puts [] doing) (if nat_le NESTED_SIGNALS depth then puts (Warn Limit (Some target) ∷ []) doing else puts (calls_of doing target signal args depth) doing) (FallsTo settings item doing)
+    cond_both (is_held_back signal row) (puts [] doing) (if nat_le NESTED_SIGNALS depth then puts (Warn Limit (Some target) ∷ []) doing else puts (calls_of doing target signal args depth) (posting doing (posts_of doing.state.desk target signal args))) (FallsTo settings item doing)
     (λ held. idle settings item doing doing (same doing))
-    (λ free. cond_both (nat_le NESTED_SIGNALS depth) (puts (Warn Limit (Some target) ∷ []) doing) (puts (calls_of doing target signal args depth) doing) (FallsTo settings item doing)
+    (λ free. cond_both (nat_le NESTED_SIGNALS depth) (puts (Warn Limit (Some target) ∷ []) doing) (puts (calls_of doing target signal args depth) (posting doing (posts_of doing.state.desk target signal args))) (FallsTo settings item doing)
     (λ deep. lighter settings item doing (puts (Warn Limit (Some target) ∷ []) doing) (same doing) (omega arith))
     (λ shallow. calls_fall settings target signal args depth doing))
 
@@ -243,11 +245,7 @@ falls settings (Act (effect plain) args self sender depth) doing =
     (λ target signal values. lighter settings item doing (puts (Emit target signal values depth ∷ []) doing) (same doing) (omega arith))
     (λ target. lighter settings item doing (puts (Delete target depth ∷ []) doing) (same doing) (omega arith))
     (λ target name value writing there found. written_falls settings item doing target depth writing (omega arith))
-    (λ target parent passed. idle settings item doing (adopted doing target parent) (adopted_shrinks doing target parent))
-    (λ new allowed sender' receiver'. idle settings item doing (linked doing new) (linked_shrinks doing new allowed))
-    (λ pattern. idle settings item doing (unlinked doing pattern) (unlinked_shrinks doing pattern))
-    (λ target passed. idle settings item doing (posted doing (event.Deletion target)) (posted_shrinks doing (event.Deletion target)))
-    (λ target on. idle settings item doing (blocking doing target on) (blocking_shrinks doing target on))
+    (λ deed passed. idle settings item doing (deed_done doing deed) (deed_shrinks doing deed passed))
     plain
 falls settings (Act (when test held failed) args self sender depth) doing = chosen_falls settings test held failed args self sender depth doing (truth_evaluated doing.state self sender args test)
 falls settings (Warn code object) doing = idle settings (Warn code object) doing (told doing (line.Warning code object)) (told_shrinks doing (line.Warning code object))

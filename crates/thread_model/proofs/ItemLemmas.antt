@@ -23,8 +23,9 @@ use Rattle.thread_model.specs.declared.call.TheConstants.{DESTROYED, NESTED_SIGN
 use Rattle.thread_model.specs.declared.line.Answer.TheVariants as a
 use Rattle.thread_model.specs.declared.line.Line.TheVariants as line
 use Rattle.thread_model.specs.Acts.{acts, chosen}
+use Rattle.thread_model.specs.Arriving.{posts_of}
 use Rattle.thread_model.specs.Agenda.{call_items, call_line, called, callee_called, calls_of, connection_of, emitted, event_items, functor_called, functor_line, functor_ran, is_held_back, kins, lives, lives_below, method_called, method_items, queued, ran, spun, step, with_turn}
-use Rattle.thread_model.specs.Doing.{Doing, dying, first_taken, forgotten, in_state, shot, told, turn_taken, untied, used_up}
+use Rattle.thread_model.specs.Doing.{Doing, dying, first_taken, forgotten, in_state, posting, shot, told, turn_taken, untied, used_up}
 use Rattle.thread_model.specs.Items.{Act, Call, Cut, Delete, Emit, Gone, Item, Kin, Next, Reply, ReplySpun, Run, RunFunctor, Spin, Warn, puts}
 use Rattle.thread_model.specs.Functors.{functor_at}
 use Rattle.thread_model.specs.Methods.{Found, method_at}
@@ -36,7 +37,7 @@ use Rattle.thread_model.specs.Writing.{Writing, with_writing, written}
 use Rattle.thread_model.specs.UnderWay.{IsBrokenInTime, IsUnderWay, is_gone}
 use Rattle.thread_model.proofs.ActLemmas.{acted_cases}
 use Rattle.thread_model.proofs.ConnectionLemmas.{of_found}
-use Rattle.thread_model.proofs.UnderWayLemmas.{adopted_under, behind, blocking_under, cut_under, dying_under, first_taken_under, gone_under, in_front, linked_under, meant_under, queued_under, shot_under, told_under, turn_under, unlinked_under, used_up_under, writing_under}
+use Rattle.thread_model.proofs.UnderWayLemmas.{behind, cut_under, deed_under, dying_under, first_taken_under, gone_under, in_front, queued_under, shot_under, told_under, turn_under, used_up_under, writing_under, posting_under}
 use Rattle.thread_model.proofs.WritingLemmas.{written_cases}
 use Rattle.thread_model.proofs.FitLemmas.{IsFit, acted_fit}
 
@@ -88,16 +89,16 @@ abbrev Keeps : List Item → Next → Type 0
 Keeps agenda next = IsUnderWay (next.items ++ agenda) next.doing.state
 
 module _ (settings : Settings) (agenda : List Item) (doing : Doing) (under : IsUnderWay agenda doing.state) where
-  calls_kept : (target signal : ℕ) (args : List Value) (depth : ℕ) → Keeps agenda (puts (calls_of doing target signal args depth) doing)
+  calls_kept : (target signal : ℕ) (args : List Value) (depth : ℕ) → Keeps agenda (puts (calls_of doing target signal args depth) (posting doing (posts_of doing.state.desk target signal args)))
   unfolding calls_of
-  calls_kept target signal args depth = in_front (calls_of doing target signal args depth) agenda doing.state (calls_stay args depth (filter (calls target signal) doing.state.connections.rows)) under
+  calls_kept target signal args depth = in_front (calls_of doing target signal args depth) agenda (posting doing (posts_of doing.state.desk target signal args)).state (calls_stay args depth (filter (calls target signal) doing.state.connections.rows)) (posting_under agenda doing under (posts_of doing.state.desk target signal args))
 
   emitted_kept : (target signal : ℕ) (args : List Value) (depth : ℕ) (found : Option Row) → Keeps agenda (option_map_or (emitted doing target signal args depth) found (puts [] doing))
   emitted_kept target signal args depth None = under
   emitted_kept target signal args depth (Some row) =
-      cond_both (is_held_back signal row) (puts [] doing) (cond (nat_le NESTED_SIGNALS depth) (puts (Warn Limit (Some target) ∷ []) doing) (puts (calls_of doing target signal args depth) doing)) (Keeps agenda)
+      cond_both (is_held_back signal row) (puts [] doing) (cond (nat_le NESTED_SIGNALS depth) (puts (Warn Limit (Some target) ∷ []) doing) (puts (calls_of doing target signal args depth) (posting doing (posts_of doing.state.desk target signal args)))) (Keeps agenda)
       (λ held. under)
-      (λ free. cond_both (nat_le NESTED_SIGNALS depth) (puts (Warn Limit (Some target) ∷ []) doing) (puts (calls_of doing target signal args depth) doing) (Keeps agenda)
+      (λ free. cond_both (nat_le NESTED_SIGNALS depth) (puts (Warn Limit (Some target) ∷ []) doing) (puts (calls_of doing target signal args depth) (posting doing (posts_of doing.state.desk target signal args))) (Keeps agenda)
       (λ deep. in_front (Warn Limit (Some target) ∷ []) agenda doing.state refl under)
       (λ shallow. calls_kept target signal args depth))
 
@@ -199,11 +200,7 @@ item_under_way settings (Act (effect plain) args self sender depth) agenda doing
     (λ target signal values. in_front (Emit target signal values depth ∷ []) agenda doing.state refl rest)
     (λ target. in_front (Delete target depth ∷ []) agenda doing.state refl rest)
     (λ target name value writing there found. written_kept settings agenda doing rest target depth writing (acted_fit doing.state target name value writing found))
-    (λ target parent passed. adopted_under agenda doing rest target parent passed)
-    (λ new allowed sender' receiver'. linked_under agenda doing rest new allowed sender' receiver')
-    (λ pattern. unlinked_under agenda doing rest pattern)
-    (λ target passed. meant_under agenda doing rest (event.Deletion target) passed)
-    (λ target on. blocking_under agenda doing rest target on)
+    (λ deed passed. deed_under agenda doing rest deed passed)
     plain
 item_under_way settings (Act (when test held failed) args self sender depth) agenda doing under =
     let rest = behind (Act (when test held failed) args self sender depth) agenda doing.state (λ number. refl) (λ number. refl) under in

@@ -14,7 +14,6 @@ use Rattle.connection_types.specs.declared.callee.Callee.{Callee}
 use Rattle.connection_types.specs.declared.callee.Callee.TheVariants as callee
 use Rattle.connection_list.specs.declared.connection.Connection.{Connection}
 use Rattle.connection_list.specs.declared.connection.NewConnection.{NewConnection}
-use Rattle.connection_list.specs.declared.pattern.Pattern.{Pattern}
 use Rattle.connection_list.specs.Ends.{matches, touches}
 use Rattle.connection_list.specs.Rows.{Rows, has_number, numbered}
 use Rattle.event_queue.specs.declared.event.Event.{Event}
@@ -29,9 +28,14 @@ use Rattle.thread_model.specs.declared.line.Answer.TheVariants as a
 use Rattle.thread_model.specs.declared.line.Line.{Line}
 use Rattle.thread_model.specs.declared.line.Line.TheVariants as line
 use Rattle.thread_model.specs.declared.line.Line.TheVariants.{Warning}
+use Rattle.thread_model.specs.declared.post.Post.{Post}
 use Rattle.thread_model.specs.Acts.{chosen}
+use Rattle.thread_model.specs.Arriving.{posts_of}
 use Rattle.thread_model.specs.Agenda.{call_line, callee_called, called, calls_of, connection_of, emitted, event_items, functor_called, functor_line, functor_ran, is_held_back, lives, lives_below, method_called, method_items, queued, ran, spun, step, with_turn}
-use Rattle.thread_model.specs.Doing.{Doing, adopted, blocking, dying, first_taken, forgotten, gone, in_state, linked, lost, posted, shot, told, turn_taken, unlinked, untied, used_up}
+use Rattle.thread_model.specs.declared.deed.Deed.{Deed}
+use Rattle.thread_model.specs.declared.deed.Deed.TheVariants as d
+use Rattle.thread_model.specs.Deeds.{deed_done}
+use Rattle.thread_model.specs.Doing.{Doing, dying, first_taken, forgotten, gone, in_state, lost, posted, shot, told, turn_taken, untied, used_up, posting}
 use Rattle.thread_model.specs.Items.{Act, Call, Cut, Delete, Emit, Gone, Item, Kin, Next, Reply, ReplySpun, Run, RunFunctor, Spin, Warn, puts}
 use Rattle.thread_model.specs.Functors.{functor_at}
 use Rattle.thread_model.specs.Methods.{Found, method_at}
@@ -99,6 +103,10 @@ told_later : (doing : Doing) (said : Line) → Later doing (told doing said)
 unfolding told
 told_later doing said = unchanged doing
 
+posting_later : (doing : Doing) (more : List Post) → Later doing (posting doing more)
+unfolding posting
+posting_later doing more = unchanged doing
+
 used_up_later : (doing : Doing) → Later doing (used_up doing)
 unfolding used_up
 used_up_later doing = cond_both doing.spent doing (record doing { spent = true; lines = doing.lines ++ Warning TurnsUsedUp None ∷ [] }) (Later doing) (λ spent. unchanged doing) (λ fresh. unchanged doing)
@@ -109,10 +117,6 @@ shot_later doing row =
     cond_both row.single (in_state (turn_taken doing) (without_connections doing.state (has_number row.number))) (turn_taken doing) (Later doing)
     (λ single. later_without (has_number row.number) doing.state.connections) (λ lasting. unchanged doing)
 
-posted_later : (doing : Doing) (event : Event) → Later doing (posted doing event)
-unfolding posted
-posted_later doing event = unchanged doing
-
 queued_later : (doing : Doing) (call : QueuedCall) → Later doing (queued doing call)
 unfolding posted lost
 queued_later doing call = cond_both (has_room doing.state.queue) (posted doing (event.Call call)) (lost doing) (Later doing) (λ room. unchanged doing) (λ full. unchanged doing)
@@ -121,26 +125,22 @@ taken_later : (doing : Doing) → Later doing (first_taken (turn_taken doing))
 unfolding first_taken turn_taken
 taken_later doing = unchanged doing
 
-blocking_later : (doing : Doing) (target : ℕ) (on : Bool) → Later doing (blocking doing target on)
-unfolding blocking
-blocking_later doing target on = unchanged doing
+deed_later : (doing : Doing) (deed : Deed) → Later doing (deed_done doing deed)
+unfolding deed_done
+deed_later doing (d.Connect new unique) = later_linked doing.state.connections new
+deed_later doing (d.Disconnect pattern) = later_without (matches pattern) doing.state.connections
+deed_later doing (d.SetParent target parent) = unchanged doing
+deed_later doing (d.DeleteLater target) = unchanged doing
+deed_later doing (d.Block target on) = unchanged doing
 
 module _ (settings : Settings) where
   kins_later : (target depth : ℕ) (doing : Doing) → Later doing (forgotten (untied doing target) target)
   unfolding untied forgotten
   kins_later target depth doing = later_without (touches target) doing.state.connections
 
-  linked_later : (doing : Doing) (new : NewConnection) → Later doing (linked doing new)
-  unfolding linked
-  linked_later doing new = later_linked doing.state.connections new
-
-  unlinked_later : (doing : Doing) (pattern : Pattern) → Later doing (unlinked doing pattern)
-  unfolding unlinked
-  unlinked_later doing pattern = later_without (matches pattern) doing.state.connections
-
-  others_later : (doing : Doing) (target : ℕ) (parent : Option ℕ) → Later doing (adopted doing target parent) × Later doing (dying doing target) × Later doing (gone doing target)
-  unfolding adopted dying gone
-  others_later doing target parent = (unchanged doing, unchanged doing, unchanged doing)
+  others_later : (doing : Doing) (target : ℕ) → Later doing (dying doing target) × Later doing (gone doing target)
+  unfolding dying gone
+  others_later doing target = (unchanged doing, unchanged doing)
 
   -- what is written concerns no connection
   with_writing_later : (doing : Doing) (target : ℕ) (writing : Writing) → Later doing (in_state doing (with_writing doing.state target writing))
@@ -156,9 +156,9 @@ module _ (settings : Settings) where
   emitted_later : (target signal : ℕ) (args : List Value) (depth : ℕ) (doing : Doing) (found : Option Row) → Later doing (option_map_or (emitted doing target signal args depth) found (puts [] doing)).doing
   emitted_later target signal args depth doing None = unchanged doing
   emitted_later target signal args depth doing (Some row) =
-      cond_both (is_held_back signal row) (puts [] doing) (if nat_le NESTED_SIGNALS depth then puts (Warn Limit (Some target) ∷ []) doing else puts (calls_of doing target signal args depth) doing) (λ (next : Next). Later doing next.doing)
+      cond_both (is_held_back signal row) (puts [] doing) (if nat_le NESTED_SIGNALS depth then puts (Warn Limit (Some target) ∷ []) doing else puts (calls_of doing target signal args depth) (posting doing (posts_of doing.state.desk target signal args))) (λ (next : Next). Later doing next.doing)
       (λ held. unchanged doing)
-      (λ free. cond_both (nat_le NESTED_SIGNALS depth) (puts (Warn Limit (Some target) ∷ []) doing) (puts (calls_of doing target signal args depth) doing) (λ (next : Next). Later doing next.doing) (λ deep. unchanged doing) (λ shallow. unchanged doing))
+      (λ free. cond_both (nat_le NESTED_SIGNALS depth) (puts (Warn Limit (Some target) ∷ []) doing) (puts (calls_of doing target signal args depth) (posting doing (posts_of doing.state.desk target signal args))) (λ (next : Next). Later doing next.doing) (λ deep. unchanged doing) (λ shallow. posting_later doing (posts_of doing.state.desk target signal args)))
 
   -- a call adds no connection to those that the session has by then
   callee_later : (connection : Connection) (args : List Value) (depth : ℕ) (doing : Doing) (called : Callee) → Later doing (callee_called settings connection args depth doing called).doing
@@ -222,20 +222,16 @@ module _ (settings : Settings) where
       (λ target signal values. unchanged doing)
       (λ target. unchanged doing)
       (λ target name value writing there found. written_later doing target depth writing)
-      (λ target parent passed. (others_later doing target parent).0)
-      (λ new allowed sender' receiver'. linked_later doing new)
-      (λ pattern. unlinked_later doing pattern)
-      (λ target passed. posted_later doing (event.Deletion target))
-      (λ target on. blocking_later doing target on)
+      (λ deed passed. deed_later doing deed)
       plain
   step_later (Act (when test held failed) args self sender depth) doing = chosen_later (truth_evaluated doing.state self sender args test) held failed args self sender depth doing
   step_later (Warn code object) doing = told_later doing (line.Warning code object)
   step_later (Delete target depth) doing =
-      cond_both (lives doing target) (puts (Emit target DESTROYED [] depth ∷ Cut target depth ∷ Gone target depth ∷ []) (dying doing target)) (puts [] doing) (λ (next : Next). Later doing next.doing) (λ living. (others_later doing target None).1) (λ absent. unchanged doing)
+      cond_both (lives doing target) (puts (Emit target DESTROYED [] depth ∷ Cut target depth ∷ Gone target depth ∷ []) (dying doing target)) (puts [] doing) (λ (next : Next). Later doing next.doing) (λ living. (others_later doing target).0) (λ absent. unchanged doing)
   step_later (Cut target depth) doing = kins_later target depth doing
   step_later (Kin parent child depth) doing =
       cond_both (lives_below doing parent child) (puts (Delete child depth ∷ []) doing) (puts [] doing) (λ (next : Next). Later doing next.doing) (λ living. unchanged doing) (λ other. unchanged doing)
-  step_later (Gone target depth) doing = (others_later doing target None).2
+  step_later (Gone target depth) doing = (others_later doing target).1
   step_later Spin doing = spun_later doing doing.state.queue.events
   step_later (Reply answer) doing = told_later doing (line.Reply answer)
   step_later ReplySpun doing = told_later doing (line.Reply (a.Spun (spin_of doing)))

@@ -1,33 +1,34 @@
 -- Commands, posts and items keep a session sound.
-use Rattle.std.proofs.Common.{◌≡◌, ◌==◌, ℕ, Bool, true, false, cond, List, [], ◌∷◌, ◌++◌, Option, Some, None, Ok, Err, refl, sym, ap, ◌∙◌, arith}
-use Rattle.std.specs.List.{list_any}
-use Rattle.std.specs.Option.{option_or}
+use Rattle.std.proofs.Common.{◌≡◌, ◌==◌, ℕ, Bool, true, false, cond, List, [], ◌∷◌, ◌++◌, Option, Some, None, Ok, Err, is_some, refl, sym, ap, ◌∙◌, arith}
+use Rattle.std.specs.List.{list_any, All}
+use Rattle.std.specs.Option.{option_map_or}
 use Rattle.std.proofs.lemmas.Bool.{cond_both}
 use Rattle.std.proofs.lemmas.List.Elements.{All-weaker}
 use Rattle.isolation.specs.Machine.{Effect}
 use Rattle.refusals.specs.declared.code.Code.{Code}
-use Rattle.refusals.specs.declared.code.Code.TheVariants.{NoSuchObject}
+use Rattle.refusals.specs.declared.code.Code.TheVariants.{Dying, NoSuchObject}
 use Rattle.serde_json.specs.Data.{Data}
 use Rattle.variant_value.specs.declared.value.Value.{Value}
 use Rattle.object_tree.specs.declared.row.Row.{Row}
-use Rattle.object_tree.specs.Rows.{is_there}
-use Rattle.object_tree.specs.Refusing.{parent_refusal}
+use Rattle.object_tree.specs.Rows.{is_there, row_of}
+use Rattle.object_tree.specs.Refusing.{object_refusal, parent_refusal}
 use Rattle.connection_types.specs.declared.callee.Callee.TheVariants.{Method}
 use Rattle.connection_types.specs.declared.connection_type.ConnectionType.{ConnectionType}
-use Rattle.connection_list.specs.declared.connection.NewConnection.{NewConnection}
-use Rattle.connection_list.specs.declared.pattern.Pattern.{Pattern}
-use Rattle.connection_list.specs.Ends.{matches}
 use Rattle.connection_list.specs.Rows.{has_number}
 use Rattle.event_queue.specs.declared.event.Event.{Event}
-use Rattle.event_queue.specs.declared.event.Event.TheVariants.{Call, Deletion}
+use Rattle.event_queue.specs.declared.event.Event.TheVariants.{Call}
+use Rattle.event_queue.specs.Queue as events
+use Rattle.event_queue.specs.Queue.{Queue}
 use Rattle.thread_model.specs.declared.line.Answer.{Answer}
 use Rattle.thread_model.specs.declared.line.Answer.TheVariants as a
 use Rattle.thread_model.specs.declared.line.Line.{Line}
 use Rattle.thread_model.specs.declared.post.Post.{Post}
 use Rattle.thread_model.specs.Absence.{absence}
 use Rattle.thread_model.specs.Agenda.{with_turn}
-use Rattle.thread_model.specs.Asked.{Asked, New, Delete, SetParent, Children, Find, Set, Get, DynamicNames, Meta, Connect, ConnectFunctor, DisconnectOne, Disconnect, Invoke, Spin, DeleteLater, Block, Status}
-use Rattle.thread_model.specs.Connecting.{connection_refusal, functor_refusal}
+use Rattle.thread_model.specs.Asked.{Asked, New, Delete, Children, Find, Set, Get, DynamicNames, Meta, Connect, ConnectFunctor, DisconnectOne, Disconnect, Invoke, Spin, Do, Status}
+use Rattle.thread_model.specs.declared.deed.Deed.{Deed}
+use Rattle.thread_model.specs.Deeds.{deed_done, deed_refusal, found_refusal, with_deed}
+use Rattle.thread_model.specs.Arriving.{joined_call, reached_by}
 use Rattle.thread_model.specs.Doing.{Doing, begun, turn_taken, used_up}
 use Rattle.thread_model.specs.Effects.{does_next, unless}
 use Rattle.thread_model.specs.Events.{spins}
@@ -39,19 +40,20 @@ use Rattle.thread_model.specs.Posting.{is_queued}
 use Rattle.thread_model.specs.Properties.{is_declared, sets}
 use Rattle.thread_model.specs.Refusing.{class_refusal, refusal}
 use Rattle.thread_model.specs.Run.{run}
-use Rattle.thread_model.specs.Signals.{asked_connection, asked_functor_connection, asked_method, asked_pattern, connects, disconnects, invoked, invoked_later, invokes}
+use Rattle.thread_model.specs.Signals.{asked_connect, asked_connect_functor, asked_disconnect, asked_method, does_found, invoked, invoked_later, invokes}
 use Rattle.thread_model.specs.State.{IsMeant, IsSound, State, with_event}
 use Rattle.thread_model.specs.Thread.{Settings, arrives, does, performs}
 use Rattle.thread_model.specs.UnderWay.{IsUnderWay, is_gone}
 use Rattle.thread_model.specs.Writing.{Writing, asked_writing, with_writing, written}
-use Rattle.thread_model.proofs.ActLemmas.{Joins, joins, joins_functor}
-use Rattle.thread_model.proofs.ConnectionLemmas.{IsAllowed, allowed}
-use Rattle.thread_model.proofs.DyingLemmas.{each_added, each_blocked, each_reparented}
+use Rattle.thread_model.proofs.ConnectionLemmas.{or_none}
+use Rattle.thread_model.proofs.DyingLemmas.{each_added, of_row}
 use Rattle.thread_model.proofs.FitLemmas.{IsFit, asked_fit}
 use Rattle.thread_model.proofs.ItemLemmas.{item_under_way}
 use Rattle.thread_model.proofs.RunLemmas.{run_keeps}
-use Rattle.thread_model.proofs.StateLemmas.{whole_empty, whole_with_blocking, whole_with_connection, whole_with_event, whole_with_object, whole_with_parent, whole_without_connections}
-use Rattle.thread_model.proofs.UnderWayLemmas.{IsGoing, none_goes, turn_under, untied_staying, used_up_under, writing_under}
+use Rattle.thread_model.proofs.StateLemmas.{whole_empty, whole_with_event, whole_with_object, whole_without_connections, whole_with_queue}
+use Rattle.thread_model.proofs.UnderWayLemmas.{IsGoing, deed_under, none_goes, turn_under, untied_staying, used_up_under, writing_under}
+use Rattle.thread_model.proofs.ArrivingLemmas.{reached_by_keeps}
+use Rattle.thread_model.proofs.QueueLemmas.{each_posted, sound_lost, sound_mismatched, sound_posted}
 use Rattle.thread_model.proofs.WritingLemmas.{written_cases}
 
 -- between commands no agenda needs to let an object go
@@ -82,42 +84,12 @@ run_sound settings agenda doing none sound =
 done_sound : (settings : Settings) (next : Next) (answer : Answer) → list_any is_gone (next.items ++ to_do.Reply answer ∷ []) ≡ false → IsSound next.doing.state → IsSound (does_next settings next answer).state
 done_sound settings next answer none sound = run_sound settings (next.items ++ to_do.Reply answer ∷ []) next.doing none sound
 
--- nothing is refused where neither of two refusals stands
-or_none : {A : Type 0} (first second : Option A) → option_or first second ≡ None → (first ≡ None) × (second ≡ None)
-or_none None second passed = (refl, passed)
-or_none (Some code) second passed = absurd (cc)
-
 is_present : (state : State) (target : ℕ) → absence state target ≡ None → is_there state.forest.rows target ≡ true
 is_present state target passed = by (is_there state.forest.rows target) passed
   where
     by : (there : Bool) → cond there None (Some NoSuchObject) ≡ None → there ≡ true
     by true e = refl
     by false e = absurd (cc)
-
--- a connection that is not refused is made
-connected_sound : (state : State) (sender receiver : ℕ) (found : Found NewConnection) → ((new : NewConnection) → found ≡ Ok new → Joins sender receiver new)
-    → is_there state.forest.rows sender ≡ true → is_there state.forest.rows receiver ≡ true → ((new : NewConnection) → found ≡ Ok new → IsAllowed state.connections) → IsSound state → IsSound (connects state found).state
-connected_sound state sender receiver (Err code) ends sender' receiver' passed sound = sound
-connected_sound state sender receiver (Ok new) ends sender' receiver' passed sound =
-    let its = ends new refl in
-    record {
-      whole = whole_with_connection state new (passed new refl) (ap (is_there state.forest.rows) its.sender ∙ sender') (ap (is_there state.forest.rows) its.receiver ∙ receiver') sound.whole;
-      living = sound.living;
-    }
-
--- what is not refused is allowed
-connection_allowed : (state : State) (unique : Bool) (found : Found NewConnection) → connection_refusal state.connections found unique ≡ None → (new : NewConnection) → found ≡ Ok new → IsAllowed state.connections
-connection_allowed state unique (Err code) passed new is = absurd (cc)
-connection_allowed state unique (Ok made) passed new is = allowed state.connections made unique passed
-
-functor_allowed : (state : State) (unique : Bool) (found : Found NewConnection) → functor_refusal state.connections found unique ≡ None → (new : NewConnection) → found ≡ Ok new → IsAllowed state.connections
-functor_allowed state unique (Err code) passed new is = absurd (cc)
-functor_allowed state true (Ok made) passed new is = absurd (cc)
-functor_allowed state false (Ok made) passed new is = allowed state.connections made false passed
-
-disconnected_sound : (state : State) (found : Found Pattern) → IsSound state → IsSound (disconnects state found).state
-disconnected_sound state (Err code) sound = sound
-disconnected_sound state (Ok pattern) sound = record { whole = whole_without_connections state (matches pattern) sound.whole; living = sound.living }
 
 -- what a command begins with is sound, and lets nothing go
 record Begins (next : Next) : Type 0 where
@@ -135,6 +107,22 @@ set_sound settings state target (Ok writing) fits sound =
     let begins : Begins (written settings (begun settings state) target 0 writing) =
     written_cases settings (begun settings state) target 0 writing Begins (record { none = λ answer. refl; sound = after }) (λ signal values. record { none = λ answer. refl; sound = after }) in
     done_sound settings (written settings (begun settings state) target 0 writing) (a.Truth (is_declared writing)) (begins.none _) begins.sound
+
+deed_sound : (doing : Doing) (deed : Deed) → deed_refusal doing.state deed ≡ None → IsSound doing.state → IsSound (with_deed doing.state deed)
+unfolding deed_done
+deed_sound doing deed passed sound = sound_at_end (with_deed doing.state deed) (deed_under [] doing (under_way [] doing.state refl sound) deed passed)
+
+found_sound : (settings : Settings) (state : State) (found : Found Deed) → found_refusal state found ≡ None → IsSound state → IsSound (does_found state found).state
+found_sound settings state (Ok deed) passed sound = deed_sound (begun settings state) deed passed sound
+found_sound settings state (Err code) passed sound = sound
+
+-- no command finds an object dying
+pub none_dying : (state : State) (target : ℕ) → IsSound state → object_refusal state.forest.rows target ≡ absence state target
+none_dying state target sound = by (row_of state.forest.rows target) refl
+  where
+    by : (found : Option Row) → row_of state.forest.rows target ≡ found → option_map_or (λ (row : Row). cond row.dying (Some Dying) None) found (Some NoSuchObject) ≡ cond (is_some found) None (Some NoSuchObject)
+    by None is = refl
+    by (Some row) is = ap (λ dying. cond dying (Some Dying) None) (of_row (λ number dying. dying ≡ false) state.forest.rows target row is sound.living)
 
 used_up_sound : (doing : Doing) → IsSound doing.state → IsSound (used_up doing).state
 used_up_sound doing sound = sound_at_end (used_up doing).state (used_up_under [] doing (under_way [] doing.state refl sound))
@@ -172,32 +160,20 @@ performed_sound settings self state (New class parent) passed sound =
     let allowed = (or_none (class_refusal settings.classes class) _ (or_none (parent_refusal state.forest.rows parent) _ passed).1).1 in
     record { whole = whole_with_object settings.classes state parent _ allowed sound.whole; living = each_added (λ number dying. dying ≡ false) state.forest parent _ refl sound.living }
 performed_sound settings self state (Delete target) passed sound = done_sound settings (puts (to_do.Delete target 0 ∷ []) (begun settings state)) (a.Truth true) refl sound
-performed_sound settings self state (SetParent target parent) passed sound =
-    record { whole = whole_with_parent state target parent passed sound.whole; living = each_reparented (λ number dying. dying ≡ false) state.forest target parent sound.living }
 performed_sound settings self state (Children target) passed sound = sound
 performed_sound settings self state (Find target title class) passed sound = sound
 performed_sound settings self state (Set target property value) passed sound = set_sound settings state target (asked_writing state target property value) (asked_fit state target property value) sound
 performed_sound settings self state (Get target property) passed sound = sound
 performed_sound settings self state (DynamicNames target) passed sound = sound
 performed_sound settings self state (Meta class) passed sound = sound
-performed_sound settings self state (Connect sender signal receiver method mode unique single) passed sound =
-    let one = or_none (absence state sender) _ passed in
-    let other = or_none (absence state receiver) _ one.1 in
-    let found = asked_connection settings state sender signal receiver method mode single in
-    connected_sound state sender receiver found (joins settings state sender _ receiver _ mode single) (is_present state sender one.0) (is_present state receiver other.0) (connection_allowed state unique found other.1) sound
-performed_sound settings self state (ConnectFunctor sender signal context functor mode unique single) passed sound =
-    let one = or_none (absence state sender) _ passed in
-    let other = or_none (absence state context) _ one.1 in
-    let found = asked_functor_connection settings state sender signal context functor mode single in
-    connected_sound state sender context found (joins_functor settings state sender _ context _ mode single) (is_present state sender one.0) (is_present state context other.0) (functor_allowed state unique found other.1) sound
+performed_sound settings self state (Connect sender signal receiver method mode unique single) passed sound = found_sound settings state (asked_connect settings state sender signal receiver method mode unique single) passed sound
+performed_sound settings self state (ConnectFunctor sender signal context functor mode unique single) passed sound = found_sound settings state (asked_connect_functor settings state sender signal context functor mode unique single) passed sound
 performed_sound settings self state (DisconnectOne connection) passed sound = record { whole = whole_without_connections state (has_number connection) sound.whole; living = sound.living }
-performed_sound settings self state (Disconnect sender signal receiver method) passed sound = disconnected_sound state (asked_pattern settings state sender signal receiver method) sound
+performed_sound settings self state (Disconnect sender signal receiver method) passed sound = found_sound settings state (asked_disconnect settings state sender signal receiver method) passed sound
 performed_sound settings self state (Invoke target method args mode) passed sound =
     invokes_sound settings state target args mode (asked_method settings state target method) (is_present state target (or_none (absence state target) _ passed).0) sound
 performed_sound settings self state Spin passed sound = spins_sound settings state sound
-performed_sound settings self state (DeleteLater target) passed sound = posted_sound state (Deletion target) (is_present state target (or_none (absence state target) _ passed).0) sound
-performed_sound settings self state (Block target on) passed sound =
-    record { whole = whole_with_blocking state target on sound.whole; living = each_blocked (λ number dying. dying ≡ false) state.forest target on sound.living }
+performed_sound settings self state (Do deed) passed sound = found_sound settings state (Ok deed) passed sound
 performed_sound settings self state Status passed sound = sound
 
 -- a refused command leaves the state
@@ -212,7 +188,13 @@ command_sound settings self state asked sound =
 
 post_sound : (state : State) (from : List ℕ) (post : Post) → IsSound state → IsSound (arrives state from post)
 unfolding arrives
-post_sound state from post sound = sound
+post_sound state from post sound =
+    let queue = reached_by_keeps (λ (queue : Queue). events.IsSound queue × All (IsMeant state) queue.events) from post state.forest.rows
+    (λ queue holds. (sound_mismatched queue holds.0, holds.1))
+    (λ queue holds. (sound_lost queue holds.0, holds.1))
+    (λ queue join there holds. (sound_posted queue (Call (joined_call post.arguments join)) holds.0, each_posted (IsMeant state) queue (Call (joined_call post.arguments join)) there holds.1))
+    state.queue state.desk.joins (sound.whole.queue, sound.whole.meant) in
+    record { whole = whole_with_queue state (reached_by from post state.forest.rows state.queue state.desk.joins) queue.0 queue.1 sound.whole; living = sound.living }
 
 pub keeps_sound : KeepsSound
 keeps_sound = record {

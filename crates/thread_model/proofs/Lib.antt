@@ -10,6 +10,7 @@ pub mod FallLemmas
 pub mod RunLemmas
 pub mod FitLemmas
 pub mod StateLemmas
+pub mod ArrivingLemmas
 pub mod UnderWayLemmas
 pub mod ItemLemmas
 pub mod LawLemmas
@@ -19,6 +20,7 @@ pub mod FilterLemmas
 pub mod LaterLemmas
 pub mod RemainingLemmas
 pub mod NextCallLemmas
+pub mod JoinLemmas
 pub mod Lawful
 pub mod EmissionLemmas
 pub mod DeletionLemmas

@@ -8,7 +8,7 @@ use Rattle.std.proofs.lemmas.List.Sums.{count_by-le-length, length-filter}
 use Rattle.object_tree.specs.Rows.{numbers}
 use Rattle.event_queue.specs.declared.event.Event.{Event}
 use Rattle.event_queue.specs.declared.table.TheConstants.{EVENTS}
-use Rattle.event_queue.specs.Queue.{IsSound, Queue, dropped, empty_queue, has_room, object_of, others, posted, taken, with_lost}
+use Rattle.event_queue.specs.Queue.{IsSound, Queue, dropped, empty_queue, has_room, object_of, others, posted, taken, with_lost, with_mismatched}
 use Rattle.thread_model.specs.State.{IsMeant, State}
 use Rattle.thread_model.proofs.ConnectionLemmas.{there_more, there_same, there_without}
 
@@ -35,6 +35,9 @@ sound_dropped object queue sound =
 
 pub sound_lost : (queue : Queue) → IsSound queue → IsSound (with_lost queue)
 sound_lost queue sound = record { few = sound.few; lost = omega arith; mismatched = sound.mismatched }
+
+pub sound_mismatched : (queue : Queue) → IsSound queue → IsSound (with_mismatched queue)
+sound_mismatched queue sound = record { few = sound.few; lost = sound.lost; mismatched = omega arith }
 
 -- what holds of every event, and of one more, holds when that is posted
 pub each_posted : (P : Event → Type 0) (queue : Queue) (event : Event) → P event → All P queue.events → All P (posted queue event).events

@@ -1,16 +1,15 @@
 -- What each change leaves of what bounds a run: turns, objects and connections.
-use Rattle.std.proofs.Common.{◌≡◌, ◌≤◌, ◌+◌, ◌==◌, ℕ, Bool, true, false, not, cond, List, [], ◌∷◌, ◌++◌, length, filter, max, Option, None, refl, arith}
+use Rattle.std.proofs.Common.{◌≡◌, ◌≤◌, ◌+◌, ◌==◌, ℕ, Bool, true, false, not, cond, List, [], ◌∷◌, ◌++◌, length, filter, max, None, refl, arith}
 use Rattle.std.proofs.lemmas.List.{length-append, length-map}
 use Rattle.std.proofs.lemmas.Bool.{cond_both, eqb-false}
 use Rattle.refusals.specs.declared.code.Code.TheVariants.{TurnsUsedUp}
 use Rattle.connection_list.specs.declared.connection.Connection.{Connection}
-use Rattle.connection_list.specs.declared.connection.NewConnection.{NewConnection}
 use Rattle.connection_list.specs.declared.limit.TheConstants.{CONNECTIONS}
-use Rattle.connection_list.specs.declared.pattern.Pattern.{Pattern}
 use Rattle.connection_list.specs.Ends.{matches, touches}
 use Rattle.connection_list.specs.Rows.{has_number, numbered}
 use Rattle.object_tree.specs.Rows.{has_number as has_object}
 use Rattle.object_tree.specs.declared.row.Row.{Row}
+use Rattle.object_tree.specs.Refusing.{object_refusal}
 use Rattle.object_tree.specs.Changes.{marked, orphaned, removed, with_blocked}
 use Rattle.event_queue.specs.declared.event.Event.{Event}
 use Rattle.event_queue.specs.declared.event.Event.TheVariants as event
@@ -18,11 +17,17 @@ use Rattle.event_queue.specs.declared.event.QueuedCall.{QueuedCall}
 use Rattle.event_queue.specs.Queue.{has_room}
 use Rattle.thread_model.specs.declared.line.Line.{Line}
 use Rattle.thread_model.specs.declared.line.Line.TheVariants.{Warning}
+use Rattle.std.specs.List.{list_any}
+use Rattle.thread_model.specs.declared.post.Join.{Join}
+use Rattle.thread_model.specs.declared.post.Post.{Post}
 use Rattle.thread_model.specs.Agenda.{lives, queued}
-use Rattle.thread_model.specs.Doing.{Doing, adopted, blocking, dying, first_taken, forgotten, gone, in_state, linked, lost, posted, shot, told, turn_taken, unlinked, untied, used_up}
+use Rattle.thread_model.specs.declared.deed.Deed.{Deed}
+use Rattle.thread_model.specs.declared.deed.Deed.TheVariants as d
+use Rattle.thread_model.specs.Deeds.{deed_done, deed_refusal}
+use Rattle.thread_model.specs.Doing.{Doing, dying, first_taken, forgotten, gone, in_state, lost, posted, shot, told, turn_taken, untied, used_up, posting}
 use Rattle.thread_model.specs.State.{without_connections}
 use Rattle.thread_model.specs.Writing.{Declared, Dynamic, Nothing, Removed, Writing, with_writing}
-use Rattle.thread_model.proofs.ConnectionLemmas.{IsAllowed}
+use Rattle.thread_model.proofs.ConnectionLemmas.{allowed, or_none}
 use Rattle.thread_model.proofs.LivingLemmas.{all_orphaned-living, changed-as_many, filter-fewer, filter-living, living_rows, marked-one, reparented-as_many}
 
 -- nothing that bounds the run has grown
@@ -33,9 +38,11 @@ pub record Shrinks (old new : Doing) : Type 0 where
   pub living : living_rows new.state.forest.rows ≤ living_rows old.state.forest.rows
   pub objects : length new.state.forest.rows ≤ length old.state.forest.rows
   pub connections : max CONNECTIONS (length new.state.connections.rows) ≤ max CONNECTIONS (length old.state.connections.rows)
+  -- no join is made
+  pub joins : (test : Join → Bool) → list_any test new.state.desk.joins ≡ true → list_any test old.state.desk.joins ≡ true
 
 pub same : (doing : Doing) → Shrinks doing doing
-same doing = record { turns = omega arith; taken = omega arith; living = omega arith; objects = omega arith; connections = omega arith }
+same doing = record { turns = omega arith; taken = omega arith; living = omega arith; objects = omega arith; connections = omega arith; joins = λ test held. held }
 
 pub both : (one two three : Doing) → Shrinks one two → Shrinks two three → Shrinks one three
 both one two three first second = record {
@@ -44,6 +51,7 @@ both one two three first second = record {
   living = omega (arith, first.living, second.living);
   objects = omega (arith, first.objects, second.objects);
   connections = omega (arith, first.connections, second.connections);
+  joins = λ test held. first.joins test (second.joins test held);
 }
 
 -- fewer rows are no more of them
@@ -52,18 +60,22 @@ kept n test rows = let fewer = filter-fewer test rows in omega (arith, fewer)
 
 pub told_shrinks : (doing : Doing) (said : Line) → Shrinks doing (told doing said)
 unfolding told
-told_shrinks doing said = record { turns = omega arith; taken = omega arith; living = omega arith; objects = omega arith; connections = omega arith }
+told_shrinks doing said = record { turns = omega arith; taken = omega arith; living = omega arith; objects = omega arith; connections = omega arith; joins = λ test held. held }
+
+pub posting_shrinks : (doing : Doing) (more : List Post) → Shrinks doing (posting doing more)
+unfolding posting
+posting_shrinks doing more = record { turns = omega arith; taken = omega arith; living = omega arith; objects = omega arith; connections = omega arith; joins = λ test held. held }
 
 pub used_up_shrinks : (doing : Doing) → Shrinks doing (used_up doing)
 unfolding used_up
 used_up_shrinks doing =
     cond_both doing.spent doing (record doing { spent = true; lines = doing.lines ++ Warning TurnsUsedUp None ∷ [] }) (Shrinks doing)
     (λ spent. same doing)
-    (λ fresh. record { turns = omega arith; taken = omega arith; living = omega arith; objects = omega arith; connections = omega arith })
+    (λ fresh. record { turns = omega arith; taken = omega arith; living = omega arith; objects = omega arith; connections = omega arith; joins = λ test held. held })
 
 pub turn_shrinks : (doing : Doing) → Shrinks doing (turn_taken doing)
 unfolding turn_taken
-turn_shrinks doing = record { turns = omega arith; taken = omega arith; living = omega arith; objects = omega arith; connections = omega arith }
+turn_shrinks doing = record { turns = omega arith; taken = omega arith; living = omega arith; objects = omega arith; connections = omega arith; joins = λ test held. held }
 
 pub turn_taken-less : (doing : Doing) → (doing.turns == 0) ≡ false → (turn_taken doing).turns + 1 ≤ doing.turns
 unfolding turn_taken
@@ -73,25 +85,25 @@ pub shot_shrinks : (doing : Doing) (row : Connection) → Shrinks doing (shot do
 unfolding shot
 shot_shrinks doing row =
     cond_both row.single (in_state doing (without_connections doing.state (has_number row.number))) doing (Shrinks doing)
-    (λ single. record { turns = omega arith; taken = omega arith; living = omega arith; objects = omega arith; connections = kept CONNECTIONS (λ other. not (has_number row.number other)) doing.state.connections.rows })
+    (λ single. record { turns = omega arith; taken = omega arith; living = omega arith; objects = omega arith; connections = kept CONNECTIONS (λ other. not (has_number row.number other)) doing.state.connections.rows; joins = λ test held. held })
     (λ lasting. same doing)
 
 pub untied_shrinks : (doing : Doing) (target : ℕ) → Shrinks doing (untied doing target)
 unfolding untied
-untied_shrinks doing target = record { turns = omega arith; taken = omega arith; living = omega arith; objects = omega arith; connections = kept CONNECTIONS (λ row. not (touches target row)) doing.state.connections.rows }
+untied_shrinks doing target = record { turns = omega arith; taken = omega arith; living = omega arith; objects = omega arith; connections = kept CONNECTIONS (λ row. not (touches target row)) doing.state.connections.rows; joins = λ test held. held }
 
 -- what becomes of the events leaves all of this as it is
 pub forgotten_shrinks : (doing : Doing) (target : ℕ) → Shrinks doing (forgotten doing target)
 unfolding forgotten
-forgotten_shrinks doing target = record { turns = omega arith; taken = omega arith; living = omega arith; objects = omega arith; connections = omega arith }
+forgotten_shrinks doing target = record { turns = omega arith; taken = omega arith; living = omega arith; objects = omega arith; connections = omega arith; joins = λ test held. held }
 
 pub posted_shrinks : (doing : Doing) (event : Event) → Shrinks doing (posted doing event)
 unfolding posted
-posted_shrinks doing event = record { turns = omega arith; taken = omega arith; living = omega arith; objects = omega arith; connections = omega arith }
+posted_shrinks doing event = record { turns = omega arith; taken = omega arith; living = omega arith; objects = omega arith; connections = omega arith; joins = λ test held. held }
 
 pub lost_shrinks : (doing : Doing) → Shrinks doing (lost doing)
 unfolding lost
-lost_shrinks doing = record { turns = omega arith; taken = omega arith; living = omega arith; objects = omega arith; connections = omega arith }
+lost_shrinks doing = record { turns = omega arith; taken = omega arith; living = omega arith; objects = omega arith; connections = omega arith; joins = λ test held. held }
 
 pub queued_shrinks : (doing : Doing) (call : QueuedCall) → Shrinks doing (queued doing call)
 queued_shrinks doing call =
@@ -104,45 +116,41 @@ pub taken_shrinks : (doing : Doing) → (doing.turns == 0) ≡ false → Shrinks
 unfolding first_taken turn_taken
 taken_shrinks doing some =
     let more = eqb-false doing.turns 0 some in
-    record { turns = omega arith; taken = omega (arith, more); living = omega arith; objects = omega arith; connections = omega arith }
+    record { turns = omega arith; taken = omega (arith, more); living = omega arith; objects = omega arith; connections = omega arith; joins = λ test held. held }
 
 pub first_taken-turns : (doing : Doing) → (first_taken doing).turns ≡ doing.turns
 unfolding first_taken
 first_taken-turns doing = refl
 
--- an object whose signals are blocked is as living as before
-pub blocking_shrinks : (doing : Doing) (target : ℕ) (on : Bool) → Shrinks doing (blocking doing target on)
-unfolding blocking with_blocked
-blocking_shrinks doing target on =
-    let many = changed-as_many (λ (row : Row). record row { blocked = on }) target (λ row. refl) doing.state.forest.rows in
-    record { turns = omega arith; taken = omega arith; living = omega (arith, many.living); objects = omega (arith, many.objects); connections = omega arith }
-
-pub unlinked_shrinks : (doing : Doing) (pattern : Pattern) → Shrinks doing (unlinked doing pattern)
-unfolding unlinked
-unlinked_shrinks doing pattern = record { turns = omega arith; taken = omega arith; living = omega arith; objects = omega arith; connections = kept CONNECTIONS (λ row. not (matches pattern row)) doing.state.connections.rows }
-
-pub linked_shrinks : (doing : Doing) (new : NewConnection) → IsAllowed doing.state.connections → Shrinks doing (linked doing new)
-unfolding linked
-linked_shrinks doing new allowed = record {
-  turns = omega arith;
-  taken = omega arith;
-  living = omega arith;
-  objects = omega arith;
-  connections = omega (arith, allowed.room, length-append doing.state.connections.rows (numbered (doing.state.connections.last_number + 1) new ∷ []));
-}
-
 -- what is written bounds nothing
 pub written_shrinks : (doing : Doing) (target : ℕ) (writing : Writing) → Shrinks doing (in_state doing (with_writing doing.state target writing))
-written_shrinks doing target (Declared number value) = record { turns = omega arith; taken = omega arith; living = omega arith; objects = omega arith; connections = omega arith }
-written_shrinks doing target (Dynamic name value) = record { turns = omega arith; taken = omega arith; living = omega arith; objects = omega arith; connections = omega arith }
-written_shrinks doing target (Removed name) = record { turns = omega arith; taken = omega arith; living = omega arith; objects = omega arith; connections = omega arith }
+written_shrinks doing target (Declared number value) = record { turns = omega arith; taken = omega arith; living = omega arith; objects = omega arith; connections = omega arith; joins = λ test held. held }
+written_shrinks doing target (Dynamic name value) = record { turns = omega arith; taken = omega arith; living = omega arith; objects = omega arith; connections = omega arith; joins = λ test held. held }
+written_shrinks doing target (Removed name) = record { turns = omega arith; taken = omega arith; living = omega arith; objects = omega arith; connections = omega arith; joins = λ test held. held }
 written_shrinks doing target Nothing = same doing
 
-pub adopted_shrinks : (doing : Doing) (target : ℕ) (parent : Option ℕ) → Shrinks doing (adopted doing target parent)
-unfolding adopted
-adopted_shrinks doing target parent =
+-- a deed leaves as many living objects
+pub deed_shrinks : (doing : Doing) (deed : Deed) → deed_refusal doing.state deed ≡ None → Shrinks doing (deed_done doing deed)
+unfolding deed_done with_blocked
+deed_shrinks doing (d.Connect new unique) passed =
+    let all = or_none (object_refusal doing.state.forest.rows new.sender) _ passed in
+    let its = allowed doing.state.connections new unique (or_none (object_refusal doing.state.forest.rows new.receiver) _ all.1).1 in
+    record {
+      turns = omega arith;
+      taken = omega arith;
+      living = omega arith;
+      objects = omega arith;
+      connections = omega (arith, its.room, length-append doing.state.connections.rows (numbered (doing.state.connections.last_number + 1) new ∷ []));
+      joins = λ test held. held;
+    }
+deed_shrinks doing (d.Disconnect pattern) passed = record { turns = omega arith; taken = omega arith; living = omega arith; objects = omega arith; connections = kept CONNECTIONS (λ row. not (matches pattern row)) doing.state.connections.rows; joins = λ test held. held }
+deed_shrinks doing (d.SetParent target parent) passed =
     let many = reparented-as_many doing.state.forest target parent in
-    record { turns = omega arith; taken = omega arith; living = omega (arith, many.living); objects = omega (arith, many.objects); connections = omega arith }
+    record { turns = omega arith; taken = omega arith; living = omega (arith, many.living); objects = omega (arith, many.objects); connections = omega arith; joins = λ test held. held }
+deed_shrinks doing (d.DeleteLater target) passed = record { turns = omega arith; taken = omega arith; living = omega arith; objects = omega arith; connections = omega arith; joins = λ test held. held }
+deed_shrinks doing (d.Block target on) passed =
+    let many = changed-as_many (λ (row : Row). record row { blocked = on }) target (λ row. refl) doing.state.forest.rows in
+    record { turns = omega arith; taken = omega arith; living = omega (arith, many.living); objects = omega (arith, many.objects); connections = omega arith; joins = λ test held. held }
 
 pub gone_shrinks : (doing : Doing) (target : ℕ) → Shrinks doing (gone doing target)
 unfolding gone removed
@@ -157,6 +165,7 @@ gone_shrinks doing target =
       living = omega (arith, all_orphaned-living target left, filter-living (λ row. not (has_object target row)) rows);
       objects = omega (arith, fewer, mapped);
       connections = omega arith;
+      joins = λ test held. held;
     }
 
 -- marking a living object as dying leaves fewer living ones
@@ -169,4 +178,4 @@ unfolding dying marked
 dying_shrinks doing target lives =
     let less = marked-one target doing.state.forest.rows lives in
     let mapped = length-map doing.state.forest.rows (λ row. cond (has_object target row) (record row { dying = true }) row) in
-    record { turns = omega arith; taken = omega arith; living = omega (arith, less); objects = omega (arith, mapped); connections = omega arith }
+    record { turns = omega arith; taken = omega arith; living = omega (arith, less); objects = omega (arith, mapped); connections = omega arith; joins = λ test held. held }

@@ -1,6 +1,6 @@
 -- The rule of each command for signals and slots: why it is refused, what it does where it is not, and
 -- both together; and each way that it goes.
-use Rattle.std.proofs.Common.{◌≡◌, ◌<◌, ◌+◌, ◌==◌, ℕ, Bool, true, false, cond, List, [], ◌∷◌, Option, Some, None, Ok, count_by, refl, ap, ◌∙◌, arith}
+use Rattle.std.proofs.Common.{◌≡◌, ◌<◌, ◌==◌, ℕ, Bool, true, false, cond, List, [], ◌∷◌, Option, Some, None, Ok, refl, ap, ◌∙◌, arith}
 use Rattle.std.specs.Option.{option_or}
 use Rattle.std.specs.Result.{result_err, result_unwrap_or}
 use Rattle.std.proofs.lemmas.Bool.{cond-false, cond-true}
@@ -8,66 +8,38 @@ use Rattle.std.proofs.lemmas.Bool.Decides.{nat_tests}
 use Rattle.serde_json.specs.Data.{Data}
 use Rattle.variant_value.specs.declared.value.Value.{Value}
 use Rattle.connection_types.specs.declared.connection_type.ConnectionType.{ConnectionType}
-use Rattle.connection_list.specs.declared.connection.NewConnection.{NewConnection}
-use Rattle.connection_list.specs.declared.pattern.Pattern.{Pattern}
-use Rattle.connection_list.specs.Ends.{matches}
 use Rattle.thread_model.specs.declared.line.Answer.TheVariants as a
-use Rattle.thread_model.specs.Absence.{absence, named_absence}
+use Rattle.thread_model.specs.Absence.{absence}
 use Rattle.thread_model.specs.Agenda.{with_turn}
 use Rattle.thread_model.specs.Asked.{Asked, Connect, ConnectFunctor, Disconnect, DisconnectOne, Invoke}
-use Rattle.thread_model.specs.Connecting.{connection_refusal, functor_refusal}
+use Rattle.thread_model.specs.Deeds.{found_refusal}
 use Rattle.thread_model.specs.Doing.{begun, turn_taken, used_up}
 use Rattle.thread_model.specs.Effects.{does_next, replies, unless}
 use Rattle.thread_model.specs.Items.{Emit, Next, Run, puts}
 use Rattle.thread_model.specs.Methods.{is_signal_at, methods_of, signature_in}
 use Rattle.thread_model.specs.Posting.{is_queued}
 use Rattle.thread_model.specs.Refusing.{later_refusal, refusal, values_refusal}
-use Rattle.thread_model.specs.Signals.{asked_connection, asked_functor_connection, asked_method, asked_pattern, asked_values, connects, disconnects, disconnects_one, invoked, invoked_later, invokes}
-use Rattle.thread_model.specs.State.{State, with_connection, without_connections}
+use Rattle.thread_model.specs.Signals.{asked_connect, asked_connect_functor, asked_disconnect, asked_method, asked_values, disconnects_one, does_found, invoked, invoked_later, invokes}
+use Rattle.thread_model.specs.State.{State}
 use Rattle.thread_model.specs.Thread.{Settings, does, performs}
 
 module _ (settings : Settings) (self : List ℕ) (state : State) where
   module _ (sender : ℕ) (signal : List ℕ) (receiver : ℕ) (method : List ℕ) (mode : ConnectionType) (unique single : Bool) where
-    pub refusal_connect : refusal settings self state (Connect sender signal receiver method mode unique single)
-        ≡ option_or (absence state sender) (option_or (absence state receiver) (connection_refusal state.connections (asked_connection settings state sender signal receiver method mode single) unique))
+    pub refusal_connect : refusal settings self state (Connect sender signal receiver method mode unique single) ≡ found_refusal state (asked_connect settings state sender signal receiver method mode unique single)
     unfolding refusal
     refusal_connect = refl
 
-    pub performs_connect : performs settings self state (Connect sender signal receiver method mode unique single) ≡ connects state (asked_connection settings state sender signal receiver method mode single)
+    pub performs_connect : performs settings self state (Connect sender signal receiver method mode unique single) ≡ does_found state (asked_connect settings state sender signal receiver method mode unique single)
     unfolding performs
     performs_connect = refl
 
-    pub does_connect : does settings self state (Connect sender signal receiver method mode unique single)
-        ≡ unless (option_or (absence state sender) (option_or (absence state receiver) (connection_refusal state.connections (asked_connection settings state sender signal receiver method mode single) unique))) state
-        (connects state (asked_connection settings state sender signal receiver method mode single))
-    unfolding does refusal performs
-    does_connect = refl
-
-    -- the connection that was looked for is made
-    pub connect_made : (new : NewConnection) → asked_connection settings state sender signal receiver method mode single ≡ Ok new
-        → performs settings self state (Connect sender signal receiver method mode unique single) ≡ replies (with_connection state new) (a.Number (state.connections.last_number + 1))
-    connect_made new found = performs_connect ∙ ap (connects state) found
-
-  module _ (sender : ℕ) (signal : List ℕ) (context : ℕ) (functor : List ℕ) (mode : ConnectionType) (unique single : Bool) where
-    pub refusal_connect_functor : refusal settings self state (ConnectFunctor sender signal context functor mode unique single)
-        ≡ option_or (absence state sender) (option_or (absence state context) (functor_refusal state.connections (asked_functor_connection settings state sender signal context functor mode single) unique))
+    pub refusal_connect_functor : refusal settings self state (ConnectFunctor sender signal receiver method mode unique single) ≡ found_refusal state (asked_connect_functor settings state sender signal receiver method mode unique single)
     unfolding refusal
     refusal_connect_functor = refl
 
-    pub performs_connect_functor : performs settings self state (ConnectFunctor sender signal context functor mode unique single) ≡ connects state (asked_functor_connection settings state sender signal context functor mode single)
+    pub performs_connect_functor : performs settings self state (ConnectFunctor sender signal receiver method mode unique single) ≡ does_found state (asked_connect_functor settings state sender signal receiver method mode unique single)
     unfolding performs
     performs_connect_functor = refl
-
-    pub does_connect_functor : does settings self state (ConnectFunctor sender signal context functor mode unique single)
-        ≡ unless (option_or (absence state sender) (option_or (absence state context) (functor_refusal state.connections (asked_functor_connection settings state sender signal context functor mode single) unique))) state
-        (connects state (asked_functor_connection settings state sender signal context functor mode single))
-    unfolding does refusal performs
-    does_connect_functor = refl
-
-    -- the connection that was looked for is made
-    pub connect_functor_made : (new : NewConnection) → asked_functor_connection settings state sender signal context functor mode single ≡ Ok new
-        → performs settings self state (ConnectFunctor sender signal context functor mode unique single) ≡ replies (with_connection state new) (a.Number (state.connections.last_number + 1))
-    connect_functor_made new found = performs_connect_functor ∙ ap (connects state) found
 
   pub refusal_disconnect_one : (connection : ℕ) → refusal settings self state (DisconnectOne connection) ≡ None
   unfolding refusal
@@ -82,25 +54,13 @@ module _ (settings : Settings) (self : List ℕ) (state : State) where
   does_disconnect_one connection = refl
 
   module _ (sender : ℕ) (signal : Option (List ℕ)) (receiver : Option ℕ) (method : Option (List ℕ)) where
-    pub refusal_disconnect : refusal settings self state (Disconnect sender signal receiver method)
-        ≡ option_or (absence state sender) (option_or (named_absence state receiver) (result_err (asked_pattern settings state sender signal receiver method)))
+    pub refusal_disconnect : refusal settings self state (Disconnect sender signal receiver method) ≡ found_refusal state (asked_disconnect settings state sender signal receiver method)
     unfolding refusal
     refusal_disconnect = refl
 
-    pub performs_disconnect : performs settings self state (Disconnect sender signal receiver method) ≡ disconnects state (asked_pattern settings state sender signal receiver method)
+    pub performs_disconnect : performs settings self state (Disconnect sender signal receiver method) ≡ does_found state (asked_disconnect settings state sender signal receiver method)
     unfolding performs
     performs_disconnect = refl
-
-    pub does_disconnect : does settings self state (Disconnect sender signal receiver method)
-        ≡ unless (option_or (absence state sender) (option_or (named_absence state receiver) (result_err (asked_pattern settings state sender signal receiver method)))) state
-        (disconnects state (asked_pattern settings state sender signal receiver method))
-    unfolding does refusal performs
-    does_disconnect = refl
-
-    -- the connections that were looked for are broken
-    pub disconnect_made : (pattern : Pattern) → asked_pattern settings state sender signal receiver method ≡ Ok pattern
-        → performs settings self state (Disconnect sender signal receiver method) ≡ replies (without_connections state (matches pattern)) (a.Number (count_by (matches pattern) state.connections.rows))
-    disconnect_made pattern found = performs_disconnect ∙ ap (disconnects state) found
 
   module _ (target : ℕ) (method : List ℕ) (args : List Data) (mode : ConnectionType) where
     abbrev invoke : Asked

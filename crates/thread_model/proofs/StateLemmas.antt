@@ -142,7 +142,7 @@ whole_without_connections state test whole = record {
 abbrev with_queue : State → Queue → State
 with_queue state queue = record state { queue = queue }
 
-whole_with_queue : (state : State) (queue : Queue) → IsSound queue → All (IsMeant state) queue.events → IsWhole state → IsWhole (with_queue state queue)
+pub whole_with_queue : (state : State) (queue : Queue) → IsSound queue → All (IsMeant state) queue.events → IsWhole state → IsWhole (with_queue state queue)
 whole_with_queue state queue sound meant whole = record {
   forest = whole.forest;
   objects = whole.objects;

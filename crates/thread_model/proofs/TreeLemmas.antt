@@ -2,14 +2,14 @@
 -- not, and both together.
 use Rattle.std.proofs.Common.{◌≡◌, ℕ, List, Option, refl}
 use Rattle.std.specs.Option.{option_or}
-use Rattle.object_tree.specs.Refusing.{add_refusal, parent_refusal, set_parent_refusal}
-use Rattle.thread_model.specs.Asked.{New, Delete, SetParent, Children, Find}
+use Rattle.object_tree.specs.Refusing.{add_refusal, parent_refusal}
+use Rattle.thread_model.specs.Asked.{New, Delete, Children, Find}
 use Rattle.thread_model.specs.Effects.{unless}
 use Rattle.thread_model.specs.Refusing.{class_refusal, named_class_refusal, refusal}
 use Rattle.thread_model.specs.Absence.{absence, named_absence}
 use Rattle.thread_model.specs.State.{State}
 use Rattle.thread_model.specs.Thread.{Settings, does, performs}
-use Rattle.thread_model.specs.Trees.{deletes, finds, lists, makes, reparents}
+use Rattle.thread_model.specs.Trees.{deletes, finds, lists, makes}
 
 module _ (settings : Settings) (self : List ℕ) (state : State) where
   pub refusal_new : (class : List ℕ) (parent : Option ℕ) → refusal settings self state (New class parent) ≡ option_or (parent_refusal state.forest.rows parent) (option_or (class_refusal settings.classes class) (add_refusal state.forest parent))
@@ -35,18 +35,6 @@ module _ (settings : Settings) (self : List ℕ) (state : State) where
   pub does_delete : (target : ℕ) → does settings self state (Delete target) ≡ unless (absence state target) state (deletes settings state target)
   unfolding does refusal performs
   does_delete target = refl
-
-  pub refusal_set_parent : (target : ℕ) (parent : Option ℕ) → refusal settings self state (SetParent target parent) ≡ set_parent_refusal state.forest target parent
-  unfolding refusal
-  refusal_set_parent target parent = refl
-
-  pub performs_set_parent : (target : ℕ) (parent : Option ℕ) → performs settings self state (SetParent target parent) ≡ reparents state target parent
-  unfolding performs
-  performs_set_parent target parent = refl
-
-  pub does_set_parent : (target : ℕ) (parent : Option ℕ) → does settings self state (SetParent target parent) ≡ unless (set_parent_refusal state.forest target parent) state (reparents state target parent)
-  unfolding does refusal performs
-  does_set_parent target parent = refl
 
   pub refusal_children : (target : Option ℕ) → refusal settings self state (Children target) ≡ named_absence state target
   unfolding refusal

@@ -1,5 +1,5 @@
 -- What each item leaves of a session under way.
-use Rattle.std.proofs.Common.{◌≡◌, ◌==◌, ◌||◌, ◌&&◌, ◌+◌, ℕ, Bool, true, false, not, cond, List, [], ◌∷◌, ◌++◌, Option, None, filter, refl, sym, ap, ◌∙◌}
+use Rattle.std.proofs.Common.{◌≡◌, ◌==◌, ◌||◌, ◌&&◌, ◌+◌, ℕ, Bool, true, false, not, cond, List, [], ◌∷◌, ◌++◌, None, filter, refl, sym, ap, ◌∙◌}
 use Rattle.std.specs.Cmp.{nat_eq_equiv}
 use Rattle.std.specs.List.{All, AllByRecursion, list_any}
 use Rattle.std.proofs.lemmas.Bool.{cond_both, or_left, or_right}
@@ -7,25 +7,27 @@ use Rattle.std.proofs.lemmas.List.Elements.{All-filter, All-from_recursion, All-
 use Rattle.std.proofs.lemmas.List.Folds.{list_any-append}
 use Rattle.refusals.specs.declared.code.Code.TheVariants.{TurnsUsedUp}
 use Rattle.connection_list.specs.declared.connection.Connection.{Connection}
-use Rattle.connection_list.specs.declared.connection.NewConnection.{NewConnection}
-use Rattle.connection_list.specs.declared.pattern.Pattern.{Pattern}
 use Rattle.connection_list.specs.Ends.{matches, touches}
 use Rattle.connection_list.specs.Rows.{has_number, numbered}
 use Rattle.event_queue.specs.declared.event.Event.{Event}
 use Rattle.event_queue.specs.declared.event.Event.TheVariants as event
 use Rattle.event_queue.specs.declared.event.QueuedCall.{QueuedCall}
 use Rattle.event_queue.specs.Queue.{has_room, object_of}
-use Rattle.object_tree.specs.Refusing.{object_refusal, set_parent_refusal}
+use Rattle.object_tree.specs.Refusing.{object_refusal}
 use Rattle.object_tree.specs.Rows.{is_there}
 use Rattle.thread_model.specs.declared.line.Line.{Line}
 use Rattle.thread_model.specs.declared.line.Line.TheVariants.{Warning}
+use Rattle.thread_model.specs.declared.post.Post.{Post}
 use Rattle.thread_model.specs.Agenda.{queued}
-use Rattle.thread_model.specs.Doing.{Doing, adopted, blocking, dying, first_taken, forgotten, gone, in_state, linked, lost, posted, shot, told, turn_taken, unlinked, untied, used_up}
+use Rattle.thread_model.specs.declared.deed.Deed.{Deed}
+use Rattle.thread_model.specs.declared.deed.Deed.TheVariants as d
+use Rattle.thread_model.specs.Deeds.{deed_done, deed_refusal}
+use Rattle.thread_model.specs.Doing.{Doing, dying, first_taken, forgotten, gone, in_state, lost, posted, shot, told, turn_taken, untied, used_up, posting}
 use Rattle.thread_model.specs.Items.{Cut, Gone, Item}
 use Rattle.thread_model.specs.State.{IsTied, IsWhole, State, without_connections}
 use Rattle.thread_model.specs.Writing.{Declared, Dynamic, Nothing, Removed, Writing, with_writing}
 use Rattle.thread_model.specs.UnderWay.{IsBrokenInTime, IsForgottenInTime, IsUnderWay, is_gone, is_untied_first, lets_go, unties}
-use Rattle.thread_model.proofs.ConnectionLemmas.{IsAllowed, OfEnds}
+use Rattle.thread_model.proofs.ConnectionLemmas.{OfEnds, allowed, or_none}
 use Rattle.thread_model.proofs.DyingLemmas.{Stands, each_blocked, each_marked, each_removed, each_reparented, of_row, stands_living}
 use Rattle.thread_model.proofs.QueueLemmas.{each_posted, each_taken, others_named}
 use Rattle.thread_model.proofs.FitLemmas.{IsFit}
@@ -106,6 +108,10 @@ module _ (agenda : List Item) (doing : Doing) (under : IsUnderWay agenda doing.s
   unfolding told
   told_under said = under
 
+  pub posting_under : (more : List Post) → IsUnderWay agenda (posting doing more).state
+  unfolding posting
+  posting_under more = under
+
   pub turn_under : IsUnderWay agenda (turn_taken doing).state
   unfolding turn_taken
   turn_under = under
@@ -127,25 +133,9 @@ module _ (agenda : List Item) (doing : Doing) (under : IsUnderWay agenda doing.s
   unfolding shot
   shot_under row = cond_both row.single (in_state doing (without_connections doing.state (has_number row.number))) doing (λ (new : Doing). IsUnderWay agenda new.state) (λ single. without_under (has_number row.number)) (λ lasting. under)
 
-  pub unlinked_under : (pattern : Pattern) → IsUnderWay agenda (unlinked doing pattern).state
-  unfolding unlinked
-  unlinked_under pattern = without_under (matches pattern)
-
   -- an end of a new connection lives, and so is not to be let go
   staying : (number : ℕ) → Stands doing.state.forest.rows number → is_untied_first agenda number ≡ true
   staying number stands = untied_staying number agenda (of_row (IsGoing agenda) doing.state.forest.rows number stands.row stands.found under.going ∙ stands.living)
-
-  pub linked_under : (new : NewConnection) → IsAllowed doing.state.connections → object_refusal doing.state.forest.rows new.sender ≡ None → object_refusal doing.state.forest.rows new.receiver ≡ None → IsUnderWay agenda (linked doing new).state
-  unfolding linked
-  linked_under new allowed sender' receiver' =
-      let one = stands_living doing.state.forest.rows new.sender sender' in
-      let other = stands_living doing.state.forest.rows new.receiver receiver' in
-      record {
-        whole = whole_with_connection doing.state new allowed one.there other.there under.whole;
-        going = under.going;
-        in_time = All-push (IsBrokenInTime agenda) doing.state.connections.rows (numbered (doing.state.connections.last_number + 1) new) under.in_time (record { sender = staying new.sender one; receiver = staying new.receiver other });
-        forgotten = under.forgotten;
-      }
 
   -- an event may be posted for an object that is not let go before the event is forgotten
   posted_under : (event : Event) → is_there doing.state.forest.rows (object_of event) ≡ true → is_untied_first agenda (object_of event) ≡ true → IsUnderWay agenda (posted doing event).state
@@ -184,15 +174,6 @@ module _ (agenda : List Item) (doing : Doing) (under : IsUnderWay agenda doing.s
     forgotten = each_taken (IsForgottenInTime agenda) doing.state.queue under.forgotten;
   }
 
-  pub blocking_under : (target : ℕ) (on : Bool) → IsUnderWay agenda (blocking doing target on).state
-  unfolding blocking
-  blocking_under target on = record {
-    whole = whole_with_blocking doing.state target on under.whole;
-    going = each_blocked (IsGoing agenda) doing.state.forest target on under.going;
-    in_time = under.in_time;
-    forgotten = under.forgotten;
-  }
-
   -- properties may be written, which leaves all else
   pub writing_under : (target : ℕ) (writing : Writing) → IsFit doing.state target writing → IsUnderWay agenda (with_writing doing.state target writing)
   writing_under target writing fit = by writing (whole_with_writing doing.state target writing fit under.whole)
@@ -203,11 +184,30 @@ module _ (agenda : List Item) (doing : Doing) (under : IsUnderWay agenda doing.s
       by (Removed name) whole = record { whole = whole; going = under.going; in_time = under.in_time; forgotten = under.forgotten }
       by Nothing whole = under
 
-  pub adopted_under : (target : ℕ) (parent : Option ℕ) → set_parent_refusal doing.state.forest target parent ≡ None → IsUnderWay agenda (adopted doing target parent).state
-  unfolding adopted
-  adopted_under target parent passed = record {
+  pub deed_under : (deed : Deed) → deed_refusal doing.state deed ≡ None → IsUnderWay agenda (deed_done doing deed).state
+  unfolding deed_done posted
+  deed_under (d.Connect new unique) passed =
+      let both = or_none (object_refusal doing.state.forest.rows new.sender) _ passed in
+      let rest = or_none (object_refusal doing.state.forest.rows new.receiver) _ both.1 in
+      let one = stands_living doing.state.forest.rows new.sender both.0 in
+      let other = stands_living doing.state.forest.rows new.receiver rest.0 in
+      record {
+        whole = whole_with_connection doing.state new (allowed doing.state.connections new unique rest.1) one.there other.there under.whole;
+        going = under.going;
+        in_time = All-push (IsBrokenInTime agenda) doing.state.connections.rows (numbered (doing.state.connections.last_number + 1) new) under.in_time (record { sender = staying new.sender one; receiver = staying new.receiver other });
+        forgotten = under.forgotten;
+      }
+  deed_under (d.Disconnect pattern) passed = without_under (matches pattern)
+  deed_under (d.SetParent target parent) passed = record {
     whole = whole_with_parent doing.state target parent passed under.whole;
     going = each_reparented (IsGoing agenda) doing.state.forest target parent under.going;
+    in_time = under.in_time;
+    forgotten = under.forgotten;
+  }
+  deed_under (d.DeleteLater target) passed = meant_under (event.Deletion target) (or_none (object_refusal doing.state.forest.rows target) _ passed).0
+  deed_under (d.Block target on) passed = record {
+    whole = whole_with_blocking doing.state target on under.whole;
+    going = each_blocked (IsGoing agenda) doing.state.forest target on under.going;
     in_time = under.in_time;
     forgotten = under.forgotten;
   }

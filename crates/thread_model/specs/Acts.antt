@@ -1,6 +1,6 @@
 -- What an action of a slot's body does, and why it is refused.
 use Rattle.std.specs.Prelude.{ℕ, Bool, true, false, List, [], ◌∷◌, Option, Some, None, Ok, Err}
-use Rattle.std.specs.Option.{option_map, option_or}
+use Rattle.std.specs.Option.{option_map, option_map_or, option_or}
 use Rattle.std.specs.Result.{result_err}
 use Rattle.refusals.specs.declared.code.Code.{Code}
 use Rattle.signature_core.specs.declared.signature.Signature.{Signature}
@@ -13,12 +13,13 @@ use Rattle.term_core.specs.Term.{Term}
 use Rattle.connection_types.specs.declared.connection_type.ConnectionType.{ConnectionType}
 use Rattle.connection_list.specs.declared.connection.NewConnection.{NewConnection}
 use Rattle.connection_list.specs.declared.pattern.Pattern.{Pattern}
-use Rattle.object_tree.specs.Refusing.{object_refusal, set_parent_refusal}
+use Rattle.object_tree.specs.Refusing.{object_refusal}
 use Rattle.thread_model.specs.Absence.{absence, named_absence}
-use Rattle.thread_model.specs.Connecting.{connection_refusal, new_connection, pattern_with}
-use Rattle.thread_model.specs.Posting.{post_refusal}
-use Rattle.event_queue.specs.declared.event.Event.TheVariants.{Deletion}
-use Rattle.thread_model.specs.Doing.{Doing, adopted, blocking, linked, posted, unlinked}
+use Rattle.thread_model.specs.Connecting.{new_connection, pattern_with}
+use Rattle.thread_model.specs.declared.deed.Deed.{Deed}
+use Rattle.thread_model.specs.declared.deed.Deed.TheVariants as d
+use Rattle.thread_model.specs.Deeds.{behind, deed_done, found_refusal}
+use Rattle.thread_model.specs.Doing.{Doing}
 use Rattle.thread_model.specs.Items.{Act, Delete, Emit, Item, Next, Warn, puts}
 use Rattle.thread_model.specs.Methods.{Found, ◌>>=◌, kinds_at, method_with, methods_of, signal_with}
 use Rattle.thread_model.specs.Settings.{Settings}
@@ -57,6 +58,21 @@ pattern settings state object signal receiver method =
 abbrev pub writing : State → ℕ → ℕ → List Value → ℕ → List ℕ → Term → Found Writing
 writing state self sender args object name value = evaluated state self sender args value >>= acted_writing state object name
 
+-- the deed that an action of the slot of `self` is, or why it is none; no other action is a deed
+abbrev pub act_deed : Settings → State → ℕ → ℕ → Effect → Option (Found Deed)
+act_deed settings state self sender (e.Connect of signal to method mode unique single) = Some (
+    behind (object_refusal state.forest.rows (object_of state self sender of)) (
+    behind (object_refusal state.forest.rows (object_of state self sender to))
+    (connection settings state (object_of state self sender of) signal (object_of state self sender to) method mode single >>= λ new. Ok (d.Connect new unique))))
+act_deed settings state self sender (e.Disconnect of signal to method) = Some (
+    behind (absence state (object_of state self sender of)) (
+    behind (named_absence state (named_object_of state self sender to))
+    (pattern settings state (object_of state self sender of) signal (named_object_of state self sender to) method >>= λ pattern. Ok (d.Disconnect pattern))))
+act_deed settings state self sender (e.DeleteLater target) = Some (Ok (d.DeleteLater (object_of state self sender target)))
+act_deed settings state self sender (e.Block of on) = Some (Ok (d.Block (object_of state self sender of) on))
+act_deed settings state self sender (e.SetParent of parent) = Some (Ok (d.SetParent (object_of state self sender of) (named_object_of state self sender parent)))
+act_deed settings state self sender _ = None
+
 module _ (settings : Settings) (state : State) (self sender : ℕ) (args : List Value) where
   -- the number of the object that a target is; 0 where there is none
   abbrev object : Target → ℕ
@@ -70,20 +86,8 @@ module _ (settings : Settings) (state : State) (self sender : ℕ) (args : List 
   act_refusal (e.Emit of signal sent) =
       option_or (absence state (object of))
       (result_err (emission settings state self sender args (object of) signal sent))
-  act_refusal (e.Connect of signal to method mode unique single) =
-      option_or (object_refusal state.forest.rows (object of)) (
-      option_or (object_refusal state.forest.rows (object to))
-      (connection_refusal state.connections (connection settings state (object of) signal (object to) method mode single) unique))
-  act_refusal (e.Disconnect of signal to method) =
-      option_or (absence state (object of)) (
-      option_or (named_absence state (named_object_of state self sender to))
-      (result_err (pattern settings state (object of) signal (named_object_of state self sender to) method)))
   act_refusal (e.Delete target) = object_refusal state.forest.rows (object target)
-  act_refusal (e.DeleteLater target) =
-      option_or (object_refusal state.forest.rows (object target))
-      (post_refusal state.queue)
-  act_refusal (e.Block of on) = absence state (object of)
-  act_refusal (e.SetParent of parent) = set_parent_refusal state.forest (object of) (named_object_of state self sender parent)
+  act_refusal plain = option_map_or (found_refusal state) (act_deed settings state self sender plain) None
 
 -- what comes of something that was looked for; nothing where it was not found
 abbrev pub with_found : {A : Type 0} → Found A → (A → Next) → Doing → Next
@@ -103,16 +107,8 @@ module _ (settings : Settings) (doing : Doing) (self sender : ℕ) (args : List 
   acted (e.Emit of signal sent) =
       with_found (emission settings doing.state self sender args (acted_object of) signal sent)
       (λ emitted. puts (Emit (acted_object of) emitted.0 emitted.1 depth ∷ []) doing) doing
-  acted (e.Connect of signal to method mode unique single) =
-      with_found (connection settings doing.state (acted_object of) signal (acted_object to) method mode single)
-      (λ new. puts [] (linked doing new)) doing
-  acted (e.Disconnect of signal to method) =
-      with_found (pattern settings doing.state (acted_object of) signal (named_object_of doing.state self sender to) method)
-      (λ broken. puts [] (unlinked doing broken)) doing
   acted (e.Delete target) = puts (Delete (acted_object target) depth ∷ []) doing
-  acted (e.DeleteLater target) = puts [] (posted doing (Deletion (acted_object target)))
-  acted (e.Block of on) = puts [] (blocking doing (acted_object of) on)
-  acted (e.SetParent of parent) = puts [] (adopted doing (acted_object of) (named_object_of doing.state self sender parent))
+  acted plain = option_map_or (λ found. with_found found (λ deed. puts [] (deed_done doing deed)) doing) (act_deed settings doing.state self sender plain) (puts [] doing)
 
 -- a refused action warns of its code for the object whose slot is run, and does nothing
 abbrev pub warns_or : Option Code → ℕ → Doing → Next → Next

@@ -22,8 +22,9 @@ use Rattle.thread_model.specs.declared.call.TheConstants.{DESTROYED, NESTED_SIGN
 use Rattle.thread_model.specs.declared.line.Answer.TheVariants as a
 use Rattle.thread_model.specs.declared.line.Line.{Line}
 use Rattle.thread_model.specs.declared.line.Line.TheVariants as line
+use Rattle.thread_model.specs.Arriving.{posts_of}
 use Rattle.thread_model.specs.Acts.{act_refusal, acted, acts, chosen, warns_or}
-use Rattle.thread_model.specs.Doing.{Doing, dying, first_taken, forgotten, gone, lost, posted, shot, told, turn_taken, untied, used_up}
+use Rattle.thread_model.specs.Doing.{Doing, dying, first_taken, forgotten, gone, lost, posted, posting, shot, told, turn_taken, untied, used_up}
 use Rattle.thread_model.specs.Items.{Act, Call, Cut, Delete, Emit, Gone, Item, Kin, Next, Reply, ReplySpun, Run, RunFunctor, Spin, Warn, puts}
 use Rattle.thread_model.specs.Functors.{functor_at}
 use Rattle.thread_model.specs.Methods.{method_at}
@@ -56,13 +57,13 @@ calls_of doing target signal args depth = map (λ row. Call row.number args dept
 abbrev pub is_held_back : ℕ → Row → Bool
 is_held_back signal row = row.blocked && not (signal == DESTROYED)
 
--- a signal that is sent calls what is connected to it; held back it calls nothing, and nested too deep
--- neither
+-- a signal that is sent is posted under each name that it is published by, and calls what is connected to
+-- it; held back it does neither, and nested too deep neither
 abbrev pub emitted : Doing → ℕ → ℕ → List Value → ℕ → Row → Next
 emitted doing target signal args depth row =
     if is_held_back signal row then puts [] doing
     else (if nat_le NESTED_SIGNALS depth then puts (Warn Limit (Some target) ∷ []) doing
-    else puts (calls_of doing target signal args depth) doing)
+    else puts (calls_of doing target signal args depth) (posting doing (posts_of doing.state.desk target signal args)))
 
 -- where a turn is left it is taken, and else none of this is done
 abbrev pub with_turn : Doing → (Doing → Next) → Next

@@ -7,6 +7,7 @@ use Rattle.connection_types.specs.declared.connection_type.ConnectionType.{Conne
 use Rattle.thread_model.specs.declared.command.Command.{Command}
 use Rattle.thread_model.specs.declared.command.Command.TheVariants as c
 use Rattle.thread_model.specs.declared.command.Tagged.{Tagged}
+use Rattle.thread_model.specs.declared.deed.Deed.{Deed}
 
 -- what is asked of a session
 pub data Asked : Type 0 where
@@ -14,8 +15,6 @@ pub data Asked : Type 0 where
   New : (class : List ℕ) (parent : Option ℕ) → Asked
   -- delete an object and all below it
   Delete : (target : ℕ) → Asked
-  -- give an object another parent, or make it a root
-  SetParent : (target : ℕ) (parent : Option ℕ) → Asked
   -- the children of an object, or the roots
   Children : (target : Option ℕ) → Asked
   -- the nearest object below another one, of this title and class where they are given
@@ -40,10 +39,8 @@ pub data Asked : Type 0 where
   Invoke : (target : ℕ) (method : List ℕ) (args : List Data) (mode : ConnectionType) → Asked
   -- take the events that there are
   Spin : Asked
-  -- delete this object later
-  DeleteLater : (target : ℕ) → Asked
-  -- block the signals of this object, or let them through
-  Block : (target : ℕ) (on : Bool) → Asked
+  -- do a deed
+  Do : (deed : Deed) → Asked
   -- how much there is
   Status : Asked
 
@@ -51,7 +48,6 @@ pub data Asked : Type 0 where
 abbrev pub asked : Command → Asked
 asked (c.New class parent) = New class parent
 asked (c.Delete target) = Delete target
-asked (c.SetParent target parent) = SetParent target parent
 asked (c.Children target) = Children target
 asked (c.Find target title class) = Find target title class
 asked (c.Set target property value) = Set target property (view value)
@@ -64,8 +60,7 @@ asked (c.DisconnectOne connection) = DisconnectOne connection
 asked (c.Disconnect sender signal receiver method) = Disconnect sender signal receiver method
 asked (c.Invoke target method args mode) = Invoke target method (map view args) mode
 asked c.Spin = Spin
-asked (c.DeleteLater target) = DeleteLater target
-asked (c.Block target on) = Block target on
+asked (c.Do deed) = Do deed
 asked c.Status = Status
 
 -- a command and the session that gives it

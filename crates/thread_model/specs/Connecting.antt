@@ -1,15 +1,13 @@
 -- Which connection is to be made, and which are to be broken.
-use Rattle.std.specs.Prelude.{ℕ, Bool, true, false, Option, Some, None, Ok, Err, if◌then◌else◌}
+use Rattle.std.specs.Prelude.{ℕ, Bool, Option, Some, None, Ok, Err, if◌then◌else◌}
 use Rattle.std.specs.Option.{option_map_or, option_transpose}
-use Rattle.refusals.specs.declared.code.Code.{Code}
-use Rattle.refusals.specs.declared.code.Code.TheVariants.{DoesNotFit, UniqueFunctor}
+use Rattle.refusals.specs.declared.code.Code.TheVariants.{DoesNotFit}
 use Rattle.signature_core.specs.Kinds.{fits}
 use Rattle.connection_types.specs.declared.callee.Callee.TheVariants.{Functor, Method}
 use Rattle.connection_types.specs.declared.connection_type.ConnectionType.{ConnectionType}
 use Rattle.connection_list.specs.declared.connection.NewConnection.{NewConnection}
 use Rattle.connection_list.specs.declared.pattern.Pattern.{Pattern}
 use Rattle.connection_list.specs.declared.pattern.Receiver.{Receiver}
-use Rattle.connection_list.specs.Rows.{Rows, connect_refusal}
 use Rattle.thread_model.specs.Functors.{params_at}
 use Rattle.thread_model.specs.Methods.{Found, ◌>>=◌, kinds_at, methods_of}
 use Rattle.thread_model.specs.Settings.{Settings}
@@ -39,17 +37,6 @@ new_functor_connection settings state sender signal context functor mode single 
     if fits_functor settings state sender s f
     then Ok (record { sender = sender; signal = s; receiver = context; callee = Functor f; mode = mode; single = single })
     else Err DoesNotFit
-
--- why a connection is not made: it can't be, or not beside those that stand
-abbrev pub connection_refusal : Rows → Found NewConnection → Bool → Option Code
-connection_refusal place (Ok new) unique = connect_refusal place new unique
-connection_refusal place (Err code) unique = Some code
-
--- the same of a connection to a functor, which is never unique
-abbrev pub functor_refusal : Rows → Found NewConnection → Bool → Option Code
-functor_refusal place (Ok new) true = Some UniqueFunctor
-functor_refusal place (Ok new) false = connect_refusal place new false
-functor_refusal place (Err code) unique = Some code
 
 -- the receiving end of a pattern; a method is looked for only where a receiver is named
 abbrev pub receiver_with : (ℕ → Option (Found ℕ)) → Option ℕ → Found (Option Receiver)

@@ -1,17 +1,16 @@
 -- A session while it does a command, and what becomes of it.
-use Rattle.std.specs.Prelude.{◌+◌, ◌-◌, ℕ, Bool, true, false, List, [], ◌∷◌, ◌++◌, Option, None, if◌then◌else◌}
+use Rattle.std.specs.Prelude.{◌+◌, ◌-◌, ℕ, Bool, true, false, List, [], ◌∷◌, ◌++◌, None, if◌then◌else◌}
 use Rattle.refusals.specs.declared.code.Code.TheVariants.{TurnsUsedUp}
 use Rattle.object_tree.specs.Changes.{marked}
 use Rattle.connection_list.specs.declared.connection.Connection.{Connection}
-use Rattle.connection_list.specs.declared.connection.NewConnection.{NewConnection}
-use Rattle.connection_list.specs.declared.pattern.Pattern.{Pattern}
-use Rattle.connection_list.specs.Ends.{matches, touches}
+use Rattle.connection_list.specs.Ends.{touches}
 use Rattle.connection_list.specs.Rows.{has_number}
 use Rattle.event_queue.specs.declared.event.Event.{Event}
 use Rattle.thread_model.specs.declared.line.Line.{Line}
 use Rattle.thread_model.specs.declared.line.Line.TheVariants.{Warning}
+use Rattle.thread_model.specs.declared.post.Post.{Post}
 use Rattle.thread_model.specs.Settings.{Settings}
-use Rattle.thread_model.specs.State.{State, with_blocking, with_connection, with_event, with_lost, with_parent, without_connections, without_events, without_first, without_object}
+use Rattle.thread_model.specs.State.{State, with_event, with_lost, without_connections, without_events, without_first, without_object}
 
 pub record Doing : Type 0 where
   pub state : State
@@ -23,10 +22,12 @@ pub record Doing : Type 0 where
   pub taken : ℕ
   -- what it was told so far
   pub lines : List Line
+  -- what it has posted to the others so far
+  pub posts : List Post
 
 -- a session at the beginning of a command
 abbrev pub begun : Settings → State → Doing
-begun settings state = record { state = state; turns = settings.turns; spent = false; taken = 0; lines = [] }
+begun settings state = record { state = state; turns = settings.turns; spent = false; taken = 0; lines = []; posts = [] }
 
 abbrev pub in_state : Doing → State → Doing
 in_state doing state = record doing { state = state }
@@ -34,6 +35,10 @@ in_state doing state = record doing { state = state }
 -- one more line is told
 unfoldable pub told : Doing → Line → Doing
 told doing said = record doing { lines = doing.lines ++ said ∷ [] }
+
+-- more is posted to the others
+unfoldable pub posting : Doing → List Post → Doing
+posting doing more = record doing { posts = doing.posts ++ more }
 
 -- a turn is taken
 unfoldable pub turn_taken : Doing → Doing
@@ -67,25 +72,9 @@ lost doing = in_state doing (with_lost doing.state)
 unfoldable pub first_taken : Doing → Doing
 first_taken doing = record (in_state doing (without_first doing.state)) { taken = doing.taken + 1 }
 
--- the signals of an object are blocked, or not
-unfoldable pub blocking : Doing → ℕ → Bool → Doing
-blocking doing target on = in_state doing (with_blocking doing.state target on)
-
 -- an object is gone
 unfoldable pub gone : Doing → ℕ → Doing
 gone doing target = in_state doing (without_object doing.state target)
-
--- an object has another parent
-unfoldable pub adopted : Doing → ℕ → Option ℕ → Doing
-adopted doing target parent = in_state doing (with_parent doing.state target parent)
-
--- one more connection is made
-unfoldable pub linked : Doing → NewConnection → Doing
-linked doing new = in_state doing (with_connection doing.state new)
-
--- the connections that match are broken
-unfoldable pub unlinked : Doing → Pattern → Doing
-unlinked doing pattern = in_state doing (without_connections doing.state (matches pattern))
 
 -- a single-shot connection is broken before its callee is called
 unfoldable pub shot : Doing → Connection → Doing

@@ -18,7 +18,7 @@ replies state answer = record { state = state; lines = Reply answer ∷ []; post
 
 -- what a session was told when it has done a command, and its state then
 abbrev pub ended : Doing → Effect State Line Post
-ended doing = record { state = doing.state; lines = doing.lines; posts = [] }
+ended doing = record { state = doing.state; lines = doing.lines; posts = doing.posts }
 
 -- a command that comes to this, does it to its end, and then replies
 abbrev pub does_next : Settings → Next → Answer → Effect State Line Post

@@ -2,12 +2,14 @@ pub mod Settings
 pub mod Asked
 pub mod State
 pub mod Absence
+pub mod Arriving
 pub mod Doing
 pub mod Items
 pub mod Methods
 pub mod Functors
 pub mod Connecting
 pub mod Posting
+pub mod Deeds
 pub mod Targets
 pub mod Writing
 pub mod Acts

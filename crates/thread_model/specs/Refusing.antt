@@ -8,14 +8,14 @@ use Rattle.refusals.specs.declared.code.Code.TheVariants.{NoSuchClass}
 use Rattle.class_table.specs.declared.class.Class.{Class}
 use Rattle.class_table.specs.Lookup.{index_of}
 use Rattle.connection_types.specs.declared.connection_type.ConnectionType.{ConnectionType}
-use Rattle.object_tree.specs.Refusing.{add_refusal, parent_refusal, set_parent_refusal}
+use Rattle.object_tree.specs.Refusing.{add_refusal, parent_refusal}
 use Rattle.thread_model.specs.Absence.{absence, named_absence}
-use Rattle.thread_model.specs.Asked.{Asked, New, Delete, SetParent, Children, Find, Set, Get, DynamicNames, Meta, Connect, ConnectFunctor, DisconnectOne, Disconnect, Invoke, Spin, DeleteLater, Block, Status}
-use Rattle.thread_model.specs.Connecting.{connection_refusal, functor_refusal}
+use Rattle.thread_model.specs.Asked.{Asked, New, Delete, Children, Find, Set, Get, DynamicNames, Meta, Connect, ConnectFunctor, DisconnectOne, Disconnect, Invoke, Spin, Do, Status}
+use Rattle.thread_model.specs.Deeds.{deed_refusal, found_refusal}
 use Rattle.thread_model.specs.Methods.{signature_in}
 use Rattle.thread_model.specs.Posting.{is_queued, post_refusal}
 use Rattle.thread_model.specs.Settings.{Settings}
-use Rattle.thread_model.specs.Signals.{asked_connection, asked_functor_connection, asked_method, asked_pattern, asked_values}
+use Rattle.thread_model.specs.Signals.{asked_connect, asked_connect_functor, asked_disconnect, asked_method, asked_values}
 use Rattle.thread_model.specs.State.{State}
 use Rattle.thread_model.specs.Writing.{asked_writing}
 
@@ -42,7 +42,6 @@ refusal settings self state (New class parent) =
     option_or (class_refusal settings.classes class)
     (add_refusal state.forest parent))
 refusal settings self state (Delete target) = absence state target
-refusal settings self state (SetParent target parent) = set_parent_refusal state.forest target parent
 refusal settings self state (Children target) = named_absence state target
 refusal settings self state (Find target title class) =
     option_or (absence state target)
@@ -53,27 +52,15 @@ refusal settings self state (Set target property value) =
 refusal settings self state (Get target property) = absence state target
 refusal settings self state (DynamicNames target) = absence state target
 refusal settings self state (Meta class) = class_refusal settings.classes class
-refusal settings self state (Connect sender signal receiver method mode unique single) =
-    option_or (absence state sender) (
-    option_or (absence state receiver)
-    (connection_refusal state.connections (asked_connection settings state sender signal receiver method mode single) unique))
-refusal settings self state (ConnectFunctor sender signal context functor mode unique single) =
-    option_or (absence state sender) (
-    option_or (absence state context)
-    (functor_refusal state.connections (asked_functor_connection settings state sender signal context functor mode single) unique))
+refusal settings self state (Connect sender signal receiver method mode unique single) = found_refusal state (asked_connect settings state sender signal receiver method mode unique single)
+refusal settings self state (ConnectFunctor sender signal context functor mode unique single) = found_refusal state (asked_connect_functor settings state sender signal context functor mode unique single)
 refusal settings self state (DisconnectOne connection) = None
-refusal settings self state (Disconnect sender signal receiver method) =
-    option_or (absence state sender) (
-    option_or (named_absence state receiver)
-    (result_err (asked_pattern settings state sender signal receiver method)))
+refusal settings self state (Disconnect sender signal receiver method) = found_refusal state (asked_disconnect settings state sender signal receiver method)
 refusal settings self state (Invoke target method args mode) =
     option_or (absence state target) (
     option_or (result_err (signature_in method)) (
     option_or (values_refusal settings state target args (asked_method settings state target method))
     (later_refusal state mode (asked_method settings state target method))))
 refusal settings self state Spin = None
-refusal settings self state (DeleteLater target) =
-    option_or (absence state target)
-    (post_refusal state.queue)
-refusal settings self state (Block target on) = absence state target
+refusal settings self state (Do deed) = deed_refusal state deed
 refusal settings self state Status = None

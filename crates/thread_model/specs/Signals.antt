@@ -1,10 +1,10 @@
 -- What the commands for signals and slots do, where they are not refused.
-use Rattle.std.specs.Prelude.{◌+◌, ℕ, Bool, true, false, List, [], ◌∷◌, Option, Some, None, Ok, Err, count_by, if◌then◌else◌}
+use Rattle.std.specs.Prelude.{ℕ, Bool, true, false, List, [], ◌∷◌, Option, Some, None, Ok, Err, if◌then◌else◌}
 use Rattle.std.specs.List.{list_any}
 use Rattle.std.specs.Option.{option_and_then, option_map}
 use Rattle.std.specs.Result.{result_unwrap_or}
 use Rattle.isolation.specs.Machine.{Effect}
-use Rattle.refusals.specs.declared.code.Code.TheVariants.{BadValue, Limit}
+use Rattle.refusals.specs.declared.code.Code.TheVariants.{BadValue, Limit, UniqueFunctor}
 use Rattle.serde_json.specs.Data.{Data}
 use Rattle.signature_core.specs.declared.kind.Kind.{Kind}
 use Rattle.signature_core.specs.Reading.{signature_of}
@@ -16,21 +16,24 @@ use Rattle.connection_types.specs.declared.callee.Callee.TheVariants.{Method}
 use Rattle.event_queue.specs.declared.event.Event.TheVariants.{Call}
 use Rattle.connection_list.specs.declared.connection.NewConnection.{NewConnection}
 use Rattle.connection_list.specs.declared.pattern.Pattern.{Pattern}
-use Rattle.connection_list.specs.Ends.{matches}
 use Rattle.connection_list.specs.Rows.{has_number}
 use Rattle.thread_model.specs.declared.line.Answer.TheVariants as a
 use Rattle.thread_model.specs.declared.line.Line.{Line}
 use Rattle.thread_model.specs.declared.post.Post.{Post}
 use Rattle.thread_model.specs.Agenda.{with_turn}
 use Rattle.thread_model.specs.Connecting.{new_connection, new_functor_connection, pattern_with}
+use Rattle.thread_model.specs.declared.deed.Deed.{Deed}
+use Rattle.thread_model.specs.declared.deed.Deed.TheVariants as d
+use Rattle.thread_model.specs.Absence.{absence, named_absence}
+use Rattle.thread_model.specs.Deeds.{behind, deed_answer, with_deed}
 use Rattle.thread_model.specs.Doing.{begun}
 use Rattle.thread_model.specs.Effects.{does_next, refuses, replies}
 use Rattle.thread_model.specs.Functors.{functor_named}
 use Rattle.thread_model.specs.Items.{Emit, Next, Run, puts}
-use Rattle.thread_model.specs.Methods.{Found, is_signal_at, kinds_at, method_named, methods_of, signal_named}
+use Rattle.thread_model.specs.Methods.{Found, ◌>>=◌, is_signal_at, kinds_at, method_named, methods_of, signal_named}
 use Rattle.thread_model.specs.Settings.{Settings}
 use Rattle.thread_model.specs.Posting.{is_queued}
-use Rattle.thread_model.specs.State.{State, with_connection, with_event, without_connections}
+use Rattle.thread_model.specs.State.{State, with_event, without_connections}
 
 -- the connection that is asked for
 abbrev pub asked_connection : Settings → State → ℕ → List ℕ → ℕ → List ℕ → ConnectionType → Bool → Found NewConnection
@@ -48,10 +51,18 @@ asked_functor_connection settings state sender signal context functor mode singl
     context (functor_named settings functor)
     mode single
 
--- making a connection replies its number, which is the next one
-abbrev pub connects : State → Found NewConnection → Effect State Line Post
-connects state (Ok new) = replies (with_connection state new) (a.Number (state.connections.last_number + 1))
-connects state (Err code) = refuses state code
+-- the deed that they are, or why there is none
+abbrev pub asked_connect : Settings → State → ℕ → List ℕ → ℕ → List ℕ → ConnectionType → Bool → Bool → Found Deed
+asked_connect settings state sender signal receiver method mode unique single =
+    behind (absence state sender) (
+    behind (absence state receiver)
+    (asked_connection settings state sender signal receiver method mode single >>= λ new. Ok (d.Connect new unique)))
+
+abbrev pub asked_connect_functor : Settings → State → ℕ → List ℕ → ℕ → List ℕ → ConnectionType → Bool → Bool → Found Deed
+asked_connect_functor settings state sender signal context functor mode unique single =
+    behind (absence state sender) (
+    behind (absence state context)
+    (asked_functor_connection settings state sender signal context functor mode single >>= λ new. if unique then Err UniqueFunctor else Ok (d.Connect new false)))
 
 -- breaking the connection of a number replies whether it stood
 abbrev pub disconnects_one : State → ℕ → Effect State Line Post
@@ -64,10 +75,16 @@ asked_pattern settings state sender signal receiver method =
     sender (option_map (signal_named (methods_of settings state sender)) signal)
     receiver (λ object. option_map (method_named (methods_of settings state object)) method)
 
--- breaking the connections that match replies how many they were
-abbrev pub disconnects : State → Found Pattern → Effect State Line Post
-disconnects state (Ok pattern) = replies (without_connections state (matches pattern)) (a.Number (count_by (matches pattern) state.connections.rows))
-disconnects state (Err code) = refuses state code
+abbrev pub asked_disconnect : Settings → State → ℕ → Option (List ℕ) → Option ℕ → Option (List ℕ) → Found Deed
+asked_disconnect settings state sender signal receiver method =
+    behind (absence state sender) (
+    behind (named_absence state receiver)
+    (asked_pattern settings state sender signal receiver method >>= λ pattern. Ok (d.Disconnect pattern)))
+
+-- a deed that was looked for is done, and what it answers is replied
+abbrev pub does_found : State → Found Deed → Effect State Line Post
+does_found state (Ok deed) = replies (with_deed state deed) (deed_answer state deed)
+does_found state (Err code) = refuses state code
 
 -- a value and further ones; of two faults a bad value comes before a text that is too long
 abbrev pub with_value : Found Value → Found (List Value) → Found (List Value)

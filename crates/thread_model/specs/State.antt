@@ -24,6 +24,7 @@ use Rattle.property_store.specs.Store.{Properties, Store, changed, properties_of
 use Rattle.variant_value.specs.declared.value.Value.{Value}
 use Rattle.variant_value.specs.declared.value.Value.TheVariants as v
 use Rattle.thread_model.specs.declared.call.TheConstants.{OBJECT_NAME}
+use Rattle.thread_model.specs.declared.post.Desk.{Desk}
 
 pub record State : Type 0 where
   -- the objects in their trees
@@ -34,10 +35,16 @@ pub record State : Type 0 where
   pub connections : Rows
   -- the events that are to be taken
   pub queue : Queue
+  -- what it publishes and joins
+  pub desk : Desk
+
+-- nothing is published or joined
+abbrev pub no_desk : Desk
+no_desk = record { publications = []; joins = [] }
 
 -- the state of a session that has had no command
 abbrev pub empty : State
-empty = record { forest = empty_forest; store = []; connections = no_rows; queue = empty_queue }
+empty = record { forest = empty_forest; store = []; connections = no_rows; queue = empty_queue; desk = no_desk }
 
 -- a property that a class declares, as an object has it
 abbrev pub field_of : Property → Field

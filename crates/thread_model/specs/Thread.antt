@@ -1,18 +1,20 @@
 -- What a session does. The rules are those of Qt's object model in this server's profile; codes and
 -- limits are its own.
-use Rattle.std.specs.Prelude.{ℕ, Bool, false, List}
+use Rattle.std.specs.Prelude.{ℕ, Bool, false, List, Ok, [], ◌∷◌, bytes_eq}
+use Rattle.std.specs.List.{list_any}
 use Rattle.isolation.specs.Machine.{Effect}
 use Rattle.thread_model.specs.declared.line.Line.{Line}
 use Rattle.thread_model.specs.declared.post.Post.{Post}
-use Rattle.thread_model.specs.Asked.{Asked, New, Delete, SetParent, Children, Find, Set, Get, DynamicNames, Meta, Connect, ConnectFunctor, DisconnectOne, Disconnect, Invoke, Spin, DeleteLater, Block, Status}
+use Rattle.thread_model.specs.Asked.{Asked, New, Delete, Children, Find, Set, Get, DynamicNames, Meta, Connect, ConnectFunctor, DisconnectOne, Disconnect, Invoke, Spin, Do, Status}
+use Rattle.thread_model.specs.Arriving.{reached_by}
 use Rattle.thread_model.specs.Classes.{describes}
 use Rattle.thread_model.specs.Effects.{unless}
-use Rattle.thread_model.specs.Events.{blocks, counts, deletes_later, spins}
+use Rattle.thread_model.specs.Events.{counts, spins}
 use Rattle.thread_model.specs.Properties.{gets, names, sets}
 use Rattle.thread_model.specs.Refusing.{refusal}
-use Rattle.thread_model.specs.Signals.{asked_connection, asked_functor_connection, asked_method, asked_pattern, connects, disconnects, disconnects_one, invokes}
+use Rattle.thread_model.specs.Signals.{asked_connect, asked_connect_functor, asked_disconnect, asked_method, disconnects_one, does_found, invokes}
 use Rattle.thread_model.specs.State.{State}
-use Rattle.thread_model.specs.Trees.{deletes, finds, lists, makes, reparents}
+use Rattle.thread_model.specs.Trees.{deletes, finds, lists, makes}
 use Rattle.thread_model.specs.Writing.{asked_writing}
 pub use Rattle.thread_model.specs.Settings.{Settings}
 
@@ -20,34 +22,37 @@ pub use Rattle.thread_model.specs.Settings.{Settings}
 unfoldable pub performs : Settings → List ℕ → State → Asked → Effect State Line Post
 performs settings self state (New class parent) = makes settings.classes state class parent
 performs settings self state (Delete target) = deletes settings state target
-performs settings self state (SetParent target parent) = reparents state target parent
 performs settings self state (Children target) = lists state target
 performs settings self state (Find target title class) = finds settings.classes state target title class
 performs settings self state (Set target property value) = sets settings state target (asked_writing state target property value)
 performs settings self state (Get target property) = gets state target property
 performs settings self state (DynamicNames target) = names state target
 performs settings self state (Meta class) = describes settings.classes state class
-performs settings self state (Connect sender signal receiver method mode unique single) = connects state (asked_connection settings state sender signal receiver method mode single)
-performs settings self state (ConnectFunctor sender signal context functor mode unique single) = connects state (asked_functor_connection settings state sender signal context functor mode single)
+performs settings self state (Connect sender signal receiver method mode unique single) = does_found state (asked_connect settings state sender signal receiver method mode unique single)
+performs settings self state (ConnectFunctor sender signal context functor mode unique single) = does_found state (asked_connect_functor settings state sender signal context functor mode unique single)
 performs settings self state (DisconnectOne connection) = disconnects_one state connection
-performs settings self state (Disconnect sender signal receiver method) = disconnects state (asked_pattern settings state sender signal receiver method)
+performs settings self state (Disconnect sender signal receiver method) = does_found state (asked_disconnect settings state sender signal receiver method)
 performs settings self state (Invoke target method args mode) = invokes settings state target args mode (asked_method settings state target method)
 performs settings self state Spin = spins settings state
-performs settings self state (DeleteLater target) = deletes_later state target
-performs settings self state (Block target on) = blocks state target on
+performs settings self state (Do deed) = does_found state (Ok deed)
 performs settings self state Status = counts state
 
 -- what a command does
 unfoldable pub does : Settings → List ℕ → State → Asked → Effect State Line Post
 does settings self state asked = unless (refusal settings self state asked) state (performs settings self state asked)
 
--- the state after a post of the named session; no session has joins yet, so a post changes nothing
+-- the state after a post of the named session
 unfoldable pub arrives : State → List ℕ → Post → State
-arrives state from post = state
+arrives state from post = record state { queue = reached_by from post state.forest.rows state.queue state.desk.joins }
+
+-- the state after posts of the named session, one after another
+abbrev pub arrive_all : State → List ℕ → List Post → State
+arrive_all state from [] = state
+arrive_all state from (post ∷ posts) = arrive_all (arrives state from post) from posts
 
 -- does a join that stands name this session
 unfoldable pub joins_name : State → List ℕ → Bool
-joins_name state from = false
+joins_name state from = list_any (λ join. bytes_eq join.from from) state.desk.joins
 
 -- is a command accepted as a join of this session
 unfoldable pub accepts_join : List ℕ → State → Asked → List ℕ → Bool

@@ -14,7 +14,7 @@ use Rattle.thread_model.specs.Doing.{begun}
 use Rattle.thread_model.specs.Effects.{does_next, replies}
 use Rattle.thread_model.specs.Items.{Delete, puts}
 use Rattle.thread_model.specs.Settings.{Settings}
-use Rattle.thread_model.specs.State.{State, is_text, title_of, with_object, with_parent}
+use Rattle.thread_model.specs.State.{State, is_text, title_of, with_object}
 
 -- making an object of a class replies its number, which is the next one
 abbrev pub makes : List Class → State → List ℕ → Option ℕ → Effect State Line Post
@@ -23,10 +23,6 @@ makes classes state class parent = replies (with_object classes state parent (cl
 -- deleting an object, and all below it, replies true at the end
 abbrev pub deletes : Settings → State → ℕ → Effect State Line Post
 deletes settings state target = does_next settings (puts (Delete target 0 ∷ []) (begun settings state)) (Truth true)
-
--- giving an object another parent, which may be none
-abbrev pub reparents : State → ℕ → Option ℕ → Effect State Line Post
-reparents state target parent = replies (with_parent state target parent) (Truth true)
 
 -- the children of an object, or the roots, by age
 abbrev pub lists : State → Option ℕ → Effect State Line Post

@@ -10,6 +10,7 @@ ghost use Rattle.thread_model.specs.Laws.{ActsInPlace, KeepsDeclared, KeepsSound
 mod boxed;
 mod call;
 mod command;
+mod deed;
 mod line;
 mod meta;
 mod post;
@@ -17,9 +18,10 @@ mod post;
 pub use boxed::Boxed;
 pub use call::{Call, DESTROYED, NESTED_SIGNALS, OBJECT_NAME};
 pub use command::{Command, Tagged};
+pub use deed::Deed;
 pub use line::{Answer, Line, Spin, Status};
 pub use meta::MetaObject;
-pub use post::Post;
+pub use post::{Desk, Join, Post, Publication};
 
 /// The machine of metad's sessions keeps the laws under which the theory of isolated sessions holds:
 /// names are told apart, a post that no join names is passed over, and only an accepted join adds a

@@ -1,6 +1,7 @@
 -- The commands of the event loop.
 use Rattle.std.specs.Prelude.{List, [], ◌∷◌, Option, Some, None, codes, option_map}
-use Rattle.thread_model.specs.Asked.{Asked, Spin, DeleteLater, Block, Status}
+use Rattle.thread_model.specs.Asked.{Asked, Do, Spin, Status}
+use Rattle.thread_model.specs.declared.deed.Deed.TheVariants.{Block, DeleteLater}
 use Rattle.wire_format.specs.declared.keys.Holds.TheVariants.{Number, Truth}
 use Rattle.wire_format.specs.Form.{Form}
 use Rattle.wire_format.specs.Held.{Held, number_of, truth_of}
@@ -16,7 +17,7 @@ spin = record { word = codes "spin"; keys = []; asks = spin_of }
 
 -- `deleteLater` deletes an object when its event is taken
 abbrev pub delete_later_of : List Held → Option Asked
-delete_later_of (target ∷ []) = option_map DeleteLater (number_of target)
+delete_later_of (target ∷ []) = option_map (λ number. Do (DeleteLater number)) (number_of target)
 delete_later_of held = None
 
 abbrev pub delete_later : Form
@@ -24,7 +25,7 @@ delete_later = record { word = codes "deleteLater"; keys = needed (codes "object
 
 -- `block` blocks the signals of an object, or lets them through
 abbrev pub block_of : List Held → Option Asked
-block_of (target ∷ on ∷ []) = option_map (λ number. Block number (truth_of on)) (number_of target)
+block_of (target ∷ on ∷ []) = option_map (λ number. Do (Block number (truth_of on))) (number_of target)
 block_of held = None
 
 abbrev pub block : Form

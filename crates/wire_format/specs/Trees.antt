@@ -1,6 +1,7 @@
 -- The commands of trees of objects.
 use Rattle.std.specs.Prelude.{List, [], ◌∷◌, Option, Some, None, codes, option_map}
-use Rattle.thread_model.specs.Asked.{Asked, New, Delete, SetParent, Children, Find}
+use Rattle.thread_model.specs.Asked.{Asked, New, Delete, Do, Children, Find}
+use Rattle.thread_model.specs.declared.deed.Deed.TheVariants.{SetParent}
 use Rattle.wire_format.specs.declared.keys.Holds.TheVariants.{Name, Text, Number, NumberOrNull}
 use Rattle.wire_format.specs.Form.{Form}
 use Rattle.wire_format.specs.Held.{Held, number_of, text_of}
@@ -24,7 +25,7 @@ delete = record { word = codes "delete"; keys = needed (codes "object") Number �
 
 -- `setParent` gives an object another parent; null makes it a root
 abbrev pub set_parent_of : List Held → Option Asked
-set_parent_of (target ∷ parent ∷ []) = option_map (λ number. SetParent number (number_of parent)) (number_of target)
+set_parent_of (target ∷ parent ∷ []) = option_map (λ number. Do (SetParent number (number_of parent))) (number_of target)
 set_parent_of held = None
 
 abbrev pub set_parent : Form

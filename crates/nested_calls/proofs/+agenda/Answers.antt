@@ -1,4 +1,4 @@
-use Rattle.std.proofs.Common.{◌≡◌, ◌≤◌, ◌+◌, ◌*◌, ◌∷◌, [], ℕ, find, is_some, take, true, false, Ok, List, Option, Some, refl, sym, ap, subst, ◌∙◌, arith}
+use Rattle.std.proofs.Common.{◌≡◌, ◌≤◌, ◌+◌, ◌*◌, ◌∷◌, [], ℕ, find, is_some, take, true, false, Ok, List, Option, Some, ◌++◌, refl, sym, ap, subst, ◌∙◌, arith, drop}
 use Rattle.connection_list.specs.Rows.{is_next}
 use Rattle.term_core.specs.Act.{Act, acts_of, count, counts, effect, when}
 use Rattle.term_core.specs.Steps.{act_at}
@@ -6,10 +6,18 @@ use Rattle.term_core.proofs.Counts.{count_within}
 use Rattle.refusals.specs.declared.code.Code.TheVariants.{Limit}
 use Rattle.term_core.specs.declared.action.Effect.TheVariants as e
 use Rattle.thread_model.specs.Acts as model
-use Rattle.thread_model.specs.Items.{Delete, Emit}
+use Rattle.thread_model.specs.declared.call.TheConstants.{DESTROYED}
+use Rattle.thread_model.specs.Arriving.{posts_of, publishes}
+use Rattle.thread_model.specs.Items.{Cut, Delete, Emit, Gone}
 use Rattle.thread_model.specs.Run.{run}
 use Rattle.thread_model.specs.Targets.{truth_evaluated}
-use Rattle.thread_model.proofs.NextCallLemmas.{emission_end}
+use Rattle.thread_model.proofs.DeletionLemmas as rule
+use Rattle.thread_model.proofs.LivingLemmas.{living_rows}
+use Rattle.thread_model.proofs.RemainingLemmas.{remaining}
+use Rattle.thread_model.proofs.NextCallLemmas.{calls_to, emission_end}
+use Rattle.thread_model.specs.State.{State}
+use Rattle.connection_list.specs.Rows.{IsSound}
+use Rattle.std.specs.List.{list_any}
 use Rattle.thread_model.proofs.RunLemmas.{at_end, by_change}
 use Rattle.session_tables.specs.Tables.{state_at}
 use Rattle.session_effects.specs.declared.effects.Emission.{Emission}
@@ -17,41 +25,48 @@ use Rattle.session_effects.specs.declared.writing.Notice.{Notice}
 use Rattle.session_effects.specs.Actions.{act_of}
 use Rattle.session_effects.specs.Setup.{settings_of}
 use Rattle.session_effects.specs.Writing.{items_of, notice_args}
-use Rattle.std.proofs.lemmas.Grind.{common_steps}
 use Rattle.nested_calls.specs.Telling.{doing_at}
 use Rattle.session_effects.proofs.ActionLemmas.{keeps_same, keeps_twice, keeps_with, placed_kept}
-use Rattle.nested_calls.proofs.AgendaLemmas.{OnOk-map, acts_end, acts_go_on, call_absent, call_functor, call_queued, call_signal, call_slot, call_spent, effect_done, effect_refused, effect_warned, emission_absent, emission_begins, emission_deep, emission_goes_on, emission_held_back, emission_unheard, failed_done, found_stands, held_done, is_held, is_let_through, keeps_posted, last_stays, left_at, left_falls, left_shot, left_stepped, longest_of, next_smaller, rank_falls, round_falls, taken, test_warned, told_is, warn_done}
+use Rattle.nested_calls.proofs.AgendaLemmas.{acts_end, acts_go_on, call_absent, call_functor, call_queued, call_signal, call_slot, call_spent, effect_done, effect_refused, effect_warned, emission_absent, emission_begins, emission_deep, emission_goes_on, emission_held_back, emission_unheard, failed_done, found_stands, held_done, is_held, is_let_through, keeps_posted, last_stays, left_at, left_falls, left_shot, left_stepped, longest_of, next_smaller, posting_is, posts_none, rank_falls, round_falls, taken, test_warned, told_is, warn_done}
+use Rattle.nested_calls.proofs.DoesLemmas.{OnOk-map, does_after, does_by, does_none, does_wanting, far_changed, far_end, far_item, far_next, far_none, far_wanting, here, placed_reached}
 use Rattle.thread_model.specs.Agenda.{lives, lives_below}
-use Rattle.nested_calls.proofs.DeletionLemmas.{cut_first, cut_last, cut_next, delete_done, delete_none, kin_none, kin_some, left_forgotten, left_marked, left_untied}
+use Rattle.nested_calls.proofs.DeletionLemmas.{cut_first, cut_last, cut_next, delete_begins, delete_none, gone_is, kin_none, kin_some, kins_from, left_forgotten, left_marked, left_untied}
 use Rattle.nested_calls.proofs.FunctorLemmas.{answered_does, answered_short, functor_absent, functor_queued, functor_run, functor_short, queued_is}
 use Rattle.nested_calls.proofs.+agenda.Goals as goal
 
-pub agenda::act-returns-in-Ok-true-clause-does : goal.agenda::act-returns-in-Ok-true-clause-does
-agenda::act-returns-in-Ok-true-clause-does t g c =
-    let settings = settings_of c.args.actor.now.caller.setup.now in
-    let place = c.args.actor.now.caller.place in
+pub agenda::act-returns-in-Ok-true : goal.agenda::act-returns-in-Ok-true
+agenda::act-returns-in-Ok-true t g c =
+    let caller = c.args.actor.now.caller in
     let slot = c.args.slot.now in
+    let old = c.args.tables.now in
+    let before = c.args.telling.now in
     let action : when c.in-When.test (acts_of c.in-When.held.items) (acts_of c.in-When.failed.items) ≡ c.args.action.now = sym (ap act_at c.in-When.is) ∙ c.action.view_is in
-    let chosen : truth_evaluated (state_at c.args.tables.now place) slot.object slot.sender slot.args.now c.in-When.test ≡ Ok true = c.in-Ok-true.ensures ∙ ap Ok c.in-Ok-true.field-0-test in
-    rw (← action) (OnOk-map c.acts.result (held_done settings slot (doing_at place c.args.tables.now c.args.telling.now) c.in-When.test (acts_of c.in-When.held.items) (acts_of c.in-When.failed.items) (doing_at place c.acts.new.tables c.acts.new.telling) chosen)
-    (rw c.deref.ensures.value at c.acts.ensures.does))
+    let chosen : truth_evaluated (state_at old caller.place) slot.object slot.sender slot.args.now c.in-When.test ≡ Ok true = c.in-Ok-true.ensures ∙ ap Ok c.in-Ok-true.field-0-test in
+    rw (← action) (does_by caller _ old before _ c.acts.new.tables c.acts.new.telling c.acts.result
+    (λ earlier done. held_done (settings_of caller.setup.now) slot (doing_at caller.place old before earlier) c.in-When.test (acts_of c.in-When.held.items) (acts_of c.in-When.failed.items) done chosen)
+    (rw c.deref.ensures.value at c.acts.ensures))
 
-pub agenda::act-returns-in-Ok-false-clause-does : goal.agenda::act-returns-in-Ok-false-clause-does
-agenda::act-returns-in-Ok-false-clause-does t g c =
-    let settings = settings_of c.args.actor.now.caller.setup.now in
-    let place = c.args.actor.now.caller.place in
+pub agenda::act-returns-in-Ok-false : goal.agenda::act-returns-in-Ok-false
+agenda::act-returns-in-Ok-false t g c =
+    let caller = c.args.actor.now.caller in
     let slot = c.args.slot.now in
+    let old = c.args.tables.now in
+    let before = c.args.telling.now in
     let action : when c.in-When.test (acts_of c.in-When.held.items) (acts_of c.in-When.failed.items) ≡ c.args.action.now = sym (ap act_at c.in-When.is) ∙ c.action.view_is in
-    let chosen : truth_evaluated (state_at c.args.tables.now place) slot.object slot.sender slot.args.now c.in-When.test ≡ Ok false = c.in-Ok-false.ensures ∙ ap Ok c.in-Ok-false.field-0-test in
-    rw (← action) (OnOk-map c.acts-in-Ok-false.result (failed_done settings slot (doing_at place c.args.tables.now c.args.telling.now) c.in-When.test (acts_of c.in-When.held.items) (acts_of c.in-When.failed.items) (doing_at place c.acts-in-Ok-false.new.tables c.acts-in-Ok-false.new.telling) chosen)
-    (rw c.deref-in-Ok-false.ensures.value at c.acts-in-Ok-false.ensures.does))
+    let chosen : truth_evaluated (state_at old caller.place) slot.object slot.sender slot.args.now c.in-When.test ≡ Ok false = c.in-Ok-false.ensures ∙ ap Ok c.in-Ok-false.field-0-test in
+    rw (← action) (does_by caller _ old before _ c.acts-in-Ok-false.new.tables c.acts-in-Ok-false.new.telling c.acts-in-Ok-false.result
+    (λ earlier done. failed_done (settings_of caller.setup.now) slot (doing_at caller.place old before earlier) c.in-When.test (acts_of c.in-When.held.items) (acts_of c.in-When.failed.items) done chosen)
+    (rw c.deref-in-Ok-false.ensures.value at c.acts-in-Ok-false.ensures))
 
-pub agenda::act-returns-in-Err-clause-does : goal.agenda::act-returns-in-Err-clause-does
-agenda::act-returns-in-Err-clause-does t g c =
-    let settings = settings_of c.args.actor.now.caller.setup.now in
+pub agenda::act-returns-in-Err : goal.agenda::act-returns-in-Err
+agenda::act-returns-in-Err t g c =
+    let caller = c.args.actor.now.caller in
     let slot = c.args.slot.now in
+    let old = c.args.tables.now in
+    let before = c.args.telling.now in
     let action : when c.in-When.test (acts_of c.in-When.held.items) (acts_of c.in-When.failed.items) ≡ c.args.action.now = sym (ap act_at c.in-When.is) ∙ c.action.view_is in
-    rw (← action) (OnOk-map c.warn_of.result (test_warned settings slot c.args.actor.now.caller.place c.args.tables.now c.args.telling.now c.warn_of.new.self c.in-When.test (acts_of c.in-When.held.items) (acts_of c.in-When.failed.items) c.in-Err.fault c.in-Err.ensures) c.warn_of.ensures)
+    rw (← action) (does_none caller _ old before old c.warn_of.new.self c.warn_of.result (keeps_same old old caller.place refl) c.warn_of.ensures.failing (OnOk-map c.warn_of.result
+    (λ warns earlier. test_warned (settings_of caller.setup.now) slot caller.place old before c.warn_of.new.self earlier c.in-When.test (acts_of c.in-When.held.items) (acts_of c.in-When.failed.items) c.in-Err.fault c.in-Err.ensures warns) c.warn_of.ensures.told))
 
 pub agenda::acts-act-requires : goal.agenda::acts-act-requires
 agenda::acts-act-requires t g c = λ κs outlives.
@@ -61,41 +76,56 @@ agenda::acts-act-requires t g c = λ κs outlives.
     let left = c.actions.invariant.left in
     ((let falls = rank_falls c.args.actor.now.caller c.args.tables.now c.actions.tables c.args.telling.now c.actions.telling (2 * counts (acts_of xs) + 6) (2 * count c.action-item.result + 5) left (omega (arith, smaller)) in grind (arith, falls)), (outlives, (c.actions.invariant.placed, c.requires.depth)))
 
-pub agenda::acts-returns-in_err-act-clause-keeps : goal.agenda::acts-returns-in_err-act-clause-keeps
-agenda::acts-returns-in_err-act-clause-keeps t g c = keeps_twice _ _ _ _ c.actions.invariant.keeps c.act.ensures.keeps
+pub agenda::acts-returns-in_err-act : goal.agenda::acts-returns-in_err-act
+agenda::acts-returns-in_err-act t g c =
+    far_wanting c.args.actor.now.caller _ c.args.tables.now c.args.telling.now c.requires.placed _ c.actions.tables c.actions.telling c.actions.invariant.so _ c.act.new.tables c.act.new.telling c.act.result _ c.from_residual.ensures.0 c.act.ensures
 
 pub agenda::acts-actions-preserved : goal.agenda::acts-actions-preserved
 agenda::acts-actions-preserved t g c =
-    let settings = settings_of c.args.actor.now.caller.setup.now in
-    let place = c.args.actor.now.caller.place in
-    let less : left_at place c.act.new.tables c.act.new.telling ≤ left_at place c.actions.tables c.actions.telling = left_falls settings _ place c.actions.tables c.act.new.tables c.actions.telling c.act.new.telling c.in_ok-act.ensures.does in
+    let caller = c.args.actor.now.caller in
+    let settings = settings_of caller.setup.now in
+    let place = caller.place in
+    let slot = c.args.slot.now in
+    let now = c.actions.tables in
+    let new = c.act.new.tables in
+    let less : left_at place new c.act.new.telling ≤ left_at place now c.actions.telling = left_falls settings _ place now new c.actions.telling c.act.new.telling [] _ (c.in_ok-act.ensures.runs []) in
     record {
-      keeps = keeps_twice _ _ _ _ c.actions.invariant.keeps c.act.ensures.keeps;
-      placed = placed_kept _ _ _ c.act.ensures.keeps c.actions.invariant.placed;
+      so = far_next caller _ c.args.tables.now c.args.telling.now c.requires.placed _ now c.actions.telling c.actions.invariant.so _ new c.act.new.telling _
+          (here caller (model.acts (acts_of (drop (c.actions.action-index + 1) c.args.actions.now)) slot.args.now slot.object slot.sender slot.depth) new c.act.new.telling) c.in_ok-act.ensures
+          (λ posts more done. acts_go_on settings slot done (doing_at place now c.actions.telling posts) (doing_at place new c.act.new.telling more) c.actions.action-index c.args.actions.now c.action-item.result (omega arith) c.action-item.is);
+      placed = placed_reached caller now new _ _ _ c.act.ensures.reaches c.actions.invariant.placed;
       left = omega (arith, less, c.actions.invariant.left);
-      runs = acts_go_on settings c.args.slot.now _ (doing_at place c.actions.tables c.actions.telling) (doing_at place c.act.new.tables c.act.new.telling) c.actions.action-index c.args.actions.now c.action-item.result (omega arith) c.action-item.is
-          c.in_ok-act.ensures.does c.actions.invariant.runs;
     }
 
-pub agenda::acts-returns-clause-does : goal.agenda::acts-returns-clause-does
-agenda::acts-returns-clause-does t g c = acts_end (settings_of c.args.actor.now.caller.setup.now) c.args.slot.now _ (doing_at c.args.actor.now.caller.place c.actions.tables c.actions.telling) c.actions.action-index c.args.actions.now (omega arith) c.actions.invariant.runs
+pub agenda::acts-returns : goal.agenda::acts-returns
+agenda::acts-returns t g c =
+    let caller = c.args.actor.now.caller in
+    far_end caller _ c.args.tables.now c.args.telling.now c.requires.placed _ c.actions.tables c.actions.telling _ c.actions.invariant.so
+    (λ posts done. acts_end (settings_of caller.setup.now) c.args.slot.now done (doing_at caller.place c.actions.tables c.actions.telling posts) c.actions.action-index c.args.actions.now (omega arith))
 
-pub agenda::call-returns-then-telling-eq0-clause-does : goal.agenda::call-returns-then-telling-eq0-clause-does
-agenda::call-returns-then-telling-eq0-clause-does t g c =
-    OnOk-map c.use_up.result (λ e. call_spent c.args.actor.now.caller c.args.connection.now c.args.args.now c.args.depth c.args.tables.now c.args.tables.now c.args.telling.now c.requires.placed c.requires.stands c.use_up.new.self (omega arith) e) c.use_up.ensures
+pub agenda::call-returns-then-telling-eq0 : goal.agenda::call-returns-then-telling-eq0
+agenda::call-returns-then-telling-eq0 t g c =
+    let caller = c.args.actor.now.caller in
+    let old = c.args.tables.now in
+    does_none caller _ old c.args.telling.now old c.use_up.new.self c.use_up.result (keeps_same old old caller.place refl) c.use_up.ensures.failing (OnOk-map c.use_up.result
+    (λ e earlier. call_spent caller c.args.connection.now c.args.args.now c.args.depth old old c.args.telling.now earlier c.requires.placed c.requires.stands c.use_up.new.self (omega arith) e) c.use_up.ensures.told)
 
-pub agenda::call-returns-in-Functor-clause-does : goal.agenda::call-returns-in-Functor-clause-does
-agenda::call-returns-in-Functor-clause-does t g c =
-    OnOk-map c.call_functor.result (call_functor c.args.actor.now.caller c.args.connection.now c.args.args.now c.args.depth c.args.tables.now c.shoot.new.self c.args.telling.now c.requires.placed c.requires.stands c.shoot.ensures (omega arith) c.in-Functor.index c.in-Functor.is
-    (doing_at c.args.actor.now.caller.place c.call_functor.new.tables c.call_functor.new.telling)) c.call_functor.ensures.does
+pub agenda::call-returns-in-Functor : goal.agenda::call-returns-in-Functor
+agenda::call-returns-in-Functor t g c =
+    let caller = c.args.actor.now.caller in
+    let old = c.args.tables.now in
+    let shot = c.shoot.new.self in
+    does_after caller _ old c.args.telling.now _ shot c.call_functor.new.tables (taken caller c.args.connection.now c.args.args.now c.args.depth old shot c.args.telling.now) c.call_functor.new.telling c.call_functor.result c.requires.placed (keeps_with _ _ _ _ c.requires.placed c.shoot.ensures) refl
+    (λ earlier done. call_functor caller c.args.connection.now c.args.args.now c.args.depth old shot c.args.telling.now earlier c.requires.placed c.requires.stands c.shoot.ensures (omega arith) c.in-Functor.index c.in-Functor.is done)
+    c.call_functor.ensures
 
-pub agenda::call-returns-in-Functor-clause-keeps : goal.agenda::call-returns-in-Functor-clause-keeps
-agenda::call-returns-in-Functor-clause-keeps t g c = keeps_twice _ _ _ _ (keeps_with _ _ _ _ c.requires.placed c.shoot.ensures) c.call_functor.ensures.keeps
-
-pub agenda::call-returns-in_default-clause-does : goal.agenda::call-returns-in_default-clause-does
-agenda::call-returns-in_default-clause-does t g c =
-    call_absent c.args.actor.now.caller c.args.connection.now c.args.args.now c.args.depth c.args.tables.now c.shoot.new.self c.args.telling.now c.requires.placed c.requires.stands c.shoot.ensures (omega arith) c.in-Method.index c.in-Method.is
-    c.in_default.ensures.value
+pub agenda::call-returns-in_default : goal.agenda::call-returns-in_default
+agenda::call-returns-in_default t g c =
+    let caller = c.args.actor.now.caller in
+    let old = c.args.tables.now in
+    let shot = c.shoot.new.self in
+    does_none caller _ old c.args.telling.now shot (taken caller c.args.connection.now c.args.args.now c.args.depth old shot c.args.telling.now) _ (keeps_with _ _ _ _ c.requires.placed c.shoot.ensures) refl
+    (λ earlier. call_absent caller c.args.connection.now c.args.args.now c.args.depth old shot c.args.telling.now earlier c.requires.placed c.requires.stands c.shoot.ensures (omega arith) c.in-Method.index c.in-Method.is c.in_default.ensures.value)
 
 pub agenda::call-emit-requires : goal.agenda::call-emit-requires
 agenda::call-emit-requires t g c = λ κs outlives.
@@ -115,154 +145,184 @@ agenda::call-run_slot-requires t g c = λ κs outlives.
     let less = left_shot place c.args.connection.now c.args.tables.now c.shoot.new.self c.args.telling.now c.requires.placed c.shoot.ensures in
     ((let falls = round_falls c.args.actor.now.caller c.args.tables.now c.shoot.new.self c.args.telling.now (taken c.args.actor.now.caller c.args.connection.now c.args.args.now c.args.depth c.args.tables.now c.shoot.new.self c.args.telling.now) 2 71 (omega (arith, less)) (omega arith) in grind (arith, falls)), (outlives, (placed_kept _ _ _ (keeps_with _ _ _ _ c.requires.placed c.shoot.ensures) c.requires.placed, (omega arith, c.in-Some.ensures.sound))))
 
-pub agenda::call-returns-then-is_queued-clause-does : goal.agenda::call-returns-then-is_queued-clause-does
-agenda::call-returns-then-is_queued-clause-does t g c =
-    let still = placed_kept _ _ _ (keeps_with _ _ _ _ c.requires.placed c.shoot.ensures) c.requires.placed in
-    OnOk-map c.call_later.result (λ e. call_queued c.args.actor.now.caller c.args.connection.now c.args.args.now c.args.depth c.args.tables.now c.shoot.new.self c.args.telling.now c.requires.placed c.requires.stands c.shoot.ensures (omega arith) c.in-Method.index c.in-Method.is
-    c.in-Some.method.now c.in-Some.ensures.value c.first-given.result.now (c.first-given.ensures ∙ ap (λ n. take n c.args.args.now) c.len.ensures) c.call_later.new.tables still (sym c.if-is_queued.ensures) e) c.call_later.ensures.ok
+pub agenda::call-returns-then-is_queued : goal.agenda::call-returns-then-is_queued
+agenda::call-returns-then-is_queued t g c =
+    let caller = c.args.actor.now.caller in
+    let old = c.args.tables.now in
+    let shot = c.shoot.new.self in
+    let shoots = keeps_with _ _ _ _ c.requires.placed c.shoot.ensures in
+    let still = placed_kept _ _ _ shoots c.requires.placed in
+    does_none caller _ old c.args.telling.now c.call_later.new.tables (taken caller c.args.connection.now c.args.args.now c.args.depth old shot c.args.telling.now) c.call_later.result
+    (keeps_twice _ _ _ _ shoots (keeps_posted c.call_later.result caller.place shot c.call_later.new.tables _ still c.call_later.ensures.ok c.call_later.ensures.err)) refl
+    (OnOk-map c.call_later.result (λ e earlier. call_queued caller c.args.connection.now c.args.args.now c.args.depth old shot c.args.telling.now earlier c.requires.placed c.requires.stands c.shoot.ensures (omega arith) c.in-Method.index c.in-Method.is
+    c.in-Some.method.now c.in-Some.ensures.value c.first-given.result.now (c.first-given.ensures ∙ ap (λ n. take n c.args.args.now) c.len.ensures) c.call_later.new.tables still (sym c.if-is_queued.ensures) e) c.call_later.ensures.ok)
 
-pub agenda::call-returns-then-is_queued-clause-keeps : goal.agenda::call-returns-then-is_queued-clause-keeps
-agenda::call-returns-then-is_queued-clause-keeps t g c =
-    let shot = keeps_with _ _ _ _ c.requires.placed c.shoot.ensures in
-    keeps_twice _ _ _ _ shot (keeps_posted c.call_later.result c.args.actor.now.caller.place c.shoot.new.self c.call_later.new.tables _ (placed_kept _ _ _ shot c.requires.placed) c.call_later.ensures.ok c.call_later.ensures.err)
+pub agenda::call-returns-then-method : goal.agenda::call-returns-then-method
+agenda::call-returns-then-method t g c =
+    let caller = c.args.actor.now.caller in
+    let old = c.args.tables.now in
+    let shot = c.shoot.new.self in
+    does_after caller _ old c.args.telling.now _ shot c.emit.new.tables (taken caller c.args.connection.now c.args.args.now c.args.depth old shot c.args.telling.now) c.emit.new.telling c.emit.result c.requires.placed (keeps_with _ _ _ _ c.requires.placed c.shoot.ensures) refl
+    (λ earlier done. call_signal caller c.args.connection.now c.args.args.now c.args.depth old shot c.args.telling.now earlier c.requires.placed c.requires.stands c.shoot.ensures (omega arith) c.in-Method.index c.in-Method.is
+    c.in-Some.method.now c.in-Some.ensures.value c.first-given.result.now (c.first-given.ensures ∙ ap (λ n. take n c.args.args.now) c.len.ensures) done (sym c.if-is_queued.ensures) c.if-method.true)
+    c.emit.ensures
 
-pub agenda::call-returns-then-method-clause-does : goal.agenda::call-returns-then-method-clause-does
-agenda::call-returns-then-method-clause-does t g c =
-    OnOk-map c.emit.result (call_signal c.args.actor.now.caller c.args.connection.now c.args.args.now c.args.depth c.args.tables.now c.shoot.new.self c.args.telling.now c.requires.placed c.requires.stands c.shoot.ensures (omega arith) c.in-Method.index c.in-Method.is
-    c.in-Some.method.now c.in-Some.ensures.value c.first-given.result.now (c.first-given.ensures ∙ ap (λ n. take n c.args.args.now) c.len.ensures) (doing_at c.args.actor.now.caller.place c.emit.new.tables c.emit.new.telling) (sym c.if-is_queued.ensures) c.if-method.true) c.emit.ensures.does
+pub agenda::call-returns : goal.agenda::call-returns
+agenda::call-returns t g c =
+    let caller = c.args.actor.now.caller in
+    let old = c.args.tables.now in
+    let shot = c.shoot.new.self in
+    does_after caller _ old c.args.telling.now _ shot c.run_slot.new.tables (taken caller c.args.connection.now c.args.args.now c.args.depth old shot c.args.telling.now) c.run_slot.new.telling c.run_slot.result c.requires.placed (keeps_with _ _ _ _ c.requires.placed c.shoot.ensures) refl
+    (λ earlier done. call_slot caller c.args.connection.now c.args.args.now c.args.depth old shot c.args.telling.now earlier c.requires.placed c.requires.stands c.shoot.ensures (omega arith) c.in-Method.index c.in-Method.is
+    c.in-Some.method.now c.in-Some.ensures.value c.first-given.result.now (c.first-given.ensures ∙ ap (λ n. take n c.args.args.now) c.len.ensures) done (sym c.if-is_queued.ensures) c.if-method.false)
+    c.run_slot.ensures
 
-pub agenda::call-returns-then-method-clause-keeps : goal.agenda::call-returns-then-method-clause-keeps
-agenda::call-returns-then-method-clause-keeps t g c = keeps_twice _ _ _ _ (keeps_with _ _ _ _ c.requires.placed c.shoot.ensures) c.emit.ensures.keeps
-
-pub agenda::call-returns-clause-does : goal.agenda::call-returns-clause-does
-agenda::call-returns-clause-does t g c =
-    OnOk-map c.run_slot.result (call_slot c.args.actor.now.caller c.args.connection.now c.args.args.now c.args.depth c.args.tables.now c.shoot.new.self c.args.telling.now c.requires.placed c.requires.stands c.shoot.ensures (omega arith) c.in-Method.index c.in-Method.is
-    c.in-Some.method.now c.in-Some.ensures.value c.first-given.result.now (c.first-given.ensures ∙ ap (λ n. take n c.args.args.now) c.len.ensures) (doing_at c.args.actor.now.caller.place c.run_slot.new.tables c.run_slot.new.telling) (sym c.if-is_queued.ensures) c.if-method.false) c.run_slot.ensures.does
-
-pub agenda::call-returns-clause-keeps : goal.agenda::call-returns-clause-keeps
-agenda::call-returns-clause-keeps t g c = keeps_twice _ _ _ _ (keeps_with _ _ _ _ c.requires.placed c.shoot.ensures) c.run_slot.ensures.keeps
-
-pub agenda::effect-returns-in-Ok-clause-does : goal.agenda::effect-returns-in-Ok-clause-does
-agenda::effect-returns-in-Ok-clause-does t g c =
-    let settings = settings_of c.args.actor.now.caller.setup.now in
-    let place = c.args.actor.now.caller.place in
+pub agenda::effect-returns-in-Ok : goal.agenda::effect-returns-in-Ok
+agenda::effect-returns-in-Ok t g c =
+    let caller = c.args.actor.now.caller in
     let slot = c.args.slot.now in
+    let old = c.args.tables.now in
+    let before = c.args.telling.now in
     let tried = rw c.as_slice.ensures at c.in-Ok.ensures in
-    rw c.in-Emit.is (OnOk-map c.emit.result
-    (effect_done c.args.actor.now.caller slot (e.Emit c.in-Emit.of c.in-Emit.signal c.in-Emit.args) c.args.tables.now (Emit c.in-Ok.sent.object c.in-Ok.sent.signal c.in-Ok.sent.args slot.depth ∷ []) c.args.tables.now c.emit.new.tables c.args.telling.now c.emit.new.telling (tried (doing_at place c.args.tables.now c.args.telling.now)))
-    (rw c.as_slice-in-Ok.ensures at c.emit.ensures.does))
+    rw c.in-Emit.is (does_by caller _ old before _ c.emit.new.tables c.emit.new.telling c.emit.result
+    (λ earlier done. effect_done caller slot (e.Emit c.in-Emit.of c.in-Emit.signal c.in-Emit.args) old (Emit c.in-Ok.sent.object c.in-Ok.sent.signal c.in-Ok.sent.args slot.depth ∷ []) old before earlier done (tried (doing_at caller.place old before earlier)))
+    (rw c.as_slice-in-Ok.ensures at c.emit.ensures))
 
-pub agenda::effect-returns-in-Err-clause-does : goal.agenda::effect-returns-in-Err-clause-does
-agenda::effect-returns-in-Err-clause-does t g c =
-    let settings = settings_of c.args.actor.now.caller.setup.now in
-    let place = c.args.actor.now.caller.place in
+pub agenda::effect-returns-in-Err : goal.agenda::effect-returns-in-Err
+agenda::effect-returns-in-Err t g c =
+    let caller = c.args.actor.now.caller in
     let slot = c.args.slot.now in
-    rw (c.in-Emit.is, ← c.as_slice.ensures) (OnOk-map c.warn_of.result
-    (effect_warned {T = Emission} c.args.actor.now.caller slot (e.Emit c.in-Emit.of c.in-Emit.signal c.as_slice.result.now) c.args.tables.now (λ sent. Emit sent.object sent.signal sent.args slot.depth ∷ []) c.args.tables.now c.args.telling.now c.warn_of.new.self c.in-Err.fault c.in-Err.ensures)
-    c.warn_of.ensures)
+    let old = c.args.tables.now in
+    let before = c.args.telling.now in
+    rw (c.in-Emit.is, ← c.as_slice.ensures) (does_none caller _ old before old c.warn_of.new.self c.warn_of.result (keeps_same old old caller.place refl) c.warn_of.ensures.failing (OnOk-map c.warn_of.result
+    (λ warns earlier. effect_warned {T = Emission} caller slot (e.Emit c.in-Emit.of c.in-Emit.signal c.as_slice.result.now) old (λ sent. Emit sent.object sent.signal sent.args slot.depth ∷ []) old before c.warn_of.new.self earlier c.in-Err.fault c.in-Err.ensures warns)
+    c.warn_of.ensures.told))
 
-pub agenda::effect-returns-in-Ok-deleted-clause-does : goal.agenda::effect-returns-in-Ok-deleted-clause-does
-agenda::effect-returns-in-Ok-deleted-clause-does t g c =
-    let settings = settings_of c.args.actor.now.caller.setup.now in
-    let place = c.args.actor.now.caller.place in
+pub agenda::effect-returns-in-Ok-deleted : goal.agenda::effect-returns-in-Ok-deleted
+agenda::effect-returns-in-Ok-deleted t g c =
+    let caller = c.args.actor.now.caller in
     let slot = c.args.slot.now in
-    rw c.in-Delete.is (OnOk-map c.delete.result
-    (effect_done c.args.actor.now.caller slot (e.Delete c.in-Delete.target) c.args.tables.now (Delete c.in-Ok-deleted.object slot.depth ∷ []) c.args.tables.now c.delete.new.tables c.args.telling.now c.delete.new.telling (c.in-Ok-deleted.ensures (doing_at place c.args.tables.now c.args.telling.now)))
-    c.delete.ensures.does)
+    let old = c.args.tables.now in
+    let before = c.args.telling.now in
+    rw c.in-Delete.is (does_by caller _ old before _ c.delete.new.tables c.delete.new.telling c.delete.result
+    (λ earlier done. effect_done caller slot (e.Delete c.in-Delete.target) old (Delete c.in-Ok-deleted.object slot.depth ∷ []) old before earlier done (c.in-Ok-deleted.ensures (doing_at caller.place old before earlier)))
+    c.delete.ensures)
 
-pub agenda::effect-returns-in-Err-deleted-clause-does : goal.agenda::effect-returns-in-Err-deleted-clause-does
-agenda::effect-returns-in-Err-deleted-clause-does t g c =
-    let settings = settings_of c.args.actor.now.caller.setup.now in
-    let place = c.args.actor.now.caller.place in
+pub agenda::effect-returns-in-Err-deleted : goal.agenda::effect-returns-in-Err-deleted
+agenda::effect-returns-in-Err-deleted t g c =
+    let caller = c.args.actor.now.caller in
     let slot = c.args.slot.now in
-    rw c.in-Delete.is (OnOk-map c.warn_of-in-Err-deleted.result
-    (effect_warned {T = ℕ} c.args.actor.now.caller slot (e.Delete c.in-Delete.target) c.args.tables.now (λ object. Delete object slot.depth ∷ []) c.args.tables.now c.args.telling.now c.warn_of-in-Err-deleted.new.self c.in-Err-deleted.fault c.in-Err-deleted.ensures)
-    c.warn_of-in-Err-deleted.ensures)
+    let old = c.args.tables.now in
+    let before = c.args.telling.now in
+    rw c.in-Delete.is (does_none caller _ old before old c.warn_of-in-Err-deleted.new.self c.warn_of-in-Err-deleted.result (keeps_same old old caller.place refl) c.warn_of-in-Err-deleted.ensures.failing (OnOk-map c.warn_of-in-Err-deleted.result
+    (λ warns earlier. effect_warned {T = ℕ} caller slot (e.Delete c.in-Delete.target) old (λ object. Delete object slot.depth ∷ []) old before c.warn_of-in-Err-deleted.new.self earlier c.in-Err-deleted.fault c.in-Err-deleted.ensures warns)
+    c.warn_of-in-Err-deleted.ensures.told))
 
 pub agenda::effect-notify-requires : goal.agenda::effect-notify-requires
 agenda::effect-notify-requires t g c = λ κs outlives.
     let settings = settings_of c.args.actor.now.caller.setup.now in
     let place = c.args.actor.now.caller.place in
     let slot = c.args.slot.now in
-    let less = left_stepped settings (act_of slot (effect (e.Set c.in-Set.of c.in-Set.property c.in-Set.value))) _ place c.args.tables.now c.set.new.tables c.args.telling.now (c.in-Ok-set.ensures.tries (doing_at place c.args.tables.now c.args.telling.now)) in
+    let less = left_stepped settings (act_of slot (effect (e.Set c.in-Set.of c.in-Set.property c.in-Set.value))) _ place c.args.tables.now c.set.new.tables c.args.telling.now [] (c.in-Ok-set.ensures.tries (doing_at place c.args.tables.now c.args.telling.now [])) in
     let falls = rank_falls c.args.actor.now.caller c.args.tables.now c.set.new.tables c.args.telling.now c.args.telling.now 5 4 less (omega arith) in
     (grind (arith, falls), (outlives, (placed_kept _ _ _ c.in-Ok-set.ensures.keeps c.requires.placed, c.requires.depth)))
 
 pub agenda::effect-returns-in-Ok-set : goal.agenda::effect-returns-in-Ok-set
 agenda::effect-returns-in-Ok-set t g c =
-    let settings = settings_of c.args.actor.now.caller.setup.now in
-    let place = c.args.actor.now.caller.place in
+    let caller = c.args.actor.now.caller in
+    let settings = settings_of caller.setup.now in
     let slot = c.args.slot.now in
-    record {
-      does = rw c.in-Set.is (OnOk-map c.notify.result
-          (effect_done c.args.actor.now.caller slot (e.Set c.in-Set.of c.in-Set.property c.in-Set.value) c.args.tables.now (items_of settings (state_at c.set.new.tables place) slot.depth c.in-Ok-set.told) c.set.new.tables c.notify.new.tables c.args.telling.now c.notify.new.telling (c.in-Ok-set.ensures.tries (doing_at place c.args.tables.now c.args.telling.now)))
-          c.notify.ensures.does);
-      keeps = keeps_twice _ _ _ _ c.in-Ok-set.ensures.keeps c.notify.ensures.keeps;
-    }
+    let old = c.args.tables.now in
+    let before = c.args.telling.now in
+    rw c.in-Set.is (does_after caller _ old before _ c.set.new.tables c.notify.new.tables before c.notify.new.telling c.notify.result c.requires.placed c.in-Ok-set.ensures.keeps refl
+    (λ earlier done. effect_done caller slot (e.Set c.in-Set.of c.in-Set.property c.in-Set.value) old (items_of settings (state_at c.set.new.tables caller.place) slot.depth c.in-Ok-set.told) c.set.new.tables before earlier done (c.in-Ok-set.ensures.tries (doing_at caller.place old before earlier)))
+    c.notify.ensures)
 
 pub agenda::effect-returns-in-Err-set : goal.agenda::effect-returns-in-Err-set
 agenda::effect-returns-in-Err-set t g c =
+    let caller = c.args.actor.now.caller in
+    let settings = settings_of caller.setup.now in
     let slot = c.args.slot.now in
-    record {
-      does = rw c.in-Set.is (OnOk-map c.warn_of-in-Err-set.result
-          (effect_refused {T = Option Notice} c.args.actor.now.caller slot (e.Set c.in-Set.of c.in-Set.property c.in-Set.value) c.args.tables.now (items_of (settings_of c.args.actor.now.caller.setup.now) (state_at c.set.new.tables c.args.actor.now.caller.place) slot.depth) c.set.new.tables c.args.telling.now c.warn_of-in-Err-set.new.self c.in-Err-set.fault c.in-Err-set.ensures.tries c.in-Err-set.ensures.refused)
-          c.warn_of-in-Err-set.ensures);
-      keeps = c.in-Err-set.ensures.keeps;
-    }
+    let old = c.args.tables.now in
+    let before = c.args.telling.now in
+    rw c.in-Set.is (does_none caller _ old before c.set.new.tables c.warn_of-in-Err-set.new.self c.warn_of-in-Err-set.result c.in-Err-set.ensures.keeps c.warn_of-in-Err-set.ensures.failing (OnOk-map c.warn_of-in-Err-set.result
+    (λ warns earlier. effect_refused {T = Option Notice} caller slot (e.Set c.in-Set.of c.in-Set.property c.in-Set.value) old (items_of settings (state_at c.set.new.tables caller.place) slot.depth) c.set.new.tables before c.warn_of-in-Err-set.new.self earlier c.in-Err-set.fault c.in-Err-set.ensures.tries c.in-Err-set.ensures.refused warns)
+    c.warn_of-in-Err-set.ensures.told))
 
 pub agenda::effect-returns-in-Ok-change : goal.agenda::effect-returns-in-Ok-change
 agenda::effect-returns-in-Ok-change t g c =
-    let settings = settings_of c.args.actor.now.caller.setup.now in
-    let place = c.args.actor.now.caller.place in
-    let slot = c.args.slot.now in
-    record {
-      does = by_change settings (act_of slot (effect c.args.plain.now)) (doing_at place c.args.tables.now c.args.telling.now) _ (c.in-Ok-change.ensures.tries (doing_at place c.args.tables.now c.args.telling.now));
-      keeps = c.change.ensures.keeps;
-    }
+    let caller = c.args.actor.now.caller in
+    let settings = settings_of caller.setup.now in
+    let old = c.args.tables.now in
+    let before = c.args.telling.now in
+    does_none caller _ old before c.change.new.tables before _ c.change.ensures.keeps refl
+    (λ earlier. by_change settings (act_of c.args.slot.now (effect c.args.plain.now)) (doing_at caller.place old before earlier) _ (c.in-Ok-change.ensures.tries (doing_at caller.place old before earlier)))
 
 pub agenda::effect-returns-in-Err-change : goal.agenda::effect-returns-in-Err-change
 agenda::effect-returns-in-Err-change t g c =
-    let settings = settings_of c.args.actor.now.caller.setup.now in
-    let place = c.args.actor.now.caller.place in
+    let caller = c.args.actor.now.caller in
+    let settings = settings_of caller.setup.now in
     let slot = c.args.slot.now in
-    record {
-      does = OnOk-map c.warn_of-in-Err-change.result
-          (λ warns. effect_warned {T = Unit {0}} c.args.actor.now.caller slot c.args.plain.now c.args.tables.now (λ done. []) c.change.new.tables c.args.telling.now c.warn_of-in-Err-change.new.self c.in-Err-change.fault c.in-Err-change.ensures.tries warns
-          ∙ ap (λ tables. doing_at place tables c.warn_of-in-Err-change.new.self) (sym c.in-Err-change.ensures.err))
-          c.warn_of-in-Err-change.ensures;
-      keeps = c.change.ensures.keeps;
-    }
+    let old = c.args.tables.now in
+    let before = c.args.telling.now in
+    let after = c.warn_of-in-Err-change.new.self in
+    does_none caller _ old before c.change.new.tables after c.warn_of-in-Err-change.result c.change.ensures.keeps c.warn_of-in-Err-change.ensures.failing (OnOk-map c.warn_of-in-Err-change.result
+    (λ warns earlier. effect_warned {T = Unit {0}} caller slot c.args.plain.now old (λ done. []) c.change.new.tables before after earlier c.in-Err-change.fault c.in-Err-change.ensures.tries warns
+    ∙ ap (λ tables. doing_at caller.place tables after earlier) (sym c.in-Err-change.ensures.err))
+    c.warn_of-in-Err-change.ensures.told)
 
-pub agenda::emit-returns-in_default-clause-does : goal.agenda::emit-returns-in_default-clause-does
-agenda::emit-returns-in_default-clause-does t g c =
-    emission_absent (settings_of c.args.actor.now.caller.setup.now) c.args.target c.args.signal c.args.args.now c.args.depth (doing_at c.args.actor.now.caller.place c.args.tables.now c.args.telling.now) c.in_default.ensures
+pub agenda::emit-returns-in_default : goal.agenda::emit-returns-in_default
+agenda::emit-returns-in_default t g c =
+    let caller = c.args.actor.now.caller in
+    let old = c.args.tables.now in
+    let before = c.args.telling.now in
+    does_none caller _ old before old before _ (keeps_same old old caller.place refl) refl
+    (λ earlier. emission_absent (settings_of caller.setup.now) c.args.target c.args.signal c.args.args.now c.args.depth (doing_at caller.place old before earlier) c.in_default.ensures)
 
-pub agenda::emit-returns-then-signal-ne-DESTROYED-clause-does : goal.agenda::emit-returns-then-signal-ne-DESTROYED-clause-does
-agenda::emit-returns-then-signal-ne-DESTROYED-clause-does t g c =
-    emission_held_back (settings_of c.args.actor.now.caller.setup.now) c.args.target c.args.signal c.args.args.now c.args.depth (doing_at c.args.actor.now.caller.place c.args.tables.now c.args.telling.now) c.in-Some.blocked c.in-Some.ensures
-    (is_held c.in-Some.blocked c.args.signal c.if-blocked.true c.if-signal-ne-DESTROYED.true)
+pub agenda::emit-returns-then-signal-ne-DESTROYED : goal.agenda::emit-returns-then-signal-ne-DESTROYED
+agenda::emit-returns-then-signal-ne-DESTROYED t g c =
+    let caller = c.args.actor.now.caller in
+    let old = c.args.tables.now in
+    let before = c.args.telling.now in
+    does_none caller _ old before old before _ (keeps_same old old caller.place refl) refl
+    (λ earlier. emission_held_back (settings_of caller.setup.now) c.args.target c.args.signal c.args.args.now c.args.depth (doing_at caller.place old before earlier) c.in-Some.blocked c.in-Some.ensures
+    (is_held c.in-Some.blocked c.args.signal c.if-blocked.true c.if-signal-ne-DESTROYED.true))
 
-pub agenda::emit-returns-then-depth-ge-NESTED_SIGNALS-clause-does : goal.agenda::emit-returns-then-depth-ge-NESTED_SIGNALS-clause-does
-agenda::emit-returns-then-depth-ge-NESTED_SIGNALS-clause-does t g c =
-    let settings = settings_of c.args.actor.now.caller.setup.now in
-    let place = c.args.actor.now.caller.place in
-    let doing = doing_at place c.args.tables.now c.args.telling.now in
-    OnOk-map c.warn.result
-    (λ e. emission_deep settings c.args.target c.args.signal c.args.args.now c.args.depth doing c.in-Some.blocked c.in-Some.ensures (is_let_through c.in-Some.blocked c.args.signal c.else-blocked.either) (doing_at place c.args.tables.now c.warn.new.self) (omega arith)
-    (warn_done settings place c.args.tables.now c.args.telling.now c.warn.new.self Limit (Some c.args.target) e))
-    c.warn.ensures
+pub agenda::emit-returns-then-depth-ge-NESTED_SIGNALS : goal.agenda::emit-returns-then-depth-ge-NESTED_SIGNALS
+agenda::emit-returns-then-depth-ge-NESTED_SIGNALS t g c =
+    let caller = c.args.actor.now.caller in
+    let settings = settings_of caller.setup.now in
+    let old = c.args.tables.now in
+    let before = c.args.telling.now in
+    does_none caller _ old before old c.warn.new.self c.warn.result (keeps_same old old caller.place refl) c.warn.ensures.failing (OnOk-map c.warn.result
+    (λ e earlier. emission_deep settings c.args.target c.args.signal c.args.args.now c.args.depth (doing_at caller.place old before earlier) c.in-Some.blocked c.in-Some.ensures (is_let_through c.in-Some.blocked c.args.signal c.else-blocked.either) (doing_at caller.place old c.warn.new.self earlier) (omega arith)
+    (warn_done settings caller.place old before c.warn.new.self earlier Limit (Some c.args.target) e))
+    c.warn.ensures.told)
 
 pub agenda::emit-calls-init : goal.agenda::emit-calls-init
 agenda::emit-calls-init t g c =
-    let settings = settings_of c.args.actor.now.caller.setup.now in
-    let place = c.args.actor.now.caller.place in
-    let doing = doing_at place c.args.tables.now c.args.telling.now in
+    let caller = c.args.actor.now.caller in
+    let settings = settings_of caller.setup.now in
+    let place = caller.place in
+    let old = c.args.tables.now in
+    let before = c.args.telling.now in
+    let new = c.deliver-telling.new.self in
+    let after = record before { failing = c.deliver-telling.result } in
+    let posts = posts_of (state_at old place).desk c.args.target c.args.signal c.args.args.now in
+    let alike : left_at place new after ≡ left_at place old before = ap (λ (state : State). before.turns + living_rows state.forest.rows) c.deliver-telling.ensures.own in
     record {
-      keeps = keeps_same c.args.tables.now c.args.tables.now place refl;
-      placed = c.requires.placed;
-      left = omega arith;
+      so = record {
+        posts = posts;
+        runs = λ earlier.
+            ap (λ number. run settings (calls_to settings c.args.args.now c.args.depth (remaining c.args.target c.args.signal number 0 (state_at new place).connections.rows)) (doing_at place new after (earlier ++ posts))) c.last_connection-up_to.ensures.number
+            ∙ ap (λ (state : State). run settings (calls_to settings c.args.args.now c.args.depth (remaining c.args.target c.args.signal state.connections.last_number 0 state.connections.rows)) (doing_at place new after (earlier ++ posts))) c.deliver-telling.ensures.own
+            ∙ emission_begins settings c.args.target c.args.signal c.args.args.now c.args.depth (doing_at place old before earlier) c.in-Some.blocked c.in-Some.ensures (is_let_through c.in-Some.blocked c.args.signal c.else-blocked.either) (omega arith)
+            (subst (λ (state : State). IsSound state.connections) c.deliver-telling.ensures.own c.last_connection-up_to.ensures.sound) (doing_at place new after (earlier ++ posts)) (posting_is place old new before after earlier posts c.deliver-telling.ensures.own refl);
+        reaches = c.deliver-telling.ensures.reaches;
+      };
+      placed = placed_reached caller old new posts before.failing c.deliver-telling.result c.deliver-telling.ensures.reaches c.requires.placed;
+      left = omega (arith, alike);
       last = let number = c.last_connection-up_to.ensures.number in omega (arith, number);
-      runs = rw c.last_connection-up_to.ensures.number (emission_begins settings c.args.target c.args.signal c.args.args.now c.args.depth doing c.in-Some.blocked c.in-Some.ensures (is_let_through c.in-Some.blocked c.args.signal c.else-blocked.either) (omega arith) c.last_connection-up_to.ensures.sound);
     }
 
 pub agenda::emit-call-requires : goal.agenda::emit-call-requires
@@ -271,90 +331,131 @@ agenda::emit-call-requires t g c = λ κs outlives.
     let left = c.calls.invariant.left in
     ((let falls = rank_falls c.args.actor.now.caller c.args.tables.now c.calls.tables c.args.telling.now c.calls.telling 3 2 left (omega arith) in grind (arith, falls)), (outlives, (c.calls.invariant.placed, (omega arith, found_stands _ _ c.in-Some-next_connection.connection c.next_connection.ensures.sound.rising (sym c.in-Some-next_connection.ensures.next)))))
 
-pub agenda::emit-returns-in_err-call-clause-keeps : goal.agenda::emit-returns-in_err-call-clause-keeps
-agenda::emit-returns-in_err-call-clause-keeps t g c = keeps_twice _ _ _ _ c.calls.invariant.keeps c.call.ensures.keeps
+pub agenda::emit-returns-in_err-call : goal.agenda::emit-returns-in_err-call
+agenda::emit-returns-in_err-call t g c =
+    far_wanting c.args.actor.now.caller _ c.args.tables.now c.args.telling.now c.requires.placed _ c.calls.tables c.calls.telling c.calls.invariant.so _ c.call.new.tables c.call.new.telling c.call.result _ c.from_residual.ensures.0 c.call.ensures
 
 pub agenda::emit-calls-smaller : goal.agenda::emit-calls-smaller
 agenda::emit-calls-smaller t g c = next_smaller c.args.target c.args.signal c.calls.after c.last_connection-up_to.result _ c.in-Some-next_connection.connection (sym c.in-Some-next_connection.ensures.next)
 
 pub agenda::emit-calls-preserved : goal.agenda::emit-calls-preserved
 agenda::emit-calls-preserved t g c =
-    let settings = settings_of c.args.actor.now.caller.setup.now in
-    let place = c.args.actor.now.caller.place in
-    let less : left_at place c.call.new.tables c.call.new.telling ≤ left_at place c.calls.tables c.calls.telling = left_falls settings _ place c.calls.tables c.call.new.tables c.calls.telling c.call.new.telling c.in_ok-call.ensures.does in
+    let caller = c.args.actor.now.caller in
+    let settings = settings_of caller.setup.now in
+    let place = caller.place in
+    let now = c.calls.tables in
+    let between = c.calls.telling in
+    let new = c.call.new.tables in
+    let after = c.call.new.telling in
+    let next = c.in-Some-next_connection.connection in
+    let up_to = c.last_connection-up_to.result in
+    let found = sym c.in-Some-next_connection.ensures.next in
+    let less : left_at place new after ≤ left_at place now between = left_falls settings _ place now new between after [] _ (c.in_ok-call.ensures.runs []) in
     record {
-      keeps = keeps_twice _ _ _ _ c.calls.invariant.keeps c.call.ensures.keeps;
-      placed = placed_kept _ _ _ c.call.ensures.keeps c.calls.invariant.placed;
+      so = far_next caller _ c.args.tables.now c.args.telling.now c.requires.placed _ now between c.calls.invariant.so _ new after _
+          (here caller (calls_to settings c.args.args.now c.args.depth (remaining c.args.target c.args.signal up_to next.number (state_at new place).connections.rows)) new after) c.in_ok-call.ensures
+          (λ posts more done. emission_goes_on settings c.args.target c.args.signal c.args.args.now c.args.depth up_to c.calls.after done (doing_at place now between posts) (doing_at place new after more) next c.next_connection.ensures.sound c.calls.invariant.last found);
+      placed = placed_reached caller now new _ _ _ c.call.ensures.reaches c.calls.invariant.placed;
       left = omega (arith, less, c.calls.invariant.left);
-      last = last_stays settings c.args.target c.args.signal c.args.args.now c.args.depth c.last_connection-up_to.result (doing_at place c.calls.tables c.calls.telling) (doing_at place c.call.new.tables c.call.new.telling) c.in-Some-next_connection.connection c.calls.invariant.last c.in_ok-call.ensures.does;
-      runs = emission_goes_on settings c.args.target c.args.signal c.args.args.now c.args.depth c.last_connection-up_to.result c.calls.after _ (doing_at place c.calls.tables c.calls.telling) (doing_at place c.call.new.tables c.call.new.telling) c.in-Some-next_connection.connection
-          c.next_connection.ensures.sound c.calls.invariant.last (sym c.in-Some-next_connection.ensures.next) c.in_ok-call.ensures.does c.calls.invariant.runs;
+      last = last_stays settings c.args.target c.args.signal c.args.args.now c.args.depth up_to (doing_at place now between []) (doing_at place new after _) next c.calls.invariant.last (c.in_ok-call.ensures.runs []);
     }
 
-pub agenda::emit-returns-clause-does : goal.agenda::emit-returns-clause-does
-agenda::emit-returns-clause-does t g c =
-    let place = c.args.actor.now.caller.place in
-    sym c.calls.invariant.runs ∙ emission_end (settings_of c.args.actor.now.caller.setup.now) c.args.target c.args.signal c.args.args.now c.args.depth c.last_connection-up_to.result c.calls.after (doing_at place c.calls.tables c.calls.telling) (sym c.in_default-next_connection.ensures.next)
+pub agenda::emit-returns : goal.agenda::emit-returns
+agenda::emit-returns t g c =
+    let caller = c.args.actor.now.caller in
+    far_end caller _ c.args.tables.now c.args.telling.now c.requires.placed _ c.calls.tables c.calls.telling _ c.calls.invariant.so
+    (λ posts done e. sym e ∙ emission_end (settings_of caller.setup.now) c.args.target c.args.signal c.args.args.now c.args.depth c.last_connection-up_to.result c.calls.after (doing_at caller.place c.calls.tables c.calls.telling posts) (sym c.in_default-next_connection.ensures.next))
 
-pub agenda::notify-returns-in_default-clause-does : goal.agenda::notify-returns-in_default-clause-does
-agenda::notify-returns-in_default-clause-does t g c =
-    rw c.in_default.is (at_end (settings_of c.args.actor.now.caller.setup.now) (doing_at c.args.actor.now.caller.place c.args.tables.now c.args.telling.now))
+pub agenda::notify-returns-in_default : goal.agenda::notify-returns-in_default
+agenda::notify-returns-in_default t g c =
+    let caller = c.args.actor.now.caller in
+    let old = c.args.tables.now in
+    let before = c.args.telling.now in
+    rw c.in_default.is (does_none caller _ old before old before _ (keeps_same old old caller.place refl) refl (λ earlier. at_end (settings_of caller.setup.now) (doing_at caller.place old before earlier)))
 
-pub agenda::notify-returns-then-not-is_sent-clause-does : goal.agenda::notify-returns-then-not-is_sent-clause-does
-agenda::notify-returns-then-not-is_sent-clause-does t g c =
-    let settings = settings_of c.args.actor.now.caller.setup.now in
-    let doing = doing_at c.args.actor.now.caller.place c.args.tables.now c.args.telling.now in
+pub agenda::notify-returns-then-not-is_sent : goal.agenda::notify-returns-then-not-is_sent
+agenda::notify-returns-then-not-is_sent t g c =
+    let caller = c.args.actor.now.caller in
+    let settings = settings_of caller.setup.now in
+    let old = c.args.tables.now in
+    let before = c.args.telling.now in
+    let state = state_at old caller.place in
     let notice = c.in-Some.notice in
-    let unheard : is_some (find (is_next notice.object notice.signal 0 doing.state.connections.last_number) doing.state.connections.rows) ≡ false = grind arith in
-    rw c.in-Some.is (emission_unheard settings notice.object notice.signal (notice_args settings doing.state notice) c.args.depth doing (omega arith) c.is_sent.ensures.sound unheard)
+    let unheard : is_some (find (is_next notice.object notice.signal 0 state.connections.last_number) state.connections.rows) ≡ false = grind arith in
+    let unpublished : list_any (publishes notice.object notice.signal) state.desk.publications ≡ false = grind arith in
+    rw c.in-Some.is (does_none caller _ old before old before _ (keeps_same old old caller.place refl) refl
+    (λ earlier. emission_unheard settings notice.object notice.signal (notice_args settings state notice) c.args.depth (doing_at caller.place old before earlier) (omega arith) c.is_sent.ensures.sound (posts_none notice.object notice.signal (notice_args settings state notice) state.desk unpublished) unheard))
 
-pub agenda::call_functor-returns-in_default-clause-does : goal.agenda::call_functor-returns-in_default-clause-does
-agenda::call_functor-returns-in_default-clause-does t g c =
-    functor_absent (settings_of c.args.actor.now.caller.setup.now) c.args.connection.now c.args.index c.args.args.now c.args.depth (doing_at c.args.actor.now.caller.place c.args.tables.now c.args.telling.now) c.in_default.ensures
+pub agenda::call_functor-returns-in_default : goal.agenda::call_functor-returns-in_default
+agenda::call_functor-returns-in_default t g c =
+    let caller = c.args.actor.now.caller in
+    let old = c.args.tables.now in
+    let before = c.args.telling.now in
+    does_none caller _ old before old before _ (keeps_same old old caller.place refl) refl
+    (λ earlier. functor_absent (settings_of caller.setup.now) c.args.connection.now c.args.index c.args.args.now c.args.depth (doing_at caller.place old before earlier) c.in_default.ensures)
 
-pub agenda::call_functor-returns-then-is_queued-clause-does : goal.agenda::call_functor-returns-then-is_queued-clause-does
-agenda::call_functor-returns-then-is_queued-clause-does t g c =
-    let place = c.args.actor.now.caller.place in
-    OnOk-map c.call_later.result (λ e. functor_queued (settings_of c.args.actor.now.caller.setup.now) c.args.connection.now c.args.index c.args.args.now c.args.depth (doing_at place c.args.tables.now c.args.telling.now) c.in-Some.functor.now c.in-Some.ensures
-    c.first-given.result.now (c.first-given.ensures ∙ ap (λ n. take n c.args.args.now) c.len.ensures) (doing_at place c.call_later.new.tables c.args.telling.now) c.requires.callee (sym c.if-is_queued.ensures)
-    (queued_is place c.args.tables.now c.call_later.new.tables c.args.telling.now _ c.requires.placed e)) c.call_later.ensures.ok
-
-pub agenda::call_functor-returns-then-is_queued-clause-keeps : goal.agenda::call_functor-returns-then-is_queued-clause-keeps
-agenda::call_functor-returns-then-is_queued-clause-keeps t g c =
-    keeps_posted c.call_later.result c.args.actor.now.caller.place c.args.tables.now c.call_later.new.tables _ c.requires.placed c.call_later.ensures.ok c.call_later.ensures.err
+pub agenda::call_functor-returns-then-is_queued : goal.agenda::call_functor-returns-then-is_queued
+agenda::call_functor-returns-then-is_queued t g c =
+    let caller = c.args.actor.now.caller in
+    let old = c.args.tables.now in
+    let before = c.args.telling.now in
+    does_none caller _ old before c.call_later.new.tables before c.call_later.result (keeps_posted c.call_later.result caller.place old c.call_later.new.tables _ c.requires.placed c.call_later.ensures.ok c.call_later.ensures.err) refl (OnOk-map c.call_later.result
+    (λ e earlier. functor_queued (settings_of caller.setup.now) c.args.connection.now c.args.index c.args.args.now c.args.depth (doing_at caller.place old before earlier) c.in-Some.functor.now c.in-Some.ensures
+    c.first-given.result.now (c.first-given.ensures ∙ ap (λ n. take n c.args.args.now) c.len.ensures) (doing_at caller.place c.call_later.new.tables before earlier) c.requires.callee (sym c.if-is_queued.ensures)
+    (queued_is caller.place old c.call_later.new.tables before earlier _ c.requires.placed e)) c.call_later.ensures.ok)
 
 pub agenda::call_functor-run_functor-requires : goal.agenda::call_functor-run_functor-requires
 agenda::call_functor-run_functor-requires t g c = λ κs outlives. (grind arith, (outlives, (c.requires.placed, (omega arith, c.in-Some.ensures))))
 
-pub agenda::call_functor-returns-clause-does : goal.agenda::call_functor-returns-clause-does
-agenda::call_functor-returns-clause-does t g c =
-    let place = c.args.actor.now.caller.place in
-    OnOk-map c.run_functor.result (functor_run (settings_of c.args.actor.now.caller.setup.now) c.args.connection.now c.args.index c.args.args.now c.args.depth (doing_at place c.args.tables.now c.args.telling.now) c.in-Some.functor.now c.in-Some.ensures
-    c.first-given.result.now (c.first-given.ensures ∙ ap (λ n. take n c.args.args.now) c.len.ensures) (doing_at place c.run_functor.new.tables c.run_functor.new.telling) (sym c.if-is_queued.ensures)) c.run_functor.ensures.does
+pub agenda::call_functor-returns : goal.agenda::call_functor-returns
+agenda::call_functor-returns t g c =
+    let caller = c.args.actor.now.caller in
+    let old = c.args.tables.now in
+    let before = c.args.telling.now in
+    does_by caller _ old before _ c.run_functor.new.tables c.run_functor.new.telling c.run_functor.result
+    (λ earlier done. functor_run (settings_of caller.setup.now) c.args.connection.now c.args.index c.args.args.now c.args.depth (doing_at caller.place old before earlier) c.in-Some.functor.now c.in-Some.ensures
+    c.first-given.result.now (c.first-given.ensures ∙ ap (λ n. take n c.args.args.now) c.len.ensures) done (sym c.if-is_queued.ensures))
+    c.run_functor.ensures
 
-pub agenda::run_slot-returns-clause-does : goal.agenda::run_slot-returns-clause-does
-agenda::run_slot-returns-clause-does t g c =
-    let settings = settings_of c.args.actor.now.caller.setup.now in
-    let place = c.args.actor.now.caller.place in
+pub agenda::run_slot-returns-in_err-call : goal.agenda::run_slot-returns-in_err-call
+agenda::run_slot-returns-in_err-call t g c =
+    let caller = c.args.actor.now.caller in
+    let old = c.args.tables.now in
+    does_wanting caller _ old c.args.telling.now old c.call.new.self _ c.from_residual.ensures.0 (keeps_same old old caller.place refl) c.call.ensures.failing
+
+pub agenda::run_slot-returns : goal.agenda::run_slot-returns
+agenda::run_slot-returns t g c =
+    let caller = c.args.actor.now.caller in
+    let settings = settings_of caller.setup.now in
     let slot = c.args.slot.now in
-    OnOk-map c.acts.result
-    (λ does. ap (run settings (model.acts (acts_of c.args.method.now.body.actions) slot.args.now slot.object slot.sender slot.depth)) (told_is place c.args.tables.now c.args.telling.now c.call.new.self _ c.in_ok-call.ensures) ∙ does)
-    (rw c.as_slice.ensures at c.acts.ensures.does)
+    let old = c.args.tables.now in
+    does_after caller _ old c.args.telling.now _ old c.acts.new.tables c.call.new.self c.acts.new.telling c.acts.result c.requires.placed (keeps_same old old caller.place refl) c.in_ok-call.ensures.failing
+    (λ earlier done does. ap (run settings (model.acts (acts_of c.args.method.now.body.actions) slot.args.now slot.object slot.sender slot.depth)) (told_is caller.place old c.args.telling.now c.call.new.self earlier _ c.in_ok-call.ensures.told) ∙ does)
+    (rw c.as_slice.ensures at c.acts.ensures)
+
+pub deletion::cut-returns-in_err-children : goal.deletion::cut-returns-in_err-children
+deletion::cut-returns-in_err-children t g c =
+    let caller = c.args.actor.now.caller in
+    let old = c.args.tables.now in
+    does_wanting caller _ old c.args.telling.now old c.args.telling.now _ c.from_residual.ensures.0 (keeps_same old old caller.place refl) refl
 
 pub deletion::cut-children-init : goal.deletion::cut-children-init
 deletion::cut-children-init t g c =
-    let place = c.args.actor.now.caller.place in
+    let caller = c.args.actor.now.caller in
+    let place = caller.place in
+    let old = c.args.tables.now in
+    let before = c.args.telling.now in
     let unties = keeps_with _ _ _ _ c.requires.placed c.untie.ensures in
     let still = placed_kept _ _ _ unties c.requires.placed in
     let keeps = keeps_twice _ _ _ _ unties (keeps_with _ _ _ _ still c.forget.ensures) in
-    let less = left_untied place c.args.target c.args.tables.now c.untie.new.self c.args.telling.now c.requires.placed c.untie.ensures in
-    let none = left_forgotten place c.args.target c.untie.new.self c.forget.new.self c.args.telling.now still c.forget.ensures in
+    let less = left_untied place c.args.target old c.untie.new.self before [] c.requires.placed c.untie.ensures in
+    let none = left_forgotten place c.args.target c.untie.new.self c.forget.new.self before [] still c.forget.ensures in
     record {
-      keeps = keeps;
+      so = far_none caller _ old before c.requires.placed _ c.forget.new.self before keeps refl
+          (λ earlier. cut_first (settings_of caller.setup.now) c.args.target c.args.depth place old c.untie.new.self c.forget.new.self before earlier c.requires.placed still c.as_slice-child-items.result.now
+          (c.as_slice-child-items.ensures.value ∙ c.in_ok-children.ensures) c.untie.ensures c.forget.ensures);
       placed = placed_kept _ _ _ keeps c.requires.placed;
       left = omega (arith, less, none);
-      runs = cut_first (settings_of c.args.actor.now.caller.setup.now) c.args.target c.args.depth place c.args.tables.now c.untie.new.self c.forget.new.self c.args.telling.now c.requires.placed still c.as_slice-child-items.result.now
-          (c.as_slice-child-items.ensures.value ∙ c.in_ok-children.ensures) c.untie.ensures c.forget.ensures;
     }
 
 pub deletion::cut-forget-requires : goal.deletion::cut-forget-requires
@@ -362,88 +463,126 @@ deletion::cut-forget-requires t g c = placed_kept _ _ _ (keeps_with _ _ _ _ c.re
 
 pub deletion::cut-kin-requires : goal.deletion::cut-kin-requires
 deletion::cut-kin-requires t g c = λ κs outlives.
-    let place = c.args.actor.now.caller.place in
     let left = c.children.invariant.left in
     ((let falls = rank_falls c.args.actor.now.caller c.args.tables.now c.children.tables c.args.telling.now c.children.telling 6 5 left (omega arith) in grind (arith, falls)), (outlives, (c.children.invariant.placed, c.requires.depth)))
 
-pub deletion::cut-returns-in_err-kin-clause-keeps : goal.deletion::cut-returns-in_err-kin-clause-keeps
-deletion::cut-returns-in_err-kin-clause-keeps t g c = keeps_twice _ _ _ _ c.children.invariant.keeps c.kin.ensures.keeps
+pub deletion::cut-returns-in_err-kin : goal.deletion::cut-returns-in_err-kin
+deletion::cut-returns-in_err-kin t g c =
+    far_wanting c.args.actor.now.caller _ c.args.tables.now c.args.telling.now c.requires.placed _ c.children.tables c.children.telling c.children.invariant.so _ c.kin.new.tables c.kin.new.telling c.kin.result _ c.from_residual-in_err-kin.ensures.0 c.kin.ensures
 
 pub deletion::cut-children-preserved : goal.deletion::cut-children-preserved
 deletion::cut-children-preserved t g c =
-    let settings = settings_of c.args.actor.now.caller.setup.now in
-    let place = c.args.actor.now.caller.place in
-    let less : left_at place c.kin.new.tables c.kin.new.telling ≤ left_at place c.children.tables c.children.telling = left_falls settings _ place c.children.tables c.kin.new.tables c.children.telling c.kin.new.telling c.in_ok-kin.ensures.does in
+    let caller = c.args.actor.now.caller in
+    let settings = settings_of caller.setup.now in
+    let place = caller.place in
+    let now = c.children.tables in
+    let between = c.children.telling in
+    let new = c.kin.new.tables in
+    let after = c.kin.new.telling in
+    let less : left_at place new after ≤ left_at place now between = left_falls settings _ place now new between after [] _ (c.in_ok-kin.ensures.runs []) in
     record {
-      keeps = keeps_twice _ _ _ _ c.children.invariant.keeps c.kin.ensures.keeps;
-      placed = placed_kept _ _ _ c.kin.ensures.keeps c.children.invariant.placed;
+      so = far_next caller _ c.args.tables.now c.args.telling.now c.requires.placed _ now between c.children.invariant.so _ new after _
+          (here caller (kins_from settings c.args.target c.args.depth (drop (c.children.child-index + 1) c.as_slice-child-items.result.now)) new after) c.in_ok-kin.ensures
+          (λ posts more done. cut_next settings c.args.target c.args.depth c.children.child-index c.as_slice-child-items.result.now done (doing_at place now between posts) (doing_at place new after more) (omega arith));
+      placed = placed_reached caller now new _ _ _ c.kin.ensures.reaches c.children.invariant.placed;
       left = omega (arith, less, c.children.invariant.left);
-      runs = cut_next settings c.args.target c.args.depth c.children.child-index c.as_slice-child-items.result.now _ (doing_at place c.children.tables c.children.telling) (doing_at place c.kin.new.tables c.kin.new.telling) (omega arith)
-          c.in_ok-kin.ensures.does c.children.invariant.runs;
     }
 
-pub deletion::cut-returns-clause-does : goal.deletion::cut-returns-clause-does
-deletion::cut-returns-clause-does t g c =
-    cut_last (settings_of c.args.actor.now.caller.setup.now) c.args.target c.args.depth c.children.child-index c.as_slice-child-items.result.now _ (doing_at c.args.actor.now.caller.place c.children.tables c.children.telling) (omega arith) c.children.invariant.runs
+pub deletion::cut-returns : goal.deletion::cut-returns
+deletion::cut-returns t g c =
+    let caller = c.args.actor.now.caller in
+    far_end caller _ c.args.tables.now c.args.telling.now c.requires.placed _ c.children.tables c.children.telling _ c.children.invariant.so
+    (λ posts done. cut_last (settings_of caller.setup.now) c.args.target c.args.depth c.children.child-index c.as_slice-child-items.result.now done (doing_at caller.place c.children.tables c.children.telling posts) (omega arith))
 
-pub deletion::delete-returns-then-not-lives-clause-does : goal.deletion::delete-returns-then-not-lives-clause-does
-deletion::delete-returns-then-not-lives-clause-does t g c =
-    delete_none (settings_of c.args.actor.now.caller.setup.now) c.args.target c.args.depth (doing_at c.args.actor.now.caller.place c.args.tables.now c.args.telling.now) (grind arith)
+pub deletion::delete-returns-then-not-lives : goal.deletion::delete-returns-then-not-lives
+deletion::delete-returns-then-not-lives t g c =
+    let caller = c.args.actor.now.caller in
+    let old = c.args.tables.now in
+    let before = c.args.telling.now in
+    let dead : lives (doing_at caller.place old before []) c.args.target ≡ false = grind arith in
+    does_none caller _ old before old before _ (keeps_same old old caller.place refl) refl (λ earlier. delete_none (settings_of caller.setup.now) c.args.target c.args.depth (doing_at caller.place old before earlier) dead)
 
 pub deletion::delete-emit-requires : goal.deletion::delete-emit-requires
 deletion::delete-emit-requires t g c = λ κs outlives.
     let place = c.args.actor.now.caller.place in
-    let living : lives (doing_at place c.args.tables.now c.args.telling.now) c.args.target ≡ true = grind arith in
-    let less = left_marked place c.args.target c.args.tables.now c.mark_dying.new.self c.args.telling.now c.requires.placed living c.mark_dying.ensures in
+    let living : lives (doing_at place c.args.tables.now c.args.telling.now []) c.args.target ≡ true = grind arith in
+    let less = left_marked place c.args.target c.args.tables.now c.mark_dying.new.self c.args.telling.now [] c.requires.placed living c.mark_dying.ensures in
     ((let falls = round_falls c.args.actor.now.caller c.args.tables.now c.mark_dying.new.self c.args.telling.now c.args.telling.now 4 3 (omega (arith, less)) (omega arith) in grind (arith, falls)), (outlives, (placed_kept _ _ _ (keeps_with _ _ _ _ c.requires.placed c.mark_dying.ensures) c.requires.placed, c.requires.depth)))
 
-pub deletion::delete-returns-in_err-emit-clause-keeps : goal.deletion::delete-returns-in_err-emit-clause-keeps
-deletion::delete-returns-in_err-emit-clause-keeps t g c = keeps_twice _ _ _ _ (keeps_with _ _ _ _ c.requires.placed c.mark_dying.ensures) c.emit.ensures.keeps
+pub deletion::delete-returns-in_err-emit : goal.deletion::delete-returns-in_err-emit
+deletion::delete-returns-in_err-emit t g c =
+    let caller = c.args.actor.now.caller in
+    let old = c.args.tables.now in
+    let before = c.args.telling.now in
+    let dead = c.mark_dying.new.self in
+    let living : lives (doing_at caller.place old before []) c.args.target ≡ true = grind arith in
+    far_wanting caller _ old before c.requires.placed _ dead before
+    (delete_begins caller c.args.target c.args.depth old dead before c.requires.placed living c.mark_dying.ensures) _ c.emit.new.tables c.emit.new.telling c.emit.result _ c.from_residual.ensures.0 c.emit.ensures
 
 pub deletion::delete-cut-requires : goal.deletion::delete-cut-requires
 deletion::delete-cut-requires t g c = λ κs outlives.
-    let settings = settings_of c.args.actor.now.caller.setup.now in
-    let place = c.args.actor.now.caller.place in
-    let living : lives (doing_at place c.args.tables.now c.args.telling.now) c.args.target ≡ true = grind arith in
-    let less = left_marked place c.args.target c.args.tables.now c.mark_dying.new.self c.args.telling.now c.requires.placed living c.mark_dying.ensures in
-    let sent = left_falls settings _ place c.mark_dying.new.self c.emit.new.tables c.args.telling.now c.emit.new.telling c.in_ok-emit.ensures.does in
-    let keeps = keeps_twice _ _ _ _ (keeps_with _ _ _ _ c.requires.placed c.mark_dying.ensures) c.emit.ensures.keeps in
-    ((let falls = round_falls c.args.actor.now.caller c.args.tables.now c.emit.new.tables c.args.telling.now c.emit.new.telling 4 6 (omega (arith, less, sent)) (omega arith) in grind (arith, falls)), (outlives, (placed_kept _ _ _ keeps c.requires.placed, c.requires.depth)))
+    let caller = c.args.actor.now.caller in
+    let settings = settings_of caller.setup.now in
+    let place = caller.place in
+    let living : lives (doing_at place c.args.tables.now c.args.telling.now []) c.args.target ≡ true = grind arith in
+    let less = left_marked place c.args.target c.args.tables.now c.mark_dying.new.self c.args.telling.now [] c.requires.placed living c.mark_dying.ensures in
+    let sent = left_falls settings _ place c.mark_dying.new.self c.emit.new.tables c.args.telling.now c.emit.new.telling [] _ (c.in_ok-emit.ensures.runs []) in
+    let placed = placed_reached caller c.mark_dying.new.self c.emit.new.tables _ _ _ c.emit.ensures.reaches (placed_kept _ _ _ (keeps_with _ _ _ _ c.requires.placed c.mark_dying.ensures) c.requires.placed) in
+    ((let falls = round_falls c.args.actor.now.caller c.args.tables.now c.emit.new.tables c.args.telling.now c.emit.new.telling 4 6 (omega (arith, less, sent)) (omega arith) in grind (arith, falls)), (outlives, (placed, c.requires.depth)))
 
-pub deletion::delete-returns-in_err-cut-clause-keeps : goal.deletion::delete-returns-in_err-cut-clause-keeps
-deletion::delete-returns-in_err-cut-clause-keeps t g c = keeps_twice _ _ _ _ (keeps_twice _ _ _ _ (keeps_with _ _ _ _ c.requires.placed c.mark_dying.ensures) c.emit.ensures.keeps) c.cut.ensures.keeps
+pub deletion::delete-returns-in_err-cut : goal.deletion::delete-returns-in_err-cut
+deletion::delete-returns-in_err-cut t g c =
+    let caller = c.args.actor.now.caller in
+    let old = c.args.tables.now in
+    let before = c.args.telling.now in
+    let dead = c.mark_dying.new.self in
+    let living : lives (doing_at caller.place old before []) c.args.target ≡ true = grind arith in
+    far_wanting caller _ old before c.requires.placed _ c.emit.new.tables c.emit.new.telling
+    (far_item caller _ old before c.requires.placed (Emit c.args.target DESTROYED [] c.args.depth) _ dead c.emit.new.tables before c.emit.new.telling _
+    (delete_begins caller c.args.target c.args.depth old dead before c.requires.placed living c.mark_dying.ensures) c.in_ok-emit.ensures) _ c.cut.new.tables c.cut.new.telling c.cut.result _ c.from_residual-in_err-cut.ensures.0 c.cut.ensures
 
 pub deletion::delete-remove-requires : goal.deletion::delete-remove-requires
 deletion::delete-remove-requires t g c =
-    let keeps = keeps_twice _ _ _ _ (keeps_twice _ _ _ _ (keeps_with _ _ _ _ c.requires.placed c.mark_dying.ensures) c.emit.ensures.keeps) c.cut.ensures.keeps in
-    placed_kept _ _ _ keeps c.requires.placed
+    let caller = c.args.actor.now.caller in
+    placed_reached caller c.emit.new.tables c.cut.new.tables _ _ _ c.cut.ensures.reaches
+    (placed_reached caller c.mark_dying.new.self c.emit.new.tables _ _ _ c.emit.ensures.reaches (placed_kept _ _ _ (keeps_with _ _ _ _ c.requires.placed c.mark_dying.ensures) c.requires.placed))
 
 pub deletion::delete-returns : goal.deletion::delete-returns
 deletion::delete-returns t g c =
-    let place = c.args.actor.now.caller.place in
-    let living : lives (doing_at place c.args.tables.now c.args.telling.now) c.args.target ≡ true = grind arith in
-    let keeps = keeps_twice _ _ _ _ (keeps_twice _ _ _ _ (keeps_with _ _ _ _ c.requires.placed c.mark_dying.ensures) c.emit.ensures.keeps) c.cut.ensures.keeps in
-    let placed = placed_kept _ _ _ keeps c.requires.placed in
-    record {
-      does = delete_done (settings_of c.args.actor.now.caller.setup.now) c.args.target c.args.depth place c.args.tables.now c.mark_dying.new.self c.emit.new.tables c.cut.new.tables c.remove.new.self c.args.telling.now c.emit.new.telling c.cut.new.telling
-          c.requires.placed placed living c.mark_dying.ensures c.in_ok-emit.ensures.does c.in_ok-cut.ensures.does c.remove.ensures;
-      keeps = keeps_twice _ _ _ _ keeps (keeps_with _ _ _ _ placed c.remove.ensures);
-    }
+    let caller = c.args.actor.now.caller in
+    let settings = settings_of caller.setup.now in
+    let old = c.args.tables.now in
+    let before = c.args.telling.now in
+    let dead = c.mark_dying.new.self in
+    let living : lives (doing_at caller.place old before []) c.args.target ≡ true = grind arith in
+    let begun = delete_begins caller c.args.target c.args.depth old dead before c.requires.placed living c.mark_dying.ensures in
+    let sent = far_item caller _ old before c.requires.placed (Emit c.args.target DESTROYED [] c.args.depth) _ dead c.emit.new.tables before c.emit.new.telling _ begun c.in_ok-emit.ensures in
+    let loose = far_item caller _ old before c.requires.placed (Cut c.args.target c.args.depth) _ c.emit.new.tables c.cut.new.tables c.emit.new.telling c.cut.new.telling _ sent c.in_ok-cut.ensures in
+    let placed = placed_reached caller old c.cut.new.tables _ _ _ loose.reaches c.requires.placed in
+    far_changed caller _ old before c.requires.placed _ c.cut.new.tables c.remove.new.self c.cut.new.telling _ loose (keeps_with _ _ _ _ placed c.remove.ensures)
+    (λ posts. by_change settings (Gone c.args.target c.args.depth) (doing_at caller.place c.cut.new.tables c.cut.new.telling posts) _ (rule.gone_now settings c.args.target c.args.depth (doing_at caller.place c.cut.new.tables c.cut.new.telling posts))
+    ∙ sym (gone_is caller.place c.args.target c.cut.new.tables c.remove.new.self c.cut.new.telling posts placed c.remove.ensures))
 
-pub deletion::kin-returns-then-not-lives_below-clause-does : goal.deletion::kin-returns-then-not-lives_below-clause-does
-deletion::kin-returns-then-not-lives_below-clause-does t g c =
-    kin_none (settings_of c.args.actor.now.caller.setup.now) c.args.parent c.args.depth c.args.child (doing_at c.args.actor.now.caller.place c.args.tables.now c.args.telling.now) (grind arith)
+pub deletion::kin-returns-then-not-lives_below : goal.deletion::kin-returns-then-not-lives_below
+deletion::kin-returns-then-not-lives_below t g c =
+    let caller = c.args.actor.now.caller in
+    let old = c.args.tables.now in
+    let before = c.args.telling.now in
+    let other : lives_below (doing_at caller.place old before []) c.args.parent c.args.child ≡ false = grind arith in
+    does_none caller _ old before old before _ (keeps_same old old caller.place refl) refl (λ earlier. kin_none (settings_of caller.setup.now) c.args.parent c.args.depth c.args.child (doing_at caller.place old before earlier) other)
 
-pub deletion::kin-returns-clause-does : goal.deletion::kin-returns-clause-does
-deletion::kin-returns-clause-does t g c =
-    let place = c.args.actor.now.caller.place in
-    let living : lives_below (doing_at place c.args.tables.now c.args.telling.now) c.args.parent c.args.child ≡ true = grind arith in
-    OnOk-map c.delete.result (kin_some (settings_of c.args.actor.now.caller.setup.now) c.args.parent c.args.depth c.args.child (doing_at place c.args.tables.now c.args.telling.now) (doing_at place c.delete.new.tables c.delete.new.telling) living) c.delete.ensures.does
+pub deletion::kin-returns : goal.deletion::kin-returns
+deletion::kin-returns t g c =
+    let caller = c.args.actor.now.caller in
+    let old = c.args.tables.now in
+    let before = c.args.telling.now in
+    let living : lives_below (doing_at caller.place old before []) c.args.parent c.args.child ≡ true = grind arith in
+    does_by caller _ old before _ c.delete.new.tables c.delete.new.telling c.delete.result (λ earlier done. kin_some (settings_of caller.setup.now) c.args.parent c.args.depth c.args.child (doing_at caller.place old before earlier) done living) c.delete.ensures
 
 pub agenda::run_functor-acts-requires : goal.agenda::run_functor-acts-requires
 agenda::run_functor-acts-requires t g c = λ κs outlives.
     let caller = c.args.actor.now.caller in
-    let same : left_at caller.place c.args.tables.now c.call_functor.new.self ≡ left_at caller.place c.args.tables.now c.args.telling.now = ap (left_at caller.place c.args.tables.now) c.in_ok-call_functor.ensures in
+    let same : left_at caller.place c.args.tables.now c.call_functor.new.self ≡ left_at caller.place c.args.tables.now c.args.telling.now = ap (left_at caller.place c.args.tables.now) c.in_ok-call_functor.ensures.told in
     let short = functor_short (settings_of caller.setup.now) c.args.index c.args.functor.now c.requires.found in
     let whole : counts (acts_of c.as_slice.result.now) ≡ counts (acts_of c.args.functor.now.body.actions) = ap (λ (actions : List Act). counts (acts_of actions)) c.as_slice.ensures in
     ((let falls = rank_falls caller c.args.tables.now c.args.tables.now c.args.telling.now c.call_functor.new.self (2 * longest_of caller + 7) (2 * counts (acts_of c.as_slice.result.now) + 6) (omega (arith, same)) (omega (arith, short, whole)) in grind (arith, falls)), (outlives, (c.requires.placed, c.requires.depth)))
@@ -452,37 +591,58 @@ pub agenda::run_functor-acts-requires-2 : goal.agenda::run_functor-acts-requires
 agenda::run_functor-acts-requires-2 t g c = λ κs outlives.
     let caller = c.args.actor.now.caller in
     let settings = settings_of caller.setup.now in
-    let same : left_at caller.place c.args.tables.now c.call_functor.new.self ≡ left_at caller.place c.args.tables.now c.args.telling.now = ap (left_at caller.place c.args.tables.now) c.in_ok-call_functor.ensures in
+    let same : left_at caller.place c.args.tables.now c.call_functor.new.self ≡ left_at caller.place c.args.tables.now c.args.telling.now = ap (left_at caller.place c.args.tables.now) c.in_ok-call_functor.ensures.told in
     let short = functor_short settings c.args.index c.args.functor.now c.requires.found in
     let kept = answered_short settings c.args.index c.args.functor.now c.requires.found c.args.slot.now.args.now c.in-Some.actions.items (rw c.in-Some.is at c.in_ok-answer.ensures.answer) in
     let whole : counts (acts_of c.as_slice-2.result.now) ≡ counts (acts_of c.in-Some.actions.items) = ap (λ (actions : List Act). counts (acts_of actions)) c.as_slice-2.ensures.value in
     ((let falls = rank_falls caller c.args.tables.now c.args.tables.now c.args.telling.now c.call_functor.new.self (2 * longest_of caller + 7) (2 * counts (acts_of c.as_slice-2.result.now) + 6) (omega (arith, same)) (omega (arith, short, kept, whole)) in grind (arith, falls)), (outlives, (c.requires.placed, c.requires.depth)))
 
-pub agenda::run_functor-returns-in_default-clause-does : goal.agenda::run_functor-returns-in_default-clause-does
-agenda::run_functor-returns-in_default-clause-does t g c =
-    let settings = settings_of c.args.actor.now.caller.setup.now in
-    let place = c.args.actor.now.caller.place in
-    let slot = c.args.slot.now in
-    OnOk-map c.acts.result
-    (λ does. ap (run settings (model.acts (acts_of c.args.functor.now.body.actions) slot.args.now slot.object slot.sender slot.depth)) (told_is place c.args.tables.now c.args.telling.now c.call_functor.new.self _ c.in_ok-call_functor.ensures) ∙ does)
-    (rw c.as_slice.ensures at c.acts.ensures.does)
+pub agenda::run_functor-returns-in_err-call_functor : goal.agenda::run_functor-returns-in_err-call_functor
+agenda::run_functor-returns-in_err-call_functor t g c =
+    let caller = c.args.actor.now.caller in
+    let old = c.args.tables.now in
+    does_wanting caller _ old c.args.telling.now old c.call_functor.new.self _ c.from_residual.ensures.0 (keeps_same old old caller.place refl) c.call_functor.ensures.failing
 
-pub agenda::run_functor-returns-clause-does : goal.agenda::run_functor-returns-clause-does
-agenda::run_functor-returns-clause-does t g c =
-    let settings = settings_of c.args.actor.now.caller.setup.now in
-    let place = c.args.actor.now.caller.place in
+pub agenda::run_functor-returns-in_err-answer : goal.agenda::run_functor-returns-in_err-answer
+agenda::run_functor-returns-in_err-answer t g c =
+    let caller = c.args.actor.now.caller in
+    let old = c.args.tables.now in
+    does_wanting caller _ old c.args.telling.now old c.call_functor.new.self _ c.from_residual-in_err-answer.ensures.0 (keeps_same old old caller.place refl) c.call_functor.ensures.failing
+
+pub agenda::run_functor-returns-in_default : goal.agenda::run_functor-returns-in_default
+agenda::run_functor-returns-in_default t g c =
+    let caller = c.args.actor.now.caller in
+    let settings = settings_of caller.setup.now in
     let slot = c.args.slot.now in
-    OnOk-map c.acts-2.result
-    (λ does. ap (run settings (model.acts (acts_of c.args.functor.now.body.actions) slot.args.now slot.object slot.sender slot.depth)) (told_is place c.args.tables.now c.args.telling.now c.call_functor.new.self _ c.in_ok-call_functor.ensures)
+    let old = c.args.tables.now in
+    does_after caller _ old c.args.telling.now _ old c.acts.new.tables c.call_functor.new.self c.acts.new.telling c.acts.result c.requires.placed (keeps_same old old caller.place refl) c.in_ok-call_functor.ensures.failing
+    (λ earlier done does. ap (run settings (model.acts (acts_of c.args.functor.now.body.actions) slot.args.now slot.object slot.sender slot.depth)) (told_is caller.place old c.args.telling.now c.call_functor.new.self earlier _ c.in_ok-call_functor.ensures.told) ∙ does)
+    (rw c.as_slice.ensures at c.acts.ensures)
+
+pub agenda::run_functor-returns : goal.agenda::run_functor-returns
+agenda::run_functor-returns t g c =
+    let caller = c.args.actor.now.caller in
+    let settings = settings_of caller.setup.now in
+    let slot = c.args.slot.now in
+    let old = c.args.tables.now in
+    does_after caller _ old c.args.telling.now _ old c.acts-2.new.tables c.call_functor.new.self c.acts-2.new.telling c.acts-2.result c.requires.placed (keeps_same old old caller.place refl) c.in_ok-call_functor.ensures.failing
+    (λ earlier done does. ap (run settings (model.acts (acts_of c.args.functor.now.body.actions) slot.args.now slot.object slot.sender slot.depth)) (told_is caller.place old c.args.telling.now c.call_functor.new.self earlier _ c.in_ok-call_functor.ensures.told)
     ∙ answered_does settings c.args.index c.args.functor.now c.requires.found slot.args.now c.in-Some.actions.items (rw c.in-Some.is at c.in_ok-answer.ensures.answer) slot.object slot.sender slot.depth
-    (doing_at place c.args.tables.now c.call_functor.new.self) (doing_at place c.acts-2.new.tables c.acts-2.new.telling) does)
-    (rw c.as_slice-2.ensures.value at c.acts-2.ensures.does)
-
-pub agenda::act-returns-in-Err-clause-keeps : goal.agenda::act-returns-in-Err-clause-keeps
-agenda::act-returns-in-Err-clause-keeps g t c = grind (arith, common_steps)
+    (doing_at caller.place old c.call_functor.new.self earlier) done does)
+    (rw c.as_slice-2.ensures.value at c.acts-2.ensures)
 
 pub agenda::acts-actions-init : goal.agenda::acts-actions-init
-agenda::acts-actions-init g t c = grind (arith, common_steps)
+agenda::acts-actions-init t g c =
+    let caller = c.args.actor.now.caller in
+    let old = c.args.tables.now in
+    record {
+      so = far_none caller _ old c.args.telling.now c.requires.placed _ old c.args.telling.now (keeps_same old old caller.place refl) refl (λ earlier. refl);
+      placed = c.requires.placed;
+      left = omega arith;
+    }
 
-pub agenda::effect-returns-in-Err-clause-keeps : goal.agenda::effect-returns-in-Err-clause-keeps
-agenda::effect-returns-in-Err-clause-keeps g t c = grind (arith, common_steps)
+pub agenda::notify-returns-in_err-args : goal.agenda::notify-returns-in_err-args
+agenda::notify-returns-in_err-args t g c =
+    let caller = c.args.actor.now.caller in
+    let old = c.args.tables.now in
+    does_wanting caller _ old c.args.telling.now old c.args.telling.now _ c.from_residual.ensures.0 (keeps_same old old caller.place refl) refl

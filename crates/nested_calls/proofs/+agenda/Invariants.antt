@@ -1,16 +1,14 @@
-use Rattle.std.proofs.Common.{◌≡◌, ◌≤◌, ◌+◌, ◌-◌, ◌*◌, ◌∷◌, [], drop}
+use Rattle.std.proofs.Common.{◌≤◌, ◌+◌, ◌-◌, ◌*◌, ◌∷◌, [], drop}
 use Rattle.term_core.specs.Act.{acts_of, count, counts}
 use Rattle.thread_model.specs.Acts as model
 use Rattle.thread_model.specs.Items.{Emit, Cut}
-use Rattle.thread_model.specs.Run.{run}
 use Rattle.thread_model.proofs.NextCallLemmas.{calls_to}
 use Rattle.thread_model.proofs.RemainingLemmas.{remaining}
 use Rattle.session_tables.specs.Tables.{IsPlaced, state_at}
-use Rattle.session_effects.specs.Actions.{Keeps}
 use Rattle.session_effects.specs.Setup.{settings_of}
-use Rattle.nested_calls.specs.Telling.{doing_at}
 use Rattle.nested_calls.proofs.AgendaLemmas.{left_at, left_to_do, longest_of}
 use Rattle.nested_calls.proofs.DeletionLemmas.{kins_from}
+use Rattle.nested_calls.proofs.DoesLemmas.{SoFar, here}
 use Rattle.nested_calls.proofs.+agenda.Given as goal
 
 abbrev pub decreases-agenda::call : goal.decreases-agenda::call
@@ -45,22 +43,24 @@ decreases-agenda::call_functor g l = left_to_do l.actor.now.caller l.tables.now 
 -- so far the actions before this one were done
 abbrev pub invariant-agenda::acts-actions : goal.invariant-agenda::acts-actions
 invariant-agenda::acts-actions g l = record {
-  keeps : Keeps l.actor.caller.place l.fn.tables l.tables;
+  so : SoFar l.actor.caller
+      (here l.actor.caller (model.acts (acts_of l.actions) l.slot.args.now l.slot.object l.slot.sender l.slot.depth) l.fn.tables l.fn.telling)
+      (here l.actor.caller (model.acts (acts_of (drop l.action-index l.actions)) l.slot.args.now l.slot.object l.slot.sender l.slot.depth) l.tables l.telling)
+      l.fn.tables l.tables l.fn.telling l.telling;
   placed : IsPlaced l.tables l.actor.caller.place;
   left : left_at l.actor.caller.place l.tables l.telling ≤ left_at l.actor.caller.place l.fn.tables l.fn.telling;
-  runs : run (settings_of l.actor.caller.setup.now) (model.acts (acts_of (drop l.action-index l.actions)) l.slot.args.now l.slot.object l.slot.sender l.slot.depth) (doing_at l.actor.caller.place l.tables l.telling)
-      ≡ run (settings_of l.actor.caller.setup.now) (model.acts (acts_of l.actions) l.slot.args.now l.slot.object l.slot.sender l.slot.depth) (doing_at l.actor.caller.place l.fn.tables l.fn.telling);
 }
 
 -- so far the connections up to the last one that was called were called, and those above it are left
 abbrev pub invariant-agenda::emit-calls : goal.invariant-agenda::emit-calls
 invariant-agenda::emit-calls g l = record {
-  keeps : Keeps l.actor.caller.place l.fn.tables l.tables;
+  so : SoFar l.actor.caller
+      (here l.actor.caller (Emit l.target l.signal l.args l.depth ∷ []) l.fn.tables l.fn.telling)
+      (here l.actor.caller (calls_to (settings_of l.actor.caller.setup.now) l.args l.depth (remaining l.target l.signal l.up_to l.after (state_at l.tables l.actor.caller.place).connections.rows)) l.tables l.telling)
+      l.fn.tables l.tables l.fn.telling l.telling;
   placed : IsPlaced l.tables l.actor.caller.place;
   left : left_at l.actor.caller.place l.tables l.telling ≤ left_at l.actor.caller.place l.fn.tables l.fn.telling;
   last : l.up_to ≤ (state_at l.tables l.actor.caller.place).connections.last_number;
-  runs : run (settings_of l.actor.caller.setup.now) (calls_to (settings_of l.actor.caller.setup.now) l.args l.depth (remaining l.target l.signal l.up_to l.after (state_at l.tables l.actor.caller.place).connections.rows)) (doing_at l.actor.caller.place l.tables l.telling)
-      ≡ run (settings_of l.actor.caller.setup.now) (Emit l.target l.signal l.args l.depth ∷ []) (doing_at l.actor.caller.place l.fn.tables l.fn.telling);
 }
 
 abbrev pub decreases-agenda::emit-calls : goal.decreases-agenda::emit-calls
@@ -79,9 +79,10 @@ decreases-deletion::cut g l = left_to_do l.actor.now.caller l.tables.now l.telli
 -- so far the connections were broken, and the children before this one deleted
 abbrev pub invariant-deletion::cut-children : goal.invariant-deletion::cut-children
 invariant-deletion::cut-children g l = record {
-  keeps : Keeps l.actor.caller.place l.fn.tables l.tables;
+  so : SoFar l.actor.caller
+      (here l.actor.caller (Cut l.target l.depth ∷ []) l.fn.tables l.fn.telling)
+      (here l.actor.caller (kins_from (settings_of l.actor.caller.setup.now) l.target l.depth (drop l.child-index l.child-items)) l.tables l.telling)
+      l.fn.tables l.tables l.fn.telling l.telling;
   placed : IsPlaced l.tables l.actor.caller.place;
   left : left_at l.actor.caller.place l.tables l.telling ≤ left_at l.actor.caller.place l.fn.tables l.fn.telling;
-  runs : run (settings_of l.actor.caller.setup.now) (kins_from (settings_of l.actor.caller.setup.now) l.target l.depth (drop l.child-index l.child-items)) (doing_at l.actor.caller.place l.tables l.telling)
-      ≡ run (settings_of l.actor.caller.setup.now) (Cut l.target l.depth ∷ []) (doing_at l.actor.caller.place l.fn.tables l.fn.telling);
 }

@@ -1,13 +1,13 @@
-use Rattle.std.proofs.Common.{sym, ap, refl, slice_get, ◌∙◌, arith}
+use Rattle.session_tables.proofs.TablesLemmas.{changes_same}
+use Rattle.std.proofs.Common.{sym, ap, refl, slice_get, ◌∙◌}
 use Rattle.std.specs.Option.{option_copied}
 use Rattle.thread_model.specs.declared.line.Answer.TheVariants as a
 use Rattle.thread_model.specs.Classes.{described}
 use Rattle.thread_model.specs.Effects.{replies}
 use Rattle.thread_model.proofs.ClassLemmas.{described_at, performs_meta, refusal_meta}
 use Rattle.session_tables.specs.Tables.{state_at}
-use Rattle.std.proofs.lemmas.Grind.{common_steps}
 use Rattle.session_engine.proofs.ClassesLemmas.{class_index_there, described_is}
-use Rattle.session_engine.proofs.CommandsLemmas.{replied_by, stopped}
+use Rattle.session_engine.proofs.CommandsLemmas.{replied_by, stopped, starved}
 use Rattle.session_engine.proofs.StepLemmas.{some_none}
 use Rattle.session_engine.proofs.classes.describe.Goals as goal
 
@@ -32,22 +32,22 @@ returns c =
     (c.in_ok-texts-2.ensures ∙ c.in_ok-properties.ensures) c.in-Some.ensures.has.property_offset c.in_ok-superclass_name.ensures) ∙ sym c.in_ok-new.ensures))
 
 pub returns-in_err-copy : goal.returns-in_err-copy
-returns-in_err-copy c = grind (arith, common_steps)
+returns-in_err-copy c = starved _ _ _ _ _ _ c.from_residual-in_err-copy.ensures.1 (changes_same _ _ _ refl)
 
 pub returns-in_err-methods : goal.returns-in_err-methods
-returns-in_err-methods c = grind (arith, common_steps)
+returns-in_err-methods c = starved _ _ _ _ _ _ c.from_residual-in_err-methods.ensures.1 (changes_same _ _ _ refl)
 
 pub returns-in_err-texts : goal.returns-in_err-texts
-returns-in_err-texts c = grind (arith, common_steps)
+returns-in_err-texts c = starved _ _ _ _ _ _ c.from_residual-in_err-texts.ensures.1 (changes_same _ _ _ refl)
 
 pub returns-in_err-properties : goal.returns-in_err-properties
-returns-in_err-properties c = grind (arith, common_steps)
+returns-in_err-properties c = starved _ _ _ _ _ _ c.from_residual-in_err-properties.ensures.1 (changes_same _ _ _ refl)
 
 pub returns-in_err-texts-2 : goal.returns-in_err-texts-2
-returns-in_err-texts-2 c = grind (arith, common_steps)
+returns-in_err-texts-2 c = starved _ _ _ _ _ _ c.from_residual-in_err-texts-2.ensures.1 (changes_same _ _ _ refl)
 
 pub returns-in_err-superclass_name : goal.returns-in_err-superclass_name
-returns-in_err-superclass_name c = grind (arith, common_steps)
+returns-in_err-superclass_name c = starved _ _ _ _ _ _ c.from_residual-in_err-superclass_name.ensures.1 (changes_same _ _ _ refl)
 
 pub returns-in_err-new : goal.returns-in_err-new
-returns-in_err-new c = grind (arith, common_steps)
+returns-in_err-new c = starved _ _ _ _ _ _ c.from_residual-in_err-new.ensures.1 (changes_same _ _ _ refl)

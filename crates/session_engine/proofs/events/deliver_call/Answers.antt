@@ -1,24 +1,26 @@
+use Rattle.std.proofs.Common.{refl}
 use Rattle.session_effects.specs.Setup.{settings_of}
-use Rattle.nested_calls.specs.Telling.{doing_at}
-use Rattle.nested_calls.proofs.AgendaLemmas.{OnOk-map}
-use Rattle.std.proofs.Common.{arith}
-use Rattle.std.proofs.lemmas.Grind.{common_steps}
+use Rattle.session_effects.proofs.ActionLemmas.{keeps_same}
+use Rattle.nested_calls.proofs.DoesLemmas.{does_by, does_none}
 use Rattle.session_engine.proofs.EventsLemmas.{calls_functor, calls_none, calls_slot}
 use Rattle.session_engine.proofs.events.deliver_call.Goals as goal
 
-pub returns-in-Functor-clause-does : goal.returns-in-Functor-clause-does
-returns-in-Functor-clause-does g c =
-    OnOk-map c.deliver_to_functor.result (calls_functor (settings_of c.args.actor.now.caller.setup.now) c.args.actor.now.caller.place c.args.tables.now c.args.telling.now c.args.call.now c.in-Functor.index c.in-Functor.is
-    (doing_at c.args.actor.now.caller.place c.deliver_to_functor.new.tables c.deliver_to_functor.new.telling)) c.deliver_to_functor.ensures.does
+pub returns-in-Functor : goal.returns-in-Functor
+returns-in-Functor g c =
+    let caller = c.args.actor.now.caller in
+    does_by caller _ c.args.tables.now c.args.telling.now _ c.deliver_to_functor.new.tables c.deliver_to_functor.new.telling c.deliver_to_functor.result
+    (λ earlier done. calls_functor (settings_of caller.setup.now) caller.place c.args.tables.now c.args.telling.now earlier c.args.call.now c.in-Functor.index c.in-Functor.is done) c.deliver_to_functor.ensures
 
-pub returns-in_default-clause-does : goal.returns-in_default-clause-does
-returns-in_default-clause-does g c =
-    calls_none (settings_of c.args.actor.now.caller.setup.now) c.args.actor.now.caller.place c.args.tables.now c.args.telling.now c.args.call.now c.in-Method.index c.in-Method.is c.in_default.ensures.value
+pub returns-in_default : goal.returns-in_default
+returns-in_default g c =
+    let caller = c.args.actor.now.caller in
+    let old = c.args.tables.now in
+    does_none caller _ old c.args.telling.now old c.args.telling.now _ (keeps_same old old caller.place refl) refl
+    (λ earlier. calls_none (settings_of caller.setup.now) caller.place old c.args.telling.now earlier c.args.call.now c.in-Method.index c.in-Method.is c.in_default.ensures.value)
 
-pub returns-clause-does : goal.returns-clause-does
-returns-clause-does g c =
-    OnOk-map c.run_slot.result (calls_slot (settings_of c.args.actor.now.caller.setup.now) c.args.actor.now.caller.place c.args.tables.now c.args.telling.now c.args.call.now c.in-Method.index c.in-Method.is
-    c.in-Some.method.now c.in-Some.ensures.value (doing_at c.args.actor.now.caller.place c.run_slot.new.tables c.run_slot.new.telling) c.if-method.false) (rw c.as_slice-2.ensures at c.run_slot.ensures.does)
-
-pub returns-in_default-clause-keeps : goal.returns-in_default-clause-keeps
-returns-in_default-clause-keeps g c = grind (arith, common_steps)
+pub returns : goal.returns
+returns g c =
+    let caller = c.args.actor.now.caller in
+    does_by caller _ c.args.tables.now c.args.telling.now _ c.run_slot.new.tables c.run_slot.new.telling c.run_slot.result
+    (λ earlier done. calls_slot (settings_of caller.setup.now) caller.place c.args.tables.now c.args.telling.now earlier c.args.call.now c.in-Method.index c.in-Method.is c.in-Some.method.now c.in-Some.ensures.value done c.if-method.false)
+    (rw c.as_slice-2.ensures at c.run_slot.ensures)

@@ -1,48 +1,73 @@
-use Rattle.std.proofs.Common.{sym, arith}
+use Rattle.std.proofs.Common.{[], ◌∷◌, refl, sym, arith}
 use Rattle.thread_model.specs.Agenda.{event_items}
+use Rattle.thread_model.specs.Items.{Spin}
 use Rattle.session_tables.specs.Tables.{state_at}
 use Rattle.session_effects.specs.Setup.{settings_of}
-use Rattle.session_effects.proofs.ActionLemmas.{keeps_twice, keeps_with, placed_kept}
+use Rattle.session_effects.proofs.ActionLemmas.{keeps_same, keeps_with, placed_kept}
 use Rattle.nested_calls.specs.Telling.{doing_at}
-use Rattle.nested_calls.proofs.AgendaLemmas.{OnOk-map}
+use Rattle.nested_calls.proofs.DoesLemmas.{OnOk-map, does_none, far_end, far_last, far_next, far_none, far_wanting, here, placed_reached}
 use Rattle.std.proofs.lemmas.Grind.{common_steps}
-use Rattle.session_engine.proofs.EventsLemmas.{few_taken, spin_ends, spin_goes_on, spin_spent, turns_left, with_event_taken}
+use Rattle.session_engine.proofs.EventsLemmas.{event_taken, few_taken, spin_ends, spin_goes_on, spin_spent, turns_left, with_event_taken}
 use Rattle.session_engine.proofs.events.take_events.Goals as goal
 
-pub returns-then-telling-eq0-clause-does : goal.returns-then-telling-eq0-clause-does
-returns-then-telling-eq0-clause-does g c =
-    OnOk-map c.use_up.result (λ e. spin_spent (settings_of c.args.actor.now.caller.setup.now) c.args.actor.now.caller.place c.events.tables c.events.telling c.use_up.new.self _ (sym c.events-test.ensures.waits) (omega arith) e c.events.invariant.runs) c.use_up.ensures
+pub returns-then-telling-eq0 : goal.returns-then-telling-eq0
+returns-then-telling-eq0 g c =
+    let caller = c.args.actor.now.caller in
+    let now = c.events.tables in
+    let between = c.events.telling in
+    far_last caller _ c.args.tables.now c.args.telling.now c.requires.placed _ now between c.events.invariant.so (here caller (Spin ∷ []) now between) now c.use_up.new.self c.use_up.result
+    (does_none caller (here caller (Spin ∷ []) now between) now between now c.use_up.new.self c.use_up.result (keeps_same now now caller.place refl) c.use_up.ensures.failing (OnOk-map c.use_up.result
+    (λ e earlier. spin_spent (settings_of caller.setup.now) caller.place now between c.use_up.new.self earlier (sym c.events-test.ensures.waits) (omega arith) e) c.use_up.ensures.told))
+    (λ posts done e. e)
 
-pub returns-in_err-deliver-clause-keeps : goal.returns-in_err-deliver-clause-keeps
-returns-in_err-deliver-clause-keeps g c =
-    keeps_twice _ _ _ _ c.events.invariant.keeps (keeps_twice _ _ _ _ (keeps_with _ _ _ _ c.events.invariant.placed c.take_event.ensures.rest) c.deliver.ensures.keeps)
+pub returns-in_err-deliver : goal.returns-in_err-deliver
+returns-in_err-deliver g c =
+    let caller = c.args.actor.now.caller in
+    far_wanting caller _ c.args.tables.now c.args.telling.now c.requires.placed _ c.take_event.new.self (with_event_taken c.events.telling)
+    (event_taken caller c.args.tables.now c.events.tables c.take_event.new.self c.args.telling.now c.events.telling c.requires.placed c.events.invariant.placed c.events.invariant.so c.take_event.ensures.rest c.in-Some.event (sym c.in-Some.ensures.first) (omega arith))
+    _ c.deliver.new.tables c.deliver.new.telling c.deliver.result _ c.from_residual.ensures.0 c.deliver.ensures
 
 pub events-smaller : goal.events-smaller
 events-smaller g c =
     let settings = settings_of c.args.actor.now.caller.setup.now in
     let place = c.args.actor.now.caller.place in
-    let left = turns_left settings (event_items settings (state_at c.take_event.new.self place) c.in-Some.event) place c.take_event.new.self c.deliver.new.tables (with_event_taken c.events.telling) c.deliver.new.telling c.in_ok-deliver.ensures.does in
+    let left = turns_left settings (event_items settings (state_at c.take_event.new.self place) c.in-Some.event) place c.take_event.new.self c.deliver.new.tables (with_event_taken c.events.telling) c.deliver.new.telling [] _ (c.in_ok-deliver.ensures.runs []) in
     omega (arith, left)
 
 pub events-preserved : goal.events-preserved
 events-preserved g c =
-    let settings = settings_of c.args.actor.now.caller.setup.now in
-    let place = c.args.actor.now.caller.place in
-    let few = few_taken settings (event_items settings (state_at c.take_event.new.self place) c.in-Some.event) place c.take_event.new.self c.deliver.new.tables (with_event_taken c.events.telling) c.deliver.new.telling c.in_ok-deliver.ensures.does in
-    let keeps = keeps_twice _ _ _ _ (keeps_with _ _ _ _ c.events.invariant.placed c.take_event.ensures.rest) c.deliver.ensures.keeps in
+    let caller = c.args.actor.now.caller in
+    let settings = settings_of caller.setup.now in
+    let place = caller.place in
+    let middle = c.take_event.new.self in
+    let taken = with_event_taken c.events.telling in
+    let items = event_items settings (state_at middle place) c.in-Some.event in
+    let few = few_taken settings items place middle c.deliver.new.tables taken c.deliver.new.telling [] _ (c.in_ok-deliver.ensures.runs []) in
+    let still = placed_kept _ _ _ (keeps_with _ _ _ _ c.events.invariant.placed c.take_event.ensures.rest) c.events.invariant.placed in
     record {
-      keeps = keeps_twice _ _ _ _ c.events.invariant.keeps keeps;
-      placed = placed_kept _ _ _ keeps c.events.invariant.placed;
+      so = far_next caller _ c.args.tables.now c.args.telling.now c.requires.placed _ middle taken
+          (event_taken caller c.args.tables.now c.events.tables middle c.args.telling.now c.events.telling c.requires.placed c.events.invariant.placed c.events.invariant.so c.take_event.ensures.rest c.in-Some.event (sym c.in-Some.ensures.first) (omega arith))
+          (here caller items middle taken) c.deliver.new.tables c.deliver.new.telling _ (here caller (Spin ∷ []) c.deliver.new.tables c.deliver.new.telling) c.in_ok-deliver.ensures
+          (λ posts more done. spin_goes_on settings items (doing_at place middle taken posts) (doing_at place c.deliver.new.tables c.deliver.new.telling more) done);
+      placed = placed_reached caller middle c.deliver.new.tables _ _ _ c.deliver.ensures.reaches still;
       few = omega (arith, few, c.events.invariant.few);
-      runs = spin_goes_on settings place c.events.tables c.take_event.new.self c.events.telling c.events.invariant.placed c.take_event.ensures.rest c.in-Some.event c.deliver.new.tables c.deliver.new.telling _
-          (sym c.in-Some.ensures.first) (omega arith) c.in_ok-deliver.ensures.does c.events.invariant.runs;
     }
 
-pub returns-clause-does : goal.returns-clause-does
-returns-clause-does g c = spin_ends (settings_of c.args.actor.now.caller.setup.now) (doing_at c.args.actor.now.caller.place c.events.tables c.events.telling) _ (sym c.events-test.ensures.waits) c.events.invariant.runs
+pub returns : goal.returns
+returns g c =
+    let caller = c.args.actor.now.caller in
+    far_end caller _ c.args.tables.now c.args.telling.now c.requires.placed _ c.events.tables c.events.telling _ c.events.invariant.so
+    (λ posts done. spin_ends (settings_of caller.setup.now) (doing_at caller.place c.events.tables c.events.telling posts) done (sym c.events-test.ensures.waits))
 
 pub events-init : goal.events-init
-events-init g c = grind (arith, common_steps)
+events-init g c =
+    let caller = c.args.actor.now.caller in
+    let old = c.args.tables.now in
+    record {
+      so = far_none caller _ old c.args.telling.now c.requires.placed _ old c.args.telling.now (keeps_same old old caller.place refl) refl (λ earlier. refl);
+      placed = c.requires.placed;
+      few = omega (arith, c.requires.none);
+    }
 
 pub unreachable-requires : goal.unreachable-requires
 unreachable-requires g c = grind (arith, common_steps)

@@ -1,20 +1,15 @@
-use Rattle.std.proofs.Common.{◌≡◌, ◌<◌, ◌+◌, ◌^◌, ◌∷◌, []}
+use Rattle.std.proofs.Common.{◌<◌, ◌+◌, ◌^◌, ◌∷◌, []}
 use Rattle.thread_model.specs.Items.{Spin}
-use Rattle.thread_model.specs.Run.{run}
 use Rattle.session_tables.specs.Tables.{IsPlaced}
-use Rattle.session_effects.specs.Actions.{Keeps}
-use Rattle.session_effects.specs.Setup.{settings_of}
-use Rattle.nested_calls.specs.Telling.{doing_at}
+use Rattle.nested_calls.proofs.DoesLemmas.{SoFar, here}
 use Rattle.session_engine.proofs.events.take_events.Given as goal
 
 -- so far events were taken, each with a turn, and those that are left are still to be taken
 abbrev pub invariant-events : goal.invariant-events
 invariant-events g l = record {
-  keeps : Keeps l.actor.caller.place l.fn.tables l.tables;
+  so : SoFar l.actor.caller (here l.actor.caller (Spin ∷ []) l.fn.tables l.fn.telling) (here l.actor.caller (Spin ∷ []) l.tables l.telling) l.fn.tables l.tables l.fn.telling l.telling;
   placed : IsPlaced l.tables l.actor.caller.place;
   few : l.telling.turns + l.telling.taken < 2 ^ 32;
-  runs : run (settings_of l.actor.caller.setup.now) (Spin ∷ []) (doing_at l.actor.caller.place l.tables l.telling)
-      ≡ run (settings_of l.actor.caller.setup.now) (Spin ∷ []) (doing_at l.actor.caller.place l.fn.tables l.fn.telling);
 }
 
 abbrev pub decreases-events : goal.decreases-events

@@ -10,20 +10,20 @@ use Rattle.thread_model.proofs.SignalLemmas.{invoke_none, refusal_invoke}
 use Rattle.session_tables.specs.Tables.{state_at}
 use Rattle.session_tables.proofs.TablesLemmas.{changes_same}
 use Rattle.session_effects.specs.Setup.{settings_of}
-use Rattle.session_engine.proofs.CommandsLemmas.{found_fault, made_fault, on_refused, or_first, or_second, replied, replied_by, silently, stopped}
+use Rattle.session_engine.proofs.CommandsLemmas.{at_first_reaches, found_fault, made_fault, others_reached, quietly, starved_posting, on_refused, or_first, or_second, replied, replied_by, silently, stopped}
 use Rattle.session_engine.proofs.InvocationLemmas.{asked_is, method_there, number_is, number_none, performs_invoked, posts_invoked, refusal_absent, refusal_found, refusal_later, refusal_now}
 use Rattle.session_engine.proofs.invocation.invoke.Goals as goal
 
 pub returns-in_err-check_object : goal.returns-in_err-check_object
-returns-in_err-check_object g c = stopped _ _ _ _ _ c.in_err-check_object.field-0.0 _ c.from_residual.ensures.1 (refusal_invoke _ _ _ _ _ _ _ ∙ or_first _ _ _ c.in_err-check_object.ensures) refl
+returns-in_err-check_object g c = quietly _ _ _ _ _ _ _ c.requires.fresh (stopped _ _ _ _ _ c.in_err-check_object.field-0.0 _ c.from_residual.ensures.1 (refusal_invoke _ _ _ _ _ _ _ ∙ or_first _ _ _ c.in_err-check_object.ensures) refl)
 
 pub returns-in_err-signature : goal.returns-in_err-signature
 returns-in_err-signature g c =
     let settings = settings_of c.args.actor.now.caller.setup.now in
     let state = state_at c.args.tables.now c.args.actor.now.caller.place in
     let asked = asked_method settings state c.args.object c.args.method.now in
-    found_fault _ _ _ _ (λ found. option_or (result_err found) (option_or (values_refusal settings state c.args.object (map view c.args.args.now) asked) (later_refusal state c.args.mode asked))) _ c.in_err-signature.field-0.0 _
-    c.from_residual-in_err-signature.ensures.1 (refusal_invoke _ _ _ _ _ _ _ ∙ or_second _ _ c.in_ok-check_object.ensures) (λ code. refl) (rw c.as_str.ensures at c.in_err-signature.ensures.exact)
+    quietly _ _ _ _ _ _ _ c.requires.fresh (found_fault _ _ _ _ (λ found. option_or (result_err found) (option_or (values_refusal settings state c.args.object (map view c.args.args.now) asked) (later_refusal state c.args.mode asked))) _ c.in_err-signature.field-0.0 _
+    c.from_residual-in_err-signature.ensures.1 (refusal_invoke _ _ _ _ _ _ _ ∙ or_second _ _ c.in_ok-check_object.ensures) (λ code. refl) (rw c.as_str.ensures at c.in_err-signature.ensures.exact))
 
 pub returns-in_default : goal.returns-in_default
 returns-in_default g c =
@@ -43,9 +43,9 @@ returns-in_err-values g c =
     let spelled = rw c.as_str.ensures at c.in_ok-signature.ensures.exact in
     let asked : asked_method settings state c.args.object c.args.method.now ≡ Some c.in-Ok.index =
     asked_is settings state c.args.object c.args.method.now c.in_ok-signature.signature (Some c.in-Ok.index) spelled (number_is (method_number c.in_ok-signature.signature (methods_of settings state c.args.object)) _ c.in-Ok.ensures) in
-    found_fault _ _ _ _ (λ given. option_or (result_err given) (later_refusal state c.args.mode (Some c.in-Ok.index))) (asked_values settings state c.args.object c.in-Ok.index (map view c.args.args.now)) c.in_err-values.field-0.0 _ c.from_residual-in_err-values.ensures.1
+    quietly _ _ _ _ _ _ _ c.requires.fresh (found_fault _ _ _ _ (λ given. option_or (result_err given) (later_refusal state c.args.mode (Some c.in-Ok.index))) (asked_values settings state c.args.object c.in-Ok.index (map view c.args.args.now)) c.in_err-values.field-0.0 _ c.from_residual-in_err-values.ensures.1
     (refusal_found c.args.actor.now.caller c.args.object c.args.method.now (map view c.args.args.now) c.args.mode c.args.tables.now c.args.tables.now c.in_ok-signature.signature c.in_ok-check_object.ensures spelled (Some c.in-Ok.index) asked)
-    (λ code. refl) (rw c.kinds_at-kinds.ensures at c.in_err-values.ensures)
+    (λ code. refl) (rw c.kinds_at-kinds.ensures at c.in_err-values.ensures))
 
 pub returns-in_err-post : goal.returns-in_err-post
 returns-in_err-post g c =
@@ -55,10 +55,10 @@ returns-in_err-post g c =
     let asked : asked_method settings state c.args.object c.args.method.now ≡ Some c.in-Ok.index =
     asked_is settings state c.args.object c.args.method.now c.in_ok-signature.signature (Some c.in-Ok.index) spelled (number_is (method_number c.in_ok-signature.signature (methods_of settings state c.args.object)) _ c.in-Ok.ensures) in
     let given : asked_values settings state c.args.object c.in-Ok.index (map view c.args.args.now) ≡ Ok c.in_ok-values.values = rw c.kinds_at-kinds.ensures at c.in_ok-values.ensures in
-    made_fault _ _ _ _ _ _ c.in_err-post.field-0.0 _ c.from_residual-in_err-post.ensures.1
+    quietly _ _ _ _ _ _ _ c.requires.fresh (made_fault _ _ _ _ _ _ c.in_err-post.field-0.0 _ c.from_residual-in_err-post.ensures.1
     (refusal_later c.args.actor.now.caller c.args.object c.args.method.now (map view c.args.args.now) c.args.mode c.args.tables.now c.post.new.tables c.in_ok-signature.signature c.in_ok-check_object.ensures spelled c.in-Ok.index c.in_ok-values.values asked given
     (sym c.if-is_queued.ensures))
-    c.in_err-post.ensures.refusal (on_refused _ c.in_err-post.ensures.err) (changes_same _ _ _ c.in_err-post.ensures.err)
+    c.in_err-post.ensures.refusal (on_refused _ c.in_err-post.ensures.err) (changes_same _ _ _ c.in_err-post.ensures.err))
 
 pub returns-then-is_queued : goal.returns-then-is_queued
 returns-then-is_queued g c =
@@ -69,7 +69,7 @@ returns-then-is_queued g c =
     asked_is settings state c.args.object c.args.method.now c.in_ok-signature.signature (Some c.in-Ok.index) spelled (number_is (method_number c.in_ok-signature.signature (methods_of settings state c.args.object)) _ c.in-Ok.ensures) in
     let given : asked_values settings state c.args.object c.in-Ok.index (map view c.args.args.now) ≡ Ok c.in_ok-values.values = rw c.kinds_at-kinds.ensures at c.in_ok-values.ensures in
     silently _ _ _ _ _ _ c.requires.fresh
-    (replied _ _ _ _ _ _
+    (replied _ _ _ _ _ _ c.requires.placed
     (refusal_later c.args.actor.now.caller c.args.object c.args.method.now (map view c.args.args.now) c.args.mode c.args.tables.now c.post.new.tables c.in_ok-signature.signature c.in_ok-check_object.ensures spelled c.in-Ok.index c.in_ok-values.values asked given
     (sym c.if-is_queued.ensures) ∙ c.in_ok-post.ensures.refusal)
     (posts_invoked c.args.actor.now.caller c.args.object c.args.method.now (map view c.args.args.now) c.args.mode state c.in-Ok.index c.in_ok-values.values (sym c.if-is_queued.ensures) asked given)
@@ -88,7 +88,14 @@ returns g c =
     let asked : asked_method settings state c.args.object c.args.method.now ≡ Some c.in-Ok.index =
     asked_is settings state c.args.object c.args.method.now c.in_ok-signature.signature (Some c.in-Ok.index) spelled (number_is (method_number c.in_ok-signature.signature (methods_of settings state c.args.object)) _ c.in-Ok.ensures) in
     let given : asked_values settings state c.args.object c.in-Ok.index (map view c.args.args.now) ≡ Ok c.in_ok-values.values = rw c.kinds_at-kinds.ensures at c.in_ok-values.ensures in
-    performs_invoked c.args.actor.now.caller c.args.object c.args.method.now (map view c.args.args.now) c.args.mode c.args.tables.now c.run.new.tables c.run.new.telling c.in-Ok.index c.in_ok-values.values (sym c.if-is_queued.ensures)
+    performs_invoked c.args.actor.now.caller c.args.object c.args.method.now (map view c.args.args.now) c.args.mode c.args.tables.now c.run.new.tables c.args.telling.now c.run.new.telling _ c.in-Ok.index c.in_ok-values.values c.requires.fresh (sym c.if-is_queued.ensures)
     (refusal_now c.args.actor.now.caller c.args.object c.args.method.now (map view c.args.args.now) c.args.mode c.args.tables.now c.run.new.tables c.in_ok-signature.signature c.in_ok-check_object.ensures spelled c.in-Ok.index c.in_ok-values.values asked given
     (sym c.if-is_queued.ensures))
-    asked given (rw c.as_slice-2.ensures at c.in_ok-run.ensures.does) c.in_ok-run.ensures.keeps
+    asked given (rw c.as_slice-2.ensures at c.in_ok-run.ensures)
+
+pub returns-in_err-run : goal.returns-in_err-run
+returns-in_err-run g c =
+    let caller = c.args.actor.now.caller in
+    starved_posting caller _ c.args.tables.now c.run.new.tables c.run.new.telling.failing c.run.ensures.posts _ _ c.from_residual-in_err-run.ensures.1
+    (others_reached caller.name.now c.args.tables.now c.run.new.tables caller.place c.run.ensures.posts c.run.new.telling.failing
+    (at_first_reaches caller c.args.tables.now c.run.new.tables c.args.telling.now c.run.new.telling c.run.ensures.posts c.requires.fresh c.run.ensures.reaches))

@@ -4,73 +4,75 @@ use Rattle.serde_json.specs.View.{view}
 use Rattle.thread_model.specs.Methods.{◌>>=◌}
 use Rattle.thread_model.specs.Writing.{Declared, Nothing, dynamic_writing}
 use Rattle.thread_model.proofs.PropertyLemmas.{refusal_set}
-use Rattle.thread_model.proofs.RunLemmas.{at_end}
 use Rattle.session_tables.specs.Tables.{state_at}
-use Rattle.session_effects.specs.Setup.{settings_of}
-use Rattle.session_effects.proofs.ActionLemmas.{keeps_same, keeps_twice}
+use Rattle.session_effects.proofs.ActionLemmas.{keeps_same}
 use Rattle.session_effects.proofs.WritingLemmas.{place_is}
-use Rattle.nested_calls.specs.Telling.{doing_at}
-use Rattle.session_engine.proofs.CommandsLemmas.{found_fault, or_first, or_second, starved, stopped}
-use Rattle.session_engine.proofs.PropertiesLemmas.{asked_dynamic, asked_nothing, asked_value, dynamic_undeclared, performs_written, written_fault}
+use Rattle.session_engine.proofs.CommandsLemmas.{at_first_reaches, found_fault, or_first, or_second, others_reached, quietly, starved_posting, stopped}
+use Rattle.session_engine.proofs.PropertiesLemmas.{asked_dynamic, asked_nothing, asked_value, dynamic_undeclared, performs_written, tells_none, written_fault, written_reaches}
 use Rattle.session_engine.proofs.properties.set.Goals as goal
 
 pub returns-in_err-class : goal.returns-in_err-class
-returns-in_err-class g c = stopped _ _ _ _ _ c.in_err-class.field-0.0 _ c.from_residual.ensures.1 (refusal_set _ _ _ _ _ _ ∙ or_first _ _ _ c.in_err-class.ensures.refusal) refl
+returns-in_err-class g c = quietly _ _ _ _ _ _ _ c.requires.fresh (stopped _ _ _ _ _ c.in_err-class.field-0.0 _ c.from_residual.ensures.1 (refusal_set _ _ _ _ _ _ ∙ or_first _ _ _ c.in_err-class.ensures.refusal) refl)
 
 -- a dynamic property: what is no value is refused, and then one too many
 pub returns-in_err-value : goal.returns-in_err-value
 returns-in_err-value g c =
     let state = state_at c.args.tables.now c.args.actor.now.caller.place in
-    found_fault _ _ _ _ (λ found. result_err (found >>= dynamic_writing state c.args.object c.args.property.now)) _ c.in_err-value.field-0.0 _ c.from_residual-in_err-value.ensures.1
+    quietly _ _ _ _ _ _ _ c.requires.fresh (found_fault _ _ _ _ (λ found. result_err (found >>= dynamic_writing state c.args.object c.args.property.now)) _ c.in_err-value.field-0.0 _ c.from_residual-in_err-value.ensures.1
     (refusal_set _ _ _ _ _ _ ∙ or_second _ _ c.in_ok-class.ensures.refusal ∙ ap result_err (asked_dynamic state c.args.object c.args.property.now (view c.args.value.now) (rw c.as_str.ensures at c.in_default.ensures)))
-    (λ code. refl) c.in_err-value.ensures.exact
+    (λ code. refl) c.in_err-value.ensures.exact)
 
 pub returns-in_err-write_dynamic : goal.returns-in_err-write_dynamic
 returns-in_err-write_dynamic g c =
     let state = state_at c.args.tables.now c.args.actor.now.caller.place in
-    written_fault {U = Unit {0}} c.args.actor.now.caller _ c.args.tables.now c.write_dynamic.new.tables _ c.args.object _ (λ done. None) c.in_err-write_dynamic.field-0.0 _ c.from_residual-in_err-write_dynamic.ensures.1
+    quietly _ _ _ _ _ _ _ c.requires.fresh (written_fault {U = Unit {0}} c.args.actor.now.caller _ c.args.tables.now c.write_dynamic.new.tables _ c.args.object _ (λ done. None) c.in_err-write_dynamic.field-0.0 _ c.from_residual-in_err-write_dynamic.ensures.1
     (refusal_set _ _ _ _ _ _ ∙ or_second _ _ c.in_ok-class.ensures.refusal
     ∙ ap result_err (asked_dynamic state c.args.object c.args.property.now (view c.args.value.now) (rw c.as_str.ensures at c.in_default.ensures) ∙ ap (λ found. found >>= dynamic_writing state c.args.object c.args.property.now) c.in_ok-value.ensures.exact))
-    c.in_err-write_dynamic.ensures.writes c.in_err-write_dynamic.ensures.refused c.in_err-write_dynamic.ensures.keeps.only
+    c.in_err-write_dynamic.ensures.writes c.in_err-write_dynamic.ensures.refused c.in_err-write_dynamic.ensures.keeps.only)
 
 pub returns-in_default : goal.returns-in_default
 returns-in_default g c =
     let state = state_at c.args.tables.now c.args.actor.now.caller.place in
     let writes = c.in_ok-write_dynamic.ensures.writes in
-    performs_written c.args.actor.now.caller c.args.object c.args.property.now (view c.args.value.now) c.args.tables.now c.write_dynamic.new.tables c.write_dynamic.new.tables c.args.telling.now c.args.telling.now writes.0 false None
+    performs_written c.args.actor.now.caller c.args.object c.args.property.now (view c.args.value.now) c.args.tables.now c.write_dynamic.new.tables c.write_dynamic.new.tables c.args.telling.now c.args.telling.now tt writes.0 false None
     (dynamic_undeclared state c.args.object c.args.property.now c.in_ok-value.value writes.0 writes.1)
     c.in_ok-class.ensures.refusal c.requires.fresh
     (asked_dynamic state c.args.object c.args.property.now (view c.args.value.now) (rw c.as_str.ensures at c.in_default.ensures) ∙ ap (λ found. found >>= dynamic_writing state c.args.object c.args.property.now) c.in_ok-value.ensures.exact ∙ writes.1)
-    writes.2 (at_end (settings_of c.args.actor.now.caller.setup.now) (doing_at c.args.actor.now.caller.place c.write_dynamic.new.tables c.args.telling.now)) c.in_ok-write_dynamic.ensures.keeps
+    writes.2 c.requires.placed c.in_ok-write_dynamic.ensures.keeps (tells_none c.args.actor.now.caller c.write_dynamic.new.tables c.args.telling.now)
 
 -- null leaves a declared property as it is
 pub returns-then-is_null : goal.returns-then-is_null
 returns-then-is_null g c =
     let state = state_at c.args.tables.now c.args.actor.now.caller.place in
-    performs_written c.args.actor.now.caller c.args.object c.args.property.now (view c.args.value.now) c.args.tables.now c.args.tables.now c.args.tables.now c.args.telling.now c.args.telling.now Nothing false None refl
+    performs_written c.args.actor.now.caller c.args.object c.args.property.now (view c.args.value.now) c.args.tables.now c.args.tables.now c.args.tables.now c.args.telling.now c.args.telling.now tt Nothing false None refl
     c.in_ok-class.ensures.refusal c.requires.fresh
     (asked_nothing state c.args.object c.args.property.now (view c.args.value.now) _ (place_is (c.in-Some.number, c.in-Some.kind) _ (rw c.as_str.ensures at c.in-Some.ensures)) (sym c.if-is_null.ensures))
-    (λ depth doing. refl) (at_end (settings_of c.args.actor.now.caller.setup.now) (doing_at c.args.actor.now.caller.place c.args.tables.now c.args.telling.now)) (keeps_same _ _ _ refl)
+    (λ depth doing. refl) c.requires.placed (keeps_same _ _ _ refl) (tells_none c.args.actor.now.caller c.args.tables.now c.args.telling.now)
 
 -- a declared property: what is no value of its kind is refused
 pub returns-in_err-value-2 : goal.returns-in_err-value-2
 returns-in_err-value-2 g c =
     let state = state_at c.args.tables.now c.args.actor.now.caller.place in
-    found_fault _ _ _ _ (λ found. result_err (found >>= λ value. Ok (Declared c.in-Some.number value))) _ c.in_err-value-2.field-0.0 _ c.from_residual-in_err-value-2.ensures.1
+    quietly _ _ _ _ _ _ _ c.requires.fresh (found_fault _ _ _ _ (λ found. result_err (found >>= λ value. Ok (Declared c.in-Some.number value))) _ c.in_err-value-2.field-0.0 _ c.from_residual-in_err-value-2.ensures.1
     (refusal_set _ _ _ _ _ _ ∙ or_second _ _ c.in_ok-class.ensures.refusal
     ∙ ap result_err (asked_value state c.args.object c.args.property.now (view c.args.value.now) _ (place_is (c.in-Some.number, c.in-Some.kind) _ (rw c.as_str.ensures at c.in-Some.ensures)) (sym c.if-is_null.ensures)))
-    (λ code. refl) c.in_err-value-2.ensures.exact
+    (λ code. refl) c.in_err-value-2.ensures.exact)
 
 pub returns-in_err-notify : goal.returns-in_err-notify
-returns-in_err-notify g c = starved _ _ _ _ _ _ c.from_residual-in_err-notify.ensures.1 (keeps_twice _ _ _ _ c.write_declared-told.ensures.keeps c.in_err-notify.ensures.keeps).only
+returns-in_err-notify g c =
+    let caller = c.args.actor.now.caller in
+    starved_posting caller _ c.args.tables.now c.notify.new.tables c.notify.new.telling.failing c.notify.ensures.posts _ _ c.from_residual-in_err-notify.ensures.1
+    (others_reached caller.name.now c.args.tables.now c.notify.new.tables caller.place c.notify.ensures.posts c.notify.new.telling.failing
+    (at_first_reaches caller c.args.tables.now c.notify.new.tables c.args.telling.now c.notify.new.telling c.notify.ensures.posts c.requires.fresh
+    (written_reaches caller c.args.tables.now c.write_declared-told.new.tables c.notify.new.tables c.args.telling.now.failing c.notify.new.telling.failing c.notify.ensures.posts c.requires.placed c.write_declared-told.ensures.keeps c.notify.ensures.reaches)))
 
 -- and a value is written, and told of where it is another one
 pub returns : goal.returns
 returns g c =
     let state = state_at c.args.tables.now c.args.actor.now.caller.place in
-    performs_written c.args.actor.now.caller c.args.object c.args.property.now (view c.args.value.now) c.args.tables.now c.write_declared-told.new.tables c.notify.new.tables c.args.telling.now c.notify.new.telling
+    performs_written c.args.actor.now.caller c.args.object c.args.property.now (view c.args.value.now) c.args.tables.now c.write_declared-told.new.tables c.notify.new.tables c.args.telling.now c.notify.new.telling _
     (Declared c.in-Some.number c.in_ok-value-2.value) true c.write_declared-told.result refl
     c.in_ok-class.ensures.refusal c.requires.fresh
     (asked_value state c.args.object c.args.property.now (view c.args.value.now) _ (place_is (c.in-Some.number, c.in-Some.kind) _ (rw c.as_str.ensures at c.in-Some.ensures)) (sym c.if-is_null.ensures)
     ∙ ap (λ found. found >>= λ value. Ok (Declared c.in-Some.number value)) c.in_ok-value-2.ensures.exact)
-    c.write_declared-told.ensures.writes c.in_ok-notify.ensures.does (keeps_twice _ _ _ _ c.write_declared-told.ensures.keeps c.in_ok-notify.ensures.keeps)
+    c.write_declared-told.ensures.writes c.requires.placed c.write_declared-told.ensures.keeps c.in_ok-notify.ensures

@@ -1,12 +1,12 @@
-use Rattle.std.proofs.Common.{sym, ap, refl, ◌∙◌, ◌&&◌, arith}
+use Rattle.session_tables.proofs.TablesLemmas.{changes_same}
+use Rattle.std.proofs.Common.{sym, ap, refl, ◌∙◌, ◌&&◌}
 use Rattle.thread_model.specs.declared.line.Answer.TheVariants as a
 use Rattle.object_tree.specs.Finding.{found_below}
 use Rattle.thread_model.specs.Effects.{replies}
 use Rattle.thread_model.specs.Trees.{has_title, is_of_class}
 use Rattle.thread_model.proofs.TreeLemmas.{performs_find, refusal_find}
 use Rattle.session_tables.specs.Tables.{state_at}
-use Rattle.std.proofs.lemmas.Grind.{common_steps}
-use Rattle.session_engine.proofs.CommandsLemmas.{or_first, or_second, replied_by, stopped}
+use Rattle.session_engine.proofs.CommandsLemmas.{or_first, or_second, replied_by, stopped, starved}
 use Rattle.session_engine.proofs.trees.find.Goals as goal
 
 pub returns-in_err-check_object : goal.returns-in_err-check_object
@@ -25,4 +25,4 @@ returns c =
     ∙ ap (λ found. replies state (a.Found found)) (sym c.in_ok-found.ensures))
 
 pub returns-in_err-found : goal.returns-in_err-found
-returns-in_err-found c = grind (arith, common_steps)
+returns-in_err-found c = starved _ _ _ _ _ _ c.from_residual-in_err-found.ensures.1 (changes_same _ _ _ refl)

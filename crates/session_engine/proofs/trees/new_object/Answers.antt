@@ -23,7 +23,7 @@ pub returns : goal.returns
 returns c =
     let classes = c.args.caller.now.setup.now.classes in
     let state = state_at c.args.tables.now c.args.caller.now.place in
-    replied _ _ _ _ _ _
+    replied _ _ _ _ _ _ c.requires.placed
     (refusal_new _ _ _ _ _ ∙ or_second _ _ c.in_ok-check_parent.ensures ∙ or_second _ _ c.in_ok-class.ensures.refusal ∙ c.in_ok-number.ensures.refusal)
     (performs_new _ _ _ _ _
     ∙ ap (λ class. replies (with_object classes state c.args.parent class) (a.Number (state.forest.last_number + 1))) (sym c.in_ok-class.ensures.index)

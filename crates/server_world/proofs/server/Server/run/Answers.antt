@@ -1,7 +1,6 @@
-use Rattle.std.proofs.Common.{◌≡◌, sym, ap, subst, ◌∙◌, ◌⊎◌, inl, inr, arith, ◌+◌, map, take}
+use Rattle.std.proofs.Common.{sym, ap, subst, ◌∙◌, ◌⊎◌, inr, arith, ◌+◌, map, take}
 use Rattle.std.proofs.lemmas.List.{take_all}
 use Rattle.isolation.specs.World.{world_after, world_lines}
-use Rattle.thread_model.specs.Asked.{tag}
 use Rattle.thread_model.specs.Machine.{machine}
 use Rattle.server_world.specs.declared.report.Entry.TheVariants.{Lines}
 use Rattle.server_world.specs.Names.{with_names}

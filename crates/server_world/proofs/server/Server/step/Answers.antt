@@ -1,4 +1,4 @@
-use Rattle.std.proofs.Common.{◌≡◌, None, refl, sym, ap, subst, ◌∙◌}
+use Rattle.std.proofs.Common.{refl, sym, subst}
 use Rattle.thread_model.specs.Asked.{asked}
 use Rattle.std.specs.Result.{result_ok}
 use Rattle.session_engine.specs.Core as engine

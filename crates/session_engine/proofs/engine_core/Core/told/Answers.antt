@@ -11,3 +11,6 @@ returns-in-Err-Refused-clause-step g c = λ name there.
 
 pub returns-in-Err-Refused-clause-fails : goal.returns-in-Err-Refused-clause-fails
 returns-in-Err-Refused-clause-fails g c = grind (arith, common_steps)
+
+pub returns-in-Err-Memory-clause-step : goal.returns-in-Err-Memory-clause-step
+returns-in-Err-Memory-clause-step g c = λ name there. rw c.in-Err-Memory.field-0-is at (c.in-Err-Memory.ensures.step name there)

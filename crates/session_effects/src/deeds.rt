@@ -1,0 +1,42 @@
+//! Deeds: what commands and actions do to a session, once each object that it concerns is known.
+ghost use Rattle.std.specs.Prelude.{◌≡◌, IfOk, OnErr, OnOk};
+ghost use Rattle.refusals.specs.Answers.{RefusedBy};
+ghost use Rattle.thread_model.specs.Deeds.{deed_answer, deed_refusal, with_deed};
+ghost use Rattle.session_tables.specs.Tables.{IsPlaced, state_at, with_state};
+
+use event_queue::Event;
+use refusals::Fault;
+use session_tables::Tables;
+use thread_model::{Answer, Deed};
+
+/// Does a deed, and returns what a command replies for it.
+pub fn do_deed(tables: &mut Tables, place: usize, deed: Deed) -> Result<Answer, Fault>
+    requires { IsPlaced tables.old place }
+    ensures refusal { RefusedBy (deed_refusal (state_at tables.old place) deed) result }
+    ensures answer { IfOk result (λ answer. answer ≡ deed_answer (state_at tables.old place) deed) }
+    ensures ok { OnOk result (tables.new ≡ with_state tables.old place (with_deed (state_at tables.old place) deed)) }
+    ensures err { OnErr result (tables.new ≡ tables.old) }
+{
+    match deed {
+        Deed::Connect { new, unique } => {
+            tables.check_living(place, new.sender)?;
+            tables.check_living(place, new.receiver)?;
+            let number = tables.connect(place, new, unique)?;
+            return Ok(Answer::Number(number));
+        }
+        Deed::Disconnect { pattern } => {
+            return Ok(Answer::Number(tables.disconnect(place, &pattern)));
+        }
+        Deed::SetParent { object, parent } => tables.set_parent(place, object, parent)?,
+        Deed::DeleteLater { object } => {
+            tables.check_living(place, object)?;
+            tables.check_room(place)?;
+            tables.post(place, Event::Deletion(object))?;
+        }
+        Deed::Block { object, on } => {
+            tables.check_object(place, object)?;
+            return Ok(Answer::Truth(tables.set_blocked(place, object, on)));
+        }
+    }
+    Ok(Answer::Truth(true))
+}

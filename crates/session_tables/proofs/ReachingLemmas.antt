@@ -1,0 +1,136 @@
+-- Posts reach other sessions, one after another.
+use Rattle.std.proofs.Common.{◌≡◌, ◌≢◌, inl, inr, ℕ, Bool, true, false, true≢false, cond, eqb, IsFalse, IsTrue, List, [], ◌++◌, get_or, refl, sym, ap, ◌∙◌, arith}
+use Rattle.std.proofs.lemmas.Bool.{cond-true}
+use Rattle.std.proofs.lemmas.List.{get_or-set_other}
+use Rattle.connection_list.specs.Rows.{no_rows}
+use Rattle.event_queue.specs.Queue.{empty_queue}
+use Rattle.object_tree.specs.Forest.{empty_forest}
+use Rattle.places.proofs.TableLemmas as column
+use Rattle.thread_model.specs.declared.post.Post.{Post}
+use Rattle.thread_model.specs.State.{no_desk}
+use Rattle.thread_model.specs.Thread.{arrive_all}
+use Rattle.thread_model.proofs.ArrivingLemmas.{arrive_all-append}
+use Rattle.session_tables.specs.declared.tables.Tables.{Tables}
+use Rattle.session_tables.specs.Session.{Session}
+use Rattle.session_tables.specs.Tables.{ChangesOnly, IsPlaced, failed_at, session_at}
+use Rattle.session_tables.specs.Reaching.{AreShaped, Hears, Reaches, ReachesBy, heard}
+use Rattle.session_tables.proofs.TablesLemmas.{even_changed, placed_by, session_of}
+
+differ_by : (at place : ℕ) → eqb at place ≡ false → at ≢ place
+differ_by at place apart same = absurd (grind (arith, same, apart))
+
+-- no session but the one at the place that changes has changed
+pub session_unchanged : (old new : Tables) (place at : ℕ) → ChangesOnly place old new → eqb at place ≡ false → session_at new at ≡ session_at old at
+session_unchanged old new place at changes apart =
+    let differ = differ_by at place apart in
+    session_of
+    (ap (λ table. get_or table.places at empty_forest) changes.forests ∙ get_or-set_other old.forests.places place at _ empty_forest differ)
+    (ap (λ table. get_or table.places at []) changes.stores ∙ get_or-set_other old.stores.table.places place at _ [] differ)
+    (ap (λ table. get_or table.places at no_rows) changes.connections ∙ get_or-set_other old.connections.places place at _ no_rows differ)
+    (ap (λ table. get_or table.places at empty_queue) changes.queues ∙ get_or-set_other old.queues.places place at _ empty_queue differ)
+    (ap (λ table. get_or table.places at no_desk) changes.desks ∙ get_or-set_other old.desks.places place at _ no_desk differ)
+    (ap (λ table. get_or table.places at false) changes.failed ∙ get_or-set_other old.failed.places place at _ false differ)
+
+pub shaped_changed : (old new : Tables) (place : ℕ) → ChangesOnly place old new → AreShaped old new
+shaped_changed old new place changes = record {
+  layouts = changes.layouts;
+  places = column.changes_length false old.failed new.failed place changes.failed;
+  even = even_changed old new place changes;
+}
+
+pub shaped_twice : (old middle new : Tables) → AreShaped old middle → AreShaped middle new → AreShaped old new
+shaped_twice old middle new first second = record {
+  layouts = second.layouts ∙ first.layouts;
+  places = second.places ∙ first.places;
+  even = λ even. second.even (first.even even);
+}
+
+-- a place stays one
+pub placed_shaped : (old new : Tables) (at : ℕ) → AreShaped old new → IsPlaced old at → IsPlaced new at
+placed_shaped old new at shape placed = placed_by new at (shape.even placed.6) (omega (arith, shape.places, placed.4))
+
+module _ (from : List ℕ) where
+  pub heard-none : (session : Session) → heard from [] session ≡ session
+  heard-none session = by session.failed refl
+    where
+      by : (failed : Bool) → session.failed ≡ failed → cond failed session (record { state = session.state; failed = false }) ≡ session
+      by true e = refl
+      by false e = ap (λ failed. record { state = session.state; failed = failed }) (sym e)
+
+  pub heard-append : (posts more : List Post) (session : Session) → heard from (posts ++ more) session ≡ heard from more (heard from posts session)
+  heard-append posts more session = by session.failed refl
+    where
+      hearing : List Post → Session → Bool → Session
+      hearing posts session failed = cond failed session (record { state = arrive_all session.state from posts; failed = false })
+
+      by : (failed : Bool) → session.failed ≡ failed → hearing (posts ++ more) session failed ≡ heard from more (hearing posts session failed)
+      by true e = sym (cond-true session.failed _ _ e)
+      by false e = ap (λ state. record { state = state; failed = false }) (arrive_all-append session.state from posts more)
+
+  heard-failed : (posts : List Post) (session : Session) → (heard from posts session).failed ≡ session.failed
+  heard-failed posts session = by session.failed refl
+    where
+      by : (failed : Bool) → session.failed ≡ failed → (cond failed session (record { state = arrive_all session.state from posts; failed = false })).failed ≡ session.failed
+      by true e = refl
+      by false e = sym e
+
+  hears_twice : (posts more : List Post) (old middle new : Session) → Hears from posts old middle → Hears from more middle new → Hears from (posts ++ more) old new
+  hears_twice posts more old middle new (inl e) (inl f) = inl (f ∙ ap (heard from more) e ∙ sym (heard-append posts more old))
+  hears_twice posts more old middle new (inl e) (inr f) = inr ((sym (heard-failed posts old) ∙ ap (λ (session : Session). session.failed) (sym e) ∙ f.0, f.1))
+  hears_twice posts more old middle new (inr e) (inl f) = inr ((e.0, f ∙ ap (heard from more) e.1))
+  hears_twice posts more old middle new (inr e) (inr f) = inr ((e.0, f.1))
+
+  -- no post mends a session
+  pub stays_failed : (posts : List Post) (old new : Session) → Hears from posts old new → old.failed ≡ true → new.failed ≡ true
+  stays_failed posts old new (inl e) was = ap (λ (session : Session). session.failed) e ∙ heard-failed posts old ∙ was
+  stays_failed posts old new (inr e) was = ap (λ (session : Session). session.failed) e.1
+
+  -- so one that has not failed had not before
+  was_fine : (posts : List Post) (old new : Session) → Hears from posts old new → new.failed ≡ false → old.failed ≡ false
+  was_fine posts old new hears fine = by old.failed refl
+    where
+      by : (failed : Bool) → old.failed ≡ failed → old.failed ≡ false
+      by true e = absurd (true≢false (sym (stays_failed posts old new hears e) ∙ fine))
+      by false e = e
+
+  module _ (place : ℕ) where
+    -- what changes the session itself posts nothing
+    pub reaches_changed : (old new : Tables) (flag : Bool) → ChangesOnly place old new → new.failed ≡ old.failed → Reaches from place [] old new flag flag
+    reaches_changed old new flag changes same =
+        let unchanged : (at : ℕ) → IsFalse (eqb at place) → IsPlaced old at → session_at new at ≡ heard from [] (session_at old at) =
+        λ at apart placed. session_unchanged old new place at changes apart ∙ sym (heard-none (session_at old at)) in
+        record {
+          shape = shaped_changed old new place changes;
+          own = ap (λ table. get_or table.places place false) same;
+          others = λ at apart placed. inl (unchanged at apart placed);
+          all = λ none. (none, unchanged);
+          one = λ none some. absurd (true≢false (sym some ∙ none));
+        }
+
+    module _ (posts more : ℕ → List Post) (old middle new : Tables) (before between after : Bool) (placed : IsPlaced old place) (first : ReachesBy from place posts old middle before between) (second : ReachesBy from place more middle new between after) where
+      still : (at : ℕ) → IsPlaced old at → IsPlaced middle at
+      still at placed = placed_shaped old middle at first.shape placed
+
+      one_of : (failed : Bool) → between ≡ failed → before ≡ false → after ≡ true → (at : ℕ) × IsFalse (eqb at place) × IsPlaced old at × IsFalse (failed_at old at) × IsTrue (failed_at new at)
+      one_of true e none some =
+          let it = first.one none e in
+          (it.0, it.1, it.2, it.3, stays_failed (more it.0) (session_at middle it.0) (session_at new it.0) (second.others it.0 it.1 (still it.0 it.2)) it.4)
+      one_of false e none some =
+          let it = second.one e some in
+          let there : IsPlaced old it.0 = placed_by old it.0 placed.6 (omega (arith, first.shape.places, it.2.4)) in
+          (it.0, it.1, there, was_fine (posts it.0) (session_at old it.0) (session_at middle it.0) (first.others it.0 it.1 there) it.3, it.4)
+
+      pub reaches_by_twice : ReachesBy from place (λ at. posts at ++ more at) old new before after
+      reaches_by_twice = record {
+        shape = shaped_twice old middle new first.shape second.shape;
+        own = second.own ∙ first.own;
+        others = λ at apart placed. hears_twice (posts at) (more at) _ _ _ (first.others at apart placed) (second.others at apart (still at placed));
+        all = λ none.
+            let then = second.all none in
+            let so = first.all then.0 in
+            (so.0, λ at apart placed. then.1 at apart (still at placed) ∙ ap (heard from (more at)) (so.1 at apart placed) ∙ sym (heard-append (posts at) (more at) (session_at old at)));
+        one = one_of between refl;
+      }
+
+    pub reaches_twice : (posts more : List Post) (old middle new : Tables) (before between after : Bool) → IsPlaced old place → Reaches from place posts old middle before between → Reaches from place more middle new between after → Reaches from place (posts ++ more) old new before after
+    reaches_twice posts more old middle new before between after placed first second = reaches_by_twice (λ at. posts) (λ at. more) old middle new before between after placed first second

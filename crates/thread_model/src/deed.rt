@@ -1,0 +1,18 @@
+//! What is done to a session, whoever asks for it.
+use connection_list::{NewConnection, Pattern};
+
+/// What a command or an action does, once each object that it concerns is known.
+#[derive(Clone, Copy)]
+pub enum Deed {
+    /// Makes a connection, and answers its number. A unique one is refused where the same is there.
+    Connect { new: NewConnection, unique: bool },
+    /// Breaks the connections that match, and answers how many.
+    Disconnect { pattern: Pattern },
+    /// Gives an object another parent, or makes it a root.
+    SetParent { object: u32, parent: Option<u32> },
+    /// Posts the deletion of an object (`QObject::deleteLater`).
+    DeleteLater { object: u32 },
+    /// Blocks the signals of an object, or lets them through, and answers whether they were blocked
+    /// (`QObject::blockSignals`).
+    Block { object: u32, on: bool },
+}
