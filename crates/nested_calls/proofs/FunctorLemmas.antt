@@ -99,10 +99,6 @@ module _ (settings : Settings) (connection : Connection) (index : ℕ) (args : L
         ∙ runs_functor settings connection.receiver index connection.sender given depth doing functor has done does
 
 module _ (settings : Settings) (index : ℕ) (functor : stored.Functor) (has : Some functor ≡ functor_at settings index) where
-  -- a closure may be called with what may be given to it
-  pub may_be_called : (args : List Value) → AreArguments functor.params args → IsCall settings.functors index args
-  may_be_called args are = subst (λ (found : Option stored.Functor). IsSomeAnd found (λ functor. AreArguments functor.params args)) has are
-
   -- no body is longer than the longest one
   pub functor_short : counts (acts_of functor.body.actions) ≤ longest_functor settings.functors
   functor_short = functor-size settings index functor (sym has)

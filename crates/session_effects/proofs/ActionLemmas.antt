@@ -18,11 +18,6 @@ pub is_there_by : (there : Bool) → None ≡ (if there then None else Some NoSu
 is_there_by true passed = refl
 is_there_by false passed = absurd (cc)
 
--- what is not refused for want of room has room
-pub room_by : (room : Bool) → None ≡ (if room then None else Some Limit) → room ≡ true
-room_by true passed = refl
-room_by false passed = absurd (cc)
-
 pub keeps_same : (old new : Tables) (place : ℕ) → new ≡ old → Keeps place old new
 keeps_same old new place e = record { only = changes_same old new place e; failed = ap (λ tables. tables.failed) e }
 

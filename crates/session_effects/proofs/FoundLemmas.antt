@@ -37,22 +37,6 @@ behind_all done = ap Ok (append-nil done)
 pub item_at : {A : Type 0} (xs : List A) (i : ℕ) (x : A) → i < length xs → x ≡ get_or xs i x → drop i xs ≡ x ∷ drop (i + 1) xs
 item_at xs i x within is = drop_more xs i x within ∙ ap (λ y. y ∷ drop (i + 1) xs) (sym is)
 
-module _ (state : State) (self sender : ℕ) (args : List Value) where
-  -- one more expression is evaluated
-  pub evaluated_more : (done : List Value) (term : Term) (before after : List Term) (value : Value) → before ≡ term ∷ after → evaluated state self sender args term ≡ Ok value
-      → behind (done ++ value ∷ []) (all_evaluated state self sender args after) ≡ behind done (all_evaluated state self sender args before)
-  evaluated_more done term before after value here is =
-      behind_more done value (all_evaluated state self sender args after)
-      ∙ ap (λ (first : Found Value). behind done (first >>= λ value. all_evaluated state self sender args after >>= λ values. Ok (value ∷ values))) (sym is)
-      ∙ ap (λ terms. behind done (all_evaluated state self sender args terms)) (sym here)
-
-  -- the first fault ends it
-  pub evaluated_refused : (done : List Value) (term : Term) (before after : List Term) (code : Code) → before ≡ term ∷ after → evaluated state self sender args term ≡ Err code
-      → behind done (all_evaluated state self sender args before) ≡ Err code
-  evaluated_refused done term before after code here is =
-      ap (λ terms. behind done (all_evaluated state self sender args terms)) here
-      ∙ ap (λ (first : Found Value). behind done (first >>= λ value. all_evaluated state self sender args after >>= λ values. Ok (value ∷ values))) is
-
 -- a value as one of the kind that was found for it
 abbrev pub value_as : Option (Bor Kind) → Value → Found Value
 value_as found value = option_map_or (λ kind. ok_or (converted kind value) BadValue) (option_copied found) (Err BadValue)
@@ -92,9 +76,6 @@ kind_within kinds at value new (Some kind) met made = omega (arith, met.0)
 -- fewer values than kinds
 pub converted_short : (done : List Value) (kind : Kind) (kinds kinds' : List Kind) (values : List Value) → kinds ≡ kind ∷ kinds' → values ≡ [] → behind done (all_converted kinds values) ≡ Err BadValue
 converted_short done kind kinds kinds' values here none = ap (λ kinds. behind done (all_converted kinds values)) here ∙ ap (λ values. behind done (all_converted (kind ∷ kinds') values)) none
-
-pub converted_all : (done : List Value) (kinds : List Kind) (values : List Value) → kinds ≡ [] → values ≡ [] → behind done (all_converted kinds values) ≡ Ok done
-converted_all done kinds values none empty = ap (λ kinds. behind done (all_converted kinds values)) none ∙ ap (λ values. behind done (all_converted [] values)) empty ∙ behind_all done
 
 -- a refusal of what was asked
 pub answers_refused : {T : Type 0} (wanted : Found T) (code : Code) (result : Result T Fault) → IsErrAnd result (λ fault. fault ≡ Refused code) → wanted ≡ Err code → Answers result wanted

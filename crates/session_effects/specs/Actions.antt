@@ -10,6 +10,7 @@ use Rattle.term_core.specs.Act.{effect}
 use Rattle.thread_model.specs.declared.deed.Deed.{Deed}
 use Rattle.thread_model.specs.Acts.{act_deed}
 use Rattle.thread_model.specs.Agenda.{step}
+use Rattle.thread_model.specs.Deeds.{HasEnds}
 use Rattle.thread_model.specs.Doing.{Doing, in_state}
 use Rattle.thread_model.specs.Items.{Act, Item, Warn, puts}
 use Rattle.thread_model.specs.Methods.{Found}
@@ -36,9 +37,10 @@ is_nested (e.Emit of signal args) = true
 is_nested (e.Delete target) = true
 is_nested _ = false
 
--- the call has found exactly the deed that an action is, or is refused as it is, unless memory was wanted
+-- the call has found exactly the deed that an action is, with its ends, or is refused as it is, unless memory
+-- was wanted
 abbrev pub FindsDeed : Caller → Slot → Effect → Tables → Result Deed Fault → Type 0
-FindsDeed caller slot plain tables (Ok deed) = act_deed (settings_of caller.setup.now) (state_at tables caller.place) slot.object slot.sender plain ≡ Some (Ok deed)
+FindsDeed caller slot plain tables (Ok deed) = (act_deed (settings_of caller.setup.now) (state_at tables caller.place) slot.object slot.sender plain ≡ Some (Ok deed)) × HasEnds (state_at tables caller.place) deed
 FindsDeed caller slot plain tables (Err (Refused code)) = act_deed (settings_of caller.setup.now) (state_at tables caller.place) slot.object slot.sender plain ≡ Some (Err code)
 FindsDeed caller slot plain tables (Err Memory) = Unit {0}
 

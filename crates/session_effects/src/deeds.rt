@@ -1,7 +1,7 @@
 //! Deeds: what commands and actions do to a session, once each object that it concerns is known.
 ghost use Rattle.std.specs.Prelude.{◌≡◌, IfOk, OnErr, OnOk};
 ghost use Rattle.refusals.specs.Answers.{RefusedBy};
-ghost use Rattle.thread_model.specs.Deeds.{deed_answer, deed_refusal, with_deed};
+ghost use Rattle.thread_model.specs.Deeds.{HasEnds, deed_answer, deed_refusal, with_deed};
 ghost use Rattle.session_tables.specs.Tables.{IsPlaced, state_at, with_state};
 
 use event_queue::Event;
@@ -17,10 +17,24 @@ pub fn do_deed(tables: &mut Tables, place: usize, deed: Deed) -> Result<Answer, 
     ensures ok { OnOk result (tables.new ≡ with_state tables.old place (with_deed (state_at tables.old place) deed)) }
     ensures err { OnErr result (tables.new ≡ tables.old) }
 {
+    if let Deed::Connect { new, unique: _ } = deed {
+        tables.check_living(place, new.sender)?;
+        tables.check_living(place, new.receiver)?;
+    }
+    do_found(tables, place, deed)
+}
+
+/// The same of a deed for which both ends of a connection have been looked up.
+pub fn do_found(tables: &mut Tables, place: usize, deed: Deed) -> Result<Answer, Fault>
+    requires placed { IsPlaced tables.old place }
+    requires ends { HasEnds (state_at tables.old place) deed }
+    ensures refusal { RefusedBy (deed_refusal (state_at tables.old place) deed) result }
+    ensures answer { IfOk result (λ answer. answer ≡ deed_answer (state_at tables.old place) deed) }
+    ensures ok { OnOk result (tables.new ≡ with_state tables.old place (with_deed (state_at tables.old place) deed)) }
+    ensures err { OnErr result (tables.new ≡ tables.old) }
+{
     match deed {
         Deed::Connect { new, unique } => {
-            tables.check_living(place, new.sender)?;
-            tables.check_living(place, new.receiver)?;
             let number = tables.connect(place, new, unique)?;
             return Ok(Answer::Number(number));
         }

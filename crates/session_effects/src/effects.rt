@@ -11,7 +11,7 @@ ghost use Rattle.session_effects.specs.Setup.{settings_of};
 
 use crate::caller::Caller;
 use crate::connections::{Options, connection, pattern};
-use crate::deeds::do_deed;
+use crate::deeds::do_found;
 use crate::evaluation::{
     Reader, all_converted, all_evaluated, named_object_of, object_of, truth_evaluated,
 };
@@ -115,7 +115,7 @@ pub fn change(
     ensures keeps { Keeps caller.now.place tables.old tables.new }
 {
     let deed = deed_of(caller, tables, slot, effect)?;
-    do_deed(tables, caller.place, deed)?;
+    do_found(tables, caller.place, deed)?;
     Ok(())
 }
 

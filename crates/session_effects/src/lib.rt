@@ -16,7 +16,7 @@ mod writing;
 
 pub use caller::Caller;
 pub use connections::{Options, asked_connection, asked_functor_connection, asked_pattern};
-pub use deeds::do_deed;
+pub use deeds::{do_deed, do_found};
 pub use effects::{Emission, change, deleted, sent, truth};
 pub use functors::{are_arguments, functor_at};
 pub use methods::{kinds_at, method_at, method_with};

@@ -187,28 +187,6 @@ pub quietly : (caller : Caller) (asked : Asked) (old new : Tables) (telling : Te
     → Performs caller asked old new false lines result → Performs caller asked old new telling.failing lines result
 quietly caller asked old new telling lines result fresh performed = subst (λ (telling : Telling). Performs caller asked old new telling.failing lines result) (sym fresh) performed
 
--- what is told last takes memory too
-pub told_last : (caller : Caller) (asked : Asked) (old new : Tables) (failing : Bool) (lines : List Line) (answer : Answer) (told : List Line) → told ≡ reply_after lines answer → Performs caller asked old new failing (reply_after lines) (Ok answer) → Performs caller asked old new failing (λ lines. lines) (Ok told)
-told_last caller asked old new failing lines answer told is performed = record {
-  returns = (performed.returns.0, performed.returns.1 ∙ sym is);
-  posts = performed.posts;
-  posted = performed.posted;
-  done = performed.done;
-  refused = tt;
-  others = performed.others;
-}
-
-pub told_fault : (caller : Caller) (asked : Asked) (old new : Tables) (failing : Bool) (lines : Answer → List Line) (fault : Fault) (result : Result (List Line) Fault) → IsErrAnd result (λ other. other ≡ fault) → Performs caller asked old new failing lines (Err fault) → Performs caller asked old new failing (λ lines. lines) result
-told_fault caller asked old new failing lines fault (Ok value) h performed = absurd h
-told_fault caller asked old new failing lines fault (Err other) h performed = subst (λ fault. Performs caller asked old new failing (λ lines. lines) (Err fault)) (sym h) (by fault performed)
-  where
-    by : (fault : Fault) → Performs caller asked old new failing lines (Err fault) → Performs {T = List Line} caller asked old new failing (λ lines. lines) (Err fault)
-    by (Refused code) performed = record { returns = performed.returns; posts = performed.posts; posted = tt; done = tt; refused = performed.refused; others = performed.others }
-    by Memory performed = record { returns = tt; posts = performed.posts; posted = tt; done = tt; refused = tt; others = performed.others }
-
-pub told_starved : (caller : Caller) (asked : Asked) (old new : Tables) (failing : Bool) (lines : Answer → List Line) (answer : Answer) (result : Result (List Line) Fault) → IsErrAnd result (λ other. other ≡ Memory) → Performs caller asked old new failing lines (Ok answer) → Performs caller asked old new failing (λ lines. lines) result
-told_starved caller asked old new failing lines answer result h performed = starved_posting caller asked old new failing performed.posts (λ lines. lines) result h performed.others
-
 module _ (caller : Caller) (asked : Asked) (old new : Tables) where
   -- what the session does with it
   abbrev session : Session

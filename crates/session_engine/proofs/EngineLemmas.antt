@@ -151,16 +151,6 @@ module _ (engine : Contents) (whole : IsWhole engine) where
           ∙ session_elsewhere engine.tables at at' session (λ same. both_ways _ differ ((bytes_eq-Decides other name).1 (sym (one_name engine name other at there (e ∙ ap Some same)))))
           ∙ sym (sessions-place engine other at' e)
 
-  -- the engine stays whole, where that session is as it must be
-  pub whole_with : (name : List ℕ) (at : ℕ) (session : Session) → place engine name ≡ Some at → IsKept engine.settings.classes engine.memory_refused session → IsWhole (with_session_at engine at session)
-  whole_with name at session there fine = record {
-    even = even_with engine.tables at session whole.even;
-    paired = whole.paired ∙ sym (length-set engine.tables.failed.places at session.failed);
-    named = whole.named;
-    laid = whole.laid;
-    kept = session_each (IsKept engine.settings.classes engine.memory_refused) engine.tables at session (placed engine name at whole there) fine whole.kept;
-  }
-
   -- and where memory was refused
   pub whole_refused : IsWhole (refused_growth engine)
   whole_refused = record { even = whole.even; paired = whole.paired; named = whole.named; laid = whole.laid; kept = λ at. record { well = λ found. absurd (true≢false found); sound = (whole.kept at).sound; declared = (whole.kept at).declared } }

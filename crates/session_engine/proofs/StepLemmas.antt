@@ -49,10 +49,6 @@ on_some None h = tt
 on_none : {T : Type 0} (P : Type 0) (value : Option T) → value ≡ None → OnSome value P
 on_none P value e = subst (λ value. OnSome value P) (sym e) tt
 
-some_is : {T : Type 0} (value : Option T) → IsSome value → (x : T) × (value ≡ Some x)
-some_is (Some x) h = (x, refl)
-some_is None h = absurd (cc)
-
 pub some_none : {T : Type 0} (x : T) → Some x ≡ None → ⊥
 some_none x e = cc
 

@@ -22,29 +22,6 @@ read_more true done value (Ok rest) = refl
 read_more false done value (Err code) = refl
 read_more true done value (Err code) = refl
 
-read_long : (long : Bool) (done : List Value) (rest : Found (List Value)) → read_behind true done rest ≡ read_behind long done (with_value (Err Limit) rest)
-read_long false done (Ok rest) = refl
-read_long true done (Ok rest) = refl
-read_long false done (Err code) = refl
-read_long true done (Err code) = refl
-
--- one more value is read
-pub values_more : (long : Bool) (done : List Value) (kind : Kind) (kinds kinds' : List Kind) (json : Data) (before after : List Data) (value : Value) → kinds ≡ kind ∷ kinds' → before ≡ json ∷ after → value_of kind json ≡ Ok value
-    → read_behind long (done ++ value ∷ []) (values_of kinds' after) ≡ read_behind long done (values_of kinds before)
-values_more long done kind kinds kinds' json before after value here there is =
-    read_more long done value (values_of kinds' after)
-    ∙ ap (λ first. read_behind long done (with_value first (values_of kinds' after))) (sym is)
-    ∙ ap (λ kinds. read_behind long done (values_of kinds (json ∷ after))) (sym here)
-    ∙ ap (λ args. read_behind long done (values_of kinds args)) (sym there)
-
-pub values_long : (long : Bool) (done : List Value) (kind : Kind) (kinds kinds' : List Kind) (json : Data) (before after : List Data) → kinds ≡ kind ∷ kinds' → before ≡ json ∷ after → value_of kind json ≡ Err Limit
-    → read_behind true done (values_of kinds' after) ≡ read_behind long done (values_of kinds before)
-values_long long done kind kinds kinds' json before after here there is =
-    read_long long done (values_of kinds' after)
-    ∙ ap (λ first. read_behind long done (with_value first (values_of kinds' after))) (sym is)
-    ∙ ap (λ kinds. read_behind long done (values_of kinds (json ∷ after))) (sym here)
-    ∙ ap (λ args. read_behind long done (values_of kinds args)) (sym there)
-
 -- a value that is none ends it, whatever comes behind it
 bad_first : (long : Bool) (done : List Value) (code : Code) (rest : Found (List Value)) → is_limit code ≡ false → read_behind long done (with_value (Err code) rest) ≡ Err code
 bad_first long done Limit rest other = absurd (cc)

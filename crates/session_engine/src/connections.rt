@@ -7,7 +7,7 @@ ghost use Rattle.session_engine.specs.Commands.{Performs, reply_lines};
 use plain_types::Text;
 use refusals::{Code, Fault};
 use session_effects::{
-    Caller, Options, asked_connection, asked_functor_connection, asked_pattern, do_deed,
+    Caller, Options, asked_connection, asked_functor_connection, asked_pattern, do_deed, do_found,
 };
 use session_tables::Tables;
 use thread_model::{Answer, Deed};
@@ -25,14 +25,14 @@ pub fn connect(
     requires { IsPlaced tables.old caller.now.place }
     ensures { Performs caller.now (Connect sender signal.now receiver method.now options.mode options.unique options.single) tables.old tables.new false reply_lines result }
 {
-    tables.check_object(caller.place, sender)?;
-    tables.check_object(caller.place, receiver)?;
+    tables.check_living(caller.place, sender)?;
+    tables.check_living(caller.place, receiver)?;
     let new = asked_connection(caller, tables, sender, signal, receiver, method, options)?;
     let deed = Deed::Connect {
         new,
         unique: options.unique,
     };
-    do_deed(tables, caller.place, deed)
+    do_found(tables, caller.place, deed)
 }
 
 /// Connects a signal to a functor, and replies the connection's number. A functor's connection is never
@@ -49,13 +49,13 @@ pub fn connect_functor(
     requires { IsPlaced tables.old caller.now.place }
     ensures { Performs caller.now (ConnectFunctor sender signal.now context functor.now options.mode options.unique options.single) tables.old tables.new false reply_lines result }
 {
-    tables.check_object(caller.place, sender)?;
-    tables.check_object(caller.place, context)?;
+    tables.check_living(caller.place, sender)?;
+    tables.check_living(caller.place, context)?;
     let new = asked_functor_connection(caller, tables, sender, signal, context, functor, options)?;
     if options.unique {
         return Err(Fault::Refused(Code::UniqueFunctor));
     }
-    do_deed(tables, caller.place, Deed::Connect { new, unique: false })
+    do_found(tables, caller.place, Deed::Connect { new, unique: false })
 }
 
 /// Breaks the connection of this number, and replies whether it stood.

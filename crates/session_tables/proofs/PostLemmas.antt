@@ -1,5 +1,5 @@
 -- A post reaches the sessions one after another, and each by its joins one after another.
-use Rattle.std.proofs.Common.{◌≡◌, ◌<◌, ◌≤◌, ◌+◌, ◌⊎◌, inl, inr, ℕ, Bool, true, false, true≢false, cond, eqb, ltb, IsFalse, IsTrue, List, [], ◌∷◌, ◌++◌, Some, length, get_or, drop, take, map, filter, refl, sym, ap, subst, ◌∙◌, arith}
+use Rattle.std.proofs.Common.{◌≡◌, ◌<◌, ◌≤◌, ◌+◌, inl, inr, ℕ, Bool, true, false, true≢false, cond, eqb, ltb, IsFalse, IsTrue, List, [], ◌∷◌, ◌++◌, Some, length, get_or, drop, take, map, filter, refl, sym, ap, subst, ◌∙◌, arith}
 use Rattle.std.specs.List.{slice_get}
 use Rattle.std.specs.Prelude.{Result, Ok, Err, OnOk, OnErr}
 use Rattle.std.specs.Result.{is_err as result_is_err}
@@ -98,25 +98,6 @@ module _ (from : List ℕ) (place : ℕ) where
     one = λ none some. let it = one none some in (at, apart, it.0, it.1, it.2);
   }
 
-  -- the session itself, and one that has failed, stay as they are
-  pub reach_none : (tables : Tables) (at : ℕ) (posts : List Post) (flag : Bool) → (at ≡ place) ⊎ (failed_at tables at ≡ true) → ReachesBy from place (only_at at posts) tables tables flag flag
-  reach_none tables at posts flag either = record {
-    shape = record { layouts = refl; places = refl; even = λ even. even };
-    own = refl;
-    others = λ other differs placed. inl (ignored other differs placed);
-    all = λ none. (none, ignored);
-    one = λ none some. absurd (true≢false (sym some ∙ none));
-  }
-    where
-      failed_is : (differs : eqb at place ≡ false) → (at ≡ place) ⊎ (failed_at tables at ≡ true) → failed_at tables at ≡ true
-      failed_is differs (inl same) = absurd (grind (arith, nat_tests, same, differs))
-      failed_is differs (inr failed) = failed
-
-      ignored : (other : ℕ) → IsFalse (eqb other place) → IsPlaced tables other → session_at tables other ≡ heard from (only_at at posts other) (session_at tables other)
-      ignored = by_place (λ other posts. IsFalse (eqb other place) → IsPlaced tables other → session_at tables other ≡ heard from posts (session_at tables other)) at posts
-          (λ differs placed. sym (cond-true (failed_at tables at) _ _ (failed_is differs either)))
-          (λ other else differs placed. sym (heard-none from (session_at tables other)))
-
   -- one that has not failed hears the post
   pub reach_heard : (old : Tables) (at : ℕ) (post : Post) (flag : Bool) (queues : Table Queue) → (at ≡ place → ⊥) → failed_at old at ≡ false → IsPlaced old at
       → queues ≡ with_queue old.queues at (reached_by from post (forest_at old.forests at).rows (queue_at old.queues at) (desk_at old at).joins)
@@ -160,18 +141,6 @@ module _ (from : List ℕ) (place : ℕ) where
   -- the places below one have a post
   abbrev pub below : ℕ → List Post → ℕ → List Post
   below end posts at = cond (ltb at end) posts []
-
-  pub reaches_at_first : (tables : Tables) (posts : List Post) (flag : Bool) → ReachesBy from place (below 0 posts) tables tables flag flag
-  reaches_at_first tables posts flag = reaches_alike (λ at. []) (below 0 posts) tables tables flag flag (λ at placed. none at) (record {
-    shape = record { layouts = refl; places = refl; even = λ even. even };
-    own = refl;
-    others = λ at apart placed. inl (sym (heard-none from (session_at tables at)));
-    all = λ none. (none, λ at apart placed. sym (heard-none from (session_at tables at)));
-    one = λ none some. absurd (true≢false (sym some ∙ none));
-  })
-    where
-      none : (at : ℕ) → [] ≡ below 0 posts at
-      none at = let past : ltb at 0 ≡ false = grind (arith, nat_tests) in sym (cond-false (ltb at 0) posts [] past)
 
   pub reaches_next : (posts : List Post) (end : ℕ) (old now new : Tables) (before between after : Bool) → IsPlaced old place → ReachesBy from place (below end posts) old now before between → ReachesBy from place (only_at end posts) now new between after
       → ReachesBy from place (below (end + 1) posts) old new before after

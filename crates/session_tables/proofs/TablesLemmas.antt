@@ -1,5 +1,5 @@
 -- Tables with another session at a place.
-use Rattle.std.proofs.Common.{◌≡◌, ◌≢◌, ◌<◌, ◌≤◌, ℕ, Bool, false, List, [], length, get_or, eqb, refl, sym, ap, subst, ◌∙◌, ⊎_elim, arith}
+use Rattle.std.proofs.Common.{◌≡◌, ◌≢◌, ◌<◌, ◌≤◌, ℕ, Bool, false, [], length, get_or, eqb, refl, sym, ap, subst, ◌∙◌, ⊎_elim, arith}
 use Rattle.std.proofs.lemmas.Bool.{cases_Bool}
 use Rattle.std.proofs.lemmas.Grind.{common_steps}
 use Rattle.std.proofs.lemmas.List.{get_or_past, get_or-set_other, length-set}
@@ -8,14 +8,13 @@ use Rattle.places.proofs.TableLemmas as column
 use Rattle.connection_list.specs.Rows.{Rows, no_rows}
 use Rattle.event_queue.specs.Queue.{Queue, empty_queue}
 use Rattle.object_tree.specs.Forest.{Forest, empty_forest}
-use Rattle.property_store.specs.declared.field.Field.{Field}
 use Rattle.property_store.specs.Store.{Store}
-use Rattle.property_store.specs.Table.{Shelves, with_store}
+use Rattle.property_store.specs.Table.{Shelves}
 use Rattle.thread_model.specs.declared.post.Desk.{Desk}
 use Rattle.thread_model.specs.State.{State, no_desk}
 use Rattle.session_tables.specs.declared.tables.Tables.{Tables}
 use Rattle.session_tables.specs.Session.{Session, fresh}
-use Rattle.session_tables.specs.Tables.{AreEven, AreSame, ChangesOnly, IsPlaced, failed_at, opened, session_at, state_at, with_session, with_state}
+use Rattle.session_tables.specs.Tables.{AreEven, AreSame, ChangesOnly, IsPlaced, opened, session_at, state_at, with_session, with_state}
 
 -- tables of these columns
 abbrev pub of_columns : Table Forest → Shelves → Table Rows → Table Queue → Table Desk → Table Bool → Tables
@@ -24,14 +23,6 @@ of_columns forests stores connections queues desks failed = record { forests = f
 -- the session that these make
 abbrev made : Forest → Store → Rows → Queue → Desk → Bool → Session
 made forest store connections queue desk failed = record { state = record { forest = forest; store = store; connections = connections; queue = queue; desk = desk }; failed = failed }
-
--- the stores of these layouts and places
-abbrev pub of_layouts : List (List Field) → Table Store → Shelves
-of_layouts layouts table = record { layouts = layouts; table = table }
-
--- equal parts make equal stores
-pub shelved : (old new : Shelves) → new.layouts ≡ old.layouts → new.table ≡ old.table → new ≡ old
-shelved old new a b = ap (λ layouts. of_layouts layouts new.table) a ∙ ap (of_layouts old.layouts) b
 
 -- equal columns make equal tables
 pub columns : (old new : Tables) → new.forests ≡ old.forests → new.stores ≡ old.stores → new.connections ≡ old.connections → new.queues ≡ old.queues → new.desks ≡ old.desks → new.failed ≡ old.failed → new ≡ old
@@ -51,10 +42,6 @@ session_of {a} {b} {c} {d} {e} {f} {g} {h} {k} {l} {i} {j} forest store connecti
     ∙ ap (λ connections. made b d connections g k i) connections ∙ ap (λ queue. made b d f queue k i) queue
     ∙ ap (λ desk. made b d f h desk i) desk
     ∙ ap (λ failed. made b d f h l failed) failed
-
--- what stands at a place, put there again
-pub with_state_same : (tables : Tables) (place : ℕ) → with_state tables place (state_at tables place) ≡ tables
-with_state_same tables place = columns tables _ (column.with_same empty_forest tables.forests place) (ap (of_layouts tables.stores.layouts) (column.with_same [] tables.stores.table place)) (column.with_same no_rows tables.connections place) (column.with_same empty_queue tables.queues place) (column.with_same no_desk tables.desks place) refl
 
 pub with_state_there : (tables : Tables) (place : ℕ) (state : State) → IsPlaced tables place → state_at (with_state tables place state) place ≡ state
 with_state_there tables place state placed =
@@ -122,25 +109,6 @@ placed_after old new place changes placed = (
   column.changes_open no_desk old.desks new.desks place changes.desks placed.5,
   even_changed old new place changes placed.6,
 )
-
--- whatever became of a session before another is put in its place
-pub with_session_after : (old middle : Tables) (place : ℕ) (session : Session) → ChangesOnly place old middle → with_session middle place session ≡ with_session old place session
-with_session_after old middle place session changes = columns (with_session old place session) (with_session middle place session)
-    (column.with_after empty_forest old.forests middle.forests place session.state.forest changes.forests)
-    (shelved (with_store old.stores place session.state.store) (with_store middle.stores place session.state.store) changes.layouts
-    (column.with_after [] old.stores.table middle.stores.table place session.state.store changes.stores))
-    (column.with_after no_rows old.connections middle.connections place session.state.connections changes.connections)
-    (column.with_after empty_queue old.queues middle.queues place session.state.queue changes.queues)
-    (column.with_after no_desk old.desks middle.desks place session.state.desk changes.desks)
-    (column.with_after false old.failed middle.failed place session.failed changes.failed)
-
--- a state put where the mark stays
-pub with_state_session : (tables : Tables) (place : ℕ) (state : State) → with_state tables place state ≡ with_session tables place (record { state = state; failed = failed_at tables place })
-with_state_session tables place state = columns _ _ refl refl refl refl refl (sym (column.with_same false tables.failed place))
-
--- a change of one session's state alone
-pub changes_state : (old new : Tables) (place : ℕ) → ChangesOnly place old new → new.failed ≡ old.failed → new ≡ with_state old place (state_at new place)
-changes_state old new place changes kept = columns (with_state old place (state_at new place)) new changes.forests (shelved (with_store old.stores place (state_at new place).store) new.stores changes.layouts changes.stores) changes.connections changes.queues changes.desks kept
 
 -- past the last place every session is as one that has had no command
 pub session_past : (tables : Tables) (place : ℕ) → AreEven tables → length tables.failed.places ≤ place → session_at tables place ≡ fresh

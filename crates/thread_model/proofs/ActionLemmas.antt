@@ -12,16 +12,15 @@ use Rattle.term_core.specs.declared.target.Target.{Target}
 use Rattle.term_core.specs.Act.{Acts, effect, when}
 use Rattle.term_core.specs.Term.{Term}
 use Rattle.thread_model.specs.declared.deed.Deed.{Deed}
-use Rattle.object_tree.specs.Refusing.{object_refusal}
 use Rattle.object_tree.specs.Rows.{is_there}
-use Rattle.thread_model.specs.Acts.{act_deed, act_refusal, acted, acts, chosen, emission, warns_or, with_found, writing}
+use Rattle.thread_model.specs.Acts.{act_deed, acts, chosen, emission, warns_or, with_found, writing}
 use Rattle.thread_model.specs.Agenda.{step}
 use Rattle.thread_model.specs.Deeds.{deed_done, deed_refusal, found_refusal}
 use Rattle.thread_model.specs.Doing.{Doing}
-use Rattle.thread_model.specs.Items.{Act, Delete, Emit, Next, Warn, puts}
+use Rattle.thread_model.specs.Items.{Act, Emit, Next, Warn, puts}
 use Rattle.thread_model.specs.Methods.{Found}
 use Rattle.thread_model.specs.Settings.{Settings}
-use Rattle.thread_model.specs.Targets.{named_object_of, object_of, truth_evaluated}
+use Rattle.thread_model.specs.Targets.{object_of, truth_evaluated}
 use Rattle.thread_model.specs.Writing.{Writing, written}
 
 module _ (settings : Settings) (self sender : ℕ) (args : List Value) (depth : ℕ) (doing : Doing) where
@@ -37,17 +36,6 @@ module _ (settings : Settings) (self sender : ℕ) (args : List Value) (depth : 
   abbrev pub object : Target → ℕ
   object target = object_of doing.state self sender target
 
-  abbrev pub named_object : Option Target → Option ℕ
-  named_object target = named_object_of doing.state self sender target
-
-  -- an action that is refused warns
-  pub act_refused : (plain : Effect) (code : Code) → act_refusal settings doing.state self sender args plain ≡ Some code → comes_to plain ≡ warned code
-  act_refused plain code refused = ap (λ refusal. warns_or refusal self doing (acted settings doing self sender args depth plain)) refused
-
-  -- an action that is not refused is done
-  pub act_done : (plain : Effect) → act_refusal settings doing.state self sender args plain ≡ None → comes_to plain ≡ acted settings doing self sender args depth plain
-  act_done plain passed = ap (λ refusal. warns_or refusal self doing (acted settings doing self sender args depth plain)) passed
-
   -- an absence, by whether the object is there
   abbrev absent : Bool → Option Code
   absent there = cond there None (Some NoSuchObject)
@@ -62,10 +50,6 @@ module _ (settings : Settings) (self sender : ℕ) (args : List Value) (depth : 
     by_owner there e =
         ap (λ target. set_next target (is_there doing.state.forest.rows target) (writing doing.state self sender args target property value)) (sym is)
         ∙ ap (λ there. set_next target there (writing doing.state self sender args target property value)) e
-
-    pub set_absent : is_there doing.state.forest.rows target ≡ false → comes_to (e.Set of property value) ≡ warned NoSuchObject
-    unfolding set_next
-    set_absent there = by_owner false there
 
     module _ (there : is_there doing.state.forest.rows target ≡ true) where
       pub set_faulty : (code : Code) → writing doing.state self sender args target property value ≡ Err code → comes_to (e.Set of property value) ≡ warned code
@@ -92,28 +76,6 @@ module _ (settings : Settings) (self sender : ℕ) (args : List Value) (depth : 
     unfolding emit_next
     emit_absent there = by_sender false there
 
-    pub emit_faulty : (code : Code) → is_there doing.state.forest.rows target ≡ true → emission settings doing.state self sender args target signal sent ≡ Err code → comes_to (e.Emit of signal sent) ≡ warned code
-    unfolding emit_next
-    emit_faulty code there found = by_sender true there ∙ ap (emit_next target true) found
-
-    pub emit_done : (index : ℕ) (values : List Value) → is_there doing.state.forest.rows target ≡ true → emission settings doing.state self sender args target signal sent ≡ Ok (index, values)
-        → comes_to (e.Emit of signal sent) ≡ puts (Emit target index values depth ∷ []) doing
-    unfolding emit_next
-    emit_done index values there found = by_sender true there ∙ ap (emit_next target true) found
-
-  -- deleting an object
-  module _ (of : Target) (target : ℕ) (is : target ≡ object of) where
-    by_deleted : (refusal : Option Code) → object_refusal doing.state.forest.rows target ≡ refusal → comes_to (e.Delete of) ≡ warns_or refusal self doing (puts (Delete target depth ∷ []) doing)
-    by_deleted refusal e =
-        ap (λ target. warns_or (object_refusal doing.state.forest.rows target) self doing (puts (Delete target depth ∷ []) doing)) (sym is)
-        ∙ ap (λ refusal. warns_or refusal self doing (puts (Delete target depth ∷ []) doing)) e
-
-    pub delete_refused : (code : Code) → object_refusal doing.state.forest.rows target ≡ Some code → comes_to (e.Delete of) ≡ warned code
-    delete_refused code refused = by_deleted (Some code) refused
-
-    pub delete_done : object_refusal doing.state.forest.rows target ≡ None → comes_to (e.Delete of) ≡ puts (Delete target depth ∷ []) doing
-    delete_done passed = by_deleted None passed
-
   -- what comes of a deed
   abbrev pub found_next : Found Deed → Next
   found_next found = warns_or (found_refusal doing.state found) self doing (with_found found (λ deed. puts [] (deed_done doing deed)) doing)
@@ -134,13 +96,7 @@ module _ (settings : Settings) (self sender : ℕ) (args : List Value) (depth : 
 
   -- doing a deed
   module _ (plain : Effect) where
-    pub deed_faulty : (code : Code) → act_deed settings doing.state self sender plain ≡ Some (Err code) → comes_to plain ≡ warned code
-    deed_faulty code is = by_deed plain (Err code) is
-
     module _ (deed : Deed) (is : act_deed settings doing.state self sender plain ≡ Some (Ok deed)) where
-      pub deed_refused : (code : Code) → deed_refusal doing.state deed ≡ Some code → comes_to plain ≡ warned code
-      deed_refused code refused = by_deed plain (Ok deed) is ∙ ap (λ refusal. warns_or refusal self doing (puts [] (deed_done doing deed))) refused
-
       pub deed_is_done : deed_refusal doing.state deed ≡ None → comes_to plain ≡ puts [] (deed_done doing deed)
       deed_is_done passed = by_deed plain (Ok deed) is ∙ ap (λ refusal. warns_or refusal self doing (puts [] (deed_done doing deed))) passed
 

@@ -9,10 +9,9 @@ use Rattle.class_table.specs.Lookup.{inherited, method_text, methods, names, ind
 use Rattle.thread_model.specs.declared.meta.MetaObject.{MetaObject}
 use Rattle.thread_model.specs.Asked.{Meta}
 use Rattle.thread_model.specs.Classes.{class_name, described, describes}
-use Rattle.thread_model.specs.Effects.{unless}
 use Rattle.thread_model.specs.Refusing.{class_refusal, refusal}
 use Rattle.thread_model.specs.State.{State}
-use Rattle.thread_model.specs.Thread.{Settings, does, performs}
+use Rattle.thread_model.specs.Thread.{Settings, performs}
 
 module _ (settings : Settings) (self : List ℕ) (state : State) where
   pub refusal_meta : (class : List ℕ) → refusal settings self state (Meta class) ≡ class_refusal settings.classes class
@@ -22,10 +21,6 @@ module _ (settings : Settings) (self : List ℕ) (state : State) where
   pub performs_meta : (class : List ℕ) → performs settings self state (Meta class) ≡ describes settings.classes state class
   unfolding performs
   performs_meta class = refl
-
-  pub does_meta : (class : List ℕ) → does settings self state (Meta class) ≡ unless (class_refusal settings.classes class) state (describes settings.classes state class)
-  unfolding does refusal performs
-  does_meta class = refl
 
 -- what is told of a class, by its row
 unfoldable pub described_by : List Class → ℕ → Class → MetaObject

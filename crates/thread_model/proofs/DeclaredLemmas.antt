@@ -1,65 +1,50 @@
 -- Each object keeps the properties that its class declares.
-use Rattle.std.proofs.Common.{◌≡◌, ◌+◌, ◌≤◌, ◌==◌, ℕ, Bool, true, false, not, cond, List, [], ◌∷◌, ◌++◌, Option, Some, None, Ok, Err, filter, get_or, length, nat_le, take, refl, ap, ◌∙◌, arith}
+use Rattle.std.proofs.Common.{◌≡◌, ◌+◌, ◌≤◌, ◌==◌, ℕ, Bool, true, false, not, cond, List, [], ◌∷◌, ◌++◌, Option, Some, None, Ok, Err, filter, get_or, refl, ap, ◌∙◌, arith}
 use Rattle.std.specs.List.{All}
-use Rattle.std.specs.Option.{option_map, option_map_or}
+use Rattle.std.specs.Option.{option_map}
 use Rattle.std.proofs.lemmas.Bool.{cond_both, not-true}
 use Rattle.std.proofs.lemmas.Bool.Decides.{nat_tests}
 use Rattle.std.proofs.lemmas.List.Elements.{All-filter, All-map, All-push, All-weaker, filter_passes}
 use Rattle.isolation.specs.Machine.{Effect}
 use Rattle.refusals.specs.declared.code.Code.{Code}
-use Rattle.refusals.specs.declared.code.Code.TheVariants.{Limit}
 use Rattle.serde_json.specs.Data.{Data}
 use Rattle.variant_value.specs.declared.value.Value.{Value}
-use Rattle.term_core.specs.Act.{Acts, effect, when}
 use Rattle.class_table.specs.declared.class.Class.{Class}
-use Rattle.class_table.specs.declared.class.Method.{Method}
-use Rattle.connection_types.specs.declared.callee.Callee.{Callee}
-use Rattle.connection_types.specs.declared.callee.Callee.TheVariants as callee
 use Rattle.connection_types.specs.declared.connection_type.ConnectionType.{ConnectionType}
 use Rattle.connection_list.specs.declared.connection.Connection.{Connection}
 use Rattle.connection_list.specs.Rows.{has_number as has_connection_number}
 use Rattle.event_queue.specs.declared.event.Event.{Event}
-use Rattle.event_queue.specs.declared.event.Event.TheVariants as event
-use Rattle.event_queue.specs.declared.event.QueuedCall.{QueuedCall}
-use Rattle.event_queue.specs.Queue.{has_room}
 use Rattle.object_tree.specs.declared.row.Row.{Row}
 use Rattle.object_tree.specs.Forest.{Forest}
-use Rattle.object_tree.specs.Rows.{has_number, has_parent, row_of}
+use Rattle.object_tree.specs.Rows.{has_number, has_parent}
 use Rattle.object_tree.specs.Refusing.{keeps_parent}
 use Rattle.object_tree.specs.Changes.{added, changed, marked, moved, orphaned, removed, reparented, with_blocked}
 use Rattle.property_store.specs.Store.{Properties, properties_of}
 use Rattle.property_store.proofs.SoundLemmas.{added_found, added_others, changed_fields, without_others}
-use Rattle.stored_slots.specs.declared.functor.Functor.{Functor}
-use Rattle.thread_model.specs.declared.call.TheConstants.{DESTROYED, NESTED_SIGNALS}
 use Rattle.thread_model.specs.declared.line.Answer.{Answer}
 use Rattle.thread_model.specs.declared.line.Answer.TheVariants as a
 use Rattle.thread_model.specs.declared.line.Line.{Line}
-use Rattle.thread_model.specs.declared.line.Line.TheVariants as line
 use Rattle.thread_model.specs.declared.post.Post.{Post}
-use Rattle.thread_model.specs.Acts.{chosen}
-use Rattle.thread_model.specs.Arriving.{posts_of}
-use Rattle.thread_model.specs.Agenda.{call_line, called, callee_called, calls_of, connection_of, emitted, event_items, functor_called, functor_line, functor_ran, is_held_back, lives, lives_below, method_called, method_items, queued, ran, spun, step, with_turn}
+use Rattle.thread_model.specs.Agenda.{step, with_turn}
 use Rattle.thread_model.specs.Asked.{Asked, New, Delete, Children, Find, Set, Get, DynamicNames, Meta, Connect, ConnectFunctor, DisconnectOne, Disconnect, Invoke, Spin as TakeEvents, Do, Status}
 use Rattle.thread_model.specs.declared.deed.Deed.{Deed}
 use Rattle.thread_model.specs.declared.deed.Deed.TheVariants as d
 use Rattle.thread_model.specs.Deeds.{deed_done, with_deed}
-use Rattle.thread_model.specs.Doing.{Doing, begun, dying, first_taken, forgotten, gone, in_state, lost, posted, shot, told, turn_taken, untied, used_up, posting}
+use Rattle.thread_model.specs.Doing.{Doing, begun, dying, first_taken, forgotten, gone, in_state, lost, posted, posting, shot, told, turn_taken, untied, used_up}
 use Rattle.thread_model.specs.Effects.{does_next, unless}
-use Rattle.thread_model.specs.Items.{Act, Call, Cut, Delete as ToDelete, Emit, Gone, Item, Kin, Next, Reply, ReplySpun, Run, RunFunctor, Spin, Warn, puts}
+use Rattle.thread_model.specs.Items.{Delete as ToDelete, Emit, Item, Next, Reply, ReplySpun, Run, Spin, puts}
 use Rattle.thread_model.specs.Laws.{KeepsDeclared}
-use Rattle.thread_model.specs.Functors.{functor_at}
-use Rattle.thread_model.specs.Methods.{Found, is_signal_at, method_at, methods_of}
-use Rattle.thread_model.specs.Posting.{is_queued, spin_of}
+use Rattle.thread_model.specs.Methods.{Found, is_signal_at, methods_of}
+use Rattle.thread_model.specs.Posting.{is_queued}
 use Rattle.thread_model.specs.Properties.{is_declared, sets}
 use Rattle.thread_model.specs.Refusing.{refusal}
 use Rattle.thread_model.specs.Run.{run}
 use Rattle.thread_model.specs.Signals.{asked_connect, asked_connect_functor, asked_disconnect, asked_method, does_found, invoked, invoked_later, invokes}
 use Rattle.thread_model.specs.State.{IsDeclared, IsSound, State, fields_of, with_object, with_properties, without_connections}
-use Rattle.thread_model.specs.Targets.{truth_evaluated}
 use Rattle.thread_model.specs.Thread.{Settings, arrives, does, performs}
 use Rattle.thread_model.specs.Writing.{Declared, Dynamic, Nothing, Removed, Writing, asked_writing, with_writing, written}
-use Rattle.thread_model.proofs.ActLemmas.{acted_cases}
 use Rattle.thread_model.proofs.RunLemmas.{run_keeps}
+use Rattle.thread_model.proofs.StepLemmas.{Holds, step_holds}
 
 -- something that is said of an object by its number and its class
 module _ (G : ℕ → ℕ → Type 0) where
@@ -155,17 +140,21 @@ module _ (classes : List Class) (doing : Doing) (declared : IsDeclared classes d
   unfolding shot
   shot_declared row = cond_both row.single (in_state doing (without_connections doing.state (has_connection_number row.number))) doing (λ (new : Doing). IsDeclared classes new.state) (λ single. declared) (λ lasting. declared)
 
-  cut_declared : (target : ℕ) → IsDeclared classes (forgotten (untied doing target) target).state
-  unfolding forgotten untied
-  cut_declared target = declared
+  untied_declared : (target : ℕ) → IsDeclared classes (untied doing target).state
+  unfolding untied
+  untied_declared target = declared
+
+  forgotten_declared : (target : ℕ) → IsDeclared classes (forgotten doing target).state
+  unfolding forgotten
+  forgotten_declared target = declared
 
   posted_declared : (event : Event) → IsDeclared classes (posted doing event).state
   unfolding posted
   posted_declared event = declared
 
-  queued_declared : (call : QueuedCall) → IsDeclared classes (queued doing call).state
+  lost_declared : IsDeclared classes (lost doing).state
   unfolding lost
-  queued_declared call = cond_both (has_room doing.state.queue) (posted doing (event.Call call)) (lost doing) (λ (new : Doing). IsDeclared classes new.state) (λ room. posted_declared (event.Call call)) (λ full. declared)
+  lost_declared = declared
 
   first_declared : IsDeclared classes (first_taken doing).state
   unfolding first_taken
@@ -195,91 +184,29 @@ module _ (classes : List Class) (doing : Doing) (declared : IsDeclared classes d
 abbrev Keeps : List Class → Next → Type 0
 Keeps classes next = IsDeclared classes next.doing.state
 
-module _ (settings : Settings) (doing : Doing) (declared : IsDeclared settings.classes doing.state) where
-  emitted_declared : (target signal : ℕ) (args : List Value) (depth : ℕ) (found : Option Row) → Keeps settings.classes (option_map_or (emitted doing target signal args depth) found (puts [] doing))
-  emitted_declared target signal args depth None = declared
-  emitted_declared target signal args depth (Some row) =
-      cond_both (is_held_back signal row) (puts [] doing) (cond (nat_le NESTED_SIGNALS depth) (puts (Warn Limit (Some target) ∷ []) doing) (puts (calls_of doing target signal args depth) (posting doing (posts_of doing.state.desk target signal args)))) (Keeps settings.classes)
-      (λ held. declared)
-      (λ free. cond_both (nat_le NESTED_SIGNALS depth) (puts (Warn Limit (Some target) ∷ []) doing) (puts (calls_of doing target signal args depth) (posting doing (posts_of doing.state.desk target signal args))) (Keeps settings.classes) (λ deep. declared) (λ shallow. posting_declared settings.classes doing declared (posts_of doing.state.desk target signal args)))
-
-  callee_declared : (connection : Connection) (args : List Value) (depth : ℕ) (to : Callee) → Keeps settings.classes (callee_called settings connection args depth doing to)
-  callee_declared connection args depth (callee.Functor index) = by (functor_at settings index)
-    where
-      by : (found : Option Functor) → Keeps settings.classes (option_map_or (functor_called connection index args depth doing) found (puts [] doing))
-      by None = declared
-      by (Some functor) =
-          let given = take (length functor.params) args in
-          let call : QueuedCall = record { object = connection.receiver; callee = callee.Functor index; sender = connection.sender; args = given } in
-          cond_both (is_queued connection.mode) (puts [] (queued doing call)) (puts (RunFunctor connection.receiver index connection.sender given depth ∷ []) doing) (Keeps settings.classes)
-          (λ later. queued_declared settings.classes doing declared call)
-          (λ now. declared)
-  callee_declared connection args depth (callee.Method index) = by (method_at settings doing.state connection.receiver index)
-    where
-      by : (found : Option Method) → Keeps settings.classes (option_map_or (method_called connection index args depth doing) found (puts [] doing))
-      by None = declared
-      by (Some method) =
-          let given = take (length method.signature.kinds) args in
-          let call : QueuedCall = record { object = connection.receiver; callee = callee.Method index; sender = connection.sender; args = given } in
-          cond_both (is_queued connection.mode) (puts [] (queued doing call)) (puts (method_items connection.receiver index connection.sender given (depth + 1) depth method) doing) (Keeps settings.classes)
-          (λ later. queued_declared settings.classes doing declared call)
-          (λ now. declared)
-
-  ran_declared : (target sender : ℕ) (args : List Value) (depth : ℕ) (found : Option Method) → Keeps settings.classes (option_map_or (ran doing target sender args depth) found (puts [] doing))
-  ran_declared target sender args depth None = declared
-  ran_declared target sender args depth (Some method) = told_declared settings.classes doing declared (call_line method target sender args)
-
-  functor_ran_declared : (target sender : ℕ) (args : List Value) (depth : ℕ) (found : Option Functor) → Keeps settings.classes (option_map_or (functor_ran doing target sender args depth) found (puts [] doing))
-  functor_ran_declared target sender args depth None = declared
-  functor_ran_declared target sender args depth (Some functor) = told_declared settings.classes doing declared (functor_line functor target sender args)
-
-  chosen_declared : (truth : Found Bool) (held failed : Acts) (args : List Value) (self sender depth : ℕ) → Keeps settings.classes (chosen truth held failed args self sender depth doing)
-  chosen_declared (Ok truth) held failed args self sender depth = declared
-  chosen_declared (Err code) held failed args self sender depth = declared
-
-module _ (settings : Settings) (doing : Doing) (declared : IsDeclared settings.classes doing.state) where
-  -- a turn is taken, where one is left
-  turned_declared : (next : Doing → Next) → ((doing : Doing) → IsDeclared settings.classes doing.state → Keeps settings.classes (next doing)) → Keeps settings.classes (with_turn doing next)
-  turned_declared next keeps =
-      cond_both (doing.turns == 0) (puts [] (used_up doing)) (next (turn_taken doing)) (Keeps settings.classes)
-      (λ none. used_up_declared settings.classes doing declared)
-      (λ some. keeps (turn_taken doing) (turn_declared settings.classes doing declared))
-
-  found_declared : (args : List Value) (depth : ℕ) (found : Option Connection) → Keeps settings.classes (option_map_or (λ connection. with_turn doing (called settings connection args depth)) found (puts [] doing))
-  found_declared args depth None = declared
-  found_declared args depth (Some connection) = turned_declared (called settings connection args depth)
-      (λ doing declared. callee_declared settings (shot doing connection) (shot_declared settings.classes doing declared connection) connection args depth connection.callee)
-
-  spun_declared : (events : List Event) → Keeps settings.classes (spun settings doing events)
-  spun_declared [] = declared
-  spun_declared (first ∷ later) = turned_declared (λ doing. puts (event_items settings doing.state first ++ Spin ∷ []) (first_taken doing)) (λ doing declared. first_declared settings.classes doing declared)
+-- with each change
+holds : (classes : List Class) → Holds (λ old new. IsDeclared classes old.state → IsDeclared classes new.state)
+holds classes = record {
+  same = λ doing declared. declared;
+  both = λ one two three first second declared. second (first declared);
+  tells = λ doing said declared. told_declared classes doing declared said;
+  publishes = λ doing more declared. posting_declared classes doing declared more;
+  takes_turn = λ doing declared. turn_declared classes doing declared;
+  uses_up = λ doing declared. used_up_declared classes doing declared;
+  shoots = λ doing row declared. shot_declared classes doing declared row;
+  posts = λ doing event declared. posted_declared classes doing declared event;
+  loses = λ doing declared. lost_declared classes doing declared;
+  takes = λ doing declared. first_declared classes doing declared;
+  does = λ doing deed declared. change_declared classes doing declared deed;
+  writes = λ doing target writing declared. declared_with_writing classes doing.state declared target writing;
+  marks = λ doing target declared. dying_declared classes doing declared target;
+  unties = λ doing target declared. untied_declared classes doing declared target;
+  forgets = λ doing target declared. forgotten_declared classes doing declared target;
+  goes = λ doing target declared. gone_declared classes doing declared target;
+}
 
 item_declared : (settings : Settings) (item : Item) (doing : Doing) → IsDeclared settings.classes doing.state → IsDeclared settings.classes (step settings item doing).doing.state
-item_declared settings (Emit target signal args depth) doing declared = emitted_declared settings doing declared target signal args depth (row_of doing.state.forest.rows target)
-item_declared settings (Call number args depth) doing declared = found_declared settings doing declared args depth (connection_of doing number)
-item_declared settings (Run target index sender args depth) doing declared = ran_declared settings doing declared target sender args depth (method_at settings doing.state target index)
-item_declared settings (RunFunctor target index sender args depth) doing declared = functor_ran_declared settings doing declared target sender args depth (functor_at settings index)
-item_declared settings (Act (effect plain) args self sender depth) doing declared =
-    acted_cases settings doing self sender args depth (Keeps settings.classes)
-    (λ code. declared)
-    (λ target signal values. declared)
-    (λ target. declared)
-    (λ target name value writing there found. declared_with_writing settings.classes doing.state declared target writing)
-    (λ deed passed. change_declared settings.classes doing declared deed)
-    plain
-item_declared settings (Act (when test held failed) args self sender depth) doing declared = chosen_declared settings doing declared (truth_evaluated doing.state self sender args test) held failed args self sender depth
-item_declared settings (Warn code object) doing declared = told_declared settings.classes doing declared (line.Warning code object)
-item_declared settings (ToDelete target depth) doing declared =
-    cond_both (lives doing target) (puts (Emit target DESTROYED [] depth ∷ Cut target depth ∷ Gone target depth ∷ []) (dying doing target)) (puts [] doing) (Keeps settings.classes)
-    (λ living. dying_declared settings.classes doing declared target)
-    (λ absent. declared)
-item_declared settings (Cut target depth) doing declared = cut_declared settings.classes doing declared target
-item_declared settings (Kin parent child depth) doing declared =
-    cond_both (lives_below doing parent child) (puts (ToDelete child depth ∷ []) doing) (puts [] doing) (Keeps settings.classes) (λ living. declared) (λ other. declared)
-item_declared settings (Gone target depth) doing declared = gone_declared settings.classes doing declared target
-item_declared settings Spin doing declared = spun_declared settings doing declared doing.state.queue.events
-item_declared settings (Reply answer) doing declared = told_declared settings.classes doing declared (line.Reply answer)
-item_declared settings ReplySpun doing declared = told_declared settings.classes doing declared (line.Reply (a.Spun (spin_of doing)))
+item_declared settings item doing = step_holds settings (λ old new. IsDeclared settings.classes old.state → IsDeclared settings.classes new.state) (holds settings.classes) item doing
 
 -- and after an agenda is done
 run_declared : (settings : Settings) (agenda : List Item) (doing : Doing) → IsDeclared settings.classes doing.state → IsDeclared settings.classes (run settings agenda doing).state
@@ -302,7 +229,8 @@ module _ (settings : Settings) (state : State) (declared : IsDeclared settings.c
       let doing = begun settings state in
       cond_both (is_signal_at (methods_of settings state target) index) (puts (Emit target index values 0 ∷ []) doing) (with_turn doing (puts (Run target index 0 values 0 ∷ []))) (Keeps settings.classes)
       (λ signal. declared)
-      (λ slot. turned_declared settings doing declared (puts (Run target index 0 values 0 ∷ [])) (λ doing declared. declared))
+      (λ slot. cond_both (doing.turns == 0) (puts [] (used_up doing)) (puts (Run target index 0 values 0 ∷ []) (turn_taken doing)) (Keeps settings.classes)
+      (λ none. used_up_declared settings.classes doing declared) (λ some. turn_declared settings.classes doing declared))
 
   invokes_declared : (target : ℕ) (args : List Data) (mode : ConnectionType) (index : Option ℕ) → IsDeclared settings.classes (invokes settings state target args mode index).state
   invokes_declared target args mode None = declared

@@ -1,10 +1,10 @@
 -- The rules by which a signal is sent, a connection called and a slot run: one for each way that it goes.
-use Rattle.std.proofs.Common.{◌≡◌, ◌<◌, ◌≤◌, ◌+◌, ◌==◌, ◌&&◌, ℕ, Bool, true, false, not, cond, List, [], ◌∷◌, ◌++◌, Option, Some, None, is_some, length, nat_le, slice_get, take, refl, ap, ◌∙◌, arith}
+use Rattle.std.proofs.Common.{◌≡◌, ◌<◌, ◌≤◌, ◌+◌, ◌==◌, ℕ, Bool, true, false, cond, List, [], ◌∷◌, Option, Some, None, is_some, length, nat_le, slice_get, take, refl, ap, ◌∙◌, arith}
 use Rattle.std.specs.Option.{option_map_or}
 use Rattle.std.proofs.lemmas.Bool.{cond-false, cond-true}
 use Rattle.std.proofs.lemmas.Bool.Decides.{nat_tests}
 use Rattle.refusals.specs.declared.code.Code.{Code}
-use Rattle.refusals.specs.declared.code.Code.TheVariants.{Limit, TurnsUsedUp}
+use Rattle.refusals.specs.declared.code.Code.TheVariants.{Limit}
 use Rattle.variant_value.specs.declared.value.Value.{Value}
 use Rattle.term_core.specs.Act.{acts_of}
 use Rattle.class_table.specs.declared.class.Method.{Method}
@@ -19,15 +19,14 @@ use Rattle.object_tree.specs.declared.row.Row.{Row}
 use Rattle.object_tree.specs.Forest.{Forest}
 use Rattle.object_tree.specs.Rows.{is_there, row_of}
 use Rattle.stored_slots.specs.declared.functor.Functor.{Functor}
-use Rattle.thread_model.specs.declared.call.TheConstants.{DESTROYED, NESTED_SIGNALS}
-use Rattle.thread_model.specs.declared.line.Answer.{Answer}
+use Rattle.thread_model.specs.declared.call.TheConstants.{NESTED_SIGNALS}
 use Rattle.thread_model.specs.declared.line.Line.TheVariants as line
 use Rattle.thread_model.specs.declared.line.Line.TheVariants.{Warning}
 use Rattle.thread_model.specs.Acts.{acts}
 use Rattle.thread_model.specs.Arriving.{posts_of}
 use Rattle.thread_model.specs.Agenda.{call_line, callee_called, called, calls_of, connection_of, emitted, functor_called, functor_line, functor_ran, is_held_back, method_called, method_items, ran, step, with_turn}
 use Rattle.thread_model.specs.Doing.{Doing, in_state, lost, posted, posting, shot, told, turn_taken, used_up}
-use Rattle.thread_model.specs.Items.{Call, Emit, Reply, Run, RunFunctor, Warn, puts}
+use Rattle.thread_model.specs.Items.{Call, Emit, Run, RunFunctor, Warn, puts}
 use Rattle.thread_model.specs.Functors.{functor_at}
 use Rattle.thread_model.specs.Methods.{method_at}
 use Rattle.thread_model.specs.Posting.{is_queued}
@@ -64,47 +63,12 @@ module _ (settings : Settings) (target signal : ℕ) (args : List Value) (depth 
       pub emit_calls : depth < NESTED_SIGNALS → step settings (Emit target signal args depth) doing ≡ puts (calls_of doing target signal args depth) (posting doing (posts_of doing.state.desk target signal args))
       emit_calls shallow = let is : nat_le NESTED_SIGNALS depth ≡ false = grind (arith, nat_tests, shallow) in is_sent ∙ cond-false (nat_le NESTED_SIGNALS depth) _ _ is
 
-module _ (signal : ℕ) (row : Row) where
-  -- the signals of an object are sent where they are not blocked
-  pub let_through : row.blocked ≡ false → is_held_back signal row ≡ false
-  let_through free = ap (λ blocked. blocked && not (signal == DESTROYED)) free
-
-  -- and of those of a blocked object `destroyed()` alone
-  pub held_back : row.blocked ≡ true → ¬ (signal ≡ DESTROYED) → is_held_back signal row ≡ true
-  held_back blocked other =
-      let is : (signal == DESTROYED) ≡ false = grind (arith, nat_tests, other) in
-      ap (λ blocked. blocked && not (signal == DESTROYED)) blocked ∙ ap not is
-
-pub destroyed_is_sent : (row : Row) → is_held_back DESTROYED row ≡ false
-destroyed_is_sent row = by row.blocked
-  where
-    by : (blocked : Bool) → (blocked && not (DESTROYED == DESTROYED)) ≡ false
-    by true = refl
-    by false = refl
-
 -- that the turns are used up is told once
 module _ (doing : Doing) where
-  pub used_up_first : doing.spent ≡ false → used_up doing ≡ record doing { spent = true; lines = doing.lines ++ Warning TurnsUsedUp None ∷ [] }
-  unfolding used_up
-  used_up_first fresh = cond-false doing.spent _ _ fresh
-
-  pub used_up_again : doing.spent ≡ true → used_up doing ≡ doing
-  unfolding used_up
-  used_up_again spent = cond-true doing.spent _ _ spent
-
   -- a turn changes nothing of the state
   pub turn_taken-state : (turn_taken doing).state ≡ doing.state
   unfolding turn_taken
   turn_taken-state = refl
-
-  -- a single-shot connection is broken, another one stays
-  pub shot_single : (row : Connection) → row.single ≡ true → shot doing row ≡ in_state doing (without_connections doing.state (has_number row.number))
-  unfolding shot
-  shot_single row single = cond-true row.single _ _ single
-
-  pub shot_lasting : (row : Connection) → row.single ≡ false → shot doing row ≡ doing
-  unfolding shot
-  shot_lasting row lasting = cond-false row.single _ _ lasting
 
   -- and nothing of the objects and of the events
   pub shot-forest : (row : Connection) → (shot doing row).state.forest ≡ doing.state.forest
@@ -162,28 +126,6 @@ module _ (settings : Settings) (number : ℕ) (args : List Value) (depth : ℕ) 
         pub functor_absent : functor_at settings index ≡ None → step settings (Call number args depth) doing ≡ puts [] after
         functor_absent has = functor_to None has
 
-        module _ (functor : Functor) (has : functor_at settings index ≡ Some functor) where
-          -- a queued connection calls it later, with the same arguments
-          abbrev functor_later : QueuedCall
-          functor_later = record { object = connection.receiver; callee = callee.Functor index; sender = connection.sender; args = take (length functor.params) args }
-
-          module _ (later : is_queued connection.mode ≡ true) where
-            functor_is_later : (room : Bool) → has_room doing.state.queue ≡ room → step settings (Call number args depth) doing ≡ puts [] (cond room (posted after (event.Call functor_later)) (lost after))
-            functor_is_later room has_it =
-                functor_to (Some functor) has ∙ cond-true (is_queued connection.mode) _ _ later
-                ∙ ap (λ room. puts [] (cond room (posted after (event.Call functor_later)) (lost after))) (ap has_room after-state.1 ∙ has_it)
-
-            pub functor_posted : has_room doing.state.queue ≡ true → step settings (Call number args depth) doing ≡ puts [] (posted after (event.Call functor_later))
-            functor_posted room = functor_is_later true room
-
-            pub functor_lost : has_room doing.state.queue ≡ false → step settings (Call number args depth) doing ≡ puts [] (lost after)
-            functor_lost full = functor_is_later false full
-
-          -- and another one runs it
-          pub functor_at_once : is_queued connection.mode ≡ false → step settings (Call number args depth) doing
-              ≡ puts (RunFunctor connection.receiver index connection.sender (take (length functor.params) args) depth ∷ []) after
-          functor_at_once at_once = functor_to (Some functor) has ∙ cond-false (is_queued connection.mode) _ _ at_once
-
       module _ (index : ℕ) (is : connection.callee ≡ callee.Method index) where
         comes_to : (found : Option Method) → method_at settings doing.state connection.receiver index ≡ found
             → step settings (Call number args depth) doing ≡ option_map_or (method_called connection index args depth after) found (puts [] after)
@@ -230,10 +172,6 @@ module _ (settings : Settings) (number : ℕ) (args : List Value) (depth : ℕ) 
             call_slot slot = is_at_once ∙ ap (λ items. puts items after) (cond-false method.is_signal _ _ slot)
 
 module _ (settings : Settings) (target index sender : ℕ) (args : List Value) (depth : ℕ) (doing : Doing) where
-  -- an object that has gone, or has no such slot, runs nothing
-  pub run_absent : method_at settings doing.state target index ≡ None → step settings (Run target index sender args depth) doing ≡ puts [] doing
-  run_absent absent = ap (λ found. option_map_or (ran doing target sender args depth) found (puts [] doing)) absent
-
   -- a slot that is there is told of, and does what its body says, one level deeper
   pub run_slot : (method : Method) → method_at settings doing.state target index ≡ Some method → step settings (Run target index sender args depth) doing
       ≡ puts (acts (acts_of method.body.actions) args target sender (depth + 1)) (told doing (call_line method target sender args))
@@ -253,6 +191,3 @@ module _ (settings : Settings) (doing : Doing) where
   -- a warning and a reply are told
   pub warn_told : (code : Code) (object : Option ℕ) → step settings (Warn code object) doing ≡ puts [] (told doing (line.Warning code object))
   warn_told code object = refl
-
-  pub reply_told : (answer : Answer) → step settings (Reply answer) doing ≡ puts [] (told doing (line.Reply answer))
-  reply_told answer = refl

@@ -1,6 +1,6 @@
 -- The rules by which events are taken, one for each way that it goes; and the rule of each command for
 -- events: why it is refused, what it does where it is not, and both together.
-use Rattle.std.proofs.Common.{◌≡◌, ◌<◌, ◌==◌, ℕ, true, false, List, [], ◌∷◌, ◌++◌, Option, Some, None, refl, ap, ◌∙◌, arith}
+use Rattle.std.proofs.Common.{◌≡◌, ◌<◌, ◌==◌, ℕ, true, false, List, [], ◌∷◌, ◌++◌, Option, None, refl, ap, ◌∙◌, arith}
 use Rattle.std.specs.Option.{option_map_or}
 use Rattle.std.proofs.lemmas.Bool.{cond-false, cond-true}
 use Rattle.std.proofs.lemmas.Bool.Decides.{nat_tests}
@@ -9,30 +9,23 @@ use Rattle.connection_types.specs.declared.callee.Callee.TheVariants as callee
 use Rattle.event_queue.specs.declared.event.Event.{Event}
 use Rattle.event_queue.specs.declared.event.Event.TheVariants as event
 use Rattle.event_queue.specs.declared.event.QueuedCall.{QueuedCall}
-use Rattle.thread_model.specs.declared.line.Answer.TheVariants as a
-use Rattle.thread_model.specs.declared.line.Line.TheVariants as line
 use Rattle.thread_model.specs.Agenda.{call_items, event_items, method_items, spun, step}
 use Rattle.thread_model.specs.Asked.{Do, Spin as spin, Status}
 use Rattle.thread_model.specs.declared.deed.Deed.{Deed}
 use Rattle.thread_model.specs.Deeds.{deed_answer, deed_refusal, with_deed}
-use Rattle.thread_model.specs.Doing.{Doing, first_taken, told, turn_taken, used_up}
-use Rattle.thread_model.specs.Effects.{replies, unless}
+use Rattle.thread_model.specs.Doing.{Doing, first_taken, turn_taken, used_up}
+use Rattle.thread_model.specs.Effects.{replies}
 use Rattle.thread_model.specs.Events.{counts, spins}
-use Rattle.thread_model.specs.Items.{Delete, Emit, Item, ReplySpun, Run, RunFunctor, Spin, puts}
+use Rattle.thread_model.specs.Items.{Item, Spin, puts}
 use Rattle.thread_model.specs.Methods.{method_at}
-use Rattle.thread_model.specs.Posting.{spin_of}
 use Rattle.thread_model.specs.Refusing.{refusal}
 use Rattle.thread_model.specs.State.{State}
-use Rattle.thread_model.specs.Thread.{Settings, does, performs}
+use Rattle.thread_model.specs.Thread.{Settings, performs}
 
 module _ (settings : Settings) (doing : Doing) where
   -- where there is no event, nothing is taken
   pub spin_empty : doing.state.queue.events ≡ [] → step settings Spin doing ≡ puts [] doing
   spin_empty none = ap (spun settings doing) none
-
-  -- what came of it is replied
-  pub reply_spun_told : step settings ReplySpun doing ≡ puts [] (told doing (line.Reply (a.Spun (spin_of doing))))
-  reply_spun_told = refl
 
   module _ (first : Event) (later : List Event) (has : doing.state.queue.events ≡ first ∷ later) where
     -- an event that finds no turn left is not taken, and no later one either
@@ -49,37 +42,15 @@ module _ (settings : Settings) (doing : Doing) where
         let is : (doing.turns == 0) ≡ false = grind (arith, nat_tests, some) in
         ap (spun settings doing) has ∙ cond-false (doing.turns == 0) _ _ is
 
-  -- an event that deletes an object
-  pub spin_deletion : (target : ℕ) (later : List Event) → doing.state.queue.events ≡ event.Deletion target ∷ later → 0 < doing.turns
-      → step settings Spin doing ≡ puts (Delete target 0 ∷ Spin ∷ []) (first_taken (turn_taken doing))
-  spin_deletion target later has some = spin_taken (event.Deletion target) later has some
-
   -- an event that calls a method
   module _ (call : QueuedCall) (later : List Event) (first : doing.state.queue.events ≡ event.Call call ∷ later) (some : 0 < doing.turns) where
     by_items : (items : List Item) → call_items settings doing.state call call.callee ≡ items → step settings Spin doing ≡ puts (items ++ Spin ∷ []) (first_taken (turn_taken doing))
     by_items items are = spin_taken (event.Call call) later first some ∙ ap (λ items. puts (items ++ Spin ∷ []) (first_taken (turn_taken doing))) are
 
-    -- a functor is run
-    pub spin_functor : (index : ℕ) → call.callee ≡ callee.Functor index → step settings Spin doing ≡ puts (RunFunctor call.object index call.sender call.args 0 ∷ Spin ∷ []) (first_taken (turn_taken doing))
-    spin_functor index is = by_items (RunFunctor call.object index call.sender call.args 0 ∷ []) (ap (call_items settings doing.state call) is)
-
     module _ (index : ℕ) (is : call.callee ≡ callee.Method index) where
       by_method : (found : Option Method) → method_at settings doing.state call.object index ≡ found
           → step settings Spin doing ≡ puts (option_map_or (method_items call.object index call.sender call.args 0 0) found [] ++ Spin ∷ []) (first_taken (turn_taken doing))
       by_method found has = by_items _ (ap (call_items settings doing.state call) is ∙ ap (λ found. option_map_or (method_items call.object index call.sender call.args 0 0) found []) has)
-
-      -- an object that has gone, or has no such method, is not called
-      pub spin_absent : method_at settings doing.state call.object index ≡ None → step settings Spin doing ≡ puts (Spin ∷ []) (first_taken (turn_taken doing))
-      spin_absent has = by_method None has
-
-      module _ (method : Method) (has : method_at settings doing.state call.object index ≡ Some method) where
-        -- a signal is sent
-        pub spin_signal : method.is_signal ≡ true → step settings Spin doing ≡ puts (Emit call.object index call.args 0 ∷ Spin ∷ []) (first_taken (turn_taken doing))
-        spin_signal signal = by_method (Some method) has ∙ ap (λ items. puts (items ++ Spin ∷ []) (first_taken (turn_taken doing))) (cond-true method.is_signal _ _ signal)
-
-        -- a slot is run
-        pub spin_slot : method.is_signal ≡ false → step settings Spin doing ≡ puts (Run call.object index call.sender call.args 0 ∷ Spin ∷ []) (first_taken (turn_taken doing))
-        spin_slot slot = by_method (Some method) has ∙ ap (λ items. puts (items ++ Spin ∷ []) (first_taken (turn_taken doing))) (cond-false method.is_signal _ _ slot)
 
 module _ (settings : Settings) (self : List ℕ) (state : State) where
   pub refusal_spin : refusal settings self state spin ≡ None
@@ -90,10 +61,6 @@ module _ (settings : Settings) (self : List ℕ) (state : State) where
   unfolding performs
   performs_spin = refl
 
-  pub does_spin : does settings self state spin ≡ spins settings state
-  unfolding does refusal performs
-  does_spin = refl
-
   pub refusal_do : (deed : Deed) → refusal settings self state (Do deed) ≡ deed_refusal state deed
   unfolding refusal
   refusal_do deed = refl
@@ -102,10 +69,6 @@ module _ (settings : Settings) (self : List ℕ) (state : State) where
   unfolding performs
   performs_do deed = refl
 
-  pub does_do : (deed : Deed) → does settings self state (Do deed) ≡ unless (deed_refusal state deed) state (replies (with_deed state deed) (deed_answer state deed))
-  unfolding does refusal performs
-  does_do deed = refl
-
   pub refusal_status : refusal settings self state Status ≡ None
   unfolding refusal
   refusal_status = refl
@@ -113,7 +76,3 @@ module _ (settings : Settings) (self : List ℕ) (state : State) where
   pub performs_status : performs settings self state Status ≡ counts state
   unfolding performs
   performs_status = refl
-
-  pub does_status : does settings self state Status ≡ counts state
-  unfolding does refusal performs
-  does_status = refl

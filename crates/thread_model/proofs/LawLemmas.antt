@@ -1,17 +1,16 @@
 -- Commands, posts and items keep a session sound.
-use Rattle.std.proofs.Common.{◌≡◌, ◌==◌, ℕ, Bool, true, false, cond, List, [], ◌∷◌, ◌++◌, Option, Some, None, Ok, Err, is_some, refl, sym, ap, ◌∙◌, arith}
+use Rattle.std.proofs.Common.{◌≡◌, ◌==◌, ℕ, Bool, true, false, cond, List, [], ◌∷◌, ◌++◌, Option, Some, None, Ok, Err, refl, sym, ◌∙◌, arith}
 use Rattle.std.specs.List.{list_any, All}
-use Rattle.std.specs.Option.{option_map_or}
 use Rattle.std.proofs.lemmas.Bool.{cond_both}
 use Rattle.std.proofs.lemmas.List.Elements.{All-weaker}
 use Rattle.isolation.specs.Machine.{Effect}
 use Rattle.refusals.specs.declared.code.Code.{Code}
-use Rattle.refusals.specs.declared.code.Code.TheVariants.{Dying, NoSuchObject}
+use Rattle.refusals.specs.declared.code.Code.TheVariants.{NoSuchObject}
 use Rattle.serde_json.specs.Data.{Data}
 use Rattle.variant_value.specs.declared.value.Value.{Value}
 use Rattle.object_tree.specs.declared.row.Row.{Row}
-use Rattle.object_tree.specs.Rows.{is_there, row_of}
-use Rattle.object_tree.specs.Refusing.{object_refusal, parent_refusal}
+use Rattle.object_tree.specs.Rows.{is_there}
+use Rattle.object_tree.specs.Refusing.{parent_refusal}
 use Rattle.connection_types.specs.declared.callee.Callee.TheVariants.{Method}
 use Rattle.connection_types.specs.declared.connection_type.ConnectionType.{ConnectionType}
 use Rattle.connection_list.specs.Rows.{has_number}
@@ -46,7 +45,7 @@ use Rattle.thread_model.specs.Thread.{Settings, arrives, does, performs}
 use Rattle.thread_model.specs.UnderWay.{IsUnderWay, is_gone}
 use Rattle.thread_model.specs.Writing.{Writing, asked_writing, with_writing, written}
 use Rattle.thread_model.proofs.ConnectionLemmas.{or_none}
-use Rattle.thread_model.proofs.DyingLemmas.{each_added, of_row}
+use Rattle.thread_model.proofs.DyingLemmas.{each_added}
 use Rattle.thread_model.proofs.FitLemmas.{IsFit, asked_fit}
 use Rattle.thread_model.proofs.ItemLemmas.{item_under_way}
 use Rattle.thread_model.proofs.RunLemmas.{run_keeps}
@@ -115,14 +114,6 @@ deed_sound doing deed passed sound = sound_at_end (with_deed doing.state deed) (
 found_sound : (settings : Settings) (state : State) (found : Found Deed) → found_refusal state found ≡ None → IsSound state → IsSound (does_found state found).state
 found_sound settings state (Ok deed) passed sound = deed_sound (begun settings state) deed passed sound
 found_sound settings state (Err code) passed sound = sound
-
--- no command finds an object dying
-pub none_dying : (state : State) (target : ℕ) → IsSound state → object_refusal state.forest.rows target ≡ absence state target
-none_dying state target sound = by (row_of state.forest.rows target) refl
-  where
-    by : (found : Option Row) → row_of state.forest.rows target ≡ found → option_map_or (λ (row : Row). cond row.dying (Some Dying) None) found (Some NoSuchObject) ≡ cond (is_some found) None (Some NoSuchObject)
-    by None is = refl
-    by (Some row) is = ap (λ dying. cond dying (Some Dying) None) (of_row (λ number dying. dying ≡ false) state.forest.rows target row is sound.living)
 
 used_up_sound : (doing : Doing) → IsSound doing.state → IsSound (used_up doing).state
 used_up_sound doing sound = sound_at_end (used_up doing).state (used_up_under [] doing (under_way [] doing.state refl sound))

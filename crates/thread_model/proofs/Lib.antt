@@ -4,6 +4,7 @@ pub mod WeightLemmas
 pub mod ConnectionLemmas
 pub mod QueueLemmas
 pub mod WritingLemmas
+pub mod StepLemmas
 pub mod ActLemmas
 pub mod ShrinkLemmas
 pub mod FallLemmas

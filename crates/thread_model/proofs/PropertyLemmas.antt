@@ -7,12 +7,12 @@ use Rattle.serde_json.specs.Data.{Data}
 use Rattle.thread_model.specs.declared.line.Answer.TheVariants as a
 use Rattle.thread_model.specs.Asked.{DynamicNames, Get, Set}
 use Rattle.thread_model.specs.Doing.{begun}
-use Rattle.thread_model.specs.Effects.{does_next, unless}
+use Rattle.thread_model.specs.Effects.{does_next}
 use Rattle.thread_model.specs.Properties.{gets, is_declared, names, sets}
 use Rattle.thread_model.specs.Refusing.{refusal}
 use Rattle.thread_model.specs.Absence.{absence}
 use Rattle.thread_model.specs.State.{State}
-use Rattle.thread_model.specs.Thread.{Settings, does, performs}
+use Rattle.thread_model.specs.Thread.{Settings, performs}
 use Rattle.thread_model.specs.Writing.{Writing, asked_writing, written}
 
 module _ (settings : Settings) (self : List ℕ) (state : State) where
@@ -24,11 +24,6 @@ module _ (settings : Settings) (self : List ℕ) (state : State) where
     pub performs_set : performs settings self state (Set target property value) ≡ sets settings state target (asked_writing state target property value)
     unfolding performs
     performs_set = refl
-
-    pub does_set : does settings self state (Set target property value)
-        ≡ unless (option_or (absence state target) (result_err (asked_writing state target property value))) state (sets settings state target (asked_writing state target property value))
-    unfolding does refusal performs
-    does_set = refl
 
     -- what was asked to be written is written, and then told of
     pub set_written : (writing : Writing) → asked_writing state target property value ≡ Ok writing
@@ -44,10 +39,6 @@ module _ (settings : Settings) (self : List ℕ) (state : State) where
     unfolding performs
     performs_get = refl
 
-    pub does_get : does settings self state (Get target property) ≡ unless (absence state target) state (gets state target property)
-    unfolding does refusal performs
-    does_get = refl
-
   module _ (target : ℕ) where
     pub refusal_dynamic_names : refusal settings self state (DynamicNames target) ≡ absence state target
     unfolding refusal
@@ -56,7 +47,3 @@ module _ (settings : Settings) (self : List ℕ) (state : State) where
     pub performs_dynamic_names : performs settings self state (DynamicNames target) ≡ names state target
     unfolding performs
     performs_dynamic_names = refl
-
-    pub does_dynamic_names : does settings self state (DynamicNames target) ≡ unless (absence state target) state (names state target)
-    unfolding does refusal performs
-    does_dynamic_names = refl

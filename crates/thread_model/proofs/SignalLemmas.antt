@@ -1,10 +1,9 @@
 -- The rule of each command for signals and slots: why it is refused, what it does where it is not, and
 -- both together; and each way that it goes.
-use Rattle.std.proofs.Common.{◌≡◌, ◌<◌, ◌==◌, ℕ, Bool, true, false, cond, List, [], ◌∷◌, Option, Some, None, Ok, refl, ap, ◌∙◌, arith}
+use Rattle.std.proofs.Common.{◌≡◌, ℕ, Bool, true, false, cond, List, [], ◌∷◌, Option, Some, None, Ok, refl, ap, ◌∙◌}
 use Rattle.std.specs.Option.{option_or}
 use Rattle.std.specs.Result.{result_err, result_unwrap_or}
-use Rattle.std.proofs.lemmas.Bool.{cond-false, cond-true}
-use Rattle.std.proofs.lemmas.Bool.Decides.{nat_tests}
+use Rattle.std.proofs.lemmas.Bool.{cond-false}
 use Rattle.serde_json.specs.Data.{Data}
 use Rattle.variant_value.specs.declared.value.Value.{Value}
 use Rattle.connection_types.specs.declared.connection_type.ConnectionType.{ConnectionType}
@@ -13,15 +12,15 @@ use Rattle.thread_model.specs.Absence.{absence}
 use Rattle.thread_model.specs.Agenda.{with_turn}
 use Rattle.thread_model.specs.Asked.{Asked, Connect, ConnectFunctor, Disconnect, DisconnectOne, Invoke}
 use Rattle.thread_model.specs.Deeds.{found_refusal}
-use Rattle.thread_model.specs.Doing.{begun, turn_taken, used_up}
-use Rattle.thread_model.specs.Effects.{does_next, replies, unless}
-use Rattle.thread_model.specs.Items.{Emit, Next, Run, puts}
+use Rattle.thread_model.specs.Doing.{begun}
+use Rattle.thread_model.specs.Effects.{does_next, replies}
+use Rattle.thread_model.specs.Items.{Next, Run, puts}
 use Rattle.thread_model.specs.Methods.{is_signal_at, methods_of, signature_in}
 use Rattle.thread_model.specs.Posting.{is_queued}
 use Rattle.thread_model.specs.Refusing.{later_refusal, refusal, values_refusal}
 use Rattle.thread_model.specs.Signals.{asked_connect, asked_connect_functor, asked_disconnect, asked_method, asked_values, disconnects_one, does_found, invoked, invoked_later, invokes}
 use Rattle.thread_model.specs.State.{State}
-use Rattle.thread_model.specs.Thread.{Settings, does, performs}
+use Rattle.thread_model.specs.Thread.{Settings, performs}
 
 module _ (settings : Settings) (self : List ℕ) (state : State) where
   module _ (sender : ℕ) (signal : List ℕ) (receiver : ℕ) (method : List ℕ) (mode : ConnectionType) (unique single : Bool) where
@@ -49,10 +48,6 @@ module _ (settings : Settings) (self : List ℕ) (state : State) where
   unfolding performs
   performs_disconnect_one connection = refl
 
-  pub does_disconnect_one : (connection : ℕ) → does settings self state (DisconnectOne connection) ≡ disconnects_one state connection
-  unfolding does refusal performs
-  does_disconnect_one connection = refl
-
   module _ (sender : ℕ) (signal : Option (List ℕ)) (receiver : Option ℕ) (method : Option (List ℕ)) where
     pub refusal_disconnect : refusal settings self state (Disconnect sender signal receiver method) ≡ found_refusal state (asked_disconnect settings state sender signal receiver method)
     unfolding refusal
@@ -75,12 +70,6 @@ module _ (settings : Settings) (self : List ℕ) (state : State) where
     unfolding performs
     performs_invoke = refl
 
-    pub does_invoke : does settings self state invoke
-        ≡ unless (option_or (absence state target) (option_or (result_err (signature_in method)) (option_or (values_refusal settings state target args (asked_method settings state target method)) (later_refusal state mode (asked_method settings state target method))))) state
-        (invokes settings state target args mode (asked_method settings state target method))
-    unfolding does refusal performs
-    does_invoke = refl
-
     -- an object that has no such method is told of as false
     pub invoke_none : asked_method settings state target method ≡ None → performs settings self state invoke ≡ replies state (a.Truth false)
     invoke_none none = performs_invoke ∙ ap (invokes settings state target args mode) none
@@ -91,27 +80,10 @@ module _ (settings : Settings) (self : List ℕ) (state : State) where
           performs_invoke ∙ ap (invokes settings state target args mode) found
           ∙ ap (λ given. let values = result_unwrap_or given [] in cond (is_queued mode) (invoked_later state target index values) (does_next settings (invoked settings state target index values) (a.Truth true))) given
 
-      -- a call that is asked for later is posted as an event
-      pub invoke_posted : is_queued mode ≡ true → performs settings self state invoke ≡ invoked_later state target index values
-      invoke_posted later = is_found ∙ cond-true (is_queued mode) _ _ later
-
       module _ (at_once : is_queued mode ≡ false) where
         comes_to : (next : Next) → invoked settings state target index values ≡ next → performs settings self state invoke ≡ does_next settings next (a.Truth true)
         comes_to next is = is_found ∙ cond-false (is_queued mode) _ _ at_once ∙ ap (λ next. does_next settings next (a.Truth true)) is
 
-        -- a signal is sent
-        pub invoke_signal : is_signal_at (methods_of settings state target) index ≡ true
-            → performs settings self state invoke ≡ does_next settings (puts (Emit target index values 0 ∷ []) (begun settings state)) (a.Truth true)
-        invoke_signal signal = comes_to _ (cond-true (is_signal_at (methods_of settings state target) index) _ (with_turn (begun settings state) (puts (Run target index 0 values 0 ∷ []))) signal)
-
         module _ (slot : is_signal_at (methods_of settings state target) index ≡ false) where
           is_slot : invoked settings state target index values ≡ with_turn (begun settings state) (puts (Run target index 0 values 0 ∷ []))
           is_slot = cond-false (is_signal_at (methods_of settings state target) index) _ (with_turn (begun settings state) (puts (Run target index 0 values 0 ∷ []))) slot
-
-          -- a slot takes a turn and is run
-          pub invoke_slot : 0 < settings.turns → performs settings self state invoke ≡ does_next settings (puts (Run target index 0 values 0 ∷ []) (turn_taken (begun settings state))) (a.Truth true)
-          invoke_slot some = let is : (settings.turns == 0) ≡ false = grind (arith, nat_tests, some) in comes_to _ (is_slot ∙ cond-false (settings.turns == 0) _ _ is)
-
-          -- a slot is not run where there are no turns
-          pub invoke_spent : settings.turns ≡ 0 → performs settings self state invoke ≡ does_next settings (puts [] (used_up (begun settings state))) (a.Truth true)
-          invoke_spent none = let is : (settings.turns == 0) ≡ true = grind (arith, nat_tests, none) in comes_to _ (is_slot ∙ cond-true (settings.turns == 0) _ _ is)

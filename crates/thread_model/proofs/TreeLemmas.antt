@@ -4,11 +4,10 @@ use Rattle.std.proofs.Common.{◌≡◌, ℕ, List, Option, refl}
 use Rattle.std.specs.Option.{option_or}
 use Rattle.object_tree.specs.Refusing.{add_refusal, parent_refusal}
 use Rattle.thread_model.specs.Asked.{New, Delete, Children, Find}
-use Rattle.thread_model.specs.Effects.{unless}
 use Rattle.thread_model.specs.Refusing.{class_refusal, named_class_refusal, refusal}
 use Rattle.thread_model.specs.Absence.{absence, named_absence}
 use Rattle.thread_model.specs.State.{State}
-use Rattle.thread_model.specs.Thread.{Settings, does, performs}
+use Rattle.thread_model.specs.Thread.{Settings, performs}
 use Rattle.thread_model.specs.Trees.{deletes, finds, lists, makes}
 
 module _ (settings : Settings) (self : List ℕ) (state : State) where
@@ -20,10 +19,6 @@ module _ (settings : Settings) (self : List ℕ) (state : State) where
   unfolding performs
   performs_new class parent = refl
 
-  pub does_new : (class : List ℕ) (parent : Option ℕ) → does settings self state (New class parent) ≡ unless (option_or (parent_refusal state.forest.rows parent) (option_or (class_refusal settings.classes class) (add_refusal state.forest parent))) state (makes settings.classes state class parent)
-  unfolding does refusal performs
-  does_new class parent = refl
-
   pub refusal_delete : (target : ℕ) → refusal settings self state (Delete target) ≡ absence state target
   unfolding refusal
   refusal_delete target = refl
@@ -31,10 +26,6 @@ module _ (settings : Settings) (self : List ℕ) (state : State) where
   pub performs_delete : (target : ℕ) → performs settings self state (Delete target) ≡ deletes settings state target
   unfolding performs
   performs_delete target = refl
-
-  pub does_delete : (target : ℕ) → does settings self state (Delete target) ≡ unless (absence state target) state (deletes settings state target)
-  unfolding does refusal performs
-  does_delete target = refl
 
   pub refusal_children : (target : Option ℕ) → refusal settings self state (Children target) ≡ named_absence state target
   unfolding refusal
@@ -44,10 +35,6 @@ module _ (settings : Settings) (self : List ℕ) (state : State) where
   unfolding performs
   performs_children target = refl
 
-  pub does_children : (target : Option ℕ) → does settings self state (Children target) ≡ unless (named_absence state target) state (lists state target)
-  unfolding does refusal performs
-  does_children target = refl
-
   pub refusal_find : (target : ℕ) (title class : Option (List ℕ)) → refusal settings self state (Find target title class) ≡ option_or (absence state target) (named_class_refusal settings.classes class)
   unfolding refusal
   refusal_find target title class = refl
@@ -55,7 +42,3 @@ module _ (settings : Settings) (self : List ℕ) (state : State) where
   pub performs_find : (target : ℕ) (title class : Option (List ℕ)) → performs settings self state (Find target title class) ≡ finds settings.classes state target title class
   unfolding performs
   performs_find target title class = refl
-
-  pub does_find : (target : ℕ) (title class : Option (List ℕ)) → does settings self state (Find target title class) ≡ unless (option_or (absence state target) (named_class_refusal settings.classes class)) state (finds settings.classes state target title class)
-  unfolding does refusal performs
-  does_find target title class = refl

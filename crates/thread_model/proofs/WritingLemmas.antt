@@ -1,12 +1,11 @@
 -- The rules by which properties are written, one for each way that it goes; and what a writing may come to.
-use Rattle.std.proofs.Common.{◌≡◌, ℕ, Bool, true, false, cond, List, [], ◌∷◌, Option, Some, None, length, take, refl, ap, ◌∙◌}
+use Rattle.std.proofs.Common.{◌≡◌, ℕ, Bool, true, false, cond, List, [], ◌∷◌, Option, Some, None, refl, ap}
 use Rattle.std.specs.List.{filter_map}
 use Rattle.std.specs.Option.{option_and_then, option_map}
 use Rattle.variant_value.specs.declared.value.Value.{Value}
 use Rattle.property_store.specs.Store.{is_change}
 use Rattle.thread_model.specs.Doing.{Doing, in_state}
 use Rattle.thread_model.specs.Items.{Emit, Next, puts}
-use Rattle.thread_model.specs.Methods.{kinds_at, methods_of}
 use Rattle.thread_model.specs.Settings.{Settings}
 use Rattle.thread_model.specs.State.{State}
 use Rattle.thread_model.specs.Writing.{Change, Declared, Dynamic, Nothing, Removed, Writing, notification, property_at, told_value, with_writing, written}
@@ -48,19 +47,6 @@ module _ (settings : Settings) (doing : Doing) (object depth : ℕ) where
 
     by_change : (changed : Bool) → is_change doing.state.store object number value ≡ changed → comes_to (Declared number value) ≡ puts (filter_map (notification settings new.state depth) (cond changed (change ∷ []) [])) new
     by_change changed e = ap (λ changed. puts (filter_map (notification settings new.state depth) (cond changed (change ∷ []) [])) new) e
-
-    -- the value is as it was
-    pub declared_same : is_change doing.state.store object number value ≡ false → comes_to (Declared number value) ≡ puts [] new
-    declared_same same = by_change false same
-
-    module _ (changed : is_change doing.state.store object number value ≡ true) where
-      -- no signal tells of it
-      pub declared_silent : notify settings doing.state object number ≡ None → comes_to (Declared number value) ≡ puts [] new
-      declared_silent none = by_change true changed ∙ ap told none
-
-      -- its signal is sent, with the new value where it takes one
-      pub declared_told : (signal : ℕ) → notify settings doing.state object number ≡ Some signal → comes_to (Declared number value) ≡ puts (Emit object signal (take (length (kinds_at (methods_of settings doing.state object) signal)) (value ∷ [])) depth ∷ []) new
-      declared_told signal some = by_change true changed ∙ ap told some
 
   -- a writing changes the properties of the object, and then sends a signal of it or none
   pub written_cases : (writing : Writing) (P : Next → Type 0)

@@ -1,5 +1,5 @@
 -- What is done to a session once each object that it concerns is known: by a command, or by an action.
-use Rattle.std.specs.Prelude.{◌+◌, ℕ, Bool, true, false, Option, Some, None, Ok, Err, count_by}
+use Rattle.std.specs.Prelude.{◌≡◌, ◌+◌, ℕ, Bool, true, false, Option, Some, None, Ok, Err, count_by}
 use Rattle.std.specs.Option.{option_map_or, option_or}
 use Rattle.refusals.specs.declared.code.Code.{Code}
 use Rattle.connection_list.specs.Ends.{matches}
@@ -16,6 +16,11 @@ use Rattle.thread_model.specs.Doing.{Doing, in_state}
 use Rattle.thread_model.specs.Methods.{Found}
 use Rattle.thread_model.specs.Posting.{post_refusal}
 use Rattle.thread_model.specs.State.{State, with_blocking, with_connection, with_event, with_parent, without_connections}
+
+-- whoever looks for a connection to be made has found both its ends, there and not dying
+abbrev pub HasEnds : State → Deed → Type 0
+HasEnds state (Connect new unique) = (object_refusal state.forest.rows new.sender ≡ None) × (object_refusal state.forest.rows new.receiver ≡ None)
+HasEnds state _ = Unit {0}
 
 -- why a deed is refused: the first of these. A command finds no object dying
 abbrev pub deed_refusal : State → Deed → Option Code

@@ -17,6 +17,7 @@ use Rattle.event_queue.specs.declared.event.Event.TheVariants.{Call}
 use Rattle.connection_list.specs.declared.connection.NewConnection.{NewConnection}
 use Rattle.connection_list.specs.declared.pattern.Pattern.{Pattern}
 use Rattle.connection_list.specs.Rows.{has_number}
+use Rattle.object_tree.specs.Refusing.{object_refusal}
 use Rattle.thread_model.specs.declared.line.Answer.TheVariants as a
 use Rattle.thread_model.specs.declared.line.Line.{Line}
 use Rattle.thread_model.specs.declared.post.Post.{Post}
@@ -51,17 +52,17 @@ asked_functor_connection settings state sender signal context functor mode singl
     context (functor_named settings functor)
     mode single
 
--- the deed that they are, or why there is none
+-- the deed that they are, or why there is none; a command finds no object dying
 abbrev pub asked_connect : Settings → State → ℕ → List ℕ → ℕ → List ℕ → ConnectionType → Bool → Bool → Found Deed
 asked_connect settings state sender signal receiver method mode unique single =
-    behind (absence state sender) (
-    behind (absence state receiver)
+    behind (object_refusal state.forest.rows sender) (
+    behind (object_refusal state.forest.rows receiver)
     (asked_connection settings state sender signal receiver method mode single >>= λ new. Ok (d.Connect new unique)))
 
 abbrev pub asked_connect_functor : Settings → State → ℕ → List ℕ → ℕ → List ℕ → ConnectionType → Bool → Bool → Found Deed
 asked_connect_functor settings state sender signal context functor mode unique single =
-    behind (absence state sender) (
-    behind (absence state context)
+    behind (object_refusal state.forest.rows sender) (
+    behind (object_refusal state.forest.rows context)
     (asked_functor_connection settings state sender signal context functor mode single >>= λ new. if unique then Err UniqueFunctor else Ok (d.Connect new false)))
 
 -- breaking the connection of a number replies whether it stood

@@ -12,5 +12,5 @@ unfolding deed_done
 returns-clause-tries c = λ doing.
     let slot = c.args.slot.now in
     deed_is_done (settings_of c.args.caller.now.setup.now) slot.object slot.sender slot.args.now slot.depth (in_state doing (state_at c.args.tables.now c.args.caller.now.place)) c.args.effect.now c.in_ok-deed.deed
-    c.in_ok-deed.ensures c.in_ok-do_deed.ensures.refusal
-    ∙ put_at c.args.tables.now c.do_deed.new.tables c.args.caller.now.place _ doing c.requires.placed c.in_ok-do_deed.ensures.ok
+    c.in_ok-deed.ensures.0 c.in_ok-do_found.ensures.refusal
+    ∙ put_at c.args.tables.now c.do_found.new.tables c.args.caller.now.place _ doing c.requires.placed c.in_ok-do_found.ensures.ok
