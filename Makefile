@@ -1,6 +1,8 @@
 # make        builds the program, proved, as bin/metad
 # make run    answers the sample session
 # make test   proves everything from nothing, and runs every test
+# make tests  runs every test on bin/metad as it is; make rows, random, program, memory, classes, clients and test_install
+#             run those of tests/test_rows and so on
 # make bench  measures the program; with BEFORE=PROGRAM or LAST=PROGRAM also beside an earlier one
 # make install, make uninstall   bin/metad, its manual page, the documents, the client, the examples and explain, below PREFIX
 
@@ -9,7 +11,10 @@ CRATE = crates/$(PROGRAM)
 CC ?= cc
 PREFIX ?= /usr/local
 
-.PHONY: all run test budget rows plain examples worked ends pipes trees signals limits sessions clients classes respelled chance refusals first_hour bench install uninstall clean
+# each takes bin/metad as it is
+TESTS = rows random program memory classes clients
+
+.PHONY: all run test budget tests $(TESTS) test_install libraries bench install uninstall clean
 
 all: bin/metad
 
@@ -27,63 +32,24 @@ test: budget
 	rt ci
 	mkdir -p bin
 	cp $(CRATE)/out/$(PROGRAM) bin/metad
-	$(MAKE) --no-print-directory rows plain respelled chance examples worked ends pipes trees signals limits sessions clients classes first_hour refusals
+	$(MAKE) --no-print-directory tests
 
 budget:
 	python3 tools/budget.py .
 
-# these take bin/metad as it is
-rows:
-	python3 tools/rows.py bin/metad tests/rows
+# all tests on bin/metad as it is, each with how many cases it has; the targets below it are those of tests/test_*
+tests: libraries
+	python3 -m unittest -v
 
-# the plain program, which the built one is compared with, answers the rows too
-plain:
-	python3 tools/plain_rows.py tests/rows
+$(TESTS): libraries
+	python3 -m unittest -v tests.test_$@
 
-respelled:
-	python3 tools/respelled.py bin/metad tests/rows
+test_install:
+	python3 -m unittest -v tests.$@
 
-chance:
-	python3 tools/chance.py bin/metad
+libraries: bin/refuse_growth.so bin/early_signal.so
 
-examples:
-	python3 tools/examples.py bin/metad README.md docs/GUIDE.md docs/PROTOCOL.md
-
-worked:
-	python3 tools/worked_examples.py bin/metad examples docs/GUIDE.md
-
-ends:
-	python3 tools/ends.py bin/metad
-
-pipes:
-	python3 tools/pipes.py bin/metad
-
-trees:
-	python3 tools/trees.py bin/metad
-
-signals:
-	python3 tools/signals.py bin/metad
-
-classes:
-	python3 tools/class_files.py bin/metad
-
-limits:
-	python3 tools/limits.py bin/metad
-
-sessions:
-	python3 tools/sessions.py bin/metad
-
-clients: bin/early_signal.so
-	python3 tools/clients.py bin/metad bin/early_signal.so
-
-first_hour:
-	python3 tools/first_hour.py bin/metad
-
-refusals: bin/refuse_growth.so
-	python3 tools/outcomes.py
-	python3 tools/refusals.py bin/metad bin/refuse_growth.so tests/rows
-
-bin/%.so: tools/%.c tools/growth.h
+bin/%.so: tests/preload/%.c tests/preload/growth.h
 	mkdir -p bin
 	$(CC) -O2 -Wall -Wextra -shared -fPIC -o $@ $< -ldl
 
@@ -97,7 +63,7 @@ SHARE = $(DESTDIR)$(PREFIX)/share/metad
 # the documents and what they lead to, which stands below DOC as it stands here
 DOCUMENTS = README.md $(wildcard docs/*.md docs/*.json clients/python/*.md clients/python/*.py examples/*/*)
 FOLDERS = $(filter-out ./,$(sort $(dir $(DOCUMENTS)))) clients examples
-EXPLAINING = $(wildcard tools/explaining/*.py)
+EXPLAINING = $(wildcard clients/explaining/*.py)
 
 # takes bin/metad as it is
 install:
@@ -106,14 +72,14 @@ install:
 	install bin/metad "$(BIN)/metad"
 	install -m 644 man/metad.1 "$(MAN)/metad.1"
 	for it in $(DOCUMENTS); do install -D -m 644 "$$it" "$(DOC)/$$it" || exit; done
-	install tools/explain "$(SHARE)/explain"
+	install clients/explain "$(SHARE)/explain"
 	install -m 644 $(EXPLAINING) "$(SHARE)/explaining"
 	ln -sf ../share/metad/explain "$(BIN)/metad-explain"
 
 # takes away all that install puts there, what Python has left beside it, and the folders that hold nothing else
 uninstall:
 	rm -f "$(BIN)/metad" "$(BIN)/metad-explain" "$(MAN)/metad.1" "$(SHARE)/explain"
-	rm -f $(patsubst %,"$(DOC)/%",$(DOCUMENTS)) $(patsubst tools/%,"$(SHARE)/%",$(EXPLAINING))
+	rm -f $(patsubst %,"$(DOC)/%",$(DOCUMENTS)) $(patsubst clients/%,"$(SHARE)/%",$(EXPLAINING))
 	rm -rf "$(DOC)/clients/python/__pycache__" "$(SHARE)/explaining/__pycache__"
 	for it in $(patsubst %,"$(DOC)/%",$(FOLDERS)) "$(DOC)" "$(SHARE)/explaining" "$(SHARE)"; do \
 		test ! -d "$$it" || rmdir --ignore-fail-on-non-empty "$$it"; \

@@ -1,0 +1,15 @@
+"""The tests of `metad`, on the built program.
+
+`python3 -m unittest` at the top of the repository runs all of them, `python3 -m unittest tests.test_rows` those of a
+module, and `-k WORD` those with a word in their name. `-v` says of each test how many cases it had. Where one fails,
+the others go on, and it is shown with its input and with how what came differs from what was wanted.
+
+- `METAD=PROGRAM` names the program under test, which is else `bin/metad`.
+- `CASE=WORD` takes only the cases with a word in their name: `CASE=turns_of_none python3 -m unittest tests.test_rows`.
+- `SEED=NUMBER` makes other lines and other sessions by chance, and `LONG=1` a million commands of sessions.
+
+`test_rows` has worked sessions, `test_random` sessions by chance, beside the plain program in `plain`, `test_program`
+the program's ends, its pipes and its limits, `test_memory` refused growths, `test_classes` class files,
+`test_clients` what stands in `clients`, and `test_install` what `make install` installs. `support` is what they
+share, `generators` makes what they give, and `preload` has the libraries that are preloaded into the program.
+"""

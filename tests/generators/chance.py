@@ -1,0 +1,229 @@
+"""Lines by chance.
+
+The lines are commands of a few sessions with their keys in any order, some twice, some missing, some of
+others; with white space, escapes, numbers and texts in and out of form, lists and objects in one another, also
+about as deep as JSON is read; some with bytes changed, left out, put in or repeated; and some as long as a line
+may be, or one byte longer, and of these some that are blank. Other sessions follow, so that many commands find the
+objects that they name.
+"""
+
+import random
+
+from tests.support.lines import LINE_BYTES
+
+LINES = 200_000
+LONG = 100
+DEPTH = 127
+LINES_OF_SESSIONS = 1_200
+OBJECTS = 16
+
+SESSIONS = ("a", "b", "\\u0063")
+CLASSES = (*('"Probe"',) * 12, *('"Cell"',) * 6, '"QObj\\u0065ct"', '"QObject"', '"Nope"', '"a b"', '""')
+WORDS = (
+    *(*("new",) * 4, *("setParent", "children", "find", "set", "get") * 2, "delete", "meta", "jump", "n\\u0065w"),
+    *(*("connect",) * 6, *("invoke",) * 8, "disconnect", "disconnect", "c\\u006fnnect"),
+    *("connectFunctor", "connectFunctor", "connectFunctor", "connect\\u0046unctor"),
+    *("set", "set", "get", "dynamicNames", "dynamicNam\\u0065s"),
+    *("spin", "spin", "deleteLater", "block", "status", "sp\\u0069n", "delete\\u004cater"),
+)
+KEYS = (
+    *("do", "session", "object", "property", "value", "class", "parent", "name", "x", "d\\u006f", "obj\\u0065ct", "Do", ""),
+    *("sender", "signal", "receiver", "method", "type", "unique", "single", "connection", "args", "on"),
+    *("context", "functor", "s\\u0065nder", "typ\\u0065", "\\u006fn", "f\\u0075nctor"),
+)
+SIGNALS = (*("ping()",) * 16, *("xChanged(int)",) * 4, "p\\u0069ng()", "ping\\u0028void\\u0029", " ping(\\t)", "destroyed()", "objectNameChanged(QString)", "note()", "ping")
+PROPERTIES = (
+    *("objectName",) * 4, *("x", "tag") * 3, *("y", "flag", "big", "obj\\u0065ctName", "t\\u0061g", "\\u0078", "X", "_"),
+    *("n" * 64, "n" * 65, "", "a b", "1a", "x ", "ä", "\\u0000"),
+)
+SLOTS = (
+    *(*("note()", "late()", "swap()", "again()") * 4, "kill()", "rescue()", "drop()", "deleteLater()", "ping()"),
+    *("setX(int)", "setX(int)", "seen(int)"),
+    *("not\\u0065()", "note ( void ) ", "nothing()", "note(int)", ""),
+)
+FUNCTORS = (*('"clamp"',) * 16, '"cl\\u0061mp"', '"\\u0063lamp"', '"clam"', '"Clamp"', '"clamp(int)"', '""', "0")
+TYPES = (*('"auto"', '"direct"', '"queued"') * 4, '"dir\\u0065ct"', '"Queued"', '"blocking"', "0")
+TRUTHS = ("true", "false")
+CONNECTIONS = 40
+TURNS = 20
+NUMBERS = (
+    *("1", "2", "3", "0", "-1", "01", "1.0", "1e0", "1E2", "-0", "1.5", "+1", "0x1", "1.", ".5", "-", "--1"),
+    *("0.0", "00", "-0.0e-0", "10e-1", "2.50E+01", "0e5", "1e", "1e+", "1.e1", "1e1.5", "1e-400", "-12.75e+2"),
+    *("4294967295", "4294967296", "9007199254740993", "18446744073709551615", "18446744073709551616"),
+    *("18446744073709551617", "99999999999999999999999999", "1e400", "-9223372036854775809"),
+)
+TEXTS = (
+    *("lamp", "", "ä", "é€", "😀", "\\n", '\\"', "\\\\", "\\/", "/", "\\u0041", "\\ud83d\\ude00", "a\\u0000b"),
+    *("\\ud83d", "\\udc00", "\\ud83d\\u0041", "\\u00", "\\x", "\t", "\x01", "\x1f", "\x7f", "objectN\\u0061me"),
+)
+LITERALS = ("null", "true", "false", "nul", "True", "truee", "NaN", "Infinity")
+SPACES = ("", " ", "\t", "  ", "\r")
+BLANK = b" \t\r"
+PIECES = b'{}[]:,"\\0123456789.-+eEntf '
+BYTES = (0x00, 0x1F, 0x80, 0xC3, 0xED, 0xF0, 0xFF)
+
+
+class Chance(random.Random):
+    """What is made by chance."""
+
+    made = 0  # lines so far
+
+    def session(self):
+        return f'"{self.choice(SESSIONS)}{self.made // LINES_OF_SESSIONS}"'
+
+    def is_so(self, share):
+        return self.random() < share
+
+    def text(self):
+        return f'"{self.choice(TEXTS)}"' if self.is_so(0.8) else '"' + "x" * self.randrange(60) + '"'
+
+    def value(self, depth=0):
+        kind = self.random()
+        if kind < 0.005:
+            nested = DEPTH + self.randint(-2, 2) - depth
+            return "[" * nested + "]" * nested
+        if kind < 0.35:
+            return self.text()
+        if kind < 0.6:
+            return self.choice(NUMBERS)
+        if kind < 0.72 or depth > 2:
+            return self.choice(LITERALS)
+        if kind < 0.86:
+            return "[" + ",".join(self.value(depth + 1) for _ in range(self.randrange(4))) + self.choice(("", "", ",")) + "]"
+        return "{" + ",".join(f"{self.text()}:{self.value(depth + 1)}" for _ in range(self.randrange(4))) + "}"
+
+    def number(self):
+        """A number, by half a plain one."""
+        return self.choice(NUMBERS[:5] if self.is_so(0.5) else NUMBERS)
+
+    def object(self):
+        """The number of an object, of the first ones most times."""
+        return str(min(self.randint(1, OBJECTS) for _ in "abc"))
+
+    def method(self, share):
+        """A signal, by this share, or a slot."""
+        return f'"{self.choice(SIGNALS if self.is_so(share) else SLOTS)}"'
+
+    def property_name(self):
+        return f'"{self.choice(PROPERTIES)}"'
+
+    def connection(self):
+        ends = [("sender", self.object()), ("signal", self.method(1)), ("receiver", self.object()), ("method", self.method(0.2))]
+        return ends + self.ways()
+
+    def functor_connection(self):
+        signal = '"xChanged(int)"' if self.is_so(0.8) else self.method(1)
+        return [("sender", self.object()), ("signal", signal), ("context", self.object()), ("functor", self.choice(FUNCTORS)), *self.ways()]
+
+    def ways(self):
+        """How a connection is to be made."""
+        further = (("type", TYPES), ("unique", TRUTHS), ("single", TRUTHS))
+        return [(key, self.choice(of)) for key, of in further if self.is_so(0.25)]
+
+    def disconnection(self):
+        if self.is_so(0.4):
+            return [("connection", str(self.randint(1, CONNECTIONS)))]
+        further = [("signal", self.method(1)), ("receiver", self.object()), ("method", self.method(0.2))]
+        return [("sender", self.object()), *(it for it in further if self.is_so(0.5))]
+
+    def values_for(self, method):
+        """The arguments of a call of this method: most times as many as it takes."""
+        if self.is_so(0.2):
+            return [self.value() for _ in range(self.randrange(3))]
+        return [] if "(int)" not in method else [self.number() if self.is_so(0.8) else self.value()]
+
+    def invocation(self):
+        method = self.method(0.7)
+        values = self.values_for(method)
+        if self.is_so(0.2):
+            method, values = '"objectNameChanged ( const QString & )"', [self.text()]
+        further = [("type", self.choice(TYPES))] if self.is_so(0.25) else []
+        return [("object", self.object()), ("method", method), ("args", f"[{','.join(values)}]"), *further]
+
+    def members_of(self, word):
+        """The members of a command in form, but for its word and its session."""
+        if word == "set":
+            name = self.property_name()
+            value = self.number() if name == '"x"' and self.is_so(0.7) else self.value()
+            return [("object", self.object()), ("property", name), ("value", value)]
+        if word == "get":
+            return [("object", self.object()), ("property", self.property_name())]
+        if word == "setParent":
+            return [("object", self.object()), ("parent", self.choice((self.object(), "null")))]
+        if word in ("connect", "c\\u006fnnect"):
+            return self.connection()
+        if word in ("connectFunctor", "connect\\u0046unctor"):
+            return self.functor_connection()
+        if word == "disconnect":
+            return self.disconnection()
+        if word == "invoke":
+            return self.invocation()
+        if word == "block":
+            return [("object", self.object()), ("on", "true" if self.is_so(0.2) else "false")]
+        if word in ("dynamicNames", "dynamicNam\\u0065s"):
+            return [("object", self.object())]
+        if word in ("delete", "deleteLater", "delete\\u004cater"):
+            return [("object", str(self.randint(1, OBJECTS)))]
+        members = []
+        if word == "find" or word == "children" and self.is_so(0.6):
+            members.append(("object", self.object()))
+        if word in ("new", "n\\u0065w", "meta") or word == "find" and self.is_so(0.4):
+            members.append(("class", self.choice(CLASSES)))
+        if word == "new" and self.is_so(0.5):
+            members.append(("parent", self.object()))
+        if word == "find" and self.is_so(0.5):
+            members.append(("name", self.text()))
+        return members
+
+    def members(self):
+        """The members of a command, which may be out of form."""
+        word = self.choice(WORDS)
+        members = [("do", f'"{word}"'), ("session", self.session()), *self.members_of(word)]
+        if self.is_so(0.15):
+            at = self.randrange(len(members))
+            members[at] = (members[at][0], self.value())
+        if self.is_so(0.2):
+            members.append((self.choice(KEYS), self.value()))
+        if self.is_so(0.1):
+            members.append(self.choice(members))
+        if self.is_so(0.1):
+            members.pop(self.randrange(len(members)))
+        if self.is_so(0.7):
+            self.shuffle(members)
+        return members
+
+    def changed(self, line):
+        """The line with some bytes changed, left out, put in or repeated."""
+        line = bytearray(line)
+        for _ in range(self.randint(1, 3)):
+            at = self.randrange(len(line) + 1)
+            new = bytes([self.choice(PIECES) if self.is_so(0.8) else self.choice(BYTES)])
+            line[at : at + self.randrange(2)] = self.choice((b"", new, new, line[max(0, at - 5) : at]))
+        return bytes(line).replace(b"\n", b" ")
+
+    def line(self):
+        self.made += 1
+        has_space = self.is_so(0.3)
+        space = (lambda: self.choice(SPACES)) if has_space else (lambda: "")
+        members = ",".join(f'{space()}"{key}"{space()}:{space()}{value}{space()}' for key, value in self.members())
+        line = f"{space()}{{{members}}}{space()}".encode()
+        return self.changed(line) if self.is_so(0.25) else line
+
+    def long_line(self, size):
+        """A line of so many bytes, filled up with spaces or with a text, or blank."""
+        if self.is_so(0.2):
+            return bytes(self.choices(BLANK, k=size))
+        line = self.line()
+        if self.is_so(0.5):
+            return line.ljust(size)
+        front = f'{{"do":"set","object":{self.object()},"property":"objectName","session":{self.session()},"value":"'.encode()
+        return front.ljust(size - 2, b"x") + b'"}'
+
+
+def lines_of(chance):
+    """The lines, of which each so many is a long one: in turn the longest that there may be, and one byte more."""
+    each = LINES // LONG
+    return [
+        chance.line() if at % each else chance.long_line(LINE_BYTES + at // each % 2)
+        for at in range(1, LINES + 1)
+    ]

@@ -1,0 +1,337 @@
+"""Sessions at the limits of signals, slots, events and properties. What has to be written is worked out from the
+rules."""
+
+from tests.support.lines import lines_of
+from tests.support.program import Row
+
+CONNECTIONS = 16_384
+EVENTS = 16_384
+TURNS = 10_000
+LEVELS = 64
+TEXT_BYTES = 4_096
+DYNAMIC_PROPERTIES = 64
+E07, E08, E09, E10, E14, E22 = ({"error": code} for code in ("E07", "E08", "E09", "E10", "E14", "E22"))
+SPIN, STATUS, CHILDREN = ({"do": word} for word in ("spin", "status", "children"))
+
+
+def row_of(name, steps, *words):
+    """A row of steps, each a command and the lines that it has to be answered by."""
+    steps = list(steps)
+    given = lines_of((step[0] for step in steps), session="a")
+    wanted = lines_of((line for step in steps for line in step[1:]), session="a")
+    return Row(name, given, wanted, words=("classes.json", *words))
+
+
+def reply(value):
+    return {"reply": value}
+
+
+def warning(code, number=None):
+    return {"warning": code} if number is None else {"object": number, "warning": code}
+
+
+def call(method, number, sender, *args):
+    return {"args": args, "call": method, "object": number, "sender": sender}
+
+
+def new(parent=None):
+    return {"do": "new", "class": "A", **({} if parent is None else {"parent": parent})}
+
+
+def connect(sender, signal, receiver, method, **more):
+    return {"do": "connect", "sender": sender, "signal": signal, "receiver": receiver, "method": method, **more}
+
+
+def clamp(sender, signal, context, functor="clamp", **more):
+    return {"do": "connectFunctor", "sender": sender, "signal": signal, "context": context, "functor": functor, **more}
+
+
+def invoke(number, method, *args, **more):
+    return {"do": "invoke", "object": number, "method": method, "args": args, **more}
+
+
+def set_to(number, name, value):
+    return {"do": "set", "object": number, "property": name, "value": value}
+
+
+def get(number, name):
+    return {"do": "get", "object": number, "property": name}
+
+
+def delete(number):
+    return {"do": "delete", "object": number}
+
+
+def delete_later(number):
+    return {"do": "deleteLater", "object": number}
+
+
+def spun(events, left=0, lost=0):
+    return reply({"events": events, "left": left, "lost": lost, "mismatched": 0})
+
+
+def counted(**there):
+    """The reply of `status`."""
+    return reply(dict.fromkeys(("bindings", "connections", "group", "joins", "lost", "mismatched", "objects", "publications", "queued"), 0) | there)
+
+
+def deep_sum(levels):
+    return {"+": [deep_sum(levels - 1), {"const": 0}]} if levels else {"const": 0}
+
+
+def behind_choices(actions, count):
+    """Actions that are done behind so many choices within one another."""
+    test = {"=": [deep_sum(28), {"const": 0}]}
+    return [{"when": test, "then": behind_choices(actions, count - 1)}] if count else actions
+
+
+DROP = [{"delete": "self"}]
+FALL = [{"emit": "down()", "args": []}, *DROP]
+NEXT = [{"set": "x", "to": {"+": [{"arg": 0}, {"const": 1}]}}]
+MORE = [{"connect": "down()", "to": "self", "method": it, "unique": it == "fall()"} for it in ("hear(QString,int)", "fall()", "note()")]
+SLOTS = {"note()": [], "hear(QString,int)": [], "more()": MORE, "fall()": FALL, "fallDeep()": behind_choices(FALL, 30)}
+SLOTS |= {"keep(int)": [{"set": "x", "to": {"arg": 0}}], "sink(int)": NEXT + DROP, "sinkDeep(int)": behind_choices(NEXT + DROP, 30)}
+SLOTS |= {"drop()": DROP, "dropDeep()": behind_choices(DROP, 31), "dropFirst()": [{"delete": 1}], "ask()": [{"deleteLater": "self"}]}
+CLASS = {
+    "name": "A",
+    "super": "QObject",
+    "signals": ["down()", "told(QString,int)", "xChanged(int)"],
+    "slots": [{"sig": slot, "body": body} for slot, body in SLOTS.items()],
+    "properties": [{"name": "x", "type": "int", "notify": "xChanged(int)"}],
+}
+
+
+def connections(turns):
+    """As many connections as there may be, called by one command with so many turns."""
+    spent = [] if turns >= CONNECTIONS else [warning("E23")]
+    yield new(), reply(1)
+    yield new(), reply(2)
+    yield connect(2, "down()", 2, "fall()"), reply(1)
+    yield from ((connect(1, "down()", 2, "note()"), reply(number)) for number in range(2, CONNECTIONS + 1))
+    yield connect(1, "down()", 2, "note()"), E14
+    yield connect(1, "down()", 2, "note()", unique=True), E08
+    yield connect(1, "down()", 2, "hear(QString,int)"), E07
+    yield invoke(2, "more()"), call("more()", 2, 0), warning("E07", 2), warning("E08", 2), warning("E14", 2), reply(True)
+    yield {"do": "disconnect", "connection": 1}, reply(True)
+    yield connect(1, "down()", 2, "note()"), reply(CONNECTIONS + 1)
+    yield connect(1, "down()", 2, "note()"), E14
+    yield invoke(1, "down()"), *[call("note()", 2, 1)] * min(turns, CONNECTIONS), *spent, reply(True)
+    yield {"do": "disconnect", "sender": 1, "receiver": 2}, reply(CONNECTIONS)
+    yield invoke(1, "down()"), reply(True)
+
+
+def functors(turns):
+    """As many connections of a functor as there may be, called by one command with so many turns, and gone with their context."""
+    spent = [] if turns >= CONNECTIONS else [warning("E23")]
+    yield new(), reply(1)
+    yield new(), reply(2)
+    yield from ((clamp(1, "xChanged(int)", 2), reply(number)) for number in range(1, CONNECTIONS + 1))
+    yield clamp(1, "xChanged(int)", 2), E14
+    yield clamp(1, "xChanged(int)", 2, unique=True), E09
+    yield clamp(1, "down()", 2, unique=True), E07
+    yield clamp(1, "down()", 2, "clam"), E10
+    yield connect(1, "down()", 2, "note()"), E14
+    yield {"do": "disconnect", "sender": 1, "receiver": 2, "method": "keep(int)"}, reply(0)
+    yield set_to(1, "x", 250), *[call("clamp", 2, 1, 250)] * min(turns, CONNECTIONS), *spent, reply(True)
+    yield get(2, "x"), reply(100)
+    yield {"do": "disconnect", "connection": 1}, reply(True)
+    yield clamp(1, "xChanged(int)", 2, single=True), reply(CONNECTIONS + 1)
+    yield clamp(1, "xChanged(int)", 2), E14
+    yield delete(2), reply(True)
+    yield STATUS, counted(objects=1)
+    yield set_to(1, "x", 5), reply(True)
+
+
+def lost_functors():
+    """Calls of a functor that meet as many events as there may be."""
+    yield from ((new(), reply(number)) for number in (1, 2))
+    yield clamp(1, "xChanged(int)", 2, type="queued"), reply(1)
+    yield from ((set_to(1, "x", at % 2 * 200 + 1), reply(True)) for at in range(1, EVENTS))
+    yield invoke(2, "note()", type="queued"), reply(True)
+    yield STATUS, counted(connections=1, objects=2, queued=EVENTS)
+    yield clamp(1, "xChanged(int)", 1, type="queued", single=True), reply(2)
+    yield set_to(1, "x", 7), reply(True)
+    yield STATUS, counted(connections=1, lost=2, objects=2, queued=EVENTS)
+    yield set_to(1, "x", 8), reply(True)
+    yield SPIN, *(call("clamp", 2, 1, at % 2 * 200 + 1) for at in range(1, EVENTS)), call("note()", 2, 0), spun(EVENTS, 0, 3)
+    yield get(2, "x"), reply(100)
+
+
+def chain_of_functors(count):
+    """Objects of which each sets the next one's property by a functor, as far as signals may be nested."""
+    yield from ((new(), reply(number)) for number in range(1, count + 1))
+    yield from ((clamp(number, "xChanged(int)", number + 1), reply(number)) for number in range(1, count))
+    calls = [call("clamp", number + 1, number, 100) for number in range(2, LEVELS + 1)]
+    yield set_to(1, "x", 101), call("clamp", 2, 1, 101), *calls, warning("E14", LEVELS + 1), reply(True)
+    yield get(LEVELS + 1, "x"), reply(100)
+    yield get(LEVELS + 2, "x"), reply(0)
+
+
+def texts():
+    """Arguments that are texts as long as may be, and longer ones."""
+    yield new(), reply(1)
+    yield connect(1, "told(QString,int)", 1, "hear(QString,int)"), reply(1)
+    for unit in ("x", "ä", "\U0001f600"):
+        longest = unit * (TEXT_BYTES // len(unit.encode()))
+        yield invoke(1, "told(QString,int)", longest, 1), call("hear(QString,int)", 1, 1, longest, 1), reply(True)
+        yield invoke(1, "told(QString,int)", longest + "x", 1), E14
+        yield invoke(1, "told(QString,int)", longest + "x", "1"), E22
+        yield invoke(1, "told(QString,int)", longest + "x"), E22
+        yield invoke(1, "hear(QString,int)", longest + "x", 1, type="queued"), E14
+        yield invoke(1, "hear(QString,int)", longest + "x", "1", type="queued"), E22
+        yield invoke(1, "hear(QString,int)", longest, 1, type="queued"), reply(True)
+        yield SPIN, call("hear(QString,int)", 1, 0, longest, 1), spun(1)
+
+
+def objects():
+    """As many objects as there may be, and names as long as may be."""
+    most = LEVELS * LEVELS
+    name = lambda size: {"do": "set", "object": 1, "property": "objectName", "value": "n" * size}
+    yield from ((new(), reply(number)) for number in range(1, most + 1))
+    yield new(), E14
+    yield name(TEXT_BYTES), reply(True)
+    yield name(TEXT_BYTES + 1), E14
+
+
+def values():
+    """As many dynamic properties as there may be, with texts as long as may be."""
+    names = [f"p{at}" for at in range(DYNAMIC_PROPERTIES)]
+    yield new(), reply(1)
+    for unit in ("x", "ä", "\U0001f600"):
+        longest = unit * (TEXT_BYTES // len(unit.encode()))
+        yield set_to(1, "objectName", longest), reply(True)
+        yield set_to(1, "objectName", longest + "x"), E14
+        yield get(1, "objectName"), reply(longest)
+        yield from ((set_to(1, name, longest), reply(False)) for name in names)
+        yield set_to(1, names[0], longest + "x"), E14
+        yield set_to(1, "one_more", longest), E14
+        yield set_to(1, "one_more", None), reply(False)
+        yield from ((get(1, name), reply(longest)) for name in names)
+        yield {"do": "dynamicNames", "object": 1}, reply(names)
+    yield delete(1), reply(True)
+
+
+def ring(count):
+    """Objects in a ring, each of which sets its property to what the one before it was set to."""
+    def calls(first, value):
+        return [call("keep(int)", number + 1, number, value) for number in range(first, first + LEVELS)]
+
+    yield from ((new(), reply(number)) for number in range(1, count + 1))
+    yield from ((connect(number, "xChanged(int)", number % count + 1, "keep(int)"), reply(number)) for number in range(1, count + 1))
+    yield set_to(1, "x", 7), *calls(1, 7), warning("E14", LEVELS + 1), reply(True)
+    yield get(LEVELS + 1, "x"), reply(7)
+    yield get(LEVELS + 2, "x"), reply(0)
+    yield set_to(1, "x", 7), reply(True)
+    yield set_to(count, "x", 7), call("keep(int)", 1, count, 7), reply(True)
+    yield set_to(LEVELS + 2, "x", 7), *calls(LEVELS + 2, 7), warning("E14", 2 * LEVELS + 2), reply(True)
+
+
+def falls(slot, signal="down()", start=None, args_of=lambda level: ()):
+    """A ring of trees, each as deep as may be: the signal of a root calls the next root's slot, which sends on and deletes."""
+    roots = [LEVELS * at + 1 for at in range(LEVELS)]
+    after = roots[1:] + roots[:1]
+    too_deep = [warning("E14", number) for number in (1, *range(1, LEVELS + 1))]
+    for number in range(1, LEVELS * LEVELS + 1):
+        yield new(None if number in roots else number - 1), reply(number)
+    yield new(), E14
+    yield from ((connect(root, signal, other, slot), reply(at)) for at, (root, other) in enumerate(zip(roots, after), 1))
+    calls = [call(slot, other, root, *args_of(at)) for at, (root, other) in enumerate(zip(roots, after), 1)]
+    yield start or invoke(1, signal), *calls, *too_deep, reply(True)
+    yield CHILDREN, reply([])
+    yield new(), reply(LEVELS * LEVELS + 1)
+
+
+def changes(slot):
+    """The same ring, where each slot sets its object's property, which tells the next root, and deletes."""
+    return falls(slot, "xChanged(int)", set_to(1, "x", 1), lambda level: [level])
+
+
+def chain(slot):
+    """Objects each of whose ends deletes the next one, as far as signals may be nested; then the next one, and so on."""
+    count = LEVELS * LEVELS
+    yield from ((new(), reply(number)) for number in range(1, count + 1))
+    yield from ((connect(number, "destroyed()", number + 1, slot), reply(number)) for number in range(1, count))
+    for first in range(1, count + 1, LEVELS + 1):
+        last = min(first + LEVELS, count)
+        too_deep = [warning("E14", last)] if last == first + LEVELS else []
+        yield delete(first), *(call(slot, number + 1, number) for number in range(first, last)), *too_deep, reply(True)
+        yield STATUS, counted(objects=count - last, connections=max(0, count - last - 1))
+    yield CHILDREN, reply([])
+
+
+def ends(slot, later):
+    """Trees as deep as may be: the end of each one's deepest object deletes the next tree, and that of the last one tries the first."""
+    count = LEVELS * LEVELS
+    roots = range(1, count + 1, LEVELS)
+    deepest = [root + LEVELS - 1 for root in roots]
+    yield from ((new(None if number in roots else number - 1), reply(number)) for number in range(1, count + 1))
+    yield from ((connect(end, "destroyed()", root, slot), reply(at)) for at, (end, root) in enumerate(zip(deepest, roots[1:]), 1))
+    yield connect(count, "destroyed()", count, "dropFirst()"), reply(LEVELS)
+    calls = [*(call(slot, root, end) for end, root in zip(deepest, roots[1:])), call("dropFirst()", count, count), warning("E13", count)]
+    if later:
+        yield delete_later(1), reply(True)
+        yield SPIN, *calls, spun(1)
+    else:
+        yield delete(1), *calls, reply(True)
+    yield STATUS, counted()
+
+
+def deletions():
+    """As many events as there may be, which all go with the object that they are to delete."""
+    yield new(), reply(1)
+    yield from ((delete_later(1), reply(True)) for _ in range(EVENTS))
+    yield delete_later(1), E14
+    yield invoke(1, "note()", type="queued"), E14
+    yield invoke(1, "nothing()", type="queued"), reply(False)
+    yield invoke(1, "note()", 1, type="queued"), E22
+    yield invoke(1, "ask()"), call("ask()", 1, 0), warning("E14", 1), reply(True)
+    yield STATUS, counted(objects=1, queued=EVENTS)
+    yield SPIN, spun(1)
+    yield STATUS, counted()
+
+
+def lost_calls():
+    """Calls that meet as many events as there may be, with one turn less than that."""
+    turns, spent = EVENTS - 1, warning("E23")
+    yield from ((new(), reply(number)) for number in (1, 2))
+    yield from ((connect(1, "down()", 2, "note()", type="queued"), reply(number)) for number in range(1, EVENTS))
+    yield connect(1, "down()", 2, "note()", type="queued", single=True), reply(EVENTS)
+    yield invoke(1, "down()"), spent, reply(True)
+    yield STATUS, counted(connections=EVENTS, objects=2, queued=turns)
+    yield invoke(1, "down()"), spent, reply(True)
+    yield STATUS, counted(connections=EVENTS, lost=turns - 1, objects=2, queued=EVENTS)
+    yield {"do": "disconnect", "connection": 1}, reply(True)
+    yield invoke(1, "down()"), reply(True)
+    yield {"do": "disconnect", "connection": EVENTS}, reply(False)
+    yield STATUS, counted(connections=turns - 1, lost=2 * turns - 1, objects=2, queued=EVENTS)
+    yield SPIN, *[call("note()", 2, 1)] * turns, spent, spun(turns, 1, 2 * turns - 1)
+    yield SPIN, call("note()", 2, 1), spun(1, 0, 2 * turns - 1)
+
+
+def wide_rows():
+    for turns in (None, CONNECTIONS - 1, CONNECTIONS, 20_000):
+        words = ("--turns", str(turns)) if turns else ()
+        yield row_of(f"{CONNECTIONS} connections, turns {turns or 'by default'}", connections(turns or TURNS), *words)
+    for turns in (None, CONNECTIONS):
+        words = ("--turns", str(turns)) if turns else ()
+        yield row_of(f"{CONNECTIONS} connections of a functor, turns {turns or 'by default'}", functors(turns or TURNS), *words)
+    yield row_of(f"calls of a functor that meet {EVENTS} events", lost_functors(), "--turns", str(EVENTS))
+    yield row_of(f"texts of {TEXT_BYTES} bytes", texts())
+    yield row_of(f"{LEVELS * LEVELS} objects, and names of {TEXT_BYTES} bytes", objects())
+    yield row_of(f"{EVENTS} deletions of one object", deletions())
+    yield row_of(f"calls that meet {EVENTS} events", lost_calls(), "--turns", str(EVENTS - 1))
+    yield row_of(f"{DYNAMIC_PROPERTIES} dynamic properties of {TEXT_BYTES} bytes", values())
+    yield row_of("a ring of objects that tell of their changes", ring(LEVELS * LEVELS))
+
+
+def deep_rows():
+    yield row_of("trees deleted in nested signals", falls("fall()"))
+    yield row_of("trees deleted in nested signals behind choices", falls("fallDeep()"))
+    yield row_of("trees deleted in nested changes", changes("sink(int)"))
+    yield row_of("trees deleted in nested changes behind choices", changes("sinkDeep(int)"))
+    yield row_of("functors in a chain", chain_of_functors(LEVELS * LEVELS))
+    yield row_of("objects whose ends delete the next one", chain("drop()"))
+    yield row_of("objects whose ends delete the next one behind choices", chain("dropDeep()"))
+    yield row_of("trees whose ends delete the next one", ends("drop()", False))
+    yield row_of("trees whose ends delete the next one behind choices", ends("dropDeep()", False))
+    yield row_of("trees whose ends delete the next one behind choices, in an event", ends("dropDeep()", True))

@@ -1,0 +1,405 @@
+"""A session as its definitions have it: lists of rows, and an agenda that is done item by item.
+
+Nothing here is quick, and nothing is kept beside the rows: whatever is asked is looked for by going through them.
+"""
+
+from .classes import DESTROYED, FUNCTORS, Classes, Connection, Event, Frame, Row
+from .values import Refused, computed, is_long, is_of_kind, is_value, normal, refuse
+
+OBJECTS = 4_096
+DEPTH = 64
+CONNECTIONS = 16_384
+EVENTS = 16_384
+NESTED_SIGNALS = 64
+DYNAMIC_PROPERTIES = 64
+TURNS = 10_000
+
+
+class Session:
+    """A session as its definition has it."""
+
+    def __init__(self, classes=None, turns=TURNS):
+        self.classes = classes or Classes()
+        self.most_turns = turns
+        self.rows = []
+        self.connections = []
+        self.queue = []
+        self.last_number = self.last_stamp = self.last_connection = self.lost = 0
+        self.begin()
+
+    def begin(self):
+        """The beginning of a command."""
+        self.turns, self.spent, self.taken, self.lines = self.most_turns, False, 0, []
+
+    # Objects.
+
+    def row(self, number):
+        return next((row for row in self.rows if row.number == number), None)
+
+    def known(self, number):
+        return self.row(number) or refuse("E04")
+
+    def alive(self, number):
+        row = self.known(number)
+        return refuse("E13") if row.dying else row
+
+    def children(self, parent):
+        return sorted((row for row in self.rows if row.parent == parent), key=lambda row: row.stamp)
+
+    def line(self, number):
+        """An object and those above it."""
+        line = []
+        while number is not None:
+            line.append(number)
+            number = self.row(number).parent
+        return line
+
+    def height(self, number):
+        return 1 + max((self.height(row.number) for row in self.children(number)), default=0)
+
+    def new(self, class_name, parent=None):
+        if parent is not None:
+            self.alive(parent)
+        if class_name not in self.classes:
+            refuse("E03")
+        if len(self.rows) >= OBJECTS or len(self.line(parent)) >= DEPTH:
+            refuse("E14")
+        self.last_number += 1
+        self.last_stamp += 1
+        values = {it.name: it.default for it in self.classes.properties(class_name)}
+        self.rows.append(Row(self.last_number, class_name, parent, self.last_stamp, values))
+        return self.last_number
+
+    def set_parent(self, number, parent):
+        row = self.alive(number)
+        if parent is not None:
+            self.alive(parent)
+        if row.parent == parent:
+            return True
+        if number in self.line(parent):
+            refuse("E12")
+        if len(self.line(parent)) + self.height(number) > DEPTH:
+            refuse("E14")
+        self.last_stamp += 1
+        row.parent, row.stamp = parent, self.last_stamp
+        return True
+
+    def below(self, number):
+        """The objects below another one, level by level, each level in the order of its parents."""
+        level = self.children(number)
+        while level:
+            yield from level
+            level = [below for row in level for below in self.children(row.number)]
+
+    def find(self, number, name=None, class_name=None):
+        self.known(number)
+        if class_name is not None and class_name not in self.classes:
+            refuse("E03")
+        for row in self.below(number):
+            is_named = name in (None, self.read(row, "objectName"))
+            if is_named and (class_name is None or class_name in self.classes.chain(row.class_name)):
+                return row.number
+        return None
+
+    # Properties.
+
+    def declared(self, row, name):
+        """The declared property of this name, or None."""
+        return next((it for it in self.classes.properties(row.class_name) if it.name == name), None)
+
+    def read(self, row, name):
+        """The value of a property, declared or dynamic, or None."""
+        return row.values.get(name, row.dynamic.get(name))
+
+    def write(self, row, name, value, depth):
+        """Writes a property, null as `set` does, and answers what is sent of it at this depth."""
+        declared = self.declared(row, name)
+        if declared is None:
+            self.write_dynamic(row, name, value)
+        elif value is not None:
+            return self.write_declared(row, declared, value, depth)
+        return []
+
+    def write_declared(self, row, declared, value, depth):
+        if not is_of_kind(value, declared.kind):
+            refuse("E22")
+        if is_long(value):
+            refuse("E14")
+        before = row.values[declared.name]
+        row.values[declared.name] = value
+        return [] if value == before else self.notification(row, declared, depth)
+
+    def notification(self, row, declared, depth):
+        """The signal that tells of a property's change, where it has one, with as much of the value as it takes."""
+        if declared.notify is None:
+            return []
+        signal = self.signal(row.number, declared.notify)
+        kinds = self.methods(row.number)[signal].kinds
+        return [("emit", row.number, signal, [row.values[declared.name]] if kinds else [], depth)]
+
+    def write_dynamic(self, row, name, value):
+        if value is None:
+            row.dynamic.pop(name, None)
+            return
+        if not is_value(value):
+            refuse("E22")
+        if is_long(value) or name not in row.dynamic and len(row.dynamic) >= DYNAMIC_PROPERTIES:
+            refuse("E14")
+        row.dynamic[name] = value
+
+    # Methods and connections.
+
+    def methods(self, number):
+        return self.classes.methods(self.row(number).class_name)
+
+    def index(self, number, signature):
+        text = normal(signature)
+        texts = [method.text for method in self.methods(number)]
+        return texts.index(text) if text in texts else refuse("E05")
+
+    def signal(self, number, text):
+        index = self.index(number, text)
+        return index if self.methods(number)[index].is_signal else refuse("E05")
+
+    def called(self, number, callee):
+        """The method of an object that has this index, or the functor of this name."""
+        return FUNCTORS[callee] if callee in FUNCTORS else self.methods(number)[callee]
+
+    def connect(self, sender, signal, receiver, callee, asked):
+        """Connects two ends that are there, in the way that is asked for, and answers the number."""
+        sent, taken = self.methods(sender)[signal].kinds, self.called(receiver, callee).kinds
+        if sent[: len(taken)] != taken:
+            refuse("E07")
+        if asked.get("unique") and callee in FUNCTORS:
+            refuse("E09")
+        ends = sender, signal, receiver, callee
+        if asked.get("unique") and any(row.ends() == ends for row in self.connections):
+            refuse("E08")
+        if len(self.connections) >= CONNECTIONS:
+            refuse("E14")
+        self.last_connection += 1
+        queued, single = asked.get("type") == "queued", asked.get("single", False)
+        self.connections.append(Connection(self.last_connection, *ends, queued, single))
+        return self.last_connection
+
+    def disconnect(self, is_meant):
+        """Breaks the connections that are meant, and answers how many."""
+        before = len(self.connections)
+        self.connections = [row for row in self.connections if not is_meant(row)]
+        return before - len(self.connections)
+
+    def disconnect_pattern(self, sender, signal, receiver, method):
+        """Breaks the connections of a sender that match where a signal, a receiver and a method are given.
+
+        The receiver of a functor's connection is its context, and no method is the functor."""
+        return self.disconnect(
+            lambda row: row.sender == sender
+            and signal in (None, row.signal)
+            and receiver in (None, row.receiver)
+            and method in (None, row.callee)
+        )
+
+    # Events.
+
+    def post(self, event):
+        """Puts an event behind all others, and answers whether there was room for it."""
+        has_room = len(self.queue) < EVENTS
+        if has_room:
+            self.queue.append(event)
+        return has_room
+
+    def delete_later(self, number):
+        return self.post(Event(number)) or refuse("E14")
+
+    def delivered(self, event):
+        """What an event comes to."""
+        if event.callee is None:
+            return [("delete", event.number, 0)]
+        if self.called(event.number, event.callee).is_signal:
+            return [("emit", event.number, event.callee, event.args, 0)]
+        return [("run", event.number, event.callee, event.sender, event.args, 0)]
+
+    # What a slot or functor names and computes.
+
+    def target(self, frame, target):
+        """The number of the object that a target is; 0 where there is none."""
+        if target == "self":
+            return frame.self_number
+        if target == "sender":
+            return frame.sender
+        if isinstance(target, dict):
+            return self.find(frame.self_number, target["child"]) or 0 if self.row(frame.self_number) else 0
+        return target
+
+    def value(self, frame, form):
+        """The value of an expression."""
+        if "const" in form:
+            return form["const"]
+        if "arg" in form:
+            return frame.args[form["arg"]]
+        if "prop" in form:
+            value = self.read(self.known(self.target(frame, form.get("of", "self"))), form["prop"])
+            return refuse("E11") if value is None else value
+        [(operator, parts)] = form.items()
+        if operator == "if":
+            test = self.value(frame, parts[0])
+            return self.value(frame, parts[1 if test else 2]) if isinstance(test, bool) else refuse("E22")
+        a, b = (self.value(frame, part) for part in parts)
+        return computed(operator, a, b)
+
+    # The agenda.
+
+    def run(self, agenda):
+        while agenda:
+            agenda[:1] = self.step(*agenda[0])
+
+    def step(self, kind, *item):
+        """Does an item of the agenda, and answers what is to be done first now."""
+        return getattr(self, f"do_{kind}")(*item) or []
+
+    def warn(self, code, number=None):
+        self.lines.append({"warning": code} if number is None else {"object": number, "warning": code})
+
+    def takes_turn(self):
+        """Whether a turn is left; it is taken then."""
+        if self.turns:
+            self.turns -= 1
+            return True
+        if not self.spent:
+            self.spent = True
+            self.warn("E23")
+        return False
+
+    def do_emit(self, number, signal, args, depth):
+        row = self.row(number)
+        if row is None or row.blocked and signal != DESTROYED:
+            return None
+        if depth >= NESTED_SIGNALS:
+            return self.warn("E14", number)
+        called = [row for row in self.connections if (row.sender, row.signal) == (number, signal)]
+        return [("call", row, args, depth) for row in called]
+
+    def do_call(self, connection, args, depth):
+        if connection not in self.connections or not self.takes_turn():
+            return None
+        if connection.single:
+            self.connections.remove(connection)
+        called = self.called(connection.receiver, connection.callee)
+        given = args[: len(called.kinds)]
+        if connection.queued:
+            self.lost += not self.post(Event(connection.receiver, connection.callee, connection.sender, given))
+            return None
+        if called.is_signal:
+            return [("emit", connection.receiver, connection.callee, given, depth + 1)]
+        return [("run", connection.receiver, connection.callee, connection.sender, given, depth)]
+
+    def do_run(self, number, callee, sender, args, depth):
+        """Runs a slot of an object, or a functor for it."""
+        if self.row(number) is None:
+            return None
+        called = self.called(number, callee)
+        self.lines.append({"args": args, "call": called.text, "object": number, "sender": sender})
+        return self.acts(called.body, Frame(number, sender, args, depth + 1))
+
+    def acts(self, body, frame):
+        return [("act", action, frame) for action in body]
+
+    def do_act(self, action, frame):
+        kind = next(it for it in ACTIONS if it in action)
+        try:
+            return ACTIONS[kind](self, action, frame)
+        except Refused as refused:
+            return self.warn(str(refused), frame.self_number)
+
+    def do_delete(self, number, depth):
+        row = self.row(number)
+        if row is None or row.dying:
+            return None
+        row.dying = True
+        return [("emit", number, DESTROYED, [], depth), ("cut", number, depth), ("gone", number)]
+
+    def do_cut(self, number, depth):
+        self.disconnect(lambda row: number in (row.sender, row.receiver))
+        self.queue = [event for event in self.queue if event.number != number]
+        return [("kin", number, child.number, depth) for child in self.children(number)]
+
+    def do_kin(self, parent, number, depth):
+        row = self.row(number)
+        return [("delete", number, depth)] if row and not row.dying and row.parent == parent else None
+
+    def do_gone(self, number):
+        self.rows.remove(self.row(number))
+        for child in self.children(number):
+            child.parent = None
+
+    def do_spin(self):
+        if not self.queue or not self.takes_turn():
+            return None
+        self.taken += 1
+        return [*self.delivered(self.queue.pop(0)), ("spin",)]
+
+    # Actions of a slot or functor.
+
+    def act_when(self, action, frame):
+        test = self.value(frame, action["when"])
+        if not isinstance(test, bool):
+            refuse("E22")
+        return self.acts(action["then"] if test else action.get("else", []), frame)
+
+    def act_set(self, action, frame):
+        row = self.known(self.target(frame, action.get("of", "self")))
+        return self.write(row, action["set"], self.value(frame, action["to"]), frame.depth)
+
+    def act_emit(self, action, frame):
+        number = self.target(frame, action.get("of", "self"))
+        self.known(number)
+        signal = self.signal(number, action["emit"])
+        values = [self.value(frame, form) for form in action["args"]]
+        kinds = self.methods(number)[signal].kinds
+        if len(values) != len(kinds) or not all(map(is_of_kind, values, kinds)):
+            refuse("E22")
+        return [("emit", number, signal, values, frame.depth)]
+
+    def act_connect(self, action, frame):
+        sender, receiver = (self.target(frame, it) for it in (action.get("of", "self"), action["to"]))
+        self.alive(sender)
+        self.alive(receiver)
+        signal = self.signal(sender, action["connect"])
+        method = self.index(receiver, action["method"])
+        self.connect(sender, signal, receiver, method, action)
+
+    def act_disconnect(self, action, frame):
+        sender = self.target(frame, action.get("of", "self"))
+        self.known(sender)
+        receiver = self.target(frame, action["to"]) if "to" in action else None
+        if receiver is not None:
+            self.known(receiver)
+        signal = None if action["disconnect"] is None else self.signal(sender, action["disconnect"])
+        method = self.index(receiver, action["method"]) if "method" in action else None
+        self.disconnect_pattern(sender, signal, receiver, method)
+
+    def act_delete(self, action, frame):
+        return [("delete", self.alive(self.target(frame, action["delete"])).number, frame.depth)]
+
+    def act_set_parent(self, action, frame):
+        parent = action["setParent"]
+        self.set_parent(self.target(frame, action.get("of", "self")), parent and self.target(frame, parent))
+
+    def act_delete_later(self, action, frame):
+        self.delete_later(self.alive(self.target(frame, action["deleteLater"])).number)
+
+    def act_block(self, action, frame):
+        self.known(self.target(frame, action.get("of", "self"))).blocked = action["block"]
+
+
+ACTIONS = {
+    "when": Session.act_when,
+    "set": Session.act_set,
+    "emit": Session.act_emit,
+    "connect": Session.act_connect,
+    "disconnect": Session.act_disconnect,
+    "deleteLater": Session.act_delete_later,
+    "delete": Session.act_delete,
+    "block": Session.act_block,
+    "setParent": Session.act_set_parent,
+}

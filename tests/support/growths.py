@@ -1,0 +1,186 @@
+"""Runs of the program with one of its requests for memory refused, and what may come of it.
+
+The answer to a command is all that it prints: calls and warnings, and then its reply or its error. A refused growth may
+
+- not show: the run is the row's;
+- fail a session: one command is answered by E21 alone, every later one of its session by E20, and all
+  others as in the row, also the session's lines that are no commands;
+- lose a line that was being read: it is answered by E21 for the session `-`, and all others as if it
+  had not been there;
+- keep a session from being entered, where it had no command before: the command is answered by E21 for
+  its session, and all others as if it had not been there;
+- end the program with status 5 and a prefix of the row's answer, which is none while it starts.
+
+Anything else is wrong.
+"""
+
+import json
+import os
+from collections import Counter
+from dataclasses import dataclass, field, replace
+
+from .differences import LAST, difference, shown_input
+from .lines import lines_in, lines_of
+
+MOST = 100_000
+LARGE = 4 * 1024
+PART = 50
+OUT_OF_MEMORY = 5
+COMPLAINT = b"metad: out of memory\n"
+KINDS = ("session failed", "line lost", "session not entered", "program ended")
+
+
+def line(code, session):
+    return lines_of([{"error": code, "session": session}])
+
+
+def answers_in(text):
+    """The answer to each command: the lines that it prints, of which the last is its reply or its error."""
+    answers, is_whole = [], True
+    for it in lines_in(text):
+        if is_whole:
+            answers.append(b"")
+        answers[-1] += it
+        is_whole = it.startswith(LAST)
+    return answers
+
+
+def session_of(answer):
+    return json.loads(answer.splitlines()[-1])["session"]
+
+
+def is_command_of(session, answer):
+    """Whether a session has given a command that is answered so. What is no command is answered by E02."""
+    return session_of(answer) == session and answer != line("E02", session)
+
+
+def with_failed_session(answers, at):
+    """The row's answers, where the session of one of them has failed there. What is no command stays E02."""
+    session = session_of(answers[at])
+    later = [line("E20", session) if is_command_of(session, it) else it for it in answers[at + 1 :]]
+    return answers[:at] + [line("E21", session)] + later
+
+
+@dataclass
+class Tried:
+    """What came of refusing one growth after another, and what is wrong, or None."""
+
+    outcomes: Counter = field(default_factory=Counter)
+    fault: str | None = None
+
+
+class Trial:
+    """A row whose growths are refused by a library that is preloaded."""
+
+    def __init__(self, program, library, row):
+        self.program, self.library, self.row = program, library, row
+        self.lines = lines_in(row.given)
+        self.answers = answers_in(row.stdout)
+        self.without = {}
+
+    def is_plain(self):
+        """Whether each line has one answer, or none is read."""
+        return self.row.status != 0 or len(self.lines) == len(self.answers)
+
+    def run(self, number):
+        """Runs the row with this growth refused, and tells whether the run came to it."""
+        reader, writer = os.pipe()
+        added = {"LD_PRELOAD": self.library, "REFUSE_AT": str(number), "REFUSE_NOTE": str(writer)}
+        try:
+            ran = self.row.run(self.program, env={**os.environ, **added}, pass_fds=[writer])
+        finally:
+            os.close(writer)
+        with os.fdopen(reader, "rb") as note:
+            return ran, note.read() != b""
+
+    def answers_without(self, at):
+        """The answers to the input without one of its lines."""
+        if at not in self.without:
+            given = b"".join(self.lines[:at] + self.lines[at + 1 :])
+            self.without[at] = answers_in(replace(self.row, given=given).run(self.program).stdout)
+        return self.without[at]
+
+    def outcome(self, ran):
+        """What a refused growth led to, or None where it is none of the allowed."""
+        if ran.returncode == OUT_OF_MEMORY:
+            is_front = self.row.stdout.startswith(ran.stdout)
+            return "program ended" if is_front and ran.stderr == COMPLAINT else None
+        if self.row.passes(ran):
+            return "not seen"
+        answers = answers_in(ran.stdout)
+        if self.row.status or ran.returncode or ran.stderr or len(answers) != len(self.answers):
+            return None
+        at = next(at for at, (got, want) in enumerate(zip(answers, self.answers)) if got != want)
+        others = answers[:at] + answers[at + 1 :]
+        if answers[at] == line("E21", "-"):
+            return "line lost" if others == self.answers_without(at) else None
+        if answers == with_failed_session(self.answers, at):
+            return "session failed"
+        session = session_of(self.answers[at])
+        is_first = not any(is_command_of(session, it) for it in self.answers[:at])
+        if is_first and answers[at] == line("E21", session) and others == self.answers_without(at):
+            return "session not entered"
+        return None
+
+    def count(self):
+        """How many growths a run makes."""
+        made, most = 0, 1
+        while self.run(most)[1]:
+            made, most = most, 2 * most
+        while most - made > 1:
+            middle = (made + most) // 2
+            made, most = (middle, most) if self.run(middle)[1] else (made, middle)
+        return made
+
+    def refuse_each(self, first, is_sparse):
+        """Refuses one growth after another, from the first one on; where it is sparse, at growing distances."""
+        tried, number = Tried(), first
+        for _ in range(MOST):
+            ran, was_refused = self.run(number)
+            if not was_refused:
+                fault = self.row.fault(ran)
+                tried.fault = fault and f"without a refusal {fault}"
+                return tried
+            outcome = self.outcome(ran)
+            if outcome is None:
+                tried.fault = self.refusal_fault(number, ran)
+                return tried
+            tried.outcomes[outcome] += 1
+            number += 1 + (number // PART if is_sparse else 0)
+        tried.fault = "no end of growths"
+        return tried
+
+    def refusal_fault(self, number, ran):
+        """What is said of a refused growth that led to something else."""
+        said = difference(self.row.stdout, ran.stdout)
+        wrote = f"status {ran.returncode}, on standard error {ran.stderr[-300:]!r}, on standard output {said}"
+        return f"growth {number} refused: {wrote}\n{shown_input(self.row.given)}"
+
+
+def classes_of(row):
+    """The class files among a row's words."""
+    paths = [row.folder / word for word in row.words]
+    return tuple(path.read_bytes() for path in paths if path.is_file())
+
+
+def start_of(row):
+    """What the program's start depends on: rows that agree in it start alike."""
+    return row.words, classes_of(row)
+
+
+def count_start(program, library, row):
+    """How many growths a row's start makes."""
+    return Trial(program, library, replace(row, given=b"", stdout=b"")).count()
+
+
+def refuse_growths(program, library, row, first):
+    """Refuses the growths of a row, from this one on."""
+    trial = Trial(program, library, row)
+    if not trial.is_plain():
+        return Tried(fault="it has not one answer a line")
+    return trial.refuse_each(first, is_sparse=sum(map(len, classes_of(row))) > LARGE)
+
+
+def missing(outcomes):
+    """What should have come of some refused growth and never did."""
+    return [kind for kind in KINDS if not outcomes[kind]]

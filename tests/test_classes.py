@@ -1,0 +1,124 @@
+"""Class files: which the program takes, what it says of the others and how quick it is, and whether docs/classes.schema.json
+says the same."""
+
+import json
+import resource
+import subprocess
+import sys
+from collections import Counter
+from pathlib import Path
+from tempfile import TemporaryDirectory
+
+from .generators import signals
+from .generators.class_faults import all_files
+from .generators.class_files import Changes, right_files, wrong_files
+from .support.cases import CASE, ProgramCases
+from .support.differences import cut
+from .support.documents import all_examples
+from .support.json_schema import Schema
+from .support.program import ROOT, ROWS, SECONDS, Row, rows_in
+
+QUICK = 1  # second of the processor's time
+SCHEMA = ROOT / "docs" / "classes.schema.json"
+CHANGED = 150  # class files that are changed by chance
+SEED = 1
+NESTED = 10_000  # calls in one another, which the deepest class file takes of the schema's reader
+SHOWN = 1_000
+
+
+def processor_seconds():
+    """What all runs so far have taken of the processor."""
+    used = resource.getrusage(resource.RUSAGE_CHILDREN)
+    return used.ru_utime + used.ru_stime
+
+
+class ClassFiles(ProgramCases):
+    """Class files with a fault each, bodies of slots, and files of about as many bytes as there may be."""
+
+    def test_class_files(self):
+        """The program takes a class file, or names its first fault and its class, in a second of the processor at most."""
+        with TemporaryDirectory(prefix="metad-classes-") as folder:
+            path = Path(folder, "classes.json")
+
+            def fault_of(case):
+                text, kind, number = case
+                path.write_text(text)
+                row = Row(text, b"", b"", words=("classes.json",), folder=path.parent)
+                if kind:
+                    row.status, row.stderr = 1, f"metad: class file refused: {kind} at class {number}\n".encode()
+                start = processor_seconds()
+                fault = row.fault(row.run(self.program))
+                took = processor_seconds() - start
+                if took > QUICK:
+                    fault = f"takes {took:.1f} seconds of the processor, and not {QUICK}"
+                return fault and f"{fault}\nthe class file: {cut(text)}"
+
+            self.check_each([(name, case) for name, *case in all_files()], fault_of, at_once=1)
+
+
+def files_of_tests():
+    """The class files of the rows and of the documents' examples that their runs accept."""
+    with TemporaryDirectory(prefix="metad-examples-") as room:
+        for run in (*rows_in(ROWS), *all_examples(room)):
+            paths = [Path(run.folder or room, word) for word in run.words]
+            files = [path for path in paths if path.is_file() and run.status == 0]
+            yield from ((run.name, json.loads(path.read_text())) for path in files)
+
+
+class SchemaOfClassFiles(ProgramCases):
+    """The schema of class files beside the program that reads them."""
+
+    def setUp(self):
+        self.schema = Schema(json.loads(SCHEMA.read_text()))
+        self.path = Path(self.enterContext(TemporaryDirectory(prefix="metad-schema-")), "classes.json")
+        self.addCleanup(sys.setrecursionlimit, sys.getrecursionlimit())
+        sys.setrecursionlimit(NESTED)
+
+    def is_accepted(self, classes):
+        """Whether the program takes a class file."""
+        self.path.write_text(json.dumps(classes))
+        words = [self.program, str(self.path)]
+        ran = subprocess.run(words, stdin=subprocess.DEVNULL, capture_output=True, timeout=SECONDS)
+        self.assertIn(ran.returncode, (0, 1), "the status at a class file")
+        return ran.returncode == 0
+
+    def fault_of(self, classes, wanted):
+        """Who is wrong about a class file that is to be accepted or refused, or None."""
+        said = {"the schema": self.schema.accepts(classes), "the program": self.is_accepted(classes)}
+        does = {True: "accepts", False: "refuses"}
+        wrong = [f"{who} {does[is_accepted]} it" for who, is_accepted in said.items() if is_accepted != wanted]
+        return "\n".join([*wrong, json.dumps(classes)[:SHOWN]]) if wrong else None
+
+    def test_descriptions(self):
+        """Each key, action and expression of the schema is described."""
+        for path, part in self.schema.parts():
+            meant = self.schema.meant(part["$ref"]) if "$ref" in part else part
+            is_bare = "description" not in meant and set(part) - {"const", "$ref"} and set(part) != {"$ref"}
+            self.assertFalse(is_bare, f"{path or 'the file'} has no description")
+
+    def test_right_files(self):
+        """Schema and program take class files that keep to the rules."""
+        self.check_each(right_files(), lambda classes: self.fault_of(classes, True), at_once=1)
+
+    def test_files_of_tests(self):
+        """Both take the class files of the rows and of the documents."""
+        self.check_each(files_of_tests(), lambda classes: self.fault_of(classes, True), at_once=1)
+
+    def test_wrong_files(self):
+        """Both refuse class files with a fault that a schema can say."""
+        self.check_each(wrong_files(), lambda classes: self.fault_of(classes, False), at_once=1)
+
+    def test_changed_files(self):
+        """What the schema refuses of class files that were changed by chance, the program refuses too."""
+        chance = Changes(SEED)
+        changed = [chance.changed({"classes": list(signals.Chance(at).classes())[:2]}) for at in range(CHANGED)]
+
+        def try_file(classes):
+            accepted = self.schema.accepts(classes), self.is_accepted(classes)
+            fault = f"the program alone accepts {json.dumps(classes)[:SHOWN]}" if accepted == (False, True) else None
+            return accepted, fault
+
+        tried = self.check_each([(f"change {at}", it) for at, it in enumerate(changed)], try_file, lambda it: it[1], at_once=1)
+        seen = Counter(accepted for accepted, _ in tried)
+        shows = seen[False, False] and seen[True, True]
+        self.assertTrue(CASE or shows, f"the class files made by chance show nothing: {seen}")

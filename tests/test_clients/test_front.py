@@ -1,0 +1,379 @@
+"""The front (clients/python/front.py): many clients at once, each compared with a server of its own, and clients that write
+rubbish, write without end, do not read or go away.
+
+What a client has to be told is taken from docs/PROTOCOL.md.
+"""
+
+import json
+import os
+import random
+import re
+import select
+import signal
+import subprocess
+import sys
+import time
+from concurrent.futures import ThreadPoolExecutor
+from pathlib import Path
+
+import metad
+from front import with_session
+
+from tests.generators.sessions import CLASSES, life_of
+from tests.support.lines import text_of
+from tests.support.program import library
+
+from .fronts import FRONT, PATIENCE, Client, FrontCases, front_of
+
+QUIET = 0.4
+CLIENTS = 50
+LINE_MOST = 65_536
+LONG_LINE = 1024 * 1024
+MEMORY_MOST = 64 * 1024 * 1024
+UNREAD_MOST = 16 * 1024 * 1024
+TEXT_MOST = 4_096
+NO_JSON, NO_COMMAND = (text_of({"error": code, "session": "-"}) for code in ("E01", "E02"))
+STATUS = '{"do":"status"}'
+NEW = '{"class":"Probe","do":"new"}'
+HEAR = {"sig": "hear(QString)", "body": []}
+EAR = {"name": "Ear", "super": "QObject", "signals": ["told(QString)"], "slots": [HEAR]}
+
+
+def reply(value, session):
+    return text_of({"reply": value, "session": session})
+
+
+def error(code, session):
+    return text_of({"error": code, "session": session})
+
+
+def classes_in(room, classes):
+    path = Path(room, "classes.json")
+    path.write_text(text_of({"classes": classes}))
+    return str(path)
+
+
+def live(path, commands):
+    """A client's name and all that it is told, where it writes all its commands and then reads."""
+    with Client(path) as client:
+        name = json.loads(client.ask(STATUS))["session"]
+        client.say(*map(text_of, commands))
+        return name, client.rest()
+
+
+def alone(words, name, commands):
+    """What a session of this name is told by a server of its own."""
+    given = "".join(text_of({**command, "session": name}) + "\n" for command in commands)
+    return subprocess.run(words, input=given, capture_output=True, check=True, text=True).stdout.splitlines()
+
+
+RUBBISH = (
+    ("nonsense", NO_JSON),
+    ("[1]", NO_COMMAND),
+    ("5", NO_COMMAND),
+    ("null", NO_COMMAND),
+    ("{", NO_JSON),
+    ("}", NO_JSON),
+    ("{}}", NO_JSON),
+    ("{,}", NO_JSON),
+    ('{"do":"status",}', NO_JSON),
+    ('{"do":"status"', NO_JSON),
+    ('{"do":"status"} ' + STATUS, NO_JSON),
+    ('{"do":"status","session":"c1"}{}', NO_JSON),
+    ('{"a":"}', NO_JSON),
+    ('{"a":"\\}', NO_JSON),
+    ('{"a":{}', NO_JSON),
+    ('{"a":[}', NO_JSON),
+    ("\ufeff" + STATUS, NO_JSON),
+    ("5".ljust(LINE_MOST), NO_COMMAND),
+    ("5".ljust(LINE_MOST + 1), NO_JSON),
+    (" " * (LINE_MOST + 1), NO_JSON),
+    ("x" * LONG_LINE, NO_JSON),
+    (STATUS[:-1] + LONG_LINE * " " + "}", NO_JSON),
+)
+
+
+PIECES = (*'{}[],:"\\-e1 ', '"a"', '"session"', '"c1"', "tru", "true", "\\u00", "{}", '"session":"c1"', '{"a":1}')
+CHANCE_LINES = 30_000
+
+
+def read_strictly(line):
+    """Whether a line is JSON, and its value."""
+
+    def refuse(word):
+        raise ValueError(word)
+
+    try:
+        return True, json.loads(line, parse_constant=refuse)
+    except ValueError:
+        return False, None
+
+
+def ask_long(path):
+    """Whether a client is told what it has to be where its lines and the answers are long."""
+    text, count = "n" * TEXT_MOST, 10
+    get = text_of({"do": "get", "object": 1, "property": "objectName"})[:-1].ljust(LINE_MOST - 100) + "}"
+    with Client(path) as client:
+        name = json.loads(client.ask(NEW))["session"]
+        told = client.ask(text_of({"do": "set", "object": 1, "property": "objectName", "value": text}))
+        client.say(*[get] * count)
+        return [told, *(client.hear() for _ in range(count))] == [reply(True, name)] + [reply(text, name)] * count
+
+
+def write_until_full(link, text):
+    """Writes until nothing was taken for a while; how much was."""
+    taken, until = 0, time.monotonic() + 0.5
+    while taken < len(text) and time.monotonic() < until:
+        try:
+            taken += link.send(text[taken:])
+            until = time.monotonic() + 0.5
+        except BlockingIOError:
+            time.sleep(0.01)
+    return taken
+
+
+def processor_seconds(process):
+    """What a process has taken of the processor."""
+    fields = Path(f"/proc/{process.pid}/stat").read_text().rsplit(")", 1)[1].split()
+    return (int(fields[11]) + int(fields[12])) / os.sysconf("SC_CLK_TCK")
+
+
+class Lines(FrontCases):
+    """What clients of a front are told to lines, in form and out of it."""
+
+    def test_rubbish(self):
+        """Each line is answered in its turn, or by nothing where it is blank, and the next one is read as usual."""
+        with self.front() as (path, _), Client(path) as client, Client(path) as other:
+            name = json.loads(client.ask(STATUS))["session"]
+            for number, (line, wanted) in enumerate(RUBBISH, 1):
+                client.say("", " \t\r", " " * LINE_MOST, line, NEW)
+                self.assertEqual(client.hear(), wanted, f"the answer to {line[:40]!r}")
+                self.assertEqual(client.hear(), reply(number, name), f"the line behind {line[:40]!r}")
+                self.assertEqual(json.loads(other.ask(NEW))["reply"], number, "another client")
+            client.link.sendall(b'{"do":"\xff"}\n')
+            self.assertEqual(client.hear(), NO_JSON, "a line that is no UTF-8")
+            for line in ("{}", " { } ", '{"do":"jump"}', '{"session":5}', '{"do":"status","more":1}'):
+                self.assertEqual(client.ask(line), error("E02", name), f"the answer to {line}")
+
+    def test_naming(self):
+        """By chance: a line in which the front has named a session is JSON where it was before, and names that session."""
+        chance, objects = random.Random(1), 0
+        for _ in range(CHANCE_LINES):
+            line = "".join(chance.choices(PIECES, k=chance.randrange(9)))
+            line = chance.choice((line, f"{{{line}}}"))
+            is_json, value = read_strictly(line)
+            wanted = {**value, "session": "name"} if isinstance(value, dict) else value
+            objects += isinstance(value, dict)
+            self.assertEqual(read_strictly(with_session(line.encode(), "name")), (is_json, wanted), f"what {line} becomes")
+        self.assertGreater(objects, CHANCE_LINES / 100, "how many were objects")
+
+    def test_longest(self):
+        """What the front puts into a line counts: the longest line, and one that is longer by a byte."""
+        with self.front() as (path, _), Client(path) as client:
+            name = json.loads(client.ask(STATUS))["session"]
+            room_left = LINE_MOST - len(f',"session":"{name}"')
+            line = NEW[:-1].ljust(room_left - 1) + "}"
+            self.assertEqual(client.ask(line), reply(1, name), "the longest line")
+            self.assertEqual(client.ask(" " + line), reply(2, name), "a line that is longer")
+            self.assertEqual(client.ask(line[:-1] + " }"), NO_JSON, "a line with one byte more within")
+
+    def test_both_ways(self):
+        """Long lines and long answers at once: more than the pipes of the server hold, in both directions."""
+        with self.front() as (path, _), ThreadPoolExecutor(CLIENTS) as pool:
+            self.assertEqual(list(pool.map(ask_long, [path] * CLIENTS)), [True] * CLIENTS, "whether all are told")
+
+    def test_memory(self):
+        """A line without an end takes no memory of the front."""
+        with self.front() as (path, process), Client(path) as client:
+            for _ in range(128):
+                client.link.sendall(LONG_LINE * b"x")
+            client.say("", STATUS)
+            self.assertEqual(client.hear(), NO_JSON, "the answer to 128 MiB")
+            used = re.search(r"VmHWM:\s+(\d+) kB", Path(f"/proc/{process.pid}/status").read_text())
+            self.assertLess(int(used[1]) * 1024, MEMORY_MOST, "the memory of the front")
+
+
+class Clients(FrontCases):
+    """Clients side by side, each with a session of its own."""
+
+    def test_many(self):
+        """Many clients at once, each told what it is told alone. They name sessions as they like, also each other's."""
+        classes = classes_in(self.room, CLASSES)
+        lives = [list(life_of(number)) for number in range(CLIENTS)]
+        said = [[{**command, "session": f"c{at % 7}"} for at, command in enumerate(life)] for life in lives]
+        with self.front(classes) as (path, _), ThreadPoolExecutor(CLIENTS) as pool:
+            told = list(pool.map(live, [path] * CLIENTS, said))
+        self.assertEqual(len({name for name, _ in told}), CLIENTS, "how many names")
+        for (name, lines), commands in zip(told, lives):
+            self.assertEqual(lines, alone([self.program, classes], name, commands), f"what {name} is told")
+
+    def test_names(self):
+        """Nobody reaches the session of another client, and a name is never given again."""
+        ways = ({"session": "mine"}, {"session": "c2"}, {"session": 5}, {"session": None})
+        with self.front() as (path, _):
+            with Client(path) as one, Client(path) as other:
+                self.assertEqual([json.loads(one.ask(NEW)) for _ in range(2)][1]["reply"], 2, "the objects of one")
+                name = json.loads(one.ask(STATUS))["session"]
+                for way in ({"session": name}, *ways):
+                    told = json.loads(other.ask(text_of({"do": "status", **way})))
+                    self.assertEqual((told["session"] != name, told["reply"]["objects"]), (True, 0), f"who asked as {way}")
+                for key in ('"session"', '"\\u0073ession"'):
+                    line = f'{{"do":"children",{key}:"{name}",{key}:"{name}"}}'
+                    told = json.loads(other.ask(line))
+                    self.assertEqual((told["session"] != name, told["reply"]), (True, []), f"what is told to {line}")
+                both = {name, told["session"]}
+            with Client(path) as later:
+                told = json.loads(later.ask(STATUS))
+                self.assertEqual((told["session"] in both, told["reply"]["objects"]), (False, 0), "a later client")
+
+    def test_same_name(self):
+        """Two clients that ask for the same session name have a session each."""
+        line = '{"class":"Probe","do":"new","session":"mine"}'
+        with self.front() as (path, _), Client(path) as one, Client(path) as other:
+            told = [json.loads(client.ask(line)) for client in (one, other, one)]
+            self.assertEqual([it["reply"] for it in told], [1, 1, 2], "their objects")
+            self.assertEqual([it["session"] == told[0]["session"] for it in told], [True, False, True], "whose they are")
+
+    def test_by_client(self):
+        """The Python client over a front: calls and warnings come to its session, though the front names another one."""
+        heard = []
+        with self.front() as (path, _), metad.connect(path) as one, metad.connect(path) as other:
+            for server in (other, one):
+                session = server.session("c1", heard.append, heard.append)
+                self.assertEqual([session.new("Probe") for _ in range(2)], [1, 2], "its objects")
+                session.connect(1, "ping()", 2, "kill()")
+                self.assertIs(session.invoke(1, "ping()"), True, "a signal")
+                self.assertEqual(heard[0], metad.Call(2, "kill()", [], 1), "what is called")
+                self.assertEqual([(it.code, it.object) for it in heard[1:]], [("E04", 2)], "what is warned of")
+                heard.clear()
+            refused = self.raised("a line that is too long", metad.Refused, session.command, "x" * LINE_MOST)
+            self.assertEqual(refused.code, "E01", "its code")
+            self.assertEqual([it.result() for it in [session.send("children") for _ in range(1_000)]], [[2]] * 1_000, "many at once")
+
+    def test_half_lines(self):
+        """Clients that end within a line, with or without waiting for an answer, and clients that go away."""
+        with self.front() as (path, _), Client(path) as other:
+            name = json.loads(other.ask(NEW))["session"]
+            for number in range(2, 22):
+                for text in (NEW[:9], NEW + "\n" + NEW[:9], 50 * (NEW + "\n")):
+                    with Client(path) as gone:
+                        gone.link.sendall(text.encode())
+                self.assertEqual(other.ask(NEW), reply(number, name), "an answer beside those that go")
+            with Client(path) as client:
+                client.link.sendall(f"{NEW}\n{NEW[:9]}".encode())
+                first, second = client.rest()
+                self.assertEqual((json.loads(first)["reply"], second), (1, NO_JSON), "half a line at the end")
+            with Client(path) as client:
+                client.link.sendall(f"{NEW}\n{NEW}".encode())
+                self.assertEqual([json.loads(line)["reply"] for line in client.rest()], [1, 2], "a line without its end")
+
+    def test_slow(self):
+        """The commands of a client that does not read wait, and nobody else does; read later, all is there."""
+        fill = text_of({"do": "set", "object": 1, "property": "objectName", "value": "n" * TEXT_MOST})
+        get = text_of({"do": "get", "object": 1, "property": "objectName"})
+        with self.front() as (path, _), Client(path) as client, Client(path) as other:
+            client.say(NEW, fill)
+            told = [client.hear(), client.hear()]
+            name = json.loads(told[0])["session"]
+            self.assertEqual(told, [reply(1, name), reply(True, name)], "a long text")
+            client.link.setblocking(False)
+            given = (get + "\n").encode() * 20_000
+            taken = write_until_full(client.link, given)
+            self.assertLess(taken, len(given), "how much the front takes")
+            self.assertEqual([json.loads(other.ask(NEW))["reply"] for _ in range(200)], list(range(1, 201)), "another client")
+            client.link.settimeout(PATIENCE)
+            whole = taken // (len(get) + 1)
+            self.assertEqual([client.hear() for _ in range(whole)], [reply("n" * TEXT_MOST, name)] * whole, "what was kept")
+
+    def test_unread(self):
+        """A client that leaves too much unread is closed, and nobody else is."""
+        connect = {"do": "connect", "sender": 1, "signal": "told(QString)", "receiver": 1, "method": "hear(QString)"}
+        count = 2 * UNREAD_MOST // TEXT_MOST
+        with self.front(classes_in(self.room, [EAR])) as (path, _), Client(path) as client, Client(path) as other:
+            self.assertEqual(json.loads(client.ask(text_of({"do": "new", "class": "Ear"})))["reply"], 1, "its object")
+            made = [json.loads(client.ask(text_of(connect)))["reply"] for _ in range(count)]
+            self.assertEqual(made, list(range(1, count + 1)), "its connections")
+            client.say(text_of({"do": "invoke", "object": 1, "method": "told(QString)", "args": ["n" * TEXT_MOST]}))
+            self.assertEqual(json.loads(other.ask(text_of({"do": "new", "class": "Ear"})))["reply"], 1, "another client")
+            self.assertNotIn(b'"reply"', client.until_closed(), "what it is told")
+            self.assertEqual(json.loads(other.ask(STATUS))["reply"]["objects"], 1, "the other client later")
+
+    def test_full(self):
+        """A front that can have no more files takes no more clients until others go, and is quiet meanwhile."""
+        path = Path(self.room, "socket")
+        words = ["sh", "-c", 'ulimit -n 32; exec "$@"', "sh", sys.executable, FRONT, path, self.program]
+        with subprocess.Popen(words, stderr=subprocess.PIPE, text=True) as process:
+            try:
+                self.wait_for(path, process)
+                clients = [Client(path) for _ in range(40)]
+                for client in clients:
+                    client.say(NEW)
+                time.sleep(QUIET)
+                before = processor_seconds(process)
+                time.sleep(QUIET)
+                self.assertLess(processor_seconds(process) - before, QUIET / 2, "what it takes of the processor")
+                answered = select.select([client.link for client in clients], [], [], 0)[0]
+                self.assertTrue(0 < len(answered) < len(clients), "some are answered, and not all")
+                for client in sorted(clients, key=lambda client: client.link not in answered):
+                    self.assertEqual(json.loads(client.hear())["reply"], 1, "an object")
+                    client.leave()
+            finally:
+                process.terminate()
+            self.assertEqual((process.wait(), process.stderr.read()), (0, ""), "the front's end")
+
+
+class Ends(FrontCases):
+    """The ends of a front."""
+
+    def test_server_ends(self):
+        """The server's end ends the front, which says how, and its clients."""
+        path, note = Path(self.room, "socket"), Path(self.room, "pid")
+        process = front_of(path, "sh", "-c", f'echo $$ > "{note}"; exec "{self.program}"')
+        self.wait_for(path, process)
+        with Client(path) as client:
+            self.assertEqual(json.loads(client.ask(NEW))["reply"], 1, "an object")
+            os.kill(int(note.read_text()), signal.SIGSTOP)
+            client.say(NEW)
+            os.kill(int(note.read_text()), signal.SIGKILL)
+            self.assertEqual(client.until_closed(), b"", "the end for a client")
+        said = process.communicate(timeout=PATIENCE)
+        self.assertEqual(process.returncode, 1, "the front's status")
+        self.assertEqual(said, ("", "front: the server was ended by signal 9\n"), "what it says")
+        self.assertFalse(path.exists(), "its socket is there")
+
+    def test_asked_early(self):
+        """The front ends too where it is asked to right before it waits: the third time, when the connection by which
+        it is found to listen has come and gone."""
+        path = Path(self.room, "socket")
+        process = front_of(path, self.program, env={**os.environ, "LD_PRELOAD": library("early_signal")})
+        try:
+            self.wait_for(path, process)
+            said = process.communicate(timeout=PATIENCE)
+            self.assertEqual((process.returncode, *said, path.exists()), (0, "", "", False), "the front's end")
+        finally:
+            process.kill()
+            process.wait()
+
+    def test_words(self):
+        """Words that mean nothing end the front with status 2, and what cannot be had with status 1."""
+        path, taken = Path(self.room, "socket"), Path(self.room, "taken")
+        taken.write_text("")
+        refused = "metad: class file refused: C01 at class 0\nfront: the server has ended with status 1\n"
+        strange = "front: the server wrote no line of the protocol: b'hello'\n"
+        for given, status, wanted in (
+            ([], 2, None),
+            ([path], 2, None),
+            (["--slow", path, self.program], 2, None),
+            ([path, Path(self.room, "nothing")], 1, f"front: {self.room}/nothing cannot be started: No such file or directory\n"),
+            ([taken, self.program], 1, f"front: {taken} cannot be bound: Address already in use\n"),
+            ([Path(self.room, "no", "way"), self.program], 1, f"front: {self.room}/no/way cannot be bound: No such file or directory\n"),
+            ([Path(self.room, 200 * "x"), self.program], 1, None),
+            ([path, self.program, "/dev/null"], 1, refused),
+            ([path, self.program, "--turns", "0"], 1, None),
+            ([path, "echo", "hello"], 1, strange),
+        ):
+            ran = subprocess.run([sys.executable, FRONT, *given], capture_output=True, text=True, timeout=PATIENCE)
+            self.assertEqual((ran.returncode, ran.stdout, path.exists()), (status, "", False), f"the status of {given}")
+            self.assertNotIn("Traceback", ran.stderr, f"what {given} says")
+            self.assertEqual(ran.stderr if wanted else bool(ran.stderr), wanted or True, f"what {given} says")
+        self.assertTrue(taken.exists(), "what stood there is gone")

@@ -1,0 +1,245 @@
+"""What `make install` puts below a prefix and `make uninstall` takes away, and the manual page among it."""
+
+import os
+import re
+import shutil
+import subprocess
+from pathlib import Path
+from tempfile import TemporaryDirectory
+
+from .support import protocol
+from .support.cases import Cases, ProgramCases
+from .support.differences import difference
+from .support.documents import version
+from .support.program import ROOT, SECONDS, lay_out, make, run_shell
+
+SHARED = {"bin", "share", "share/man", "share/man/man1", "share/doc"}  # folders that are not the program's own
+DOC = "share/doc/metad"
+LINK, EXPLAIN = "bin/metad-explain", "share/metad/explain"
+LINK_TO = f"../{EXPLAIN}"
+PROGRAMS = {"bin/metad", LINK, EXPLAIN}
+DOCUMENTS = ("README.md", "docs/PROTOCOL.md", "clients/python/metad.py", "examples/traffic_light/session")
+ALWAYS = PROGRAMS | {"share/man/man1/metad.1", *(f"{DOC}/{it}" for it in DOCUMENTS)}
+OF_DOCUMENTS = ("README.md", "docs/*.md", "docs/*.json", "clients/python/*.md", "clients/python/*.py", "examples/*/*")
+RELATIVE = re.compile(r"\]\((?!#|\w+:)([^)#]+)[^)]*\)")  # a link of a document to another file or folder
+LINE = b'{"error":"E12","session":"a"}\n'
+SAID = b"    session a: E12: the parent would be the object itself or below it\n"
+OF_PYTHON = ("PYTHONDONTWRITEBYTECODE", "PYTHONPYCACHEPREFIX")  # with either, Python leaves nothing beside the files
+
+
+def files_in(top):
+    """The files below a folder, by their paths from there."""
+    return {str(path.relative_to(top)): path for path in top.rglob("*") if path.is_file()}
+
+
+def wanted_files():
+    """What is to be installed, each with the file that it is made of."""
+    made = {"bin/metad": ROOT / "bin" / "metad", "share/man/man1/metad.1": ROOT / "man" / "metad.1"}
+    made |= {name: ROOT / "clients" / "explain" for name in (LINK, EXPLAIN)}
+    made |= {f"share/metad/explaining/{path.name}": path for path in (ROOT / "clients" / "explaining").glob("*.py")}
+    documents = [path for pattern in OF_DOCUMENTS for path in ROOT.glob(pattern)]
+    return made | {f"{DOC}/{path.relative_to(ROOT)}": path for path in documents}
+
+
+class Install(Cases):
+    """`make install` and `make uninstall`, below a folder each. They take bin/metad as it is."""
+
+    def setUp(self):
+        self.room = self.enterContext(TemporaryDirectory(prefix="metad-install-"))
+
+    def make(self, target, stage, prefix):
+        ran = make(target, f"DESTDIR={stage}", f"PREFIX={prefix}")
+        self.assertEqual((ran.returncode, ran.stderr), (0, ""), f"make {target}: {ran.stdout}")
+
+    def check_files(self, top):
+        """What stands below a prefix is what is to be installed, with its modes."""
+        found, wanted = files_in(top), wanted_files()
+        self.assertEqual(found.keys(), wanted.keys())
+        self.assertLessEqual(ALWAYS, found.keys())
+        for name, path in found.items():
+            self.assertEqual(path.read_bytes(), wanted[name].read_bytes(), f"{name} is another file")
+            self.assertEqual(oct(path.stat().st_mode & 0o777), oct(0o755 if name in PROGRAMS else 0o644), f"the mode of {name}")
+        self.assertTrue(found[LINK].is_symlink(), LINK)
+        self.assertEqual(os.readlink(found[LINK]), LINK_TO)
+
+    def check_links(self, top):
+        """The links of the installed documents lead to what is installed."""
+        found = {path.resolve() for path in files_in(top).values()}
+        there = found | {folder for path in found for folder in path.parents}
+        links = [(it, target) for it in (top / DOC).rglob("*.md") for target in RELATIVE.findall(it.read_text())]
+        self.assertTrue(links, "the installed documents have no links")
+        for document, target in links:
+            end = (document.parent / target).resolve()
+            is_there = end in there and end.is_relative_to((top / DOC).resolve())
+            self.assertTrue(is_there, f"the link to {target} in {document.relative_to(top)} leads to nothing that is installed")
+
+    def check_run(self, words, top, given, wanted):
+        """Something installed runs where it stands, where Python may leave its folders."""
+        own = {key: value for key, value in os.environ.items() if key not in OF_PYTHON}
+        where = {**own, "PYTHONPATH": str(top / DOC / "clients" / "python")}
+        ran = subprocess.run(words, input=given, capture_output=True, env=where, timeout=SECONDS)
+        self.assertEqual((ran.returncode, ran.stderr, ran.stdout), (0, b"", wanted), words)
+
+    def check_use(self, top):
+        """`explain` and the client are used where they are installed."""
+        self.check_run([top / LINK], top, LINE, LINE + SAID)
+        client = str(top / DOC / "clients" / "python" / "metad.py")
+        self.check_run(["python3", "-c", "import metad; print(metad.__file__)"], top, b"", f"{client}\n".encode())
+        left = {str(path.parent.relative_to(top)) for path in top.rglob("__pycache__")}
+        self.assertEqual(left, {"share/metad/explaining", f"{DOC}/clients/python"}, "where Python has left its folders")
+
+    def check_stage(self, stage, prefix, kept=None):
+        """Installs below a folder and takes all away again, twice each; a file that was there before has to stay."""
+        top = Path(f"{stage}{prefix}")
+        if kept:
+            (top / kept).parent.mkdir(parents=True)
+            (top / kept).write_text("kept")
+        for _ in range(2):
+            self.make("install", stage, prefix)
+            if not kept:
+                self.check_files(top)
+        self.check_links(top)
+        self.check_use(top)
+        allowed = SHARED | ({kept, *(str(it) for it in Path(kept).parents)} if kept else set())
+        for _ in range(2):
+            self.make("uninstall", stage, prefix)
+            left = {str(path.relative_to(top)) for path in top.rglob("*")}
+            self.assertLessEqual(left, allowed, "what make uninstall leaves")
+            self.assertTrue(kept is None or kept in left, f"make uninstall takes {kept} away")
+
+    def test_below_usr_local(self):
+        """All files are installed with their modes, can be used, and go again."""
+        self.check_stage(f"{self.room}/stage", "/usr/local")
+
+    def test_beside_other_files(self):
+        """In a folder with a space in its name, where a file of somebody else has to stay."""
+        self.check_stage(f"{self.room}/a stage", "/usr", "share/doc/metad/notes")
+
+    def test_without_the_program(self):
+        """Nothing is installed where bin/metad is not built."""
+        empty = Path(self.room, "empty")
+        empty.mkdir()
+        ran = make("install", f"DESTDIR={self.room}/none", "PREFIX=/usr", folder=empty)
+        self.assertNotEqual(ran.returncode, 0)
+        self.assertIn("bin/metad is not there yet", ran.stdout)
+        self.assertFalse(Path(self.room, "none").exists())
+
+
+PAGE = ROOT / "man" / "metad.1"
+READERS = {
+    "man": ["man", "--warnings", "-E", "UTF-8", "-l", "-Tutf8", "-Z", str(PAGE)],
+    "groff": ["groff", "-man", "-ww", "-z", "-Tutf8", str(PAGE)],
+}
+IN_PROSE = ("turns of a command, for calls and for events", "sessions")  # limits that the page says in sentences
+
+
+def unescaped(line):
+    return line.replace("\\-", "-").replace("\\e", "\\")
+
+
+def sections():
+    """The lines of each section of the page by its heading."""
+    found, lines = {}, []
+    for line in map(unescaped, PAGE.read_text().splitlines()):
+        if line.startswith((".SH ", ".SS ")):
+            lines = found.setdefault(line[4:], [])
+        else:
+            lines.append(line)
+    return found
+
+
+def entries(lines):
+    """The entries of a list: what is explained, and the text of it."""
+    for block in "\n".join(lines).split(".TP\n")[1:]:
+        tag, _, text = re.split(r"^\.(?:PP|EX)$", block, flags=re.MULTILINE)[0].partition("\n")
+        yield tag.partition(" ")[2], " ".join(text.split())
+
+
+def keys_of(text):
+    """The keys that have to be there, and those in brackets."""
+    keys = [it for it in text.split(", ") if it]
+    return {it for it in keys if it[0] != "["}, {it.strip("[]") for it in keys if it[0] == "["}
+
+
+def figures(text):
+    return set(re.findall(r"\d\d+", text.replace(",", "")))
+
+
+def examples(lines):
+    """The commands of the examples, each with what it writes."""
+    for block in re.findall(r"^\.EX\n(.*?)^\.EE$", "\n".join(lines) + "\n", re.MULTILINE | re.DOTALL):
+        for part in re.split(r"^\$ ", block, flags=re.MULTILINE)[1:]:
+            command, line, written = part.partition("\nEND\n") if "<<'END'" in part else part.partition("\n")
+            yield command + line, written
+
+
+class ManualPage(ProgramCases):
+    """man/metad.1: whether it says what docs/PROTOCOL.md says, and its examples."""
+
+    def setUp(self):
+        self.page = sections()
+
+    def check_list(self, section, wanted):
+        """The entries of a section are these, in their order."""
+        got = list(entries(self.page[section]))
+        self.assertTrue(got, f"the section {section} has no entries")
+        self.assertEqual(got, wanted)
+
+    def test_codes(self):
+        """Its codes are those of the protocol."""
+        self.check_list("Codes", list(protocol.codes().items()))
+
+    def test_limits(self):
+        """Its limits are those of the protocol."""
+        listed = [(what, most) for what, most in protocol.limits() if what not in IN_PROSE]
+        self.check_list("Limits", [(most.partition(":")[0], what.replace(" above", "")) for what, most in listed])
+
+    def test_statuses(self):
+        """Its exit statuses are those of the protocol."""
+        self.check_list("EXIT STATUS", list(protocol.statuses().items()))
+
+    def test_commands(self):
+        """Its commands are those of the protocol, with their keys."""
+        given = [(word, *keys_of(text)) for word, text in entries(self.page["INPUT"])]
+        self.assertTrue(given, "it has no commands")
+        self.assertEqual(given, [(word, *keys) for word, *keys, _ in protocol.commands()])
+
+    def test_figures(self):
+        """It has no figures and no messages that the protocol has not, and it has all of the turns."""
+        page, said = unescaped(PAGE.read_text()), protocol.text()
+        self.assertEqual(sorted(figures(page) - figures(said)), [], "figures that are not in the protocol")
+        messages = re.findall(r"metad: [^\"\n]+", page)
+        self.assertEqual([it for it in messages if it not in said], [], "messages that are not in the protocol")
+        turns = dict(protocol.limits())[IN_PROSE[0]]
+        self.assertEqual(sorted(figures(turns) - figures(page)), [], "figures of the turns that it has not")
+
+    def test_version(self):
+        """Its heading says the version of the program, which the README says."""
+        self.assertIn(f'"metad {version()[0]}"', PAGE.read_text().partition("\n")[0])
+
+    def test_examples(self):
+        """Its examples write what it says."""
+        room = self.enterContext(TemporaryDirectory(prefix="metad-manual-"))
+        lay_out(room, {"bin/metad": self.program})
+        path = os.pathsep.join((f"{room}/bin", os.environ["PATH"]))
+
+        def fault_of(case):
+            command, wanted = case
+            ran = run_shell(command, room, PATH=path)
+            if ran.returncode or ran.stderr:
+                return f"status {ran.returncode}, on standard error {ran.stderr!r}, of\n{command}"
+            fault = difference(wanted.encode(), ran.stdout)
+            return fault and f"{fault}\nof {command}"
+
+        self.check_each([(case[0].partition("\n")[0], case) for case in examples(self.page["EXAMPLES"])], fault_of, at_once=1)
+
+    def test_form(self):
+        """The programs that read pages warn of nothing."""
+        readers = [name for name in READERS if shutil.which(name)]
+        if not readers:
+            self.skipTest("neither man nor groff is on the path")
+        for name in readers:
+            with self.subTest(reader=name):
+                ran = subprocess.run(READERS[name], stdin=subprocess.DEVNULL, capture_output=True, timeout=SECONDS)
+                self.assertEqual((ran.returncode, ran.stderr), (0, b""))
+        self.tell(f"read by {' and '.join(readers)}")

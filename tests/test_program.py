@@ -1,0 +1,284 @@
+"""The program as a process: its ends and the words of its command line, what it says over pipes, and its limits on a stack
+of 8 MiB."""
+
+import os
+import resource
+import select
+import signal
+import subprocess
+import time
+from contextlib import ExitStack, contextmanager
+from dataclasses import dataclass, replace
+from pathlib import Path
+from tempfile import TemporaryDirectory
+
+from .generators import limits
+from .support.cases import ProgramCases
+from .support.documents import version
+from .support.lines import lines_of, text_of
+from .support.program import SECONDS, Row
+
+NEW = b'{"class":"QObject","do":"new","session":"a"}\n'
+ONE = b'{"reply":1,"session":"a"}\n'
+READ_FAULT, WRITE_FAULT = b"metad: read fault\n", b"metad: write fault\n"
+
+
+@dataclass
+class End(Row):
+    """A run that ends, with an input or an output that may be something else than a pipe."""
+
+    given: bytes = b""
+    stdout: bytes | None = b""
+    source: str | None = None  # a path in place of the input
+    sink: str | None = None  # a path in place of the output, or "nobody" for a pipe without a reader
+    part: str = ""  # stands in what is written, on either of the two
+
+    def run(self, program):
+        with ExitStack() as opened:
+            source = opened.enter_context(descriptor_of(self.source, os.O_RDONLY)) if self.source else None
+            sink = opened.enter_context(descriptor_of(self.sink, os.O_WRONLY)) if self.sink else subprocess.PIPE
+            ran = subprocess.run(
+                [program, *self.words],
+                **({"stdin": source} if self.source else {"input": self.given}),
+                stdout=sink,
+                stderr=subprocess.PIPE,
+                timeout=self.seconds,
+                preexec_fn=lambda: signal.signal(signal.SIGPIPE, signal.SIG_IGN),
+                restore_signals=False,
+            )
+        ran.stdout = ran.stdout or b""
+        return ran
+
+    def passes(self, ran):
+        return super().passes(ran) and self.part.encode() in ran.stdout + ran.stderr
+
+    def faults(self, ran):
+        yield from super().faults(ran)
+        if self.part.encode() not in ran.stdout + ran.stderr:
+            yield f"it writes {ran.stdout + ran.stderr!r}, without {self.part!r}"
+
+
+@contextmanager
+def descriptor_of(path, mode):
+    """The descriptor of a path, or that of a pipe that nobody reads."""
+    if path == "nobody":
+        reader, descriptor = os.pipe()
+        os.close(reader)
+    else:
+        descriptor = os.open(path, mode)
+    try:
+        yield descriptor
+    finally:
+        os.close(descriptor)
+
+
+ENDS = [
+    End("input at its end", given=NEW, stdout=ONE),
+    End("input that is a folder", source="/", status=3, stderr=READ_FAULT),
+    End("output that is full", given=NEW, sink="/dev/full", status=4, stderr=WRITE_FAULT),
+    End("output that nobody reads", given=NEW, sink="nobody", status=4, stderr=WRITE_FAULT),
+    End("output that is full and not needed", sink="/dev/full"),
+    End("help", words=("--help",), stdout=None),
+    End("help that cannot be written", words=("--help",), sink="/dev/full", status=4, stderr=None),
+    End("an option that is not there", words=("--slow",), status=2, stderr=None),
+    End("turns", words=("--turns", "1000000"), given=NEW, stdout=ONE),
+    End("a class file without a name", words=("",), status=1, stderr=b"metad: class file refused: unreadable\n"),
+    End("a class file that is a folder", words=("/",), status=1, stderr=b"metad: class file refused: unreadable\n"),
+    End("a class file that is empty", words=("/dev/null",), status=1, stderr=b"metad: class file refused: C01 at class 0\n"),
+]
+
+# words that give no options, each with the status that they end with and what stands in the text
+REFUSED_WORDS = [
+    (("a", "b"), 2, "error: unexpected argument 'b' found\n\nUsage: metad [OPTIONS] [CLASSES]\n\nFor more information, try '--help'.\n"),
+    (("a", "-hx"), 0, "\n\nUsage: metad [OPTIONS] [CLASSES]\n\n"),
+    (("--turns", "3", "--help"), 0, "--turns <N>"),
+    (("--turns", "0"), 2, "0 is not in 1..=1000000"),
+    (("--turns=1000001",), 2, "1000001 is not in 1..=1000000"),
+    (("--turns", "ten", "--help"), 2, "invalid value 'ten' for '--turns <N>'"),
+    (("--turns", "-1"), 2, "unexpected argument"),
+    (("--turns", "--help"), 2, "--turns <N>"),
+    (("--turns", "1", "--turns=1"), 2, "the argument '--turns <N>' cannot be used multiple times"),
+    (("a", b"\xff"), 2, "\n\nUsage: metad [OPTIONS] [CLASSES]\n\nFor more information, try '--help'.\n"),
+]
+ENDS_BY_WORDS = [
+    End(f"the words {words}", words=words, status=status, stdout=b"" if status else None, stderr=None if status else b"", part=part)
+    for words, status, part in REFUSED_WORDS
+]
+
+# words that give options: the path of the class file and the turns
+WORDS = [
+    ((), None, 10_000),
+    (("--", "-x"), "-x", 10_000),
+    (("--turns", "3"), None, 3),
+    (("a", "--turns=1000000"), "a", 1_000_000),
+    (("--turns", "+07", "--", "--turns"), "--turns", 7),
+    (("--turns=1", "-"), "-", 1),
+]
+CLASS_FILE = '{"classes":[{"name":"Probe","super":"QObject","signals":["ping()"],"slots":[{"sig":"note()","body":[]}]}]}'
+CALLS = 8
+
+
+def row_of_words(folder, words, path, turns):
+    """A run whose answers tell which class file it has and how many of a signal's calls have a turn."""
+    connect = {"do": "connect", "sender": 1, "signal": "ping()", "receiver": 1, "method": "note()"}
+    invoke = {"do": "invoke", "object": 1, "method": "ping()", "args": []}
+    given = [{"do": "new", "class": it} for it in ("Probe", "Cell")] + [connect] * CALLS + [invoke]
+    calls = [{"args": [], "call": "note()", "object": 1, "sender": 1}] * min(turns, CALLS)
+    spent = [{"warning": "E23"}] if turns < CALLS else []
+    second = {"error": "E03"} if path else {"reply": 2}
+    wanted = [{"reply": 1}, second, *({"reply": number} for number in range(1, CALLS + 1)), *calls, *spent, {"reply": True}]
+    return Row(f"the words {words}", lines_of(given, session="a"), lines_of(wanted, session="a"), words=words, folder=folder)
+
+
+class Ends(ProgramCases):
+    """Each end of the program, on real devices: an input that is a folder, an output that is full or that nobody reads."""
+
+    def test_ends(self):
+        """The program ends with the status that it has to, and says what it has to."""
+        self.check_rows(ENDS, at_once=1)
+
+    def test_words_that_are_refused(self):
+        """Words that give no options end it with status 2 or with its help."""
+        self.check_rows(ENDS_BY_WORDS, at_once=1)
+
+    def test_words_that_give_options(self):
+        """Words name the class file and how many turns a command has."""
+        with TemporaryDirectory(prefix="metad-words-") as folder:
+            for path in filter(None, {path for _, path, _ in WORDS}):
+                Path(folder, path).write_text(CLASS_FILE)
+            self.check_rows([row_of_words(Path(folder), *it) for it in WORDS])
+
+    def test_help(self):
+        """The help begins with the versions that the README says, and names words, options, statuses and documents."""
+        ran = subprocess.run([self.program, "--help"], capture_output=True, text=True, timeout=SECONDS)
+        own, prover = version()
+        self.assertEqual(ran.stdout.partition("\n")[0], f"metad {own}, proved with {prover}")
+        for words in ("CLASSES", "--turns", "--help", *(f"\n  {status}  " for status in range(6)), "metad(1)", "docs/GUIDE.md"):
+            self.assertIn(words, ran.stdout)
+
+
+PATIENCE = 10  # seconds in which a reply has to come
+QUIET = 0.2  # seconds in which nothing may come where nothing is to be said
+
+GET = b'{"do":"get","object":1,"property":"objectName","session":"a"}\n'
+SET = b'{"do":"set","object":1,"property":"objectName","session":"a","value":"lamp"}\n'
+FULL = b'{"do":"set","object":1,"property":"objectName","session":"a","value":"' + 4000 * b"n" + b'"}\n'
+
+
+@dataclass
+class Turn:
+    """Bytes that are written at once, and all that has to be said before the next."""
+
+    name: str
+    given: bytes
+    said: bytes = b""
+
+
+def reply(json, session="a"):
+    return f'{{"reply":{json},"session":"{session}"}}\n'.encode()
+
+
+TALK = [
+    Turn("a line", NEW, reply("1")),
+    Turn("a second line", SET, reply("true")),
+    Turn("a third line", GET, reply('"lamp"')),
+    Turn("half a line", GET[:20]),
+    Turn("the other half", GET[20:], reply('"lamp"')),
+    Turn("a line without its end", NEW[:-1]),
+    Turn("the end", b"\n", reply("2")),
+    Turn("three lines", NEW + b"nonsense\n" + GET, reply("3") + b'{"error":"E01","session":"-"}\n' + reply('"lamp"')),
+    Turn("a line and half of the next", SET + GET[:1], reply("true")),
+    Turn("the rest and a line", GET[1:] + NEW, reply('"lamp"') + reply("4")),
+    Turn("a blank line", b"\n"),
+    Turn("a line of another session", NEW.replace(b'"a"', b'"b"'), reply("1", "b")),
+    Turn("more than fits in a buffer", FULL + 40 * GET, reply("true") + 40 * reply('"' + 4000 * "n" + '"')),
+    Turn("a last line without its end", GET[:-1]),
+]
+LAST_ANSWER = reply('"' + 4000 * "n" + '"')
+
+
+def read(output, size, seconds):
+    """Up to so many bytes, as far as they come in time."""
+    said, until = b"", time.monotonic() + seconds
+    while len(said) < size:
+        ready, _, _ = select.select([output], [], [], max(0.0, until - time.monotonic()))
+        part = os.read(output, size - len(said)) if ready else b""
+        if not part:
+            break
+        said += part
+    return said
+
+
+class Pipes(ProgramCases):
+    """A talk over pipes."""
+
+    def test_talk(self):
+        """What is said to a line comes before more is written, and nothing before a line has its end."""
+        pipe = subprocess.PIPE
+        process = subprocess.Popen([self.program], stdin=pipe, stdout=pipe, stderr=pipe, bufsize=0)
+        try:
+            for turn in TALK:
+                os.write(process.stdin.fileno(), turn.given)
+                output = process.stdout.fileno()
+                said = read(output, len(turn.said), PATIENCE) if turn.said else read(output, 1, QUIET)
+                self.assertEqual(said, turn.said, f"{turn.name}: what is said to {turn.given[:200]!r}")
+            said, error = process.communicate(timeout=PATIENCE)
+        finally:
+            process.kill()
+            process.communicate()
+        self.assertEqual(said, LAST_ANSWER, "what is said at the end")
+        self.assertEqual((process.returncode, error), (0, b""), "the status at the end, and standard error")
+        self.tell(f"turns: {len(TALK)}")
+
+
+KIB = 1024
+STACK = 8 * KIB * KIB
+
+
+def fault_on_stack(program, row, stack=STACK):
+    """What is wrong with a run on a stack of so many bytes, or None."""
+    hard = resource.getrlimit(resource.RLIMIT_STACK)[1]
+    return row.fault(row.run(program, env={}, preexec_fn=lambda: resource.setrlimit(resource.RLIMIT_STACK, (stack, hard))))
+
+
+def least_stack(program, row):
+    """The least stack, in KiB, on which a row passes that passes on the whole."""
+    least, most = 0, STACK // KIB
+    while most - least > 4:
+        middle = (least + most) // 2
+        least, most = (middle, most) if fault_on_stack(program, row, middle * KIB) else (least, middle)
+    return most
+
+
+@dataclass
+class Stack:
+    """The least stack, in KiB, on which a row passes, or what is wrong with it on the whole."""
+
+    name: str
+    fault: str | None
+    kib: int = 0
+
+
+class Limits(ProgramCases):
+    """The limits of signals, slots, events and properties; what has to be written is worked out from the rules."""
+
+    def setUp(self):
+        self.folder = Path(self.enterContext(TemporaryDirectory(prefix="metad-limits-")))
+        (self.folder / "classes.json").write_text(text_of({"classes": [limits.CLASS]}))
+
+    def cases(self, rows):
+        return [(row.name, replace(row, folder=self.folder)) for row in rows]
+
+    def test_wide(self):
+        """As many objects, connections, events and properties, and texts as long as may be."""
+        self.check_each(self.cases(limits.wide_rows()), lambda row: fault_on_stack(self.program, row), at_once=1)
+
+    def test_deep(self):
+        """Signals, changes and deletions that nest as deep as they may; it is told how much stack they need."""
+
+        def try_row(row):
+            fault = fault_on_stack(self.program, row)
+            return Stack(row.name, fault, 0 if fault else least_stack(self.program, row))
+
+        for it in self.check_each(self.cases(limits.deep_rows()), try_row, lambda it: it.fault, at_once=1):
+            self.tell(f"\n    {it.name}: on a stack of {it.kib} KiB")

@@ -1,0 +1,164 @@
+"""Lines and sessions by chance, the same in every run: the built program is compared with the plain one, which works
+out what is wanted while it makes what is given."""
+
+import os
+import unittest
+from collections import Counter, defaultdict
+from concurrent.futures import ProcessPoolExecutor
+from dataclasses import dataclass, field
+from functools import cache, partial
+from pathlib import Path
+from tempfile import TemporaryDirectory
+
+from .generators import chance, sessions, signals, trees
+from .plain.classes import Classes
+from .plain.lines import Server, answer, server_with
+from .support.cases import CASE, ProgramCases
+from .support.lines import lines_of, text_of
+from .support.program import SECONDS, Row
+
+SEED = os.environ.get("SEED", "1")
+LONG_SESSIONS = 50
+LONG_COMMANDS = 1_000_000
+LONG_TURNS = 20
+LONG_SECONDS = 3_600
+
+
+@dataclass
+class Tried:
+    """What is wrong with a case, or None, and what it had to show."""
+
+    fault: str | None
+    shown: Counter = field(default_factory=Counter)
+
+
+def row_with_classes(name, commands, wanted, declared, room, turns=None, seconds=SECONDS):
+    """A row of commands with a class file of its own, which is put into the room."""
+    path = Path(room, "classes.json")
+    path.write_text(text_of({"classes": declared}))
+    words = (str(path), *(("--turns", str(turns)) if turns else ()))
+    return Row(name, lines_of(commands), lines_of(wanted), words=words, seconds=seconds)
+
+
+class Lines(ProgramCases):
+    """Lines that are made by chance, in form and out of it."""
+
+    def test_lines(self):
+        """200,000 lines are answered alike, byte for byte."""
+        lines, server = chance.lines_of(chance.Chance(SEED)), server_with(turns=chance.TURNS)
+        wanted = b"".join(answer(server, line) for line in lines)
+        replies, calls, functors = (wanted.count(word) for word in (b'{"reply":', b'"call":', b'"call":"clamp"'))
+        self.assertGreaterEqual(replies, chance.LINES // 10, "there are too few replies")
+        self.assertGreaterEqual(calls, chance.LINES // 200, "there are too few calls")
+        self.assertGreaterEqual(functors, chance.LINES // 40_000, "there are too few calls of functors")
+        self.check_rows([Row(f"lines by chance, {SEED}", b"\n".join(lines), wanted, words=("--turns", str(chance.TURNS)))])
+        self.tell(f"lines: {len(lines):,}, replies: {replies:,}, calls: {calls:,}, of functors: {functors:,}")
+
+
+def told_by_plain(commands, classes):
+    """What the plain program tells to the commands of sessions on one server."""
+    server = Server(classes)
+    return [line for command in commands for line in server.step(command)]
+
+
+def tree_fault(program, commands):
+    """What is wrong with what is told to commands of sessions with trees, or None."""
+    row = Row("trees", lines_of(commands), lines_of(told_by_plain(commands, trees.CLASSES_THERE)))
+    return row.fault(row.run(program))
+
+
+class Trees(ProgramCases):
+    """Sessions with trees of objects."""
+
+    def test_trees(self):
+        """Deep and wide trees that are deleted, and small ones by chance."""
+        self.check_each(trees.sessions(), partial(tree_fault, self.program), workers=ProcessPoolExecutor)
+
+
+def shown_by(commands, answers):
+    """What a session has to show: calls, of them those of functors and those that tell of what a command had set, and
+    events that were taken."""
+    lines = [line for told in answers for line in told]
+    return Counter({
+        "calls": signals.calls_in(lines),
+        "calls of functors": signals.functors_in(lines),
+        "events": signals.events_in(lines),
+        "calls that tell of changes": signals.changes_in(commands, answers),
+    })
+
+
+def try_signals(program, seed):
+    """Tries a session with signals."""
+    made = signals.Chance(seed)
+    declared, turns = list(made.classes()), made.choice(signals.TURNS)
+    commands, answers = signals.life_of(made, Server(Classes(declared), turns))
+    with TemporaryDirectory(prefix="metad-signals-") as room:
+        wanted = [line for told in answers for line in told]
+        row = row_with_classes(f"by chance, {seed}", commands, wanted, declared, room, turns)
+        fault = row.fault(row.run(program))
+    return Tried(fault and f"{fault}\nits class file: {text_of({'classes': declared})}", shown_by(commands, answers))
+
+
+class Signals(ProgramCases):
+    """Sessions with signals, slots, functors, events and properties."""
+
+    def test_signals(self):
+        """Sessions with classes, bodies and commands by chance, each with few turns."""
+        seeds = range(int(SEED), int(SEED) + signals.SESSIONS)
+        cases = ((f"by chance, {seed}", seed) for seed in seeds)
+        tried = self.check_each(cases, partial(try_signals, self.program), lambda it: it.fault, ProcessPoolExecutor)
+        shown = sum((it.shown for it in tried), Counter())
+        self.tell(", ".join(f"{what}: {number:,}" for what, number in shown.items()))
+        lacking = [what for what in ("calls of functors", "events", "calls that tell of changes") if not shown[what]]
+        self.assertEqual([] if CASE else lacking, [], "no session shows this")
+
+
+@cache
+def sessions_in_turn():
+    """The commands of a hundred sessions in turn, and what the plain program tells to them."""
+    commands = sessions.in_turn()
+    return commands, told_by_plain(commands, Classes(sessions.CLASSES))
+
+
+def by_session(lines):
+    """The lines of each session by its name."""
+    found = defaultdict(list)
+    for line in lines:
+        found[line["session"]].append(line)
+    return found
+
+
+class Sessions(ProgramCases):
+    """Sessions that share a server."""
+
+    def setUp(self):
+        self.room = self.enterContext(TemporaryDirectory(prefix="metad-sessions-"))
+
+    def test_sessions_in_turn(self):
+        """A hundred sessions that take turns are told what the plain program tells."""
+        commands, wanted = sessions_in_turn()
+        calls = signals.calls_in(wanted)
+        self.assertGreater(calls, 0, "there are no calls")
+        self.check_rows([row_with_classes("all in turn", commands, wanted, sessions.CLASSES, self.room)])
+        self.tell(f"commands: {len(commands):,}, calls: {calls:,}")
+
+    def test_sessions_alone(self):
+        """Each of them is told by a server of its own what it is told among the others."""
+        commands, wanted = map(by_session, sessions_in_turn())
+        self.assertEqual(len(commands), sessions.SESSIONS)
+        self.check_rows([row_with_classes(name, commands[name], wanted[name], sessions.CLASSES, self.room) for name in commands])
+
+    @unittest.skipUnless(os.environ.get("LONG"), "LONG=1 runs it, for some minutes")
+    def test_sessions_at_length(self):
+        """A million commands by chance, in fifty sessions of one server, are answered as by the plain program."""
+        made = signals.Chance(1)
+        declared = list(made.classes())
+        server, commands, wanted = Server(Classes(declared), LONG_TURNS), [], []
+        for _ in range(LONG_COMMANDS):
+            name = f"s{made.randrange(LONG_SESSIONS)}"
+            commands.append({**made.command(server.session(name)), "session": name})
+            wanted += server.step(commands[-1])
+        calls, refusals = signals.calls_in(wanted), sum("error" in line for line in wanted)
+        self.assertGreater(calls, 0, "there are no calls")
+        self.check_rows([row_with_classes("at length", commands, wanted, declared, self.room, LONG_TURNS, LONG_SECONDS)])
+        self.tell(f"commands: {len(commands):,}, calls: {calls:,}, refusals: {refusals:,}, lines: {len(wanted):,}")
