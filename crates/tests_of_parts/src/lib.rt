@@ -8,6 +8,8 @@
 #[cfg(test)]
 mod base;
 #[cfg(test)]
+mod board;
+#[cfg(test)]
 mod bodies;
 #[cfg(test)]
 mod cases;

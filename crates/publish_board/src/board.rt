@@ -1,0 +1,282 @@
+//! The desks of all places.
+ghost use Rattle.std.specs.Prelude.{◌≡◌, ◌<◌, ◌≤◌, [], IfOk, OnOk, OnErr, filter, length};
+ghost use Rattle.std.specs.List.{list_any};
+ghost use Rattle.places.specs.Table.{IsPlace, opened};
+ghost use Rattle.refusals.specs.Answers.{RefusedBy};
+ghost use Rattle.publish_board.specs.Rows.{has_name, is_join, listens, names_of, publishes};
+ghost use Rattle.publish_board.specs.Desk.{IsSound, counts_of, join_refusal, joined, left, names_session, no_desk, publish_refusal, published, unpublished, without_object};
+ghost use Rattle.publish_board.specs.Table.{IsNextJoiner, desk_at, with_desk};
+ghost use Rattle.publish_board.specs.Going.{gone};
+ghost use Rattle.publish_board.specs.Inside.{without_join};
+
+use crate::join::{Going, Join, listening};
+use crate::joiners::Joiners;
+use crate::lazy_desk::{Counts, LazyDesk};
+use crate::publication::{Publication, names_of};
+use places::Places;
+use plain_types::{Items, Text};
+use refusals::Fault;
+use signature_core::Kind;
+use std::alloc::{AllocError, Global};
+use std::marker::Model;
+
+/// What the session of each place publishes and what it joins. A place is opened by `ready` and then
+/// `open`, and is never closed.
+#[derive(Drop)]
+pub struct Board {
+    desks: Places<LazyDesk>,
+    joiners: Joiners,
+    alloc: Global,
+}
+
+impl Model for Board {
+    ghost use Rattle.places.specs.Table.{Table};
+    ghost use Rattle.publish_board.specs.Desk.{Desk};
+
+    ghost Value = { Table Desk };
+
+    ghost use Rattle.publish_board.specs.Joiners.{AreListed};
+
+    ghost view = { λ board. board.desks };
+
+    ghost invariant = { λ board. AreListed board.joiners board.desks };
+}
+
+impl Board {
+    /// A table with no place, which takes no memory yet.
+    pub fn new(alloc: Global) -> Board
+        ensures { result.places ≡ [] }
+    {
+        Board {
+            desks: Places::new(alloc),
+            joiners: Joiners::new(alloc),
+            alloc,
+        }
+    }
+
+    /// Makes room for one more place at least.
+    pub fn ready(&mut self) -> Result<(), AllocError>
+        ensures places { self.new.places ≡ self.old.places }
+        ensures room { OnOk result (1 ≤ self.new.room) }
+        ensures kept { self.old.room ≤ self.new.room }
+        ensures full { OnErr result (self.old.room ≡ 0) }
+        ensures err { OnErr result (self.new ≡ self.old) }
+    {
+        self.desks.ready()
+    }
+
+    /// Opens the next place, where nothing is published and nothing joined, and returns its number.
+    pub fn open(&mut self) -> usize
+        requires { 1 ≤ self.old.room }
+        ensures place { result ≡ length self.old.places }
+        ensures opened { self.new ≡ opened self.old no_desk }
+    {
+        self.desks.open(LazyDesk::new())
+    }
+
+    /// Takes out all that a place publishes and joins.
+    pub fn clear(&mut self, place: usize)
+        requires { IsPlace self.old place }
+        ensures { self.new ≡ with_desk self.old place no_desk }
+    {
+        self.take_out(place, &Going::All);
+        *self.desks.get_mut(place) = LazyDesk::new();
+    }
+
+    /// Publishes a signal of an object behind all others. It is refused as `Code::NameTaken` where
+    /// the place publishes under this name already, and then as `Code::Limit` beyond `PUBLICATIONS`.
+    pub fn publish(&mut self, place: usize, row: Publication) -> Result<(), Fault>
+        requires { IsPlace self.old place }
+        ensures refusal { RefusedBy (publish_refusal (desk_at self.old place) row.name) result }
+        ensures ok { OnOk result (self.new ≡ with_desk self.old place (published (desk_at self.old place) row)) }
+        ensures err { OnErr result (self.new ≡ self.old) }
+    {
+        self.desks.get_mut(place).publish(self.alloc, row)
+    }
+
+    /// Takes out the publication of a name, and returns whether it stood. This takes no memory.
+    pub fn unpublish(&mut self, place: usize, name: &Text) -> bool
+        requires { IsPlace self.old place }
+        ensures stood { result ≡ list_any (has_name name.now) (desk_at self.old place).publications }
+        ensures rows { self.new ≡ with_desk self.old place (unpublished (desk_at self.old place) name.now) }
+    {
+        self.desks.get_mut(place).unpublish(name)
+    }
+
+    /// Joins behind all other joins, for the session of the name `own` and a method with parameters of
+    /// the kinds `wanted`. It is refused as `Code::DoesNotFit` where these are not the first of the
+    /// join's kinds, then as `Code::OwnSession` where it names the session itself, and then as
+    /// `Code::Limit` beyond `JOINS`. What it names need not be published.
+    pub fn join(
+        &mut self,
+        place: usize,
+        own: &Text,
+        join: Join,
+        wanted: &[Kind],
+    ) -> Result<(), Fault>
+        requires { IsPlace self.old place }
+        ensures refusal { RefusedBy (join_refusal own.now (desk_at self.old place) join wanted.now) result }
+        ensures ok { OnOk result (self.new ≡ with_desk self.old place (joined (desk_at self.old place) join)) }
+        ensures err { OnErr result (self.new ≡ self.old) }
+    {
+        self.desks.get(place).may_join(own, &join, wanted)?;
+        self.add(place, join)?;
+        Ok(())
+    }
+
+    /// The same where nothing refuses it. Where the place cannot be listed, the join is taken out again.
+    fn add(&mut self, place: usize, join: Join) -> Result<(), AllocError>
+        requires place { IsPlace self.old place }
+        requires room { length (desk_at self.old place).joins < 1024 }
+        ensures ok { OnOk result (self.new ≡ with_desk self.old place (joined (desk_at self.old place) join)) }
+        ensures err { OnErr result (self.new ≡ self.old) }
+    {
+        let from = join.from.copy(self.alloc)?;
+        let desk = self.desks.get_mut(place);
+        let position = desk.joins().len();
+        desk.add_join(self.alloc, join)?;
+        if let Err(error) = self.joiners.add(from, place) {
+            desk.remove_join(position);
+            return Err(error);
+        }
+        Ok(())
+    }
+
+    /// Takes out the joins that are equal in these four, and returns whether there was one. This takes
+    /// no memory.
+    pub fn leave(
+        &mut self,
+        place: usize,
+        from: &Text,
+        name: &Text,
+        object: u32,
+        method: u32,
+    ) -> bool
+        requires { IsPlace self.old place }
+        ensures stood { result ≡ list_any (is_join from.now name.now object method) (desk_at self.old place).joins }
+        ensures rows { self.new ≡ with_desk self.old place (left (desk_at self.old place) from.now name.now object method) }
+    {
+        let going = Going::Same {
+            from,
+            name,
+            object,
+            method,
+        };
+        let stood = going.takes_any(self.joins(place));
+        self.take_out(place, &going);
+        stood
+    }
+
+    /// Takes out what an object publishes, and the joins that call it. This takes no memory.
+    pub fn drop_object(&mut self, place: usize, object: u32)
+        requires { IsPlace self.old place }
+        ensures { self.new ≡ with_desk self.old place (without_object object (desk_at self.old place)) }
+    {
+        self.take_out(place, &Going::Object(object));
+        self.desks.get_mut(place).drop_publications(object);
+    }
+
+    /// Takes out some of the joins of a place.
+    fn take_out(&mut self, place: usize, going: &Going)
+        requires { IsPlace self.old place }
+        ensures { self.new ≡ with_desk self.old place (gone going.now (desk_at self.old place)) }
+    {
+        let count = self.joins(place).len();
+        'joins: for position in (0..count).rev() {
+            if going.takes(&self.joins(place)[position]) {
+                self.remove_join(place, position);
+            }
+        }
+    }
+
+    /// Takes out the join at a position.
+    fn remove_join(&mut self, place: usize, position: usize)
+        requires place { IsPlace self.old place }
+        requires position { position < length (desk_at self.old place).joins }
+        ensures { self.new ≡ with_desk self.old place (without_join position (desk_at self.old place)) }
+    {
+        let desk = self.desks.get_mut(place);
+        let join = desk.remove_join(position);
+        if !desk.names(&join.from) {
+            self.joiners.remove(&join.from, place);
+        }
+    }
+
+    /// How many publications and joins a place has.
+    pub fn counts(&self, place: usize) -> Counts
+        requires { IsPlace self.now place }
+        ensures counts { result ≡ counts_of (desk_at self.now place) }
+        ensures sound { IsSound (desk_at self.now place) }
+    {
+        self.desks.get(place).counts()
+    }
+
+    /// What a place publishes, in the order of making.
+    pub fn publications(&self, place: usize) -> &[Publication]
+        requires { IsPlace self.now place }
+        ensures { result.now ≡ (desk_at self.now place).publications }
+    {
+        self.desks.get(place).publications()
+    }
+
+    /// What a place joins, in the order of making.
+    pub fn joins(&self, place: usize) -> &[Join]
+        requires { IsPlace self.now place }
+        ensures { result.now ≡ (desk_at self.now place).joins }
+    {
+        self.desks.get(place).joins()
+    }
+
+    /// Whether a signal of an object is published under any name.
+    pub fn is_published(&self, place: usize, object: u32, signal: u32) -> bool
+        requires { IsPlace self.now place }
+        ensures { result ≡ list_any (publishes object signal) (desk_at self.now place).publications }
+    {
+        self.publications(place)
+            .iter()
+            .any(|row| row.publishes(object, signal))
+    }
+
+    /// Copies of the names under which a signal of an object is published, in the order of making.
+    pub fn published(
+        &self,
+        place: usize,
+        object: u32,
+        signal: u32,
+    ) -> Result<Items<Text>, AllocError>
+        requires { IsPlace self.now place }
+        ensures { IfOk result (λ names. names ≡ names_of object signal (desk_at self.now place).publications) }
+    {
+        names_of(self.alloc, self.publications(place), object, signal)
+    }
+
+    /// Copies of the joins that listen to what the session of the name `from` publishes under `name`, in
+    /// the order of making.
+    pub fn matching(
+        &self,
+        place: usize,
+        from: &Text,
+        name: &Text,
+    ) -> Result<Items<Join>, AllocError>
+        requires { IsPlace self.now place }
+        ensures { IfOk result (λ joins. joins ≡ filter (listens from.now name.now) (desk_at self.now place).joins) }
+    {
+        listening(self.alloc, self.joins(place), from, name)
+    }
+
+    /// Whether a join of the place names the session.
+    pub fn names(&self, place: usize, from: &Text) -> bool
+        requires { IsPlace self.now place }
+        ensures { result ≡ names_session from.now (desk_at self.now place) }
+    {
+        self.desks.get(place).names(from)
+    }
+
+    /// The first place from `least` on with a join that names the session. The other places are not
+    /// walked.
+    pub fn next_joiner(&self, from: &Text, least: usize) -> Option<usize>
+        ensures { IsNextJoiner self.now from.now least result }
+    {
+        self.joiners.next(from, least)
+    }
+}

@@ -1,0 +1,16 @@
+//! What sessions publish and what they join: for each place the rows of its own session, in the order of
+//! making, and beside them which places join a session of a name. Sessions, objects, signals and methods
+//! are names and numbers here; whether they are there is not known.
+#![tactic(auto)]
+
+mod board;
+mod join;
+mod joiners;
+mod lazy_desk;
+mod publication;
+mod rows;
+
+pub use board::Board;
+pub use join::Join;
+pub use lazy_desk::{Counts, JOINS, PUBLICATIONS};
+pub use publication::Publication;
