@@ -3,7 +3,7 @@
 # make test   proves everything from nothing, and runs every test
 # make tests  runs every test on bin/metad as it is; make rows, random, program, memory, classes, clients and test_install
 #             run those of tests/test_rows and so on
-# make bench  measures the program; with BEFORE=PROGRAM or LAST=PROGRAM also beside an earlier one
+# make bench  counts the program's instructions; with LAST=PROGRAM also beside an earlier one; STANDS=1 writes down the counts
 # make install, make uninstall   bin/metad, its manual page, the documents, the client, the examples and explain, below PREFIX
 
 PROGRAM = meta_main
@@ -54,7 +54,7 @@ bin/%.so: tests/preload/%.c tests/preload/growth.h
 	$(CC) -O2 -Wall -Wextra -shared -fPIC -o $@ $< -ldl
 
 bench: bin/metad bin/count_growth.so
-	python3 bench/bench.py bin/metad bin/count_growth.so $(if $(BEFORE),--before $(BEFORE)) $(if $(LAST),--last $(LAST))
+	python3 bench/bench.py bin/metad bin/count_growth.so $(if $(LAST),--last $(LAST)) $(if $(STANDS),--write)
 
 BIN = $(DESTDIR)$(PREFIX)/bin
 MAN = $(DESTDIR)$(PREFIX)/share/man/man1

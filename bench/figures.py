@@ -1,0 +1,216 @@
+"""The figures: what each counts, in which input, and by how much some of them grow."""
+
+from collections.abc import Callable, Iterable
+from dataclasses import dataclass, replace
+
+import inputs
+from lines import METHODS, lamps, usual_classes
+
+Line = tuple[str, str]
+
+INSTRUCTIONS, REQUESTS = "instructions", "requests for memory"
+
+LINES = 20_000
+SOME_LINES = 10_000
+SESSIONS = 10_000
+OBJECTS = 4_000
+CONNECTIONS = 16_384  # as many as a session may have; it may have as many events
+OTHER_CONNECTIONS = 15_000
+FEW = 16
+EARS = 1_000
+RINGS = 20
+TREES = 2
+METAS = 300
+CLASSES = 1_024  # as many as a file may have
+
+
+@dataclass(frozen=True)
+class Figure:
+    """What one of many takes: the difference of two inputs, of which one does it so many times more often.
+
+    `lines` gives the input that does it so many times over. Each time has so many `rounds`, and each round has so many
+    of what is counted, beside what the figure `less` counts. To be timed it is done `often` as many times over.
+    """
+
+    name: str
+    unit: str
+    rounds: int
+    lines: Callable[[int], Iterable[Line]]
+    each: int = 1
+    less: "Figure | None" = None
+    classes: Callable[[int], str] = lambda times: usual_classes()
+    what: str = INSTRUCTIONS
+    often: int = 6
+
+    @property
+    def counts(self):
+        return f"{self.what} per {self.unit}"
+
+    @property
+    def counts_instructions(self):
+        return self.what == INSTRUCTIONS
+
+    def shared_out(self, more, times, of_others):
+        """What one takes, where doing it so many times more often takes so much more."""
+        beside = of_others[self.less.name] if self.less else 0
+        return (more / (times * self.rounds) - beside) / self.each
+
+
+@dataclass(frozen=True)
+class Ratio:
+    """How many times as large as another figure one is; its mark is never above the limit."""
+
+    name: str
+    large: Figure
+    small: Figure
+    limit: float = 1.3
+    counts: str = "times"
+
+
+def grown(name, make, small, large, things, limit=Ratio.limit):
+    """The figures of something beside few things and beside many, and by how much it grows."""
+    few, many = make(small), make(large)
+    return [few, many, Ratio(f"{name}: from {small:,} to {large:,} {things}", many, few, limit)]
+
+
+# Each of these makes a figure.
+
+
+def line(name, lines, count=SOME_LINES):
+    """A figure of each of many lines; `lines` gives the input with so many."""
+    return Figure(name, "line", count, lambda times: lines(times * count))
+
+
+def so_many(count, things):
+    """A text that says how many."""
+    return f"{count:,} {things}" if count > 1 else f"{count} {things.removesuffix('s')}"
+
+
+def in_sessions(count):
+    return line(f"set and get, in {so_many(count, 'sessions')}", lambda lines: inputs.in_turn(count, lines), LINES)
+
+
+def set_beside(standing):
+    name = f"set of an int, beside {so_many(standing, 'objects')}"
+    return line(name, lambda lines: inputs.set_beside(standing, lines))
+
+
+def beside_objects(standing):
+    name = f"new and delete, beside {so_many(standing, 'objects')}"
+    return line(name, lambda lines: inputs.beside_objects(standing, lines))
+
+
+def beside_connections(session):
+    """Makes the figure of objects that come and go beside so many connections of others."""
+    return lambda count: line(
+        f"new and delete, beside {count:,} connections of {OWNERS[session]}",
+        lambda lines: inputs.beside_connections(session, count, lines),
+    )
+
+
+def tied(session):
+    """Makes the figure of connections that come and go beside so many of others."""
+    return lambda count: line(
+        f"connect and disconnect, beside {count:,} of {OWNERS[session]}",
+        lambda lines: inputs.tie_and_untie(session, count, lines),
+    )
+
+
+OWNERS = {"a": "others", "b": "another session"}
+
+
+def many_at_once(name, unit, lines, less, work):
+    """Makes the figure of what a line does so many times, beside what the line itself takes.
+
+    `lines` gives the input where it does so many, in so many rounds; about so much `work` is done at each time.
+    """
+
+    def made(count):
+        rounds = max(1, work // count)
+        return Figure(name.format(count), unit, rounds, lambda times: lines(count, times * rounds), count, less)
+
+    return made
+
+
+def heard(name, others=lambda: ()):
+    """The figure of calls of many ears, with other lines before it."""
+    return Figure(name, "call", RINGS, lambda times: inputs.heard_by(EARS, times * RINGS, others()), EARS)
+
+
+def told(name, kind, slot):
+    """The figure of calls of many slots by a property that is set."""
+    return Figure(name, "call", RINGS, lambda times: inputs.cells(kind, slot, EARS, times * RINGS), EARS)
+
+
+def class_file(count):
+    """The figure of a class file with so many classes, against one with half as many; little else is given."""
+    half = count // 2
+    size = len(lamps(count)) - len(lamps(half))
+    name = f"a class file of {count:,} classes"
+    return Figure(name, "byte", size, lambda times: inputs.idle(1), classes=lambda times: lamps(times * half), often=2)
+
+
+def memory(figure):
+    """How often memory is asked for in place of the instructions."""
+    return replace(figure, name=f"memory: {figure.name}", what=REQUESTS, less=None)
+
+
+SENT = line("a signal sent to nobody", lambda lines: inputs.rings(0, lines))
+SENT_AND_SPUN = Figure(
+    "a signal sent to nobody, and a spin", "two lines", SOME_LINES, lambda times: inputs.rings_later(0, times * SOME_LINES)
+)
+NONE_SEEN = line("children of an object without any", lambda lines: inputs.seen(0, lines))
+NONE_SEARCHED = line("find below an object without children", lambda lines: inputs.searched(0, lines))
+
+IN_TREES = Figure(
+    f"new and delete, in trees of {OBJECTS:,} objects",
+    "line",
+    TREES * (OBJECTS + 1),
+    lambda times: inputs.in_trees(times * TREES, OBJECTS),
+)
+CALLED = many_at_once("a call, of a signal with {:,} connections", "call", inputs.rings, SENT, LINES)
+POSTED = many_at_once("an event posted and taken, {:,} at once", "event", inputs.rings_later, SENT_AND_SPUN, LINES)
+SEEN = many_at_once("children, of {:,}", "object", inputs.seen, NONE_SEEN, 4 * LINES)
+SEARCHED = many_at_once("find, among {:,}", "object", inputs.searched, NONE_SEARCHED, 4 * LINES)
+
+HEARD = heard(f"a call, of a signal with {EARS:,} ears")
+HEARD_BESIDE_SESSIONS = heard(f"a call, beside {SESSIONS:,} other sessions", lambda: inputs.other_sessions(SESSIONS))
+HEARD_BESIDE_OTHERS = heard(
+    f"a call, beside {OTHER_CONNECTIONS:,} other connections", lambda: inputs.other_connections(OTHER_CONNECTIONS, EARS)
+)
+TOLD = told("a call by NOTIFY, of a slot that does nothing", "Ear", "hear(int)")
+TOLD_SETS = told("a call by NOTIFY, of a slot that sets", "Cell", "setX(int)")
+
+FIGURES = [
+    *grown("set and get", in_sessions, 1, SESSIONS, "sessions"),
+    in_sessions(100),
+    Figure("new, set and get in each of many sessions", "line", 3 * SESSIONS, lambda times: inputs.once_each(times * SESSIONS)),
+    line("set and get, with blanks and escapes", lambda lines: inputs.spelled(inputs.in_turn(1, lines)), LINES),
+    line("set of a list, which is refused", inputs.with_lists),
+    *grown("set of an int", set_beside, 1, OBJECTS, "objects"),
+    IN_TREES,
+    *grown("new and delete", beside_objects, 1, OBJECTS, "objects"),
+    *grown("new and delete", beside_connections("a"), FEW, CONNECTIONS, "connections of others"),
+    *grown("new and delete", beside_connections("b"), FEW, CONNECTIONS, "of another session"),
+    *grown("connect and disconnect", tied("a"), FEW, CONNECTIONS - 1, "of others"),
+    *grown("connect and disconnect", tied("b"), FEW, CONNECTIONS, "of another session"),
+    SENT,
+    *grown("a call", CALLED, FEW, CONNECTIONS, "connections"),
+    HEARD,
+    HEARD_BESIDE_SESSIONS,
+    Ratio(f"a call: from no other sessions to {SESSIONS:,}", HEARD_BESIDE_SESSIONS, HEARD),
+    HEARD_BESIDE_OTHERS,
+    Ratio(f"a call: from no other connections to {OTHER_CONNECTIONS:,}", HEARD_BESIDE_OTHERS, HEARD),
+    TOLD,
+    TOLD_SETS,
+    Ratio("a call by NOTIFY: from a slot that does nothing to one that sets", TOLD_SETS, TOLD, 1.5),
+    SENT_AND_SPUN,
+    *grown("an event", POSTED, FEW, CONNECTIONS, "at once", 1.2),
+    NONE_SEEN,
+    *grown("children", SEEN, FEW, OBJECTS, "objects", 2),
+    NONE_SEARCHED,
+    *grown("find", SEARCHED, FEW, OBJECTS, "objects", 2),
+    line(f"meta of a class with {METHODS} methods", inputs.metas, METAS),
+    *grown("a class file", class_file, 2 * FEW, CLASSES, "classes"),
+    *(memory(it) for it in (in_sessions(1), IN_TREES, HEARD, POSTED(CONNECTIONS))),
+]

@@ -1,0 +1,196 @@
+"""The inputs that are counted and timed: lines, each with the text that must be told to it.
+
+They are the same in every run. Each makes what has to be there, and then does what is counted so many times.
+"""
+
+from lines import (
+    called,
+    child,
+    children,
+    connect,
+    delete,
+    disconnect,
+    find_none,
+    look_around,
+    meta,
+    new,
+    read,
+    ring,
+    set_x,
+    spin,
+    write,
+    write_list,
+)
+
+CHILDREN_OF_EACH = 4
+BLANKS_AND_ESCAPES = {",": ", ", ":": ": ", "lamp": "l\\u0061mp", "objectName": "object\\u004eame"}
+
+
+def numbered(session, first, kinds):
+    """New objects of these classes, the first of which gets this number."""
+    return [new(session, number, kind) for number, kind in enumerate(kinds, first)]
+
+
+# Objects, and the name of each.
+
+
+def in_turn(sessions, lines):
+    """One object in each session, and then writes and reads, each session in turn."""
+    names = [f"s{number}" for number in range(sessions)]
+    yield from (new(name, 1) for name in names)
+    for number in range(lines // 2):
+        name = names[number % sessions]
+        yield write(name, f"lamp {number}")
+        yield read(name, f"lamp {number}")
+
+
+def once_each(sessions):
+    """An object, a write and a read in each session."""
+    for number in range(sessions):
+        name = f"s{number}"
+        yield from (new(name, 1), write(name, "lamp"), read(name, "lamp"))
+
+
+def idle(sessions):
+    """A look around in each session, which has no objects."""
+    return (look_around(f"s{number}") for number in range(sessions))
+
+
+def spelled(lines):
+    """These lines with white space and escapes."""
+    for line, wanted in lines:
+        for plain, other in BLANKS_AND_ESCAPES.items():
+            line = line.replace(plain, other)
+        yield line, wanted
+
+
+def with_lists(lines):
+    """Lines that would write a list, and are refused."""
+    yield new("a", 1)
+    yield from (write_list("a", number) for number in range(lines))
+
+
+def metas(lines):
+    """Lines that ask for a class with as many methods as there may be."""
+    return (meta("a") for _ in range(lines))
+
+
+# Trees.
+
+
+def in_trees(rounds, objects):
+    """In each round a tree of objects, made from its root down and deleted at once."""
+    for root in range(1, rounds * objects + 1, objects):
+        yield new("a", root)
+        yield from (child("a", root + place // CHILDREN_OF_EACH, root + place + 1) for place in range(objects - 1))
+        yield delete("a", root)
+
+
+def family(number):
+    """An object with so many children."""
+    yield new("a", 1)
+    yield from (child("a", 1, it) for it in range(2, number + 2))
+
+
+def seen(number, looks):
+    """A family, whose children are told again and again."""
+    yield from family(number)
+    yield from [children("a", 1, list(range(2, number + 2)))] * looks
+
+
+def searched(number, looks):
+    """A family, in which a name that no child has is looked for again and again."""
+    yield from family(number)
+    yield from [find_none("a", 1)] * looks
+
+
+def come_and_go(first, lines):
+    """Objects that are made and deleted one by one, the first of which gets this number."""
+    for number in range(first, first + lines // 2):
+        yield new("a", number)
+        yield delete("a", number)
+
+
+def beside_objects(standing, lines):
+    """Objects that come and go beside so many others."""
+    yield from numbered("a", 1, ["QObject"] * standing)
+    yield from come_and_go(standing + 1, lines)
+
+
+# Connections.
+
+
+def connections(session, count, **kind):
+    """A Bell and an Ear, with so many connections between them."""
+    yield from numbered(session, 1, ["Bell", "Ear"])
+    yield from (connect(session, 1, 2, number, **kind) for number in range(1, count + 1))
+
+
+def beside_connections(session, count, lines):
+    """Objects of session a that come and go beside so many connections of others in a session, that one or another."""
+    yield from connections(session, count)
+    yield from come_and_go(3 if session == "a" else 1, lines)
+
+
+def tie_and_untie(session, count, lines):
+    """A connection of session a that is made and broken again and again, beside so many of others in a session."""
+    yield from connections(session, count)
+    first, standing = (3, count) if session == "a" else (1, 0)
+    yield from numbered("a", first, ["Bell", "Ear"])
+    for number in range(standing + 1, standing + 1 + lines // 2):
+        yield connect("a", first, first + 1, number)
+        yield disconnect("a", number)
+
+
+# Calls and events.
+
+
+def rings(count, times):
+    """A bell that rings so many times through so many connections to one ear."""
+    yield from connections("a", count)
+    yield from [ring("a", called("a", "hear(int)", [2] * count, 5))] * times
+
+
+def rings_later(count, times):
+    """The same with queued connections; after each ring the events are taken."""
+    yield from connections("a", count, type="queued")
+    yield from [ring("a"), spin("a", count, called("a", "hear(int)", [2] * count, 5))] * times
+
+
+def heard_by(ears, times, others=()):
+    """A bell that rings so many times for so many ears, with these lines before the first time."""
+    numbers = range(2, ears + 2)
+    yield from numbered("a", 1, ["Bell", *["Ear"] * ears])
+    yield from (connect("a", 1, ear, ear - 1) for ear in numbers)
+    yield from others
+    yield from [ring("a", called("a", "hear(int)", numbers, 5))] * times
+
+
+def other_sessions(count):
+    """Sessions that each have two objects and a connection between them."""
+    for number in range(count):
+        yield from connections(f"s{number}", 1)
+
+
+def other_connections(count, ears):
+    """Connections of another bell of the session that has so many ears."""
+    bell = ears + 2
+    yield new("a", bell, "Bell")
+    yield from (connect("a", bell, 2, ears + number) for number in range(1, count + 1))
+
+
+# Properties.
+
+
+def cells(kind, slot, others, times):
+    """A Cell that is set so many times, and each time calls this slot of so many other objects of this class."""
+    numbers = range(2, others + 2)
+    yield from numbered("a", 1, ["Cell", *[kind] * others])
+    yield from (connect("a", 1, it, it - 1, "xChanged(int)", slot) for it in numbers)
+    yield from (set_x("a", value, called("a", slot, numbers, value)) for value in range(1, times + 1))
+
+
+def set_beside(standing, times):
+    """A Cell that is set so many times beside so many others, without anybody to tell."""
+    yield from numbered("a", 1, ["Cell"] * (standing + 1))
+    yield from (set_x("a", value) for value in range(1, times + 1))

@@ -1,0 +1,156 @@
+"""Lines of input, each with the text that must be told to it, and the classes that they name."""
+
+import json
+
+ENCODE = json.JSONEncoder(separators=(",", ":"), sort_keys=True).encode
+
+BELL = {"name": "Bell", "super": "QObject", "signals": ["rang(int)"], "slots": []}
+EAR = {"name": "Ear", "super": "QObject", "signals": [], "slots": [{"sig": "hear(int)", "body": []}]}
+CELL = {
+    "name": "Cell",
+    "super": "QObject",
+    "signals": ["xChanged(int)"],
+    "slots": [{"sig": "setX(int)", "body": [{"set": "x", "to": {"arg": 0}}]}],
+    "properties": [{"name": "x", "type": "int", "notify": "xChanged(int)"}],
+}
+
+METHODS = 256  # as many as a class may have
+METHODS_OF_QOBJECT = ["destroyed()", "objectNameChanged(QString)", "deleteLater()"]
+
+LAMPS_IN_CHAIN = 8
+
+# One of many classes, of about 1,020 bytes, spelled as people spell them.
+LAMP = """
+{"name":"Lamp#","super":"SUPER","signals":["level#Changed( int )","label#Changed(const QString &)","lit#Changed()"],
+"slots":[{"sig":"setLevel#(const int &)","body":[{"when":{"<":[{"arg":0},{"const":0}]},
+"then":[{"set":"level#","to":{"const":0}}],"else":[{"set":"level#","to":{"arg":0}}]}]},
+{"sig":"setLabel#(QString const&)","body":[{"set":"label#","to":{"cat":[{"const":"lamp "},{"arg":0}]}},
+{"emit":"label#Changed(QString)","args":[{"prop":"label#"}]}]},
+{"sig":"follow#(void)","body":[{"connect":"level#Changed(int)","of":"sender","to":"self","method":"setLevel#(int)"}]},
+{"sig":"fall#()","body":[{"disconnect":null,"to":{"child":"the cable"}},{"block":true},{"deleteLater":"self"}]}],
+"properties":[{"name":"level#","type":"int","notify":"level#Changed(int)","bindable":true},
+{"name":"label#","type":"QString","notify":"label#Changed(QString)"},{"name":"hours#","type":"qulonglong"},
+{"name":"lit#","type":"bool","notify":"lit#Changed()"}]}
+""".strip()
+
+
+def panel():
+    """A class with as many methods as there may be, and what `meta` tells of it."""
+    own = METHODS - len(METHODS_OF_QOBJECT)
+    signals = [f"signal{number}(int)" for number in range(own // 2)]
+    slots = [f"slot{number}(int)" for number in range(own // 2, own)]
+    declared = {"name": "Panel", "super": "QObject", "signals": signals, "slots": [{"sig": it, "body": []} for it in slots]}
+    described = {
+        "class": "Panel",
+        "methodOffset": len(METHODS_OF_QOBJECT),
+        "methods": [*METHODS_OF_QOBJECT, *signals, *slots],
+        "properties": ["objectName"],
+        "propertyOffset": 1,
+        "super": "QObject",
+    }
+    return declared, described
+
+
+PANEL, PANEL_DESCRIBED = panel()
+
+
+def class_file(classes):
+    """The text of a class file with these classes, each of which is a text."""
+    return '{"classes":[' + ",".join(classes) + "]}"
+
+
+def usual_classes():
+    """The class file of all inputs but those that are class files themselves."""
+    return class_file(ENCODE(it) for it in (BELL, EAR, CELL, PANEL))
+
+
+def lamps(count):
+    """A class file with so many classes in chains, each the superclass of the next in its chain."""
+    above = (f"Lamp{number - 1:04}" if number % LAMPS_IN_CHAIN else "QObject" for number in range(count))
+    return class_file(LAMP.replace("SUPER", it).replace("#", f"{number:04}") for number, it in enumerate(above))
+
+
+def command(session, do, **keys):
+    """The line of a command."""
+    return ENCODE({"do": do, "session": session, **keys}) + "\n"
+
+
+def reply(session, value):
+    """The line that replies a value."""
+    return ENCODE({"reply": value, "session": session}) + "\n"
+
+
+def called(session, slot, receivers, value, sender=1):
+    """The lines that tell of one call of each receiver."""
+    keys = {"args": [value], "call": slot, "sender": sender, "session": session}
+    return "".join(ENCODE({"object": it, **keys}) + "\n" for it in receivers)
+
+
+# Each of these is a line with what must be told to it.
+
+
+def new(session, number, kind="QObject", **parent):
+    return command(session, "new", **{"class": kind}, **parent), reply(session, number)
+
+
+def child(session, parent, number):
+    return new(session, number, parent=parent)
+
+
+def delete(session, number):
+    return command(session, "delete", object=number), reply(session, True)
+
+
+def write(session, value):
+    return command(session, "set", object=1, property="objectName", value=value), reply(session, True)
+
+
+def read(session, value):
+    return command(session, "get", object=1, property="objectName"), reply(session, value)
+
+
+def set_x(session, value, calls=""):
+    """A Cell is set, which makes these calls."""
+    return command(session, "set", object=1, property="x", value=value), calls + reply(session, True)
+
+
+def write_list(session, number):
+    """A list where a text belongs, which is refused."""
+    line = command(session, "set", object=1, property="objectName", value=[number, "lamp", True])
+    return line, ENCODE({"error": "E22", "session": session}) + "\n"
+
+
+def connect(session, sender, receiver, number, signal="rang(int)", method="hear(int)", **kind):
+    ends = {"sender": sender, "signal": signal, "receiver": receiver, "method": method}
+    return command(session, "connect", **ends, **kind), reply(session, number)
+
+
+def disconnect(session, number):
+    return command(session, "disconnect", connection=number), reply(session, True)
+
+
+def ring(session, calls=""):
+    """The first object, a Bell, rings, which makes these calls."""
+    return command(session, "invoke", object=1, method="rang(int)", args=[5]), calls + reply(session, True)
+
+
+def spin(session, events, calls=""):
+    """So many events are taken, which make these calls."""
+    return command(session, "spin"), calls + reply(session, {"events": events, "left": 0, "lost": 0, "mismatched": 0})
+
+
+def children(session, number, found):
+    return command(session, "children", object=number), reply(session, found)
+
+
+def find_none(session, number):
+    return command(session, "find", object=number, name="none"), reply(session, None)
+
+
+def look_around(session):
+    """A look for objects in a session that has none."""
+    return command(session, "children"), reply(session, [])
+
+
+def meta(session):
+    return command(session, "meta", **{"class": "Panel"}), reply(session, PANEL_DESCRIBED)
