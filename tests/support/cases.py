@@ -36,22 +36,25 @@ class Cases(unittest.TestCase):
         chosen = [(name, case) for name, case in cases if CASE in name]
         if not chosen:
             self.skipTest(f"no case has {CASE!r} in its name")
-        passed, came, pool = 0, [], workers(at_once)
+        passed, skipped, came, pool = 0, 0, [], workers(at_once)
         try:
             under_way = [(name, pool.submit(try_case, case)) for name, case in chosen]
             for name, trial in under_way:
                 with self.subTest(case=name):
-                    came.append(trial.result())
+                    try:
+                        came.append(trial.result())
+                    except unittest.SkipTest:
+                        skipped += 1
+                        raise
                     fault = fault_of(came[-1])
                     if fault:
                         self.fail(fault)
                     passed += 1
         finally:
             pool.shutdown(cancel_futures=True)
-        if passed == len(chosen):
-            self.tell(f"cases: {passed}")
-        else:
-            self.tell(f"cases: {len(chosen)}, not passed: {len(chosen) - passed}", end="\n")
+        failed = len(chosen) - passed - skipped
+        words = f"cases: {len(chosen)}" + (f", skipped: {skipped}" if skipped else "") + (f", not passed: {failed}" if failed else "")
+        self.tell(words, end=" ... " if passed == len(chosen) else "\n")
         return came
 
     @contextmanager
