@@ -37,9 +37,10 @@ use Rattle.thread_model.specs.Methods.{method_at}
 use Rattle.thread_model.specs.Targets.{truth_evaluated}
 use Rattle.thread_model.proofs.ActionLemmas as action
 use Rattle.thread_model.specs.declared.post.Post.{Post}
-use Rattle.thread_model.specs.declared.post.Desk.{Desk}
-use Rattle.thread_model.specs.declared.post.Publication.{Publication}
-use Rattle.thread_model.specs.Arriving.{post_of, posts_of, publishes}
+use Rattle.class_table.specs.declared.class.Class.{Class}
+use Rattle.publish_board.specs.declared.publication.Publication.{Publication}
+use Rattle.publish_board.specs.Rows.{publishes}
+use Rattle.thread_model.specs.Arriving.{kinds_of, post_of, posts_of}
 use Rattle.thread_model.specs.Doing.{Doing, in_state, lost, posted, posting, shot, told, turn_taken, used_up}
 use Rattle.thread_model.specs.Items.{Call, Emit, Item, Next, Run, Warn, puts}
 use Rattle.thread_model.specs.Posting.{is_queued}
@@ -188,8 +189,8 @@ sends rows target blocked e = by (row_of rows target) refl e
     by (Some row) is e = record { row = row; there = is; is = cc }
 
 -- a signal that is not published is not posted
-pub posts_none : (target signal : ℕ) (args : List Value) (desk : Desk) → list_any (publishes target signal) desk.publications ≡ false → posts_of desk target signal args ≡ []
-posts_none target signal args desk none = ap (map (post_of args)) (by desk.publications none)
+pub posts_none : (classes : List Class) (state : State) (target signal : ℕ) (args : List Value) → list_any (publishes target signal) state.desk.publications ≡ false → posts_of classes state target signal args ≡ []
+posts_none classes state target signal args none = ap (map (post_of (kinds_of classes state.forest.rows target signal) args)) (by state.desk.publications none)
   where
     by : (rows : List Publication) → list_any (publishes target signal) rows ≡ false → filter (publishes target signal) rows ≡ []
     by [] none = refl
@@ -238,15 +239,15 @@ module _ (settings : Settings) (target signal : ℕ) (args : List Value) (depth 
       emission_deep new deep does = by_step settings (Emit target signal args depth) doing _ (rule.emit_deep settings target signal args depth doing its_row.row its_row.there (held_is false sent) deep) ∙ does
 
       -- an emission that begins is posted, and has all connections of the signal before it
-      pub emission_begins : depth < NESTED_SIGNALS → IsSound doing.state.connections → (new : Doing) → posting doing (posts_of doing.state.desk target signal args) ≡ new
+      pub emission_begins : depth < NESTED_SIGNALS → IsSound doing.state.connections → (new : Doing) → posting doing (posts_of settings.classes doing.state target signal args) ≡ new
           → run settings (calls_to settings args depth (remaining target signal doing.state.connections.last_number 0 doing.state.connections.rows)) new ≡ run settings (Emit target signal args depth ∷ []) doing
       emission_begins shallow sound new posts =
           sym (by_step settings (Emit target signal args depth) doing _ (rule.emit_calls settings target signal args depth doing its_row.row its_row.there (held_is false sent) shallow)
-          ∙ ap (λ agenda. run settings agenda (posting doing (posts_of doing.state.desk target signal args))) (emission_first settings target signal args depth doing sound)
+          ∙ ap (λ agenda. run settings agenda (posting doing (posts_of settings.classes doing.state target signal args))) (emission_first settings target signal args depth doing sound)
           ∙ ap (run settings (calls_to settings args depth (remaining target signal doing.state.connections.last_number 0 doing.state.connections.rows))) posts)
 
   -- a signal that is not published and that nothing is connected to comes to nothing, whether its object is there or not, blocked or not
-  pub emission_unheard : (doing : Doing) → depth < NESTED_SIGNALS → IsSound doing.state.connections → posts_of doing.state.desk target signal args ≡ [] → is_some (find (is_next target signal 0 doing.state.connections.last_number) doing.state.connections.rows) ≡ false
+  pub emission_unheard : (doing : Doing) → depth < NESTED_SIGNALS → IsSound doing.state.connections → posts_of settings.classes doing.state target signal args ≡ [] → is_some (find (is_next target signal 0 doing.state.connections.last_number) doing.state.connections.rows) ≡ false
       → run settings (Emit target signal args depth ∷ []) doing ≡ doing
   emission_unheard doing shallow sound unpublished unheard = by_row (option_map (λ (row : Row). row.blocked) (row_of doing.state.forest.rows target)) refl
     where

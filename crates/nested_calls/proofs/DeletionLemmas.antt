@@ -1,21 +1,20 @@
 -- Deleting by nested calls: a rule for each way that an item goes.
 use Rattle.std.proofs.Common.{◌≡◌, ◌<◌, ◌≤◌, ◌+◌, ℕ, true, false, List, [], ◌∷◌, length, map, drop, get_or, Some, refl, sym, ap, ◌∙◌, arith}
 use Rattle.std.proofs.lemmas.List.{drop_all, drop_more}
-use Rattle.connection_list.specs.Ends.{touches}
 use Rattle.object_tree.specs.Changes.{marked}
 use Rattle.object_tree.specs.Rows.{children}
 use Rattle.thread_model.specs.declared.call.TheConstants.{DESTROYED}
 use Rattle.thread_model.specs.Agenda.{kins, lives, lives_below}
 use Rattle.thread_model.specs.declared.post.Post.{Post}
-use Rattle.thread_model.specs.Doing.{Doing, dying, forgotten, gone, in_state, untied}
+use Rattle.thread_model.specs.Doing.{Doing, dying, gone, in_state, severed}
 use Rattle.thread_model.specs.Items.{Cut, Delete, Emit, Gone, Item, Kin}
 use Rattle.thread_model.specs.Run.{run}
 use Rattle.thread_model.specs.Settings.{Settings}
-use Rattle.thread_model.specs.State.{State, without_connections, without_events, without_object}
+use Rattle.thread_model.specs.State.{State, without_object, without_ties}
 use Rattle.thread_model.proofs.DeletionLemmas as rule
 use Rattle.thread_model.proofs.LivingLemmas.{living_rows}
 use Rattle.thread_model.proofs.RunLemmas.{after_first, at_end, by_change, by_step}
-use Rattle.thread_model.proofs.ShrinkLemmas.{dying_less, forgotten_shrinks, untied_shrinks}
+use Rattle.thread_model.proofs.ShrinkLemmas.{dying_less, severed_shrinks}
 use Rattle.session_tables.specs.declared.tables.Tables.{Tables}
 use Rattle.session_tables.specs.Tables.{IsPlaced, state_at, with_state}
 use Rattle.session_tables.proofs.TablesLemmas.{state_with}
@@ -31,10 +30,6 @@ use Rattle.nested_calls.proofs.DoesLemmas.{SoFar, far_none, here}
 abbrev pub dying_in : State → ℕ → State
 dying_in state target = record state { forest = marked state.forest target }
 
--- the state without the connections of an object
-abbrev pub untied_in : State → ℕ → State
-untied_in state target = without_connections state (touches target)
-
 -- a session in which another state was put
 module _ (place target : ℕ) (old new : Tables) (telling : Telling) (earlier : List Post) (placed : IsPlaced old place) where
   put_there : (state : State) → new ≡ with_state old place state → doing_at place new telling earlier ≡ in_state (doing_at place old telling earlier) state
@@ -44,13 +39,9 @@ module _ (place target : ℕ) (old new : Tables) (telling : Telling) (earlier : 
   unfolding dying
   marked_is e = put_there (dying_in (state_at old place) target) e
 
-  untied_is : new ≡ with_state old place (untied_in (state_at old place) target) → doing_at place new telling earlier ≡ untied (doing_at place old telling earlier) target
-  unfolding untied
-  untied_is e = put_there (untied_in (state_at old place) target) e
-
-  forgotten_is : new ≡ with_state old place (without_events (state_at old place) target) → doing_at place new telling earlier ≡ forgotten (doing_at place old telling earlier) target
-  unfolding forgotten
-  forgotten_is e = put_there (without_events (state_at old place) target) e
+  severed_is : new ≡ with_state old place (without_ties (state_at old place) target) → doing_at place new telling earlier ≡ severed (doing_at place old telling earlier) target
+  unfolding severed
+  severed_is e = put_there (without_ties (state_at old place) target) e
 
   pub gone_is : new ≡ with_state old place (without_object (state_at old place) target) → doing_at place new telling earlier ≡ gone (doing_at place old telling earlier) target
   unfolding gone
@@ -63,18 +54,11 @@ module _ (place target : ℕ) (old new : Tables) (telling : Telling) (earlier : 
       let same : living_rows (state_at new place).forest.rows ≡ living_rows (dying (doing_at place old telling earlier) target).state.forest.rows = ap (λ (doing : Doing). living_rows doing.state.forest.rows) (marked_is e) in
       omega (arith, less, same)
 
-  -- breaking connections leaves as much
-  pub left_untied : new ≡ with_state old place (untied_in (state_at old place) target) → left_at place new telling ≤ left_at place old telling
-  left_untied e =
-      let less = (untied_shrinks (doing_at place old telling earlier) target).living in
-      let same : living_rows (state_at new place).forest.rows ≡ living_rows (untied (doing_at place old telling earlier) target).state.forest.rows = ap (λ (doing : Doing). living_rows doing.state.forest.rows) (untied_is e) in
-      omega (arith, less, same)
-
-  -- nor does dropping events
-  pub left_forgotten : new ≡ with_state old place (without_events (state_at old place) target) → left_at place new telling ≤ left_at place old telling
-  left_forgotten e =
-      let less = (forgotten_shrinks (doing_at place old telling earlier) target).living in
-      let same : living_rows (state_at new place).forest.rows ≡ living_rows (forgotten (doing_at place old telling earlier) target).state.forest.rows = ap (λ (doing : Doing). living_rows doing.state.forest.rows) (forgotten_is e) in
+  -- what breaks its ties leaves as much
+  pub left_severed : new ≡ with_state old place (without_ties (state_at old place) target) → left_at place new telling ≤ left_at place old telling
+  left_severed e =
+      let less = (severed_shrinks (doing_at place old telling earlier) target).living in
+      let same : living_rows (state_at new place).forest.rows ≡ living_rows (severed (doing_at place old telling earlier) target).state.forest.rows = ap (λ (doing : Doing). living_rows doing.state.forest.rows) (severed_is e) in
       omega (arith, less, same)
 
 module _ (settings : Settings) (target depth : ℕ) where
@@ -85,15 +69,14 @@ module _ (settings : Settings) (target depth : ℕ) where
   pub delete_none : (doing : Doing) → lives doing target ≡ false → run settings (Delete target depth ∷ []) doing ≡ doing
   delete_none doing dead = by_change settings (Delete target depth) doing doing (rule.delete_none settings target depth doing dead)
 
-  -- the connections of a dying object are broken and its events forgotten, and then there are its children
-  pub cut_first : (place : ℕ) (old loose new : Tables) (telling : Telling) (earlier : List Post) → IsPlaced old place → IsPlaced loose place → (found : List ℕ) → found ≡ children (state_at old place).forest.rows (Some target)
-      → loose ≡ with_state old place (untied_in (state_at old place) target)
-      → new ≡ with_state loose place (without_events (state_at loose place) target)
+  -- what ties a dying object to others is broken, and then there are its children
+  pub cut_first : (place : ℕ) (old new : Tables) (telling : Telling) (earlier : List Post) → IsPlaced old place → (found : List ℕ) → found ≡ children (state_at old place).forest.rows (Some target)
+      → new ≡ with_state old place (without_ties (state_at old place) target)
       → run settings (kins_from found) (doing_at place new telling earlier) ≡ run settings (Cut target depth ∷ []) (doing_at place old telling earlier)
   unfolding kins
-  cut_first place old loose new telling earlier placed still found e f g =
-      ap (run settings (kins_from found)) (forgotten_is place target loose new telling earlier still g ∙ ap (λ doing. forgotten doing target) (untied_is place target old loose telling earlier placed f))
-      ∙ ap (λ numbers. run settings (kins_from numbers) (forgotten (untied (doing_at place old telling earlier) target) target)) e
+  cut_first place old new telling earlier placed found e f =
+      ap (run settings (kins_from found)) (severed_is place target old new telling earlier placed f)
+      ∙ ap (λ numbers. run settings (kins_from numbers) (severed (doing_at place old telling earlier) target)) e
       ∙ sym (by_step settings (Cut target depth) (doing_at place old telling earlier) _ (rule.cut_kins settings target depth (doing_at place old telling earlier)))
 
   -- one child is deleted, and then those behind it

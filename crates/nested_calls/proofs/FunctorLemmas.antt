@@ -1,9 +1,8 @@
 -- Functors that are called: what a connection's call of one comes to, and that a closure's actions do what
 -- its body does.
-use Rattle.std.proofs.Common.{◌≡◌, ◌+◌, ◌≤◌, ℕ, Bool, true, false, cond, List, [], ◌∷◌, Option, Some, None, length, take, refl, sym, ap, subst, ◌∙◌}
-use Rattle.std.specs.Prelude.{IsSomeAnd}
+use Rattle.std.proofs.Common.{◌≡◌, ◌+◌, ◌≤◌, ℕ, Bool, true, false, cond, List, [], ◌∷◌, Option, Some, None, length, take, refl, sym, ap, ◌∙◌}
 use Rattle.std.specs.Option.{option_map_or}
-use Rattle.std.proofs.lemmas.Bool.{cond-false, cond-true}
+use Rattle.std.proofs.lemmas.Bool.{cond-false, cond-true, cond_both}
 use Rattle.variant_value.specs.declared.value.Value.{Value}
 use Rattle.term_core.specs.Act.{Act, acts_of, counts}
 use Rattle.term_evaluation.specs.Unfolding.{unfolded_body}
@@ -16,13 +15,12 @@ use Rattle.event_queue.specs.declared.event.Event.TheVariants as event
 use Rattle.event_queue.specs.declared.event.QueuedCall.{QueuedCall}
 use Rattle.event_queue.specs.Queue.{has_room}
 use Rattle.stored_slots.specs.declared.functor.Functor as stored
-use Rattle.stored_slots.specs.Functors.{AreArguments, IsCall}
 use Rattle.thread_model.specs.Acts as model
 use Rattle.thread_model.specs.Agenda.{callee_called, functor_called, functor_line, queued}
 use Rattle.thread_model.specs.declared.post.Post.{Post}
 use Rattle.thread_model.specs.Doing.{Doing, in_state, lost, posted, told}
 use Rattle.thread_model.specs.Functors.{functor_at}
-use Rattle.thread_model.specs.Items.{Next, RunFunctor, puts}
+use Rattle.thread_model.specs.Items.{Item, Next, RunFunctor, puts}
 use Rattle.thread_model.specs.Posting.{is_queued}
 use Rattle.thread_model.specs.Run.{longest_functor, run}
 use Rattle.thread_model.specs.Settings.{Settings}
@@ -36,6 +34,7 @@ use Rattle.session_tables.specs.Tables.{IsPlaced, state_at, with_state}
 use Rattle.session_tables.proofs.TablesLemmas.{state_with}
 use Rattle.nested_calls.specs.declared.telling.Telling.{Telling}
 use Rattle.nested_calls.specs.Telling.{doing_at}
+use Rattle.nested_calls.proofs.FrontLemmas.{PostsBehind, front_same}
 
 -- a call that is posted, or lost where there is no room for it
 pub queued_is : (place : ℕ) (old new : Tables) (telling : Telling) (earlier : List Post) (call : QueuedCall) → IsPlaced old place → new ≡ with_state old place (with_call (state_at old place) call) → queued (doing_at place old telling earlier) call ≡ doing_at place new telling earlier
@@ -97,6 +96,23 @@ module _ (settings : Settings) (connection : Connection) (index : ℕ) (args : L
         ∙ ap ran (cond-false (is_queued connection.mode) _ _ at_once)
         ∙ ap (λ (values : List Value). run settings (RunFunctor connection.receiver index connection.sender values depth ∷ []) doing) (sym cut)
         ∙ runs_functor settings connection.receiver index connection.sender given depth doing functor has done does
+
+-- it posts nothing to other sessions before that is run
+module _ (settings : Settings) (connection : Connection) (index : ℕ) (args : List Value) (depth : ℕ) (doing : Doing) where
+  queued_front : (call : QueuedCall) → PostsBehind doing (queued doing call)
+  unfolding posted lost
+  queued_front call = cond_both (has_room doing.state.queue) (posted doing (event.Call call)) (lost doing) (PostsBehind doing) (λ room. front_same doing.posts) (λ full. front_same doing.posts)
+
+  called_front : (later : Bool) (call : QueuedCall) (items : List Item) → PostsBehind doing (cond later (puts [] (queued doing call)) (puts items doing)).doing
+  called_front true call items = queued_front call
+  called_front false call items = front_same doing.posts
+
+  pub callee_front : PostsBehind doing (callee_called settings connection args depth doing (Functor index)).doing
+  callee_front = by (functor_at settings index)
+    where
+      by : (found : Option stored.Functor) → PostsBehind doing (option_map_or (functor_called connection index args depth doing) found (puts [] doing)).doing
+      by None = front_same doing.posts
+      by (Some functor) = called_front (is_queued connection.mode) _ _
 
 module _ (settings : Settings) (index : ℕ) (functor : stored.Functor) (has : Some functor ≡ functor_at settings index) where
   -- no body is longer than the longest one

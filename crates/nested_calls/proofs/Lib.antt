@@ -1,3 +1,4 @@
+pub mod FrontLemmas
 pub mod DoesLemmas
 pub mod DeletionLemmas
 pub mod AgendaLemmas

@@ -24,6 +24,7 @@ ghost use Rattle.nested_calls.specs.Telling.{doing_at};
 use crate::actor::{Actor, answered};
 use crate::answering::Answering;
 use crate::deletion::delete;
+use crate::posts::post;
 use crate::telling::Telling;
 use class_table::Method;
 use connection_list::Connection;
@@ -33,7 +34,7 @@ use refusals::Code;
 use session_effects::{
     Caller, Notice, Slot, change, deleted, functor_at, method_at, sent, set, told_args, truth,
 };
-use session_tables::{Sending, Tables};
+use session_tables::Tables;
 use std::alloc::AllocError;
 use stored_slots::Functor;
 use term_core::{Action, Effect, Step};
@@ -66,15 +67,7 @@ pub fn emit<F: Answering>(
     if depth >= NESTED_SIGNALS {
         return telling.warn(Code::Limit, Some(target));
     }
-    let sending = Sending {
-        alloc: actor.caller.setup.alloc,
-        place: actor.caller.place,
-        from: actor.caller.name,
-        object: target,
-        signal,
-        args,
-    };
-    telling.failing = tables.deliver(&sending, telling.failing);
+    telling.failing = post(&actor.caller, tables, target, signal, args, telling.failing);
     let up_to = tables.last_connection(actor.caller.place);
     let mut after = 0;
     'calls: while let Some(connection) = tables.next_connection(

@@ -40,7 +40,7 @@ pub fn delete<F: Answering>(
     Ok(())
 }
 
-/// Breaks the connections of a dying object, drops its events, and deletes its children.
+/// Breaks what ties a dying object to others, and deletes its children.
 #[cycle(agenda)]
 fn cut<F: Answering>(
     actor: &Actor<F>,
@@ -54,8 +54,7 @@ fn cut<F: Answering>(
     ensures { Does actor.now.caller (Cut target depth ∷ []) tables.old tables.new telling.old telling.new result }
 {
     let children = tables.children(actor.caller.place, Some(target))?;
-    tables.untie(actor.caller.place, target);
-    tables.forget(actor.caller.place, target);
+    tables.sever(actor.caller.place, target);
     'children: for child in children.as_slice() {
         kin(actor, tables, telling, target, *child, depth)?;
     }

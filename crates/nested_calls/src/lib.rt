@@ -6,6 +6,7 @@ mod actor;
 mod agenda;
 mod answering;
 mod deletion;
+mod posts;
 mod telling;
 
 pub use actor::Actor;

@@ -11,6 +11,10 @@ desk_at table place = slice_index_or table.places place no_desk
 abbrev pub with_desk : Table Desk → ℕ → Desk → Table Desk
 with_desk table place desk = with_place table place desk
 
+-- does a place join the session
+abbrev pub names_at : Table Desk → List ℕ → ℕ → Type 0
+names_at table from place = IsTrue (names_session from (desk_at table place))
+
 -- this place joins the session, and of those from `least` on it is the first
 pub record IsFirstJoiner (table : Table Desk) (from : List ℕ) (least place : ℕ) : Type 0 where
   pub is_place : IsPlace table place

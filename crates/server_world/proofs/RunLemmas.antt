@@ -1,6 +1,7 @@
 -- One more command of a run, and what each session sees of the whole run.
-use Rattle.std.proofs.Common.{◌≡◌, ◌⊎◌, inl, inr, ℕ, ◌+◌, ◌<◌, Bool, List, [], ◌∷◌, ◌++◌, Option, Some, None, IfNone, OnSome, IsTrue, IsFalse, length, map, take, get_or, add-one, refl, sym, ap, ap₂, ◌∙◌, ⊎_elim, arith}
+use Rattle.std.proofs.Common.{◌≡◌, ◌⊎◌, inl, inr, ℕ, ◌+◌, ◌<◌, Bool, true, false, not, List, [], ◌∷◌, ◌++◌, Option, Some, None, IfNone, OnSome, IsTrue, IsFalse, length, map, take, get_or, add-one, refl, sym, ap, ap₂, subst, ◌∙◌, ⊎_elim, arith}
 use Rattle.std.specs.Prelude.{bytes_eq}
+use Rattle.std.specs.List.{list_any}
 use Rattle.std.proofs.Math.Seq.{take-suc}
 use Rattle.std.proofs.lemmas.Bool.{cases_Bool, both_ways, or_left, or_right}
 use Rattle.std.proofs.lemmas.List.{map-append}
@@ -25,9 +26,9 @@ use Rattle.session_engine.specs.Sessions.{IsStep}
 use Rattle.server_world.specs.declared.report.Entry.{Entry}
 use Rattle.server_world.specs.declared.report.Entry.TheVariants.{Lines, OutOfMemory}
 use Rattle.server_world.specs.Names.{with_name, with_names}
-use Rattle.server_world.specs.Runs.{IsAsAlone, IsAsWith, IsIsolated, IsShort, IsWorldRun, entry_lines, is_out_of_memory, tags}
-use Rattle.server_world.specs.Server.{Server, IsLost, SomeFails, failed, names, seen, settings, states, was_refused}
-use Rattle.server_world.proofs.ServerLemmas.{failed_stays, knows_all}
+use Rattle.server_world.specs.Runs.{AnotherFailed, IsAsAlone, IsAsWith, IsIsolated, IsShort, IsWorldRun, entry_lines, is_out_of_memory, resets, tags}
+use Rattle.server_world.specs.Server.{Server, IsLost, KnowsAtMost, failed, names, seen, settings, states, was_refused}
+use Rattle.server_world.proofs.ServerLemmas.{failed_kept, failed_there, knows_all, named_by, named_itself, named_more}
 
 -- what was found after was found before
 pub found_before : (was now : Bool) → (IsTrue was → IsTrue now) → IsFalse now → IsFalse was
@@ -80,26 +81,57 @@ module _ (initial now next : Server) (given : Given) (entry : Entry) (step : IsS
   names_more there so_far found =
       told_some (entry_lines entry) _ (step.lines found) there ∙ ap (λ names. with_name names given.session) (so_far (found_now found)) ∙ sym (with_names-more (names initial) ts (tag given))
 
-  module _ (lost : IfNone (entry_lines entry) (IsLost now next given.session)) (stay : (name : List ℕ) → IsTrue (failed initial name) → IsTrue (failed now name)) where
-    pub failed_more : (name : List ℕ) → IsTrue (failed initial name) → IsTrue (failed next name)
-    failed_more name was = failed_stays now next given.session (asked given.command) (entry_lines entry) step lost name (stay name was)
+  -- who is known after it was there at the start, or gave a command
+  pub there_more : KnowsAtMost now next given.session → ((name : List ℕ) → list_any (bytes_eq name) (names now) ≡ true → list_any (bytes_eq name) (with_names (names initial) ts) ≡ true)
+      → (name : List ℕ) → list_any (bytes_eq name) (names next) ≡ true → list_any (bytes_eq name) (with_names (names initial) (ts ++ tag given ∷ [])) ≡ true
+  there_more known so_far name there = ap (list_any (bytes_eq name)) (with_names-more (names initial) ts (tag given)) ∙ by known
+    where
+      kept : list_any (bytes_eq name) (names now) ≡ true → list_any (bytes_eq name) (with_name (with_names (names initial) ts) given.session) ≡ true
+      kept was = named_more (bytes_eq name) (with_names (names initial) ts) given.session (so_far name was)
+
+      by : KnowsAtMost now next given.session → list_any (bytes_eq name) (with_name (with_names (names initial) ts) given.session) ≡ true
+      by (inl same) = kept (sym (ap (list_any (bytes_eq name)) same) ∙ there)
+      by (inr more) = ⊎_elim
+          kept
+          (λ is. subst (λ other. list_any (bytes_eq other) (with_name (with_names (names initial) ts) given.session) ≡ true) (sym is) (named_itself (with_names (names initial) ts) given.session))
+          (named_by (names now) given.session name (sym (ap (list_any (bytes_eq name)) more) ∙ there))
+
+  module _ (lost : IfNone (entry_lines entry) (IsLost now next given.session)) where
+    -- what has failed has failed still, or has begun anew
+    failed_more : AnotherFailed initial now ts → AnotherFailed initial next (ts ++ tag given ∷ [])
+    failed_more fails = record {
+      name = fails.name;
+      there = ap (list_any (bytes_eq fails.name)) (with_names-more (names initial) ts (tag given)) ∙ named_more (bytes_eq fails.name) (with_names (names initial) ts) given.session fails.there;
+      another = list_any-append _ ts (tag given ∷ []) ∙ or_left _ _ fails.another;
+      fails = by fails.fails;
+    }
+      where
+        by : IsTrue (failed now fails.name) ⊎ IsTrue (list_any (resets fails.name) ts) → IsTrue (failed next fails.name) ⊎ IsTrue (list_any (resets fails.name) (ts ++ tag given ∷ []))
+        by (inl was) = ⊎_elim
+            (λ still. inl still)
+            (λ anew. inr (list_any-append (resets fails.name) ts (tag given ∷ []) ∙ or_right (list_any (resets fails.name) ts) _ (or_left (resets fails.name (tag given)) false anew)))
+            (failed_kept now next given.session (asked given.command) (entry_lines entry) step lost fails.name was)
+        by (inr anew) = inr (list_any-append (resets fails.name) ts (tag given ∷ []) ∙ or_left (list_any (resets fails.name) ts) _ anew)
 
     -- who is to blame, if memory was refused first
-    pub blame_more : (entries : List Entry) → (IsFalse (was_refused initial) → IsTrue (was_refused now) → IsShort entries ⊎ SomeFails initial now) → IsFalse (was_refused initial) → IsTrue (was_refused next)
-        → IsShort (entries ++ entry ∷ []) ⊎ SomeFails initial next
-    blame_more entries so_far was refused = ⊎_elim
+    pub blame_more : KnowsAtMost now next given.session → ((name : List ℕ) → list_any (bytes_eq name) (names now) ≡ true → list_any (bytes_eq name) (with_names (names initial) ts) ≡ true)
+        → (entries : List Entry) → (IsFalse (was_refused initial) → IsTrue (was_refused now) → IsShort entries ⊎ AnotherFailed initial now ts) → IsFalse (was_refused initial) → IsTrue (was_refused next)
+        → IsShort (entries ++ entry ∷ []) ⊎ AnotherFailed initial next (ts ++ tag given ∷ [])
+    blame_more known there entries so_far was refused = ⊎_elim
         (λ before. ⊎_elim
         (λ short. inl (short_more entries entry (inl short)))
-        (λ fails. inr (fails.0, fails.1, failed_stays now next given.session (asked given.command) (entry_lines entry) step lost fails.0 fails.2))
+        (λ fails. inr (failed_more fails))
         (so_far was before))
         (λ fine. ⊎_elim
         (λ nothing. inl (short_more entries entry (inr (is_short entry nothing))))
-        (λ another. inr (another.0, not_before another.0 another.2, another.3))
+        (λ another. inr (record {
+          name = another.0;
+          there = there_more known there another.0 (failed_there next.engine another.0 another.3);
+          another = list_any-append _ ts (tag given ∷ []) ∙ or_right _ _ (or_left _ false (ap not another.1));
+          fails = inl another.3;
+        }))
         (step.blame fine refused))
         (cases_Bool (was_refused now))
-      where
-        not_before : (name : List ℕ) → IsFalse (failed now name) → IsFalse (failed initial name)
-        not_before name fine = ⊎_elim (λ was. absurd (both_ways _ fine (stay name was))) (λ no. no) (cases_Bool (failed initial name))
 
 -- the entries of a session, each made of one
 entries_of-map : {Name Command A B : Type 0} (f : A → B) (keep : Name → Bool) (ts : List (Tagged Name Command)) (xs : List A) → entries_of keep ts (map f xs) ≡ map f (entries_of keep ts xs)

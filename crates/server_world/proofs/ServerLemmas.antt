@@ -1,10 +1,11 @@
 -- A server over its engine: when it has found memory refused, which names it knows, and what a command makes of it.
-use Rattle.std.proofs.Common.{◌≡◌, inl, ℕ, true, false, List, [], ◌∷◌, ◌++◌, Option, Some, None, Result, Ok, Err, IfNone, IsErr, IsTrue, IsFalse, refl, sym, ap, subst, ◌∙◌, ⊎_elim}
+use Rattle.std.proofs.Common.{◌≡◌, ◌⊎◌, ◌&&◌, inl, inr, ℕ, Bool, true, false, true≢false, not, cond, List, [], ◌∷◌, ◌++◌, Option, Some, None, Result, Ok, Err, IfNone, IsErr, IsTrue, IsFalse, refl, sym, ap, subst, ◌∙◌, ⊎_elim}
 use Rattle.std.specs.Prelude.{bytes_eq}
 use Rattle.std.specs.List.{list_any}
 use Rattle.std.specs.Option.{option_map_or}
 use Rattle.std.specs.Result.{result_ok}
-use Rattle.std.proofs.lemmas.Bool.{cases_Bool, cond-true, cond-false, both_ways, or_left, or_right, or_cases, or_parts}
+use Rattle.std.proofs.lemmas.Bool.{and_from, cases_Bool, cond-true, cond-false, both_ways, or_left, or_right, or_cases, or_parts}
+use Rattle.std.proofs.lemmas.List.Folds.{list_any-append}
 use Rattle.std.proofs.lemmas.Slice.Eq.{bytes_eq-Decides}
 use Rattle.isolation.specs.Influence.{KnowsAll}
 use Rattle.thread_model.specs.declared.line.Line.{Line}
@@ -17,10 +18,11 @@ use Rattle.session_tables.proofs.ReachingLemmas.{heard-none, stays_failed}
 use Rattle.session_tables.specs.Tables.{session_at}
 use Rattle.session_engine.specs.Core as engine
 use Rattle.session_engine.specs.Core.{Contents, place}
-use Rattle.session_engine.specs.Sessions.{AreSound, AreWell, IsStep}
+use Rattle.session_engine.specs.Items.{BeginsAnew}
+use Rattle.session_engine.specs.Sessions.{AreSound, AreWell, IsStep, is_reset}
 use Rattle.session_engine.proofs.EngineLemmas.{position-any, position-None}
 use Rattle.server_world.specs.Names.{with_name}
-use Rattle.server_world.specs.Server.{Server, IsLost, StaysOut, failed, seen, sessions, was_refused}
+use Rattle.server_world.specs.Server.{Server, IsLost, StaysOut, failed, seen, sessions, settings, was_refused}
 
 pub refused_in_engine : (server : Server) → IsTrue (engine.was_refused server.engine) → IsTrue (was_refused server)
 unfolding was_refused
@@ -59,6 +61,7 @@ module _ (old new : Server) (same : new.memory_refused ≡ old.memory_refused) w
     refused = step.refused;
     posts = step.posts;
     posted = step.posted;
+    front = step.front;
     others = step.others;
     settings = step.settings;
     kept = refusal_kept step.kept;
@@ -80,7 +83,8 @@ step_out old new name asked out well sound =
       refused = λ refused. tt;
       posts = [];
       posted = tt;
-      others = λ other elsewhere. inl (ap (λ sessions. sessions other) out.sessions ∙ sym (heard-none name (engine.sessions old.engine other)));
+      front = λ none. (_, refl);
+      others = λ other elsewhere. inl (ap (λ sessions. sessions other) out.sessions ∙ sym (heard-none (engine.settings old.engine).classes name (engine.sessions old.engine other)));
       settings = out.settings;
       kept = λ was. refused;
       memory = λ none. refused;
@@ -115,18 +119,67 @@ knows_all settings sessions name t joins = by (place sessions name) refl
     by (Some at) there = position-any (bytes_eq name) sessions.names at there
     by None absent = absurd (both_ways _ (empty_joins_none t) (sym (ap (λ found. joins_name (option_map_or (session_at sessions.tables) found fresh).state t) absent) ∙ joins))
 
--- a session that has failed stays so
-pub failed_stays : (old new : Server) (name : List ℕ) (asked : Asked) (told : Option (List Line)) → IsStep (seen old) (seen new) name asked told → IfNone told (IsLost old new name) → (other : List ℕ) → IsTrue (failed old other) → IsTrue (failed new other)
-failed_stays old new name asked told step lost other was = ⊎_elim
-    (λ here.
+-- a session that has failed is there
+pub failed_there : (sessions : Contents) (name : List ℕ) → IsTrue (engine.failed sessions name) → list_any (bytes_eq name) (engine.names sessions) ≡ true
+failed_there sessions name was = by (place sessions name) refl
+  where
+    by : (found : Option ℕ) → place sessions name ≡ found → list_any (bytes_eq name) sessions.names ≡ true
+    by (Some at) there = position-any (bytes_eq name) sessions.names at there
+    by None absent = absurd (true≢false (sym was ∙ ap (λ found. (option_map_or (session_at sessions.tables) found fresh).failed) absent))
+
+-- a session that has failed stays so, unless it begins anew
+pub failed_kept : (old new : Server) (name : List ℕ) (asked : Asked) (told : Option (List Line)) → IsStep (seen old) (seen new) name asked told → IfNone told (IsLost old new name) → (other : List ℕ) → IsTrue (failed old other)
+    → IsTrue (failed new other) ⊎ IsTrue (bytes_eq other name && is_reset asked)
+failed_kept old new name asked told step lost other was = ⊎_elim
+    (λ here. ⊎_elim
+    (λ reset. inr (and_from (bytes_eq other name) (is_reset asked) here reset))
+    (λ plain.
     let same : other ≡ name = (bytes_eq-Decides other name).0 here in
-    subst (λ name. IsTrue (failed new name)) (sym same) (own told step lost (subst (λ name. IsTrue (failed old name)) same was)))
-    (λ elsewhere. stays_failed name step.posts (sessions old other) (sessions new other) (step.others other elsewhere) was)
+    inl (subst (λ name. IsTrue (failed new name)) (sym same) (own told step lost plain (subst (λ name. IsTrue (failed old name)) same was))))
+    (cases_Bool (is_reset asked)))
+    (λ elsewhere. inl (stays_failed (settings old).classes name step.posts (sessions old other) (sessions new other) (step.others other elsewhere) was))
     (cases_Bool (bytes_eq other name))
   where
-    own : (told : Option (List Line)) → IsStep (seen old) (seen new) name asked told → IfNone told (IsLost old new name) → IsTrue (failed old name) → IsTrue (failed new name)
-    own (Some lines) step lost was = ap (λ session. session.failed) step.leaves ∙ was
-    own None step lost was = ⊎_elim
+    own : (told : Option (List Line)) → IsStep (seen old) (seen new) name asked told → IfNone told (IsLost old new name) → is_reset asked ≡ false → IsTrue (failed old name) → IsTrue (failed new name)
+    own (Some lines) step lost plain was = ap (λ session. session.failed) step.leaves ∙ ap (λ failed. failed && not (is_reset asked)) was ∙ ap not plain
+    own None step lost plain was = ⊎_elim
         (λ gone. ap (λ session. session.failed) gone)
         (λ out. ap (λ sessions. (sessions name).failed) out.sessions ∙ was)
         lost
+
+-- a name that is known stays so with another one
+pub named_more : (p : List ℕ → Bool) (names : List (List ℕ)) (name : List ℕ) → list_any p names ≡ true → list_any p (with_name names name) ≡ true
+named_more p names name known = by (list_any (bytes_eq name) names)
+  where
+    by : (there : Bool) → list_any p (cond there names (names ++ name ∷ [])) ≡ true
+    by true = known
+    by false = list_any-append p names (name ∷ []) ∙ or_left (list_any p names) _ known
+
+-- and the other one is known then
+pub named_itself : (names : List (List ℕ)) (name : List ℕ) → list_any (bytes_eq name) (with_name names name) ≡ true
+named_itself names name = by (list_any (bytes_eq name) names) refl
+  where
+    by : (there : Bool) → list_any (bytes_eq name) names ≡ there → list_any (bytes_eq name) (cond there names (names ++ name ∷ [])) ≡ true
+    by true e = e
+    by false e = list_any-append (bytes_eq name) names (name ∷ []) ∙ or_right (list_any (bytes_eq name) names) _ (or_left (bytes_eq name name) false ((bytes_eq-Decides name name).1 refl))
+
+-- no further name is
+pub named_by : (names : List (List ℕ)) (name other : List ℕ) → list_any (bytes_eq other) (with_name names name) ≡ true → (list_any (bytes_eq other) names ≡ true) ⊎ (other ≡ name)
+named_by names name other known = by (list_any (bytes_eq name) names) known
+  where
+    by : (there : Bool) → list_any (bytes_eq other) (cond there names (names ++ name ∷ [])) ≡ true → (list_any (bytes_eq other) names ≡ true) ⊎ (other ≡ name)
+    by true e = inl e
+    by false e = ⊎_elim
+        (λ old. inl old)
+        (λ new. ⊎_elim (λ same. inr ((bytes_eq-Decides other name).0 same)) (λ none. absurd (true≢false (sym none))) (or_cases (bytes_eq other name) false new))
+        (or_cases (list_any (bytes_eq other) names) _ (sym (list_any-append (bytes_eq other) names (name ∷ [])) ∙ e))
+
+-- a session that is not there is where it would be put
+pub anew_absent : (server : Server) (name : List ℕ) → place server.engine name ≡ None → AreSound (engine.seen server.engine) → BeginsAnew (seen server) (seen server) name
+anew_absent server name absent sound = record {
+  fresh = ap (λ found. option_map_or (session_at server.engine.tables) found fresh) absent;
+  others = λ other elsewhere. refl;
+  settings = refl;
+  memory = refl;
+  sound = sound;
+}

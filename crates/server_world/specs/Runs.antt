@@ -1,5 +1,5 @@
 -- What a run returns: an entry for each command.
-use Rattle.std.specs.Prelude.{◌≡◌, ◌⊎◌, ◌<◌, ℕ, Bool, true, false, List, Option, Some, None, length, map, IsTrue}
+use Rattle.std.specs.Prelude.{◌≡◌, ◌⊎◌, ◌<◌, ◌&&◌, ℕ, Bool, true, false, not, bytes_eq, List, Option, Some, None, length, map, IsTrue}
 use Rattle.std.specs.List.{list_any}
 use Rattle.isolation.specs.Machine.{Tagged}
 use Rattle.isolation.specs.World.{only, world_after, world_lines, at_session}
@@ -12,10 +12,10 @@ use Rattle.thread_model.specs.Asked.{Asked, tag}
 use Rattle.thread_model.specs.Thread.{Settings}
 use Rattle.thread_model.specs.Machine.{machine}
 use Rattle.thread_model.specs.declared.line.Line.{Line}
-use Rattle.session_engine.specs.Sessions.{AreSound}
+use Rattle.session_engine.specs.Sessions.{AreSound, is_reset}
 use Rattle.server_world.specs.declared.report.Entry.{Entry}
 use Rattle.server_world.specs.Names.{with_names}
-use Rattle.server_world.specs.Server.{Server, KnowsItsSessions, SomeFails, names, seen, settings, states, was_refused}
+use Rattle.server_world.specs.Server.{Server, KnowsItsSessions, failed, names, seen, settings, states, was_refused}
 use Rattle.server_world.specs.declared.report.Entry.TheVariants.{Lines, OutOfMemory}
 
 -- the commands of a list, as definitions see them
@@ -69,6 +69,20 @@ pub record IsLater (old new : Server) : Type 0 where
   pub knows : KnowsItsSessions new
   pub sound : AreSound (seen new)
 
--- why memory was refused first in a run: no room for its list, a command that has found none, or a session that has failed for it
-abbrev pub IsBlamed : Server → Server → List Entry → ℕ → Type 0
-IsBlamed old new entries commands = (length entries < commands) ⊎ (IsShort entries ⊎ SomeFails old new)
+-- does the session begin anew with this command
+abbrev pub resets : List ℕ → Tagged (List ℕ) Asked → Bool
+resets name t = bytes_eq name t.session && is_reset t.command
+
+-- a session that was there, or gave one of these commands, has failed where another one gave a command: it is
+-- failed still, unless it has begun anew since
+pub record AnotherFailed (old new : Server) (ts : List (Tagged (List ℕ) Asked)) : Type 0 where
+  pub name : List ℕ
+  pub there : IsTrue (list_any (bytes_eq name) (with_names (names old) ts))
+  pub another : IsTrue (list_any (λ t. not (bytes_eq name t.session)) ts)
+  pub fails : IsTrue (failed new name) ⊎ IsTrue (list_any (resets name) ts)
+
+-- why memory was refused first in a run: no room for its list, a command that has found none, or a session for
+-- which none was found when a post of another one arrived; so the last is none where one session gives all
+-- commands and no other is there
+abbrev pub IsBlamed : Server → Server → List (Tagged (List ℕ) Asked) → List Entry → Type 0
+IsBlamed old new ts entries = (length entries < length ts) ⊎ (IsShort entries ⊎ AnotherFailed old new ts)

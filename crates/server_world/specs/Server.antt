@@ -65,10 +65,6 @@ IsLost old new name = (sessions new name ≡ gone) ⊎ StaysOut old.engine new.e
 abbrev pub KnowsAtMost : Server → Server → List ℕ → Type 0
 KnowsAtMost old new name = (names new ≡ names old) ⊎ (names new ≡ with_name (names old) name)
 
--- some session has failed now, and had not before
-abbrev pub SomeFails : Server → Server → Type 0
-SomeFails old new = (name : List ℕ) × IsFalse (failed old name) × IsTrue (failed new name)
-
 -- the names are of all sessions that may have a join
 abbrev pub KnowsItsSessions : Server → Type 0
 KnowsItsSessions server = KnowsAll (machine (settings server)) (states server) (names server)

@@ -7,6 +7,7 @@ ghost use Rattle.stored_slots.specs.Table.{functors_of};
 ghost use Rattle.session_engine.specs.Core as engine;
 ghost use Rattle.session_engine.specs.Core.{place};
 ghost use Rattle.session_engine.specs.Engine.{held};
+ghost use Rattle.session_engine.specs.Items.{BeginsAnew};
 ghost use Rattle.session_engine.specs.Sessions.{AreSound, AreWell, IsStep};
 ghost use Rattle.server_world.specs.Names.{with_name};
 ghost use Rattle.server_world.specs.Server.{IsLost, IsNew, KnowsAtMost, OnlyRefused, StaysOut, failed, names, seen, seen_as, settings, states, was_refused};
@@ -85,7 +86,7 @@ impl Server {
         ensures size { (length result.lines ≡ length list.now)
             ⊎ ((result.lines ≡ []) × OnlyRefused (seen_as self.old) (seen_as self.new)) }
         ensures blame { IsFalse (was_refused (seen_as self.old)) → IsTrue result.memory_refused
-            → IsBlamed (seen_as self.old) (seen_as self.new) result.lines (length list.now) }
+            → IsBlamed (seen_as self.old) (seen_as self.new) (tags list.now) result.lines }
         ensures later { IsLater (seen_as self.old) (seen_as self.new) }
     {
         let Ok(mut entries) = Vec::with_capacity(self.alloc, list.len()) else {
@@ -108,12 +109,27 @@ impl Server {
 
     fn entry(&mut self, given: &Tagged) -> Entry
         ensures step { IsStep (seen (seen_as self.old)) (seen (seen_as self.new)) given.now.session (asked given.now.command) (entry_lines result) }
+        ensures known { KnowsAtMost (seen_as self.old) (seen_as self.new) given.now.session }
         ensures there { OnSome (entry_lines result) (names (seen_as self.new) ≡ with_name (names (seen_as self.old)) given.now.session) }
         ensures lost { IfNone (entry_lines result) (IsLost (seen_as self.old) (seen_as self.new) given.now.session) }
     {
         match self.step(given) {
             Ok(lines) => Entry::Lines(lines),
             Err(AllocError) => Entry::OutOfMemory,
+        }
+    }
+
+    /// Puts a session back to where it was before its first command, also one that has failed. What others
+    /// have joined stays, and so do their joins of what it publishes. A session that is not there is where it
+    /// would be put.
+    #[tactic(auto, unfolding(crate::specs::Server::was_refused))]
+    pub fn reset(&mut self, session: &Text)
+        ensures anew { BeginsAnew (seen (seen_as self.old)) (seen (seen_as self.new)) session.now }
+        ensures names { names (seen_as self.new) ≡ names (seen_as self.old) }
+    {
+        self.engine.sound();
+        if let Some(place) = self.engine.find(session) {
+            self.engine.reset(place);
         }
     }
 

@@ -1,6 +1,6 @@
 -- What actions come to, and what becomes of the tables by them.
 use Rattle.std.proofs.Common.{◌≡◌, ℕ, Bool, true, false, Some, None, [], ◌∙◌, sym, ap, refl, if◌then◌else◌}
-use Rattle.refusals.specs.declared.code.Code.TheVariants.{Limit, NoSuchObject}
+use Rattle.refusals.specs.declared.code.Code.TheVariants.{NoSuchObject}
 use Rattle.thread_model.specs.Doing.{Doing, in_state}
 use Rattle.thread_model.specs.Items.{puts}
 use Rattle.thread_model.specs.State.{State}

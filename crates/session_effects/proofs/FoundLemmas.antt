@@ -11,7 +11,6 @@ use Rattle.refusals.specs.declared.fault.Fault.TheVariants.{Refused}
 use Rattle.signature_core.specs.declared.kind.Kind.{Kind}
 use Rattle.variant_value.specs.declared.value.Value.{Value}
 use Rattle.variant_value.specs.Values.{converted}
-use Rattle.term_core.specs.Term.{Term}
 use Rattle.connection_list.specs.declared.connection.NewConnection.{NewConnection}
 use Rattle.connection_types.specs.declared.callee.Callee.TheVariants.{Method}
 use Rattle.connection_types.specs.declared.connection_type.ConnectionType.{ConnectionType}
@@ -19,7 +18,7 @@ use Rattle.thread_model.specs.Connecting.{fits_at, new_connection}
 use Rattle.thread_model.specs.Methods.{Found, ◌>>=◌}
 use Rattle.thread_model.specs.Settings.{Settings}
 use Rattle.thread_model.specs.State.{State}
-use Rattle.thread_model.specs.Targets.{all_converted, all_evaluated, evaluated}
+use Rattle.thread_model.specs.Targets.{all_converted}
 
 -- what was found before, and then the rest
 abbrev pub behind : {A : Type 0} → List A → Found (List A) → Found (List A)

@@ -1,6 +1,7 @@
 -- What a command makes of the session at its place, by the ways that it goes.
-use Rattle.std.proofs.Common.{◌≡◌, ℕ, Bool, true, false, true≢false, List, Option, Some, None, Result, Ok, Err, IfOk, IsErrAnd, OnErr, OnOk, slice_get, refl, sym, ap, subst, ◌∙◌, ◌⊎◌, inl, inr, eqb, IsFalse, []}
+use Rattle.std.proofs.Common.{◌≡◌, ◌∷◌, ℕ, Bool, true, false, true≢false, List, Option, Some, None, Result, Ok, Err, IfOk, not, IsErrAnd, OnErr, OnOk, slice_get, refl, sym, ap, subst, ◌∙◌, ◌⊎◌, ◌&&◌, inl, inr, eqb, IsFalse, []}
 use Rattle.std.specs.Option.{option_or}
+use Rattle.class_table.specs.declared.class.Class.{Class}
 use Rattle.isolation.specs.Machine.{Effect}
 use Rattle.std.specs.Prelude.{if◌then◌else◌}
 use Rattle.refusals.specs.declared.code.Code.{Code}
@@ -9,10 +10,13 @@ use Rattle.refusals.specs.declared.fault.Fault.{Fault}
 use Rattle.refusals.specs.declared.fault.Fault.TheVariants.{Refused, Memory}
 use Rattle.refusals.specs.Answers.{Answers, RefusedBy}
 use Rattle.thread_model.specs.declared.line.Answer.{Answer}
+use Rattle.thread_model.specs.declared.line.Answer.TheVariants.{Truth}
 use Rattle.thread_model.specs.declared.line.Line.{Line}
 use Rattle.thread_model.specs.declared.line.Line.TheVariants.{Reply}
 use Rattle.thread_model.specs.declared.post.Post.{Post}
-use Rattle.thread_model.specs.Asked.{Asked}
+use Rattle.thread_model.specs.declared.command.Command.{Command}
+use Rattle.thread_model.specs.declared.command.Command.TheVariants as c
+use Rattle.thread_model.specs.Asked.{Asked, Reset, asked}
 use Rattle.thread_model.specs.declared.deed.Deed.{Deed}
 use Rattle.thread_model.specs.Deeds.{behind, deed_answer, deed_refusal, found_refusal, with_deed}
 use Rattle.thread_model.specs.Signals.{does_found}
@@ -20,43 +24,47 @@ use Rattle.thread_model.specs.Doing as doing
 use Rattle.thread_model.specs.Effects.{ended, replies, unless}
 use Rattle.thread_model.specs.Methods.{Found}
 use Rattle.thread_model.specs.Refusing.{refusal}
-use Rattle.thread_model.specs.State.{State}
+use Rattle.thread_model.specs.State.{State, empty}
+use Rattle.thread_model.proofs.SharingLemmas.{performs_reset, refusal_reset}
+use Rattle.thread_model.specs.Thread as thread
 use Rattle.thread_model.specs.Thread.{performs}
 use Rattle.session_tables.specs.declared.tables.Tables.{Tables}
 use Rattle.session_tables.specs.Refused.{OnRefused}
-use Rattle.session_tables.specs.Session.{Session, gone}
+use Rattle.session_tables.specs.Session.{Session, fresh, gone}
 use Rattle.session_tables.specs.Tables.{ChangesOnly, IsPlaced, failed_at, session_at, state_at, with_session, with_state}
 use Rattle.session_tables.specs.Reaching.{Hears, Reaches, heard}
-use Rattle.session_tables.proofs.TablesLemmas.{changes_same, changes_with, session_there, state_with}
+use Rattle.session_tables.proofs.TablesLemmas.{changes_same, changes_twice, changes_with, session_there, state_with}
 use Rattle.session_tables.proofs.PostLemmas.{changes_session}
 use Rattle.session_tables.proofs.ReachingLemmas.{heard-none, placed_shaped, session_unchanged, shaped_changed, shaped_twice}
 use Rattle.session_effects.specs.declared.caller.Caller.{Caller}
 use Rattle.nested_calls.specs.declared.telling.Telling.{Telling}
 use Rattle.session_engine.specs.Commands.{Obeys, OthersHear, Performs, reply_after, reply_lines}
+use Rattle.nested_calls.specs.Front.{IsFront}
 use Rattle.nested_calls.specs.Telling.{doing_at, fresh_telling}
+use Rattle.nested_calls.proofs.FrontLemmas.{front_none, front_same}
 use Rattle.session_engine.specs.Core.{Contents, IsWhole, contents, place, seen, sessions, states}
 use Rattle.session_engine.specs.Returning.{Returns, told, wants_memory}
-use Rattle.session_engine.specs.Sessions.{IsStep, session_after, session_does, session_refusal}
+use Rattle.session_engine.specs.Sessions.{IsStep, is_reset, is_shut, session_after, session_does, session_refusal}
 use Rattle.session_effects.specs.Setup.{settings_of}
 use Rattle.session_engine.proofs.EngineLemmas.{named_at, sessions-place}
-use Rattle.session_engine.proofs.StepLemmas.{Ended, GaveUp, Loud, Marks, Quiet, Told, refused_after, some_none_of, step_of, whole_after}
+use Rattle.session_engine.proofs.StepLemmas.{Ended, GaveUp, Loud, Marks, Quiet, Told, does_fine, not_shut, refused_after, some_none_of, step_of, whole_after}
 
 -- what changes one session alone is not heard by the others
-pub others_changed : (from : List ℕ) (old new : Tables) (place : ℕ) → ChangesOnly place old new → OthersHear from place [] old new false
-others_changed from old new place changes =
-    let unchanged : (at : ℕ) → IsFalse (eqb at place) → IsPlaced old at → session_at new at ≡ heard from [] (session_at old at) =
-    λ at apart placed. session_unchanged old new place at changes apart ∙ sym (heard-none from (session_at old at)) in
+pub others_changed : (classes : List Class) (from : List ℕ) (old new : Tables) (place : ℕ) → ChangesOnly place old new → OthersHear classes from place [] old new false
+others_changed classes from old new place changes =
+    let unchanged : (at : ℕ) → IsFalse (eqb at place) → IsPlaced old at → session_at new at ≡ heard classes from [] (session_at old at) =
+    λ at apart placed. session_unchanged old new place at changes apart ∙ sym (heard-none classes from (session_at old at)) in
     record { shape = shaped_changed old new place changes; hear = λ at apart placed. inl (unchanged at apart placed); all = λ none. unchanged; one = λ some. absurd (true≢false (sym some)) }
 
 -- what they have heard of nested calls
-pub others_reached : (from : List ℕ) (old new : Tables) (place : ℕ) (posts : List Post) (failing : Bool) → Reaches from place posts old new false failing → OthersHear from place posts old new failing
-others_reached from old new place posts failing reaches = record { shape = reaches.shape; hear = reaches.others; all = λ none. (reaches.all none).1; one = λ some. reaches.one refl some }
+others_reached : (classes : List Class) (from : List ℕ) (old new : Tables) (place : ℕ) (posts : List Post) (failing : Bool) → Reaches classes from place posts old new false failing → OthersHear classes from place posts old new failing
+others_reached classes from old new place posts failing reaches = record { shape = reaches.shape; hear = reaches.others; all = λ none. (reaches.all none).1; one = λ some. reaches.one refl some }
 
 -- also where the session fails then
-others_then : (from : List ℕ) (old middle new : Tables) (place : ℕ) (posts : List Post) (failing : Bool) → OthersHear from place posts old middle failing → ChangesOnly place middle new → OthersHear from place posts old new failing
-others_then from old middle new place posts failing others changes = record {
+others_then : (classes : List Class) (from : List ℕ) (old middle new : Tables) (place : ℕ) (posts : List Post) (failing : Bool) → OthersHear classes from place posts old middle failing → ChangesOnly place middle new → OthersHear classes from place posts old new failing
+others_then classes from old middle new place posts failing others changes = record {
   shape = shaped_twice old middle new others.shape (shaped_changed middle new place changes);
-  hear = λ at apart placed. subst (Hears from posts (session_at old at)) (sym (session_unchanged middle new place at changes apart)) (others.hear at apart placed);
+  hear = λ at apart placed. subst (Hears classes from posts (session_at old at)) (sym (session_unchanged middle new place at changes apart)) (others.hear at apart placed);
   all = λ none at apart placed. session_unchanged middle new place at changes apart ∙ others.all none at apart placed;
   one = λ some. let it = others.one some in (it.0, it.1, it.2, it.3, ap (λ (session : Session). session.failed) (session_unchanged middle new place it.0 changes it.1) ∙ it.4);
 }
@@ -80,19 +88,50 @@ module _ (caller : Caller) (asked : Asked) (old new : Tables) where
   stopped lines code (Ok value) h refused same = absurd h
   stopped lines code (Err fault) h refused same =
       subst (λ fault. Performs caller asked old new false lines (Err fault)) (sym h)
-      (record { returns = refused; posts = []; posted = tt; done = tt; refused = same; others = others_changed caller.name.now old new caller.place (changes_same old new caller.place same) })
+      (record { returns = refused; posts = []; front = tt; posted = tt; done = tt; refused = same; others = others_changed caller.setup.now.classes caller.name.now old new caller.place (changes_same old new caller.place same) })
 
   -- where memory was wanted only its own session may have changed
   pub starved : {T : Type 0} (lines : T → List Line) (result : Result T Fault) → IsErrAnd result (λ fault. fault ≡ Memory) → ChangesOnly caller.place old new → Performs caller asked old new false lines result
   starved lines (Ok value) h only = absurd h
   starved lines (Err fault) h only =
-      subst (λ fault. Performs caller asked old new false lines (Err fault)) (sym h) (record { returns = tt; posts = []; posted = tt; done = tt; refused = tt; others = others_changed caller.name.now old new caller.place only })
+      subst (λ fault. Performs caller asked old new false lines (Err fault)) (sym h) (record { returns = tt; posts = []; front = front_none _; posted = tt; done = tt; refused = tt; others = others_changed caller.setup.now.classes caller.name.now old new caller.place only })
 
-  -- the same where other sessions have heard posts by then
-  pub starved_posting : {T : Type 0} (failing : Bool) (posts : List Post) (lines : T → List Line) (result : Result T Fault) → IsErrAnd result (λ fault. fault ≡ Memory) → OthersHear caller.name.now caller.place posts old new failing → Performs caller asked old new failing lines result
-  starved_posting failing posts lines (Ok value) h others = absurd h
-  starved_posting failing posts lines (Err fault) h others =
-      subst (λ fault. Performs caller asked old new failing lines (Err fault)) (sym h) (record { returns = tt; posts = posts; posted = tt; done = tt; refused = tt; others = others })
+  -- a command that is not refused does what it performs
+  passed_does : its_refusal ≡ None → thread.does (settings_of caller.setup.now) caller.name.now (state_at old caller.place) asked ≡ its_effect
+  unfolding thread.does
+  passed_does passed = ap (λ refusal. unless refusal (state_at old caller.place) its_effect) passed
+
+  -- where memory was wanted in what it sets off, other sessions have heard the first of its posts
+  pub starved_last : {T : Type 0} (telling : Telling) (posts : List Post) (done : doing.Doing) (last : Line) (lines : T → List Line) (result : Result T Fault) → IsErrAnd result (λ fault. fault ≡ Memory) → its_refusal ≡ None
+      → its_effect ≡ ended (doing.told done last) → IsFront posts done.posts → Reaches caller.setup.now.classes caller.name.now caller.place posts old new false telling.failing → Performs caller asked old new telling.failing lines result
+  unfolding doing.told
+  starved_last telling posts done last lines (Ok value) h passed effect front reaches = absurd h
+  starved_last telling posts done last lines (Err fault) h passed effect front reaches =
+      subst (λ fault. Performs caller asked old new telling.failing lines (Err fault)) (sym h)
+      (record {
+        returns = tt;
+        posts = posts;
+        front = subst (λ (effect : Effect State Line Post). IsFront posts effect.posts) (sym (passed_does passed ∙ effect)) front;
+        posted = tt;
+        done = tt;
+        refused = tt;
+        others = others_reached caller.setup.now.classes caller.name.now old new caller.place posts telling.failing reaches;
+      })
+
+  -- and where its reply finds none, all of them
+  pub starved_replying : {T U : Type 0} (failing : Bool) (lines : T → List Line) (value : T) (others : U → List Line) (result : Result U Fault) → IsErrAnd result (λ fault. fault ≡ Memory) → Performs caller asked old new failing lines (Ok value) → Performs caller asked old new failing others result
+  starved_replying failing lines value others (Ok other) h performed = absurd h
+  starved_replying failing lines value others (Err fault) h performed =
+      subst (λ fault. Performs caller asked old new failing others (Err fault)) (sym h)
+      (record {
+        returns = tt;
+        posts = performed.posts;
+        front = subst (IsFront performed.posts) (performed.posted ∙ sym (ap (λ effect. effect.posts) (passed_does performed.returns.0))) (front_same performed.posts);
+        posted = tt;
+        done = tt;
+        refused = tt;
+        others = performed.others;
+      })
 
   -- a fault of a call that is refused by the rest of its refusal
   pub made_fault : {T : Type 0} (lines : T → List Line) (rest : Option Code) (fault : Fault) (result : Result T Fault) → IsErrAnd result (λ other. other ≡ fault) → its_refusal ≡ rest
@@ -110,29 +149,31 @@ module _ (caller : Caller) (asked : Asked) (old new : Tables) where
   replied state answer placed passed effect e = record {
     returns = (passed, ap (λ effect. effect.lines) effect);
     posts = [];
+    front = tt;
     posted = sym (ap (λ effect. effect.posts) effect);
     done = left_as state (ap (λ effect. effect.state) effect) (state_with old new caller.place state placed e) (ap (λ tables. failed_at tables caller.place) e);
     refused = tt;
-    others = others_changed caller.name.now old new caller.place (changes_with old new caller.place state placed e);
+    others = others_changed caller.setup.now.classes caller.name.now old new caller.place (changes_with old new caller.place state placed e);
   }
 
   -- so it does behind what was told by what it set off
-  pub replied_last : (telling : Telling) (answer : Answer) (posts : List Post) → its_refusal ≡ None → its_effect ≡ ended (doing.told (doing_at caller.place new telling posts) (Reply answer)) → Reaches caller.name.now caller.place posts old new false telling.failing
+  pub replied_last : (telling : Telling) (answer : Answer) (posts : List Post) → its_refusal ≡ None → its_effect ≡ ended (doing.told (doing_at caller.place new telling posts) (Reply answer)) → Reaches caller.setup.now.classes caller.name.now caller.place posts old new false telling.failing
       → Performs caller asked old new telling.failing (reply_after telling.lines) (Ok answer)
   unfolding doing.told
   replied_last telling answer posts passed effect reaches = record {
     returns = (passed, ap (λ effect. effect.lines) effect);
     posts = posts;
+    front = tt;
     posted = sym (ap (λ effect. effect.posts) effect);
     done = left_as (state_at new caller.place) (ap (λ effect. effect.state) effect) refl reaches.own;
     refused = tt;
-    others = others_reached caller.name.now old new caller.place posts telling.failing reaches;
+    others = others_reached caller.setup.now.classes caller.name.now old new caller.place posts telling.failing reaches;
   }
 
 -- where a command begins no session has failed by its posts
-pub at_first_reaches : (caller : Caller) (old new : Tables) (before after : Telling) (posts : List Post) → before ≡ fresh_telling caller.setup.now.turns → Reaches caller.name.now caller.place posts old new before.failing after.failing
-    → Reaches caller.name.now caller.place posts old new false after.failing
-at_first_reaches caller old new before after posts fresh reaches = subst (λ (telling : Telling). Reaches caller.name.now caller.place posts old new telling.failing after.failing) fresh reaches
+pub at_first_reaches : (caller : Caller) (old new : Tables) (before after : Telling) (posts : List Post) → before ≡ fresh_telling caller.setup.now.turns → Reaches caller.setup.now.classes caller.name.now caller.place posts old new before.failing after.failing
+    → Reaches caller.setup.now.classes caller.name.now caller.place posts old new false after.failing
+at_first_reaches caller old new before after posts fresh reaches = subst (λ (telling : Telling). Reaches caller.setup.now.classes caller.name.now caller.place posts old new telling.failing after.failing) fresh reaches
 
 -- where what is looked for is not found
 pub found_fault : {T A : Type 0} (caller : Caller) (asked : Asked) (tables : Tables) (lines : T → List Line) (rest : Found A → Option Code) (found : Found A) (fault : Fault) (result : Result T Fault) → IsErrAnd result (λ other. other ≡ fault)
@@ -151,10 +192,11 @@ pub replied_by : (caller : Caller) (asked : Asked) (tables : Tables) (answer : A
 replied_by caller asked tables answer passed effect = record {
   returns = (passed, ap (λ effect. effect.lines) effect);
   posts = [];
+  front = tt;
   posted = sym (ap (λ effect. effect.posts) effect);
   done = left_as caller asked tables tables (state_at tables caller.place) (ap (λ effect. effect.state) effect) refl refl;
   refused = tt;
-  others = others_changed caller.name.now tables tables caller.place (changes_same tables tables caller.place refl);
+  others = others_changed caller.setup.now.classes caller.name.now tables tables caller.place (changes_same tables tables caller.place refl);
 }
 
 -- where a deed is looked for, the first of two refusals, or what stands behind it
@@ -187,6 +229,80 @@ pub quietly : (caller : Caller) (asked : Asked) (old new : Tables) (telling : Te
     → Performs caller asked old new false lines result → Performs caller asked old new telling.failing lines result
 quietly caller asked old new telling lines result fresh performed = subst (λ (telling : Telling). Performs caller asked old new telling.failing lines result) (sym fresh) performed
 
+-- every other command is no beginning anew
+pub not_reset : (command : Command) → (command ≡ c.Reset → ⊥) → is_reset (asked command) ≡ false
+not_reset (c.New class parent) other = refl
+not_reset (c.Delete target) other = refl
+not_reset (c.Children target) other = refl
+not_reset (c.Find target title class) other = refl
+not_reset (c.Set target property value) other = refl
+not_reset (c.Get target property) other = refl
+not_reset (c.DynamicNames target) other = refl
+not_reset (c.Meta class) other = refl
+not_reset (c.Connect sender signal receiver method mode unique single) other = refl
+not_reset (c.ConnectFunctor sender signal context functor mode unique single) other = refl
+not_reset (c.DisconnectOne connection) other = refl
+not_reset (c.Disconnect sender signal receiver method) other = refl
+not_reset (c.Invoke target method args mode) other = refl
+not_reset c.Spin other = refl
+not_reset (c.Do deed) other = refl
+not_reset (c.Publish target signal name) other = refl
+not_reset (c.Unpublish name) other = refl
+not_reset (c.Join from name types target method) other = refl
+not_reset (c.Leave from name target method) other = refl
+not_reset c.Status other = refl
+not_reset c.Reset other = absurd (other refl)
+
+-- a session that begins anew, whether it has failed or not
+module _ (caller : Caller) (old : Tables) (placed : IsPlaced old caller.place) where
+  open_to_reset : is_shut (session_at old caller.place) Reset ≡ false
+  open_to_reset = by (failed_at old caller.place)
+    where
+      by : (failed : Bool) → (failed && not true) ≡ false
+      by true = refl
+      by false = refl
+
+  anew_passed : session_refusal (settings_of caller.setup.now) caller.name.now (session_at old caller.place) Reset ≡ None
+  anew_passed =
+      ap (λ b. if b then Some SessionFailed else refusal (settings_of caller.setup.now) caller.name.now (state_at old caller.place) Reset) open_to_reset
+      ∙ refusal_reset (settings_of caller.setup.now) caller.name.now (state_at old caller.place)
+
+  anew_does : session_does (settings_of caller.setup.now) caller.name.now (session_at old caller.place) Reset ≡ replies empty (Truth true)
+  anew_does =
+      ap (λ refusal. unless refusal (state_at old caller.place) (performs (settings_of caller.setup.now) caller.name.now (state_at old caller.place) Reset)) anew_passed
+      ∙ performs_reset (settings_of caller.setup.now) caller.name.now (state_at old caller.place)
+
+  pub obeys_anew : (new : Tables) (lines : List Line) → new ≡ with_session old caller.place fresh → lines ≡ Reply (Truth true) ∷ [] → Obeys caller Reset old new false (Ok lines)
+  obeys_anew new lines e told = record {
+    returns = (anew_passed, told ∙ sym (ap (λ effect. effect.lines) (performs_reset (settings_of caller.setup.now) caller.name.now (state_at old caller.place))));
+    posts = [];
+    front = tt;
+    done = (
+      ap (λ tables. session_at tables caller.place) e ∙ session_there old caller.place fresh placed
+          ∙ sym (ap (λ effect. record { state = effect.state; failed = is_shut (session_at old caller.place) Reset }) anew_does ∙ ap (λ failed. record { state = empty; failed = failed }) open_to_reset),
+      sym (ap (λ effect. effect.posts) anew_does),
+    );
+    refused = tt;
+    fails = tt;
+    others = others_changed caller.setup.now.classes caller.name.now old new caller.place (changes_session old new caller.place fresh placed e);
+  }
+
+  -- it fails where its reply finds no memory
+  pub obeys_anew_wanting : (middle new : Tables) (result : Result (List Line) Fault) → middle ≡ with_session old caller.place fresh → new ≡ with_session middle caller.place gone → IsErrAnd result (λ fault. fault ≡ Memory) → Obeys caller Reset old new false result
+  obeys_anew_wanting middle new (Ok lines) e f wanted = absurd wanted
+  obeys_anew_wanting middle new (Err fault) e f wanted =
+      let first = changes_session old middle caller.place fresh placed e in
+      let still = placed_shaped old middle caller.place (shaped_changed old middle caller.place first) placed in
+      subst (λ fault. Obeys caller Reset old new false (Err fault)) (sym wanted) (record {
+        returns = tt;
+        posts = [];
+        front = front_none _;
+        done = tt;
+        refused = tt;
+        fails = (ap (λ tables. session_at tables caller.place) f ∙ session_there middle caller.place gone still, open_to_reset);
+        others = others_changed caller.setup.now.classes caller.name.now old new caller.place (changes_twice old middle new caller.place first (changes_session middle new caller.place gone still f));
+      })
+
 module _ (caller : Caller) (asked : Asked) (old new : Tables) where
   -- what the session does with it
   abbrev session : Session
@@ -207,29 +323,33 @@ module _ (caller : Caller) (asked : Asked) (old new : Tables) where
   stays : (code : Code) → own_refusal ≡ Some code → new ≡ old → session_at new caller.place ≡ its_end
   stays code refused same = ap (λ tables. session_at tables caller.place) same ∙ sym (refused_after (settings_of caller.setup.now) caller.name.now session asked code refused)
 
-  obeys_refused : (failing : Bool) (code : Code) (posts : List Post) → own_refusal ≡ Some code → new ≡ old → OthersHear caller.name.now caller.place posts old new failing → Obeys caller asked old new failing (Err (Refused code))
+  obeys_refused : (failing : Bool) (code : Code) (posts : List Post) → own_refusal ≡ Some code → new ≡ old → OthersHear caller.setup.now.classes caller.name.now caller.place posts old new failing → Obeys caller asked old new failing (Err (Refused code))
   obeys_refused failing code posts refused same others = record {
     returns = refused;
     posts = [];
+    front = tt;
     done = (stays code refused same, sym (unposted code refused));
     refused = same;
     fails = tt;
     others = by failing refl;
   }
     where
-      by : (flag : Bool) → failing ≡ flag → OthersHear caller.name.now caller.place [] old new failing
+      by : (flag : Bool) → failing ≡ flag → OthersHear caller.setup.now.classes caller.name.now caller.place [] old new failing
       by true some = let it = others.one some in absurd (true≢false (sym it.4 ∙ ap (λ tables. failed_at tables it.0) same ∙ it.3))
-      by false none = subst (OthersHear caller.name.now caller.place [] old new) (sym none) (others_changed caller.name.now old new caller.place (changes_same old new caller.place same))
+      by false none = subst (OthersHear caller.setup.now.classes caller.name.now caller.place [] old new) (sym none) (others_changed caller.setup.now.classes caller.name.now old new caller.place (changes_same old new caller.place same))
 
-  -- a session that has failed refuses
-  pub obeys_failed : (failing : Bool) → failing ≡ false → failed_at old caller.place ≡ true → new ≡ old → Obeys caller asked old new failing (Err (Refused SessionFailed))
-  obeys_failed failing quiet was same =
-      let refused : own_refusal ≡ Some SessionFailed = ap (λ b. if b then Some SessionFailed else refusal (settings_of caller.setup.now) caller.name.now (state_at old caller.place) asked) was in
-      obeys_refused failing SessionFailed [] refused same (subst (OthersHear caller.name.now caller.place [] old new) (sym quiet) (others_changed caller.name.now old new caller.place (changes_same old new caller.place same)))
+  -- a session that has failed refuses, unless it begins anew
+  pub obeys_failed : (failing : Bool) → failing ≡ false → failed_at old caller.place ≡ true → is_reset asked ≡ false → new ≡ old → Obeys caller asked old new failing (Err (Refused SessionFailed))
+  obeys_failed failing quiet was other same =
+      let refused : own_refusal ≡ Some SessionFailed = ap (λ b. if b then Some SessionFailed else refusal (settings_of caller.setup.now) caller.name.now (state_at old caller.place) asked) (ap (λ failed. failed && not (is_reset asked)) was ∙ ap not other) in
+      obeys_refused failing SessionFailed [] refused same (subst (OthersHear caller.setup.now.classes caller.name.now caller.place [] old new) (sym quiet) (others_changed caller.setup.now.classes caller.name.now old new caller.place (changes_same old new caller.place same)))
 
   module _ (fine : failed_at old caller.place ≡ false) (failing : Bool) where
+    unshut : is_shut session asked ≡ false
+    unshut = not_shut (settings_of caller.setup.now) caller.name.now session asked fine
+
     by_command : own_refusal ≡ refusal (settings_of caller.setup.now) caller.name.now (state_at old caller.place) asked
-    by_command = ap (λ b. if b then Some SessionFailed else refusal (settings_of caller.setup.now) caller.name.now (state_at old caller.place) asked) fine
+    by_command = ap (λ b. if b then Some SessionFailed else refusal (settings_of caller.setup.now) caller.name.now (state_at old caller.place) asked) unshut
 
     -- another one is told what the command tells
     pub obeys_found : (result : Result (List Line) Fault) → Performs caller asked old new failing (λ lines. lines) result → wants_memory result ≡ false → Obeys caller asked old new failing result
@@ -239,7 +359,11 @@ module _ (caller : Caller) (asked : Asked) (old new : Tables) where
         record {
           returns = (passed, sym performed.returns.1);
           posts = performed.posts;
-          done = (performed.done ∙ ap (λ effect. record { state = effect.state; failed = failed_at old caller.place }) (sym does), performed.posted ∙ ap (λ effect. effect.posts) (sym does));
+          front = tt;
+          done = (
+            performed.done ∙ ap (λ effect. record { state = effect.state; failed = failed_at old caller.place }) (sym does) ∙ ap (λ failed. record { state = own_effect.state; failed = failed }) (fine ∙ sym unshut),
+            performed.posted ∙ ap (λ effect. effect.posts) (sym does),
+          );
           refused = tt;
           fails = tt;
           others = performed.others;
@@ -256,10 +380,11 @@ module _ (caller : Caller) (asked : Asked) (old new : Tables) where
         record {
           returns = tt;
           posts = performed.posts;
+          front = subst (λ (effect : Effect State Line Post). IsFront performed.posts effect.posts) (sym (does_fine (settings_of caller.setup.now) caller.name.now session asked fine)) performed.front;
           done = tt;
           refused = tt;
-          fails = (ap (λ tables. session_at tables caller.place) e ∙ session_there new caller.place gone still, fine);
-          others = others_then caller.name.now old new end caller.place performed.posts failing performed.others (changes_session new end caller.place gone still e);
+          fails = (ap (λ tables. session_at tables caller.place) e ∙ session_there new caller.place gone still, unshut);
+          others = others_then caller.setup.now.classes caller.name.now old new end caller.place performed.posts failing performed.others (changes_session new end caller.place gone still e);
         }
 
   -- so it ends as a command does
@@ -286,7 +411,7 @@ module _ (caller : Caller) (asked : Asked) (old new : Tables) where
           own = Told (ap (λ refusal. Some (unless refusal session.state (performs (settings_of caller.setup.now) caller.name.now session.state asked)).lines) (sym obeyed.returns)) obeyed.done.0 obeyed.done.1;
           stays = λ refused. obeyed.refused;
         }
-    ends (Err Memory) obeyed mark = record { settings = refl; names = refl; posts = obeyed.posts; others = obeyed.others; mark = mark; own = GaveUp refl obeyed.fails.0; stays = λ refused. tt }
+    ends (Err Memory) obeyed mark = record { settings = refl; names = refl; posts = obeyed.posts; others = obeyed.others; mark = mark; own = GaveUp refl obeyed.fails.0 obeyed.front; stays = λ refused. tt }
 
 -- an engine whose session at a place did a command
 module _ (caller : Caller) (asked : Asked) (old new : Tables) (result : Result (List Line) Fault) (failing : Bool) (obeyed : Obeys caller asked old new failing result)

@@ -38,7 +38,7 @@ use Rattle.session_engine.specs.Commands.{Performs, reply_after}
 use Rattle.nested_calls.specs.declared.telling.Telling.{Telling}
 use Rattle.nested_calls.specs.Telling.{doing_at, fresh_telling, spent}
 use Rattle.nested_calls.proofs.AgendaLemmas.{spent_is}
-use Rattle.session_engine.proofs.CommandsLemmas.{at_first_reaches, replied_last}
+use Rattle.session_engine.proofs.CommandsLemmas.{at_first_reaches, its_effect, replied_last}
 use Rattle.nested_calls.specs.Agenda.{Does}
 use Rattle.nested_calls.proofs.DoesLemmas.{SoFar, here, reaches_none}
 use Rattle.session_tables.specs.Reaching.{Reaches}
@@ -94,8 +94,8 @@ pub event_taken : (caller : Caller) (start old middle : Tables) (at_first before
 event_taken caller start old middle at_first before placed still so e first is some = record {
   posts = so.posts;
   runs = λ earlier. spin_begins (settings_of caller.setup.now) caller.place old middle before still e (earlier ++ so.posts) first is some ∙ so.runs earlier;
-  reaches = subst (λ posts. Reaches caller.name.now caller.place posts start middle at_first.failing before.failing) (append-nil so.posts)
-      (reaches_twice caller.name.now caller.place so.posts [] start old middle at_first.failing before.failing before.failing placed so.reaches (reaches_none caller old middle before.failing before.failing (keeps_with old middle caller.place _ still e) refl));
+  reaches = subst (λ posts. Reaches caller.setup.now.classes caller.name.now caller.place posts start middle at_first.failing before.failing) (append-nil so.posts)
+      (reaches_twice caller.setup.now.classes caller.name.now caller.place so.posts [] start old middle at_first.failing before.failing before.failing placed so.reaches (reaches_none caller old middle before.failing before.failing (keeps_with old middle caller.place _ still e) refl));
 }
 
 -- what it comes to is done, and then the next one is taken
@@ -159,7 +159,17 @@ pub few_taken : (settings : Settings) (agenda : List Item) (place : ℕ) (old ne
 few_taken settings agenda place old new before after earlier posts does =
     subst (λ (doing : Doing). doing.turns + doing.taken ≤ before.turns + before.taken) does (run_shrinks settings agenda (doing_at place old before earlier)).taken
 
--- so the command is performed: what came of it is replied last
+-- what came of it is replied last
+pub spin_runs : (caller : Caller) (old new : Tables) (before : Telling) → before ≡ fresh_telling caller.setup.now.turns
+    → let done = run (settings_of caller.setup.now) (Spin ∷ []) (doing_at caller.place old before []) in its_effect caller asked.Spin old new ≡ ended (told done (line.Reply (a.Spun (spin_of done))))
+spin_runs caller old new before fresh =
+    let settings = settings_of caller.setup.now in
+    let state = state_at old caller.place in
+    rule.performs_spin settings caller.name.now state
+    ∙ spun_last settings state
+    ∙ ap (λ (doing : Doing). ended (told (run settings (Spin ∷ []) doing) (line.Reply (a.Spun (spin_of (run settings (Spin ∷ []) doing)))))) (sym (ap (λ (telling : Telling). doing_at caller.place old telling []) fresh))
+
+-- so the command is performed
 pub performs_spun : {T E : Type 0} (caller : Caller) (old new : Tables) (before after : Telling) (value : T) (spin : Came) → before ≡ fresh_telling caller.setup.now.turns
     → Does {E = E} caller (Spin ∷ []) old new before after (Ok value) → spin ≡ spin_after after.taken (state_at new caller.place).queue
     → Performs caller asked.Spin old new after.failing (reply_after after.lines) (Ok (a.Spun spin))
@@ -168,9 +178,7 @@ performs_spun caller old new before after value spin fresh does is =
     let state = state_at old caller.place in
     let end = doing_at caller.place new after does.posts in
     replied_last caller asked.Spin old new after (a.Spun spin) does.posts (rule.refusal_spin settings caller.name.now state)
-    (rule.performs_spin settings caller.name.now state
-    ∙ spun_last settings state
-    ∙ ap (λ (doing : Doing). ended (told (run settings (Spin ∷ []) doing) (line.Reply (a.Spun (spin_of (run settings (Spin ∷ []) doing)))))) (sym (ap (λ (telling : Telling). doing_at caller.place old telling []) fresh))
+    (spin_runs caller old new before fresh
     ∙ ap (λ (done : Doing). ended (told done (line.Reply (a.Spun (spin_of done))))) (does.runs [])
     ∙ ap (λ (spin : Came). ended (told end (line.Reply (a.Spun spin)))) (sym is))
     (at_first_reaches caller old new before after does.posts fresh does.reaches)

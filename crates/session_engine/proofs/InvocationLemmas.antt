@@ -45,9 +45,10 @@ use Rattle.session_engine.specs.Commands.{DoesAtFirst, Performs, reply_after}
 use Rattle.session_effects.specs.Setup.{settings_of}
 use Rattle.nested_calls.specs.Telling.{doing_at, fresh_telling, spent}
 use Rattle.nested_calls.proofs.AgendaLemmas.{spent_is}
-use Rattle.session_engine.proofs.CommandsLemmas.{at_first_reaches, its_refusal, or_second, replied_last}
+use Rattle.session_engine.proofs.CommandsLemmas.{at_first_reaches, its_effect, its_refusal, or_second, replied_last}
 use Rattle.nested_calls.specs.Agenda.{DoesNext}
-use Rattle.nested_calls.proofs.DoesLemmas.{OnOk-map}
+use Rattle.nested_calls.specs.Front.{IsFront}
+use Rattle.nested_calls.proofs.DoesLemmas.{OnErr-map, OnOk-map}
 use Rattle.session_tables.specs.Reaching.{Reaches}
 use Rattle.thread_model.specs.declared.post.Post.{Post}
 
@@ -167,7 +168,22 @@ module _ (caller : Caller) (object : ℕ) (text : List ℕ) (args : List Data) (
     pub refusal_later : is_queued mode ≡ true → the_refusal ≡ post_refusal the_state.queue
     refusal_later later = refusal_given ∙ ap (λ (b : Bool). cond (b && true) (post_refusal the_state.queue) None) later
 
--- what was invoked at once tells its reply last
+-- what is invoked at once tells its reply last
+pub invoke_runs : (caller : Caller) (object : ℕ) (text : List ℕ) (args : List Data) (mode : ConnectionType) (old new : Tables) (index : ℕ) (values : List Value)
+    → is_queued mode ≡ false → asked_method (settings_of caller.setup.now) (state_at old caller.place) object text ≡ Some index
+    → asked_values (settings_of caller.setup.now) (state_at old caller.place) object index args ≡ Ok values
+    → let next = invoked (settings_of caller.setup.now) (state_at old caller.place) object index values in
+    its_effect caller (Invoke object text args mode) old new ≡ ended (told (run (settings_of caller.setup.now) next.items next.doing) (line.Reply (a.Truth true)))
+invoke_runs caller object text args mode old new index values at_once found given =
+    let settings = settings_of caller.setup.now in
+    let state = state_at old caller.place in
+    performs_invoke settings caller.name.now state object text args mode
+    ∙ ap (invokes settings state object args mode) found
+    ∙ cond-false (is_queued mode) _ _ at_once
+    ∙ ap (λ (given : Found (List Value)). does_next settings (invoked settings state object index (result_unwrap_or given [])) (a.Truth true)) given
+    ∙ replies_last settings (invoked settings state object index values) (a.Truth true)
+
+-- so it is performed
 pub performs_invoked : {T E : Type 0} (caller : Caller) (object : ℕ) (text : List ℕ) (args : List Data) (mode : ConnectionType) (old new : Tables) (before after : Telling) (value : T) (index : ℕ) (values : List Value) → before ≡ fresh_telling caller.setup.now.turns
     → is_queued mode ≡ false → its_refusal caller (Invoke object text args mode) old new ≡ None
     → asked_method (settings_of caller.setup.now) (state_at old caller.place) object text ≡ Some index
@@ -175,14 +191,8 @@ pub performs_invoked : {T E : Type 0} (caller : Caller) (object : ℕ) (text : L
     → DoesAtFirst {E = E} caller (invoked (settings_of caller.setup.now) (state_at old caller.place) object index values) old new before after (Ok value)
     → Performs caller (Invoke object text args mode) old new after.failing (reply_after after.lines) (Ok (a.Truth true))
 performs_invoked caller object text args mode old new before after value index values fresh at_once passed found given does =
-    let settings = settings_of caller.setup.now in
-    let state = state_at old caller.place in
     replied_last caller (Invoke object text args mode) old new after (a.Truth true) does.posts passed
-    (performs_invoke settings caller.name.now state object text args mode
-    ∙ ap (invokes settings state object args mode) found
-    ∙ cond-false (is_queued mode) _ _ at_once
-    ∙ ap (λ (given : Found (List Value)). does_next settings (invoked settings state object index (result_unwrap_or given [])) (a.Truth true)) given
-    ∙ replies_last settings (invoked settings state object index values) (a.Truth true)
+    (invoke_runs caller object text args mode old new index values at_once found given
     ∙ ap (λ done. ended (told done (line.Reply (a.Truth true)))) does.runs)
     (at_first_reaches caller old new before after does.posts fresh does.reaches)
 
@@ -193,7 +203,8 @@ pub at_first : {T E : Type 0} (caller : Caller) (next : List Post → Next) (beg
 at_first caller next begins old new before between after result same by does = record {
   posts = does.posts;
   runs = OnOk-map result (λ h. by _ (h [])) does.runs;
-  reaches = subst (λ flag. Reaches caller.name.now caller.place does.posts old new flag after.failing) same does.reaches;
+  front = OnErr-map result (λ h. subst (λ (done : Doing). IsFront does.posts done.posts) (sym (by _ refl)) (h [])) does.front;
+  reaches = subst (λ flag. Reaches caller.setup.now.classes caller.name.now caller.place does.posts old new flag after.failing) same does.reaches;
 }
 
 -- what is invoked later is posted, and replied at once

@@ -7,3 +7,5 @@ pub mod ClassesLemmas
 pub mod ValuesLemmas
 pub mod InvocationLemmas
 pub mod TreesLemmas
+pub mod ItemsLemmas
+pub mod ChangedLemmas

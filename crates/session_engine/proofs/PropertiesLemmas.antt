@@ -40,7 +40,7 @@ use Rattle.session_effects.specs.Writing.{TriesToWrite, Writes, items_of}
 use Rattle.nested_calls.specs.declared.telling.Telling.{Telling}
 use Rattle.session_engine.specs.Commands.{Performs, reply_after}
 use Rattle.nested_calls.specs.Telling.{doing_at, fresh_telling}
-use Rattle.session_engine.proofs.CommandsLemmas.{at_first_reaches, its_refusal, or_second, replied_last, starved, stopped}
+use Rattle.session_engine.proofs.CommandsLemmas.{at_first_reaches, its_effect, its_refusal, or_second, replied_last, starved, stopped}
 use Rattle.nested_calls.specs.Agenda.{Does}
 use Rattle.nested_calls.proofs.DoesLemmas.{does_none, reaches_none}
 use Rattle.session_effects.proofs.ActionLemmas.{keeps_same}
@@ -111,10 +111,32 @@ written_fault caller asked old new lines object wanted tell (Refused code) resul
 written_fault caller asked old new lines object wanted tell Memory result h is why same only = starved caller asked old new lines result h only
 
 -- what was written has not posted anything
-pub written_reaches : (caller : Caller) (old middle new : Tables) (before after : Bool) (posts : List Post) → IsPlaced old caller.place → Keeps caller.place old middle → Reaches caller.name.now caller.place posts middle new before after → Reaches caller.name.now caller.place posts old new before after
-written_reaches caller old middle new before after posts placed keeps reaches = reaches_twice caller.name.now caller.place [] posts old middle new before before after placed (reaches_none caller old middle before before keeps refl) reaches
+pub written_reaches : (caller : Caller) (old middle new : Tables) (before after : Bool) (posts : List Post) → IsPlaced old caller.place → Keeps caller.place old middle → Reaches caller.setup.now.classes caller.name.now caller.place posts middle new before after → Reaches caller.setup.now.classes caller.name.now caller.place posts old new before after
+written_reaches caller old middle new before after posts placed keeps reaches = reaches_twice caller.setup.now.classes caller.name.now caller.place [] posts old middle new before before after placed (reaches_none caller old middle before before keeps refl) reaches
 
 -- what is written is told of, and then replied
+pub set_runs : (caller : Caller) (object : ℕ) (property : List ℕ) (json : Data) (old middle new : Tables) (before : Telling) (writing : Writing) (replied : Bool) (tell : Option Notice)
+    → is_declared writing ≡ replied → before ≡ fresh_telling caller.setup.now.turns
+    → asked_writing (state_at old caller.place) object property json ≡ Ok writing
+    → Writes caller object writing old tell middle
+    → its_effect caller (Set object property json) old new
+    ≡ ended (told (run (settings_of caller.setup.now) (items_of (settings_of caller.setup.now) (state_at middle caller.place) 0 tell) (doing_at caller.place middle before [])) (line.Reply (a.Truth replied)))
+set_runs caller object property json old middle new before writing replied tell is fresh asked writes =
+    let settings = settings_of caller.setup.now in
+    let state = state_at old caller.place in
+    let answer = a.Truth replied in
+    set_written settings caller.name.now state object property json writing asked
+    ∙ ap (λ truth. does_next settings (written settings (begun settings state) object 0 writing) (a.Truth truth)) is
+    ∙ ap (λ (next : Next). does_next settings next answer) (writes 0 (begun settings state))
+    ∙ replies_last settings _ answer
+    ∙ ap (λ (telling : Telling). ended (told (run settings (items_of settings (state_at middle caller.place) 0 tell) (doing_at caller.place middle telling [])) (line.Reply answer))) (sym fresh)
+
+-- a writing that was found is not refused
+pub set_passed : (caller : Caller) (object : ℕ) (property : List ℕ) (json : Data) (old new : Tables) (writing : Writing) → None ≡ absence (state_at old caller.place) object → asked_writing (state_at old caller.place) object property json ≡ Ok writing
+    → its_refusal caller (Set object property json) old new ≡ None
+set_passed caller object property json old new writing there asked = refusal_set (settings_of caller.setup.now) caller.name.now (state_at old caller.place) object property json ∙ or_second _ _ there ∙ ap result_err asked
+
+-- so the command is performed
 pub performs_written : {T E : Type 0} (caller : Caller) (object : ℕ) (property : List ℕ) (json : Data) (old middle new : Tables) (before after : Telling) (value : T) (writing : Writing) (replied : Bool) (tell : Option Notice)
     → is_declared writing ≡ replied
     → None ≡ absence (state_at old caller.place) object → before ≡ fresh_telling caller.setup.now.turns
@@ -124,19 +146,13 @@ pub performs_written : {T E : Type 0} (caller : Caller) (object : ℕ) (property
     → Does {E = E} caller (items_of (settings_of caller.setup.now) (state_at middle caller.place) 0 tell) middle new before after (Ok value)
     → Performs caller (Set object property json) old new after.failing (reply_after after.lines) (Ok (a.Truth replied))
 performs_written caller object property json old middle new before after value writing replied tell is there fresh asked writes placed keeps does =
-    let settings = settings_of caller.setup.now in
-    let state = state_at old caller.place in
     let answer = a.Truth replied in
     replied_last caller (Set object property json) old new after answer does.posts
-    (refusal_set settings caller.name.now state object property json ∙ or_second _ _ there ∙ ap result_err asked)
-    (set_written settings caller.name.now state object property json writing asked
-    ∙ ap (λ truth. does_next settings (written settings (begun settings state) object 0 writing) (a.Truth truth)) is
-    ∙ ap (λ (next : Next). does_next settings next answer) (writes 0 (begun settings state))
-    ∙ replies_last settings _ answer
-    ∙ ap (λ (telling : Telling). ended (told (run settings (items_of settings (state_at middle caller.place) 0 tell) (doing_at caller.place middle telling [])) (line.Reply answer))) (sym fresh)
+    (set_passed caller object property json old new writing there asked)
+    (set_runs caller object property json old middle new before writing replied tell is fresh asked writes
     ∙ ap (λ doing. ended (told doing (line.Reply answer))) (does.runs []))
     (at_first_reaches caller old new before after does.posts fresh (written_reaches caller old middle new before.failing after.failing does.posts placed keeps does.reaches))
 
 -- what is not told of comes to nothing
 pub tells_none : (caller : Caller) (tables : Tables) (telling : Telling) → Does {T = Unit {0}} {E = AllocError} caller [] tables tables telling telling (Ok tt)
-tells_none caller tables telling = does_none caller _ tables telling tables telling (Ok tt) (keeps_same tables tables caller.place refl) refl (λ earlier. at_end (settings_of caller.setup.now) (doing_at caller.place tables telling earlier))
+tells_none caller tables telling = does_none caller [] tables telling tables telling (Ok tt) (keeps_same tables tables caller.place refl) refl (λ earlier. at_end (settings_of caller.setup.now) (doing_at caller.place tables telling earlier))

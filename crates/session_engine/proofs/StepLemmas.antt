@@ -1,5 +1,5 @@
 -- What a command of one session makes of an engine, by names.
-use Rattle.std.proofs.Common.{◌≡◌, ◌<◌, ◌≤◌, ◌⊎◌, inl, inr, ℕ, Bool, true, false, true≢false, cond, eqb, ltb, List, [], ◌∷◌, length, position, get_or, Option, Some, None, is_some, Result, Ok, Err, IfOk, OnOk, OnErr, IfSome, IsSome, OnSome, IsFalse, IsTrue, refl, sym, ap, subst, ◌∙◌, ⊎_elim, arith}
+use Rattle.std.proofs.Common.{◌≡◌, ◌<◌, ◌≤◌, ◌⊎◌, ◌&&◌, not, inl, inr, ℕ, Bool, true, false, true≢false, cond, eqb, ltb, List, [], ◌∷◌, length, position, get_or, Option, Some, None, is_some, Result, Ok, Err, IfOk, OnOk, OnErr, IfSome, IsSome, OnSome, IsFalse, IsTrue, refl, sym, ap, subst, ◌∙◌, ⊎_elim, arith}
 use Rattle.std.specs.Prelude.{bytes_eq, if◌then◌else◌}
 use Rattle.std.specs.Result.{result_ok}
 use Rattle.std.specs.declared.alloc.AllocError.{AllocError}
@@ -16,24 +16,27 @@ use Rattle.refusals.specs.declared.code.Code.{Code}
 use Rattle.refusals.specs.declared.code.Code.TheVariants.{SessionFailed}
 use Rattle.thread_model.specs.declared.line.Line.{Line}
 use Rattle.thread_model.specs.declared.line.Line.TheVariants.{Error}
-use Rattle.thread_model.specs.Asked.{Asked}
+use Rattle.thread_model.specs.Asked.{Asked, Reset}
 use Rattle.thread_model.specs.Effects.{unless}
 use Rattle.thread_model.specs.Machine.{machine}
 use Rattle.thread_model.specs.Refusing.{refusal}
 use Rattle.thread_model.specs.declared.post.Post.{Post}
-use Rattle.thread_model.specs.State.{IsDeclared, IsSound, State, empty, fields_of}
+use Rattle.thread_model.specs.State.{IsDeclared, IsSound, State, fields_of}
 use Rattle.thread_model.specs.Thread.{Settings, arrive_all, arrives, does, performs}
 use Rattle.thread_model.proofs.DeclaredLemmas.{keeps_declared}
 use Rattle.thread_model.proofs.Lawful.{lawful}
 use Rattle.thread_model.proofs.LawLemmas.{keeps_sound}
-use Rattle.thread_model.proofs.ArrivingLemmas.{arrive_all-is, arrive_all-stranger}
+use Rattle.thread_model.proofs.ArrivingLemmas.{arrive_all-is}
 use Rattle.session_tables.specs.Session.{Session, fresh, gone}
 use Rattle.session_tables.specs.Reaching.{Hears, heard}
 use Rattle.session_tables.specs.Tables.{AreEven, IsPlaced, session_at}
+use Rattle.session_tables.proofs.ReachingLemmas.{heard_stranger}
 use Rattle.session_tables.proofs.TablesLemmas.{placed_by, session_past}
+use Rattle.nested_calls.specs.Front.{IsFront}
+use Rattle.nested_calls.proofs.FrontLemmas.{front_same}
 use Rattle.session_engine.specs.Commands.{OthersHear}
 use Rattle.session_engine.specs.Core.{Contents, IsKept, IsWhole, place, seen, sessions, states}
-use Rattle.session_engine.specs.Sessions.{AnotherFails, Fails, IsStep, Sessions, given_by, session_after, session_does, session_refusal}
+use Rattle.session_engine.specs.Sessions.{AnotherFails, Fails, IsStep, Sessions, given_by, is_reset, is_shut, session_after, session_does, session_refusal}
 use Rattle.session_engine.proofs.EngineLemmas.{kept_by_name, one_name, placed, sessions-place, sound_by_name}
 
 some_if : {T : Type 0} (P : T → Type 0) (value : Option T) (x : T) → value ≡ Some x → P x → IfSome value P
@@ -53,28 +56,48 @@ pub some_none : {T : Type 0} (x : T) → Some x ≡ None → ⊥
 some_none x e = cc
 
 module _ (settings : Settings) (name : List ℕ) (session : Session) (asked : Asked) where
-  -- a session that has not failed does the command
+  -- a session that has not failed is not shut
+  pub not_shut : session.failed ≡ false → is_shut session asked ≡ false
+  not_shut fine = ap (λ failed. failed && not (is_reset asked)) fine
+
+  -- and does the command
   pub does_fine : session.failed ≡ false → session_does settings name session asked ≡ does settings name session.state asked
   unfolding does
-  does_fine fine = ap (λ b. unless (if b then Some SessionFailed else refusal settings name session.state asked) session.state (performs settings name session.state asked)) fine
+  does_fine fine = ap (λ b. unless (if b then Some SessionFailed else refusal settings name session.state asked) session.state (performs settings name session.state asked)) (not_shut fine)
+
+  -- the one that begins anew is not refused
+  mends : is_reset asked ≡ true → refusal settings name session.state asked ≡ None
+  unfolding refusal
+  mends reset = by asked reset
+    where
+      by : (asked : Asked) → is_reset asked ≡ true → refusal settings name session.state asked ≡ None
+      by Reset reset = refl
+      by _ reset = absurd (cc)
 
   -- a refused command leaves the session
   pub refused_after : (code : Code) → session_refusal settings name session asked ≡ Some code → session_after settings name session asked ≡ session
-  refused_after code e = ap (λ refusal. record { state = (unless refusal session.state (performs settings name session.state asked)).state; failed = session.failed }) e
+  refused_after code e =
+      ap (λ refusal. record { state = (unless refusal session.state (performs settings name session.state asked)).state; failed = is_shut session asked }) e
+      ∙ ap (λ failed. record { state = session.state; failed = failed }) (same session.failed (is_reset asked) refl refl)
+    where
+      same : (failed reset : Bool) → session.failed ≡ failed → is_reset asked ≡ reset → (failed && not reset) ≡ session.failed
+      same true true was reset = absurd (some_none code (sym e ∙ ap (λ b. if b then Some SessionFailed else refusal settings name session.state asked) (ap (λ failed. failed && not (is_reset asked)) was ∙ ap not reset) ∙ mends reset))
+      same true false was reset = sym was
+      same false reset was is = sym was
 
   pub sound_after : IsSound session.state → IsSound (session_does settings name session asked).state
   unfolding does
-  sound_after sound = by session.failed
+  sound_after sound = by (is_shut session asked)
     where
-      by : (failed : Bool) → IsSound (unless (if failed then Some SessionFailed else refusal settings name session.state asked) session.state (performs settings name session.state asked)).state
+      by : (shut : Bool) → IsSound (unless (if shut then Some SessionFailed else refusal settings name session.state asked) session.state (performs settings name session.state asked)).state
       by true = sound
       by false = keeps_sound.by_command settings name session.state asked sound
 
   pub declared_after : IsSound session.state → IsDeclared settings.classes session.state → IsDeclared settings.classes (session_does settings name session asked).state
   unfolding does
-  declared_after sound declared = by session.failed
+  declared_after sound declared = by (is_shut session asked)
     where
-      by : (failed : Bool) → IsDeclared settings.classes (unless (if failed then Some SessionFailed else refusal settings name session.state asked) session.state (performs settings name session.state asked)).state
+      by : (shut : Bool) → IsDeclared settings.classes (unless (if shut then Some SessionFailed else refusal settings name session.state asked) session.state (performs settings name session.state asked)).state
       by true = declared
       by false = keeps_declared.by_command settings name session.state asked sound declared
 
@@ -88,47 +111,47 @@ pub data Marks (was now failing : Bool) (told : Option (List Line)) : Type 0 whe
   Quiet : failing ≡ false → is_some told ≡ true → now ≡ was → Marks was now failing told
   Loud : (told ≡ None) ⊎ (failing ≡ true) → now ≡ true → Marks was now failing told
 
--- what became of the session itself: it was told what it does with the command and is left so, with these posts, or memory was wanted
+-- what became of the session itself: it was told what it does with the command and is left so, with these posts; or memory was wanted, and these are the first of them
 pub data Own (settings : Settings) (name : List ℕ) (asked : Asked) (told : Option (List Line)) (posts : List Post) (old new : Session) : Type 0 where
   Told : told ≡ Some (session_does settings name old asked).lines → new ≡ session_after settings name old asked → posts ≡ (session_does settings name old asked).posts → Own settings name asked told posts old new
-  GaveUp : told ≡ None → new ≡ gone → Own settings name asked told posts old new
+  GaveUp : told ≡ None → new ≡ gone → IsFront posts (session_does settings name old asked).posts → Own settings name asked told posts old new
 
 -- what became of a command of the session at a place
 pub record Ended (old new : Contents) (at : ℕ) (name : List ℕ) (asked : Asked) (told : Option (List Line)) (failing : Bool) : Type 0 where
   pub settings : new.settings ≡ old.settings
   pub names : new.names ≡ old.names
   pub posts : List Post
-  pub others : OthersHear name at posts old.tables new.tables failing
+  pub others : OthersHear old.settings.classes name at posts old.tables new.tables failing
   pub mark : Marks old.memory_refused new.memory_refused failing told
   pub own : Own old.settings name asked told posts (session_at old.tables at) (session_at new.tables at)
   pub stays : IsSome (session_refusal old.settings name (session_at old.tables at) asked) → OnSome told (new.tables ≡ old.tables)
 
 -- a session that has had no command hears nothing
-heard_fresh : (from : List ℕ) (posts : List Post) → fresh ≡ heard from posts fresh
-heard_fresh from posts = ap (λ state. record { state = state; failed = false }) (sym (arrive_all-stranger empty from posts refl))
+heard_fresh : (classes : List Class) (from : List ℕ) (posts : List Post) → fresh ≡ heard classes from posts fresh
+heard_fresh classes from posts = sym (heard_stranger classes from posts fresh refl)
 
 -- a session that has not failed is in the state that posts leave
-heard_state : (settings : Settings) (from : List ℕ) (posts : List Post) (session : Session) → session.failed ≡ false → (heard from posts session).state ≡ all_arrive (machine settings) session.state from posts
+pub heard_state : (settings : Settings) (from : List ℕ) (posts : List Post) (session : Session) → session.failed ≡ false → (heard settings.classes from posts session).state ≡ all_arrive (machine settings) session.state from posts
 heard_state settings from posts session fine =
-    ap (λ (session : Session). session.state) (cond-false session.failed session (record { state = arrive_all session.state from posts; failed = false }) fine) ∙ sym (arrive_all-is settings session.state from posts)
+    ap (λ (session : Session). session.state) (cond-false session.failed session (record { state = arrive_all settings.classes session.state from posts; failed = false }) fine) ∙ sym (arrive_all-is settings session.state from posts)
 
 -- what a session must be, it is when it has heard posts
-kept_heard : (classes : List Class) (was now : Bool) (from : List ℕ) (posts : List Post) (session : Session) → (IsFalse now → IsFalse was) → IsKept classes was session → IsKept classes now (heard from posts session)
+pub kept_heard : (classes : List Class) (was now : Bool) (from : List ℕ) (posts : List Post) (session : Session) → (IsFalse now → IsFalse was) → IsKept classes was session → IsKept classes now (heard classes from posts session)
 kept_heard classes was now from posts session less kept = by session.failed refl
   where
-    arrived : (state : State) (posts : List Post) → IsSound state → IsSound (arrive_all state from posts)
+    arrived : (state : State) (posts : List Post) → IsSound state → IsSound (arrive_all classes state from posts)
     arrived state [] sound = sound
-    arrived state (post ∷ posts) sound = arrived (arrives state from post) posts (keeps_sound.by_post state from post sound)
+    arrived state (post ∷ posts) sound = arrived (arrives classes state from post) posts (keeps_sound.by_post classes state from post sound)
 
-    declares : (state : State) (posts : List Post) → IsDeclared classes state → IsDeclared classes (arrive_all state from posts)
+    declares : (state : State) (posts : List Post) → IsDeclared classes state → IsDeclared classes (arrive_all classes state from posts)
     declares state [] declared = declared
-    declares state (post ∷ posts) declared = declares (arrives state from post) posts (keeps_declared.by_post classes state from post declared)
+    declares state (post ∷ posts) declared = declares (arrives classes state from post) posts (keeps_declared.by_post classes state from post declared)
 
-    by : (failed : Bool) → session.failed ≡ failed → IsKept classes now (cond failed session (record { state = arrive_all session.state from posts; failed = false }))
+    by : (failed : Bool) → session.failed ≡ failed → IsKept classes now (cond failed session (record { state = arrive_all classes session.state from posts; failed = false }))
     by true e = record { well = λ none. kept.well (less none); sound = kept.sound; declared = kept.declared }
     by false e = record { well = λ none. refl; sound = arrived session.state posts kept.sound; declared = declares session.state posts kept.declared }
 
-kept_gone : (classes : List Class) → IsKept classes true gone
+pub kept_gone : (classes : List Class) → IsKept classes true gone
 kept_gone classes = record { well = λ none. absurd (true≢false none); sound = keeps_sound.at_first; declared = keeps_declared.at_first classes }
 
 module _ (old new : Contents) (at : ℕ) (name : List ℕ) (asked : Asked) (told : Option (List Line)) (failing : Bool) (whole : IsWhole old) (there : place old name ≡ Some at) (ended : Ended old new at name asked told failing) where
@@ -168,11 +191,11 @@ module _ (old new : Contents) (at : ℕ) (name : List ℕ) (asked : Asked) (told
               (λ apart. apart)
               (cases_Bool (eqb other' at))
 
-  hears_other : (other : List ℕ) → bytes_eq other name ≡ false → Hears name ended.posts (sessions old other) (sessions new other)
-  hears_other = by_name (Hears name ended.posts) (inl (heard_fresh name ended.posts)) ended.others.hear
+  hears_other : (other : List ℕ) → bytes_eq other name ≡ false → Hears old.settings.classes name ended.posts (sessions old other) (sessions new other)
+  hears_other = by_name (Hears old.settings.classes name ended.posts) (inl (heard_fresh old.settings.classes name ended.posts)) ended.others.hear
 
-  heard_other : failing ≡ false → (other : List ℕ) → bytes_eq other name ≡ false → sessions new other ≡ heard name ended.posts (sessions old other)
-  heard_other none = by_name (λ old new. new ≡ heard name ended.posts old) (heard_fresh name ended.posts) (ended.others.all none)
+  heard_other : failing ≡ false → (other : List ℕ) → bytes_eq other name ≡ false → sessions new other ≡ heard old.settings.classes name ended.posts (sessions old other)
+  heard_other none = by_name (λ was now. now ≡ heard old.settings.classes name ended.posts was) (heard_fresh old.settings.classes name ended.posts) (ended.others.all none)
 
   -- the mark falls from what was found
   less : IsFalse new.memory_refused → IsFalse old.memory_refused
@@ -188,24 +211,24 @@ module _ (old new : Contents) (at : ℕ) (name : List ℕ) (asked : Asked) (told
       by : Own old.settings name asked told ended.posts (session_at old.tables at) (session_at new.tables at) → Marks old.memory_refused new.memory_refused failing told → IsKept old.settings.classes new.memory_refused (session_at new.tables at)
       by (Told lines e posts) mark = subst (IsKept old.settings.classes new.memory_refused) (sym e)
           (record {
-            well = λ found. (whole.kept at).well (less found);
+            well = λ found. not_shut old.settings name (session_at old.tables at) asked ((whole.kept at).well (less found));
             sound = sound_after old.settings name (session_at old.tables at) asked (whole.kept at).sound;
             declared = declared_after old.settings name (session_at old.tables at) asked (whole.kept at).sound (whole.kept at).declared;
           })
-      by (GaveUp nothing e) (Quiet none some f) = let no : false ≡ true = ap is_some (sym nothing) ∙ some in absurd (true≢false (sym no))
-      by (GaveUp nothing e) (Loud either f) = subst (λ mark. IsKept old.settings.classes mark (session_at new.tables at)) (sym f) (subst (IsKept old.settings.classes true) (sym e) (kept_gone old.settings.classes))
+      by (GaveUp nothing e front) (Quiet none some f) = let no : false ≡ true = ap is_some (sym nothing) ∙ some in absurd (true≢false (sym no))
+      by (GaveUp nothing e front) (Loud either f) = subst (λ mark. IsKept old.settings.classes mark (session_at new.tables at)) (sym f) (subst (IsKept old.settings.classes true) (sym e) (kept_gone old.settings.classes))
 
   kept_other : (other : ℕ) → eqb other at ≡ false → IsPlaced old.tables other → IsKept old.settings.classes new.memory_refused (session_at new.tables other)
   kept_other other apart placed = by ended.mark
     where
-      heard_one : IsKept old.settings.classes new.memory_refused (heard name ended.posts (session_at old.tables other))
+      heard_one : IsKept old.settings.classes new.memory_refused (heard old.settings.classes name ended.posts (session_at old.tables other))
       heard_one = kept_heard old.settings.classes old.memory_refused new.memory_refused name ended.posts (session_at old.tables other) less (whole.kept other)
 
       by : Marks old.memory_refused new.memory_refused failing told → IsKept old.settings.classes new.memory_refused (session_at new.tables other)
       by (Quiet none some e) = subst (IsKept old.settings.classes new.memory_refused) (sym (ended.others.all none other apart placed)) heard_one
       by (Loud either e) = either_way (ended.others.hear other apart placed)
         where
-          either_way : Hears name ended.posts (session_at old.tables other) (session_at new.tables other) → IsKept old.settings.classes new.memory_refused (session_at new.tables other)
+          either_way : Hears old.settings.classes name ended.posts (session_at old.tables other) (session_at new.tables other) → IsKept old.settings.classes new.memory_refused (session_at new.tables other)
           either_way (inl f) = subst (IsKept old.settings.classes new.memory_refused) (sym f) heard_one
           either_way (inr f) = subst (λ mark. IsKept old.settings.classes mark (session_at new.tables other)) (sym e) (subst (IsKept old.settings.classes true) (sym f.1) (kept_gone old.settings.classes))
 
@@ -291,6 +314,7 @@ module _ (old new : Contents) (at : ℕ) (name : List ℕ) (asked : Asked) (told
             refused = λ refused. on_same told (ended.stays (subst (λ session. IsSome (session_refusal old.settings name session asked)) own refused));
             posts = ended.posts;
             posted = on_some told made;
+            front = λ none. absurd (some_none _ (sym lines ∙ none));
             others = hears_other;
             settings = ended.settings;
             kept = kept_mark mark;
@@ -299,7 +323,7 @@ module _ (old new : Contents) (at : ℕ) (name : List ℕ) (asked : Asked) (told
             well = λ found other. (kept_by_name old other whole).well found;
             sound = sound_by_name new whole_after;
           }
-      by (GaveUp nothing e) mark =
+      by (GaveUp nothing e front) mark =
           let flag : new.memory_refused ≡ true = loud mark in
           record {
             lines = λ found. absurd (both_ways _ found flag);
@@ -309,6 +333,7 @@ module _ (old new : Contents) (at : ℕ) (name : List ℕ) (asked : Asked) (told
             refused = λ refused. on_none _ told nothing;
             posts = ended.posts;
             posted = on_none _ told nothing;
+            front = λ none. subst (λ session. IsFront ended.posts (session_does old.settings name session asked).posts) (sym own) front;
             others = hears_other;
             settings = ended.settings;
             kept = kept_mark mark;
@@ -322,6 +347,11 @@ module _ (old new : Contents) (at : ℕ) (name : List ℕ) (asked : Asked) (told
           loud (Quiet none some f) = let no : false ≡ true = ap is_some (sym nothing) ∙ some in absurd (true≢false (sym no))
           loud (Loud either f) = f
 
+-- what a command has posted is a front of what it says
+step_front : (old new : Sessions) (name : List ℕ) (asked : Asked) (told : Option (List Line)) → (step : IsStep old new name asked told) → IsFront step.posts (session_does old.settings name (old.session name) asked).posts
+step_front old new name asked (Some lines) step = subst (IsFront step.posts) step.posted (front_same step.posts)
+step_front old new name asked None step = step.front refl
+
 -- what memory was refused for, also while it told a refusal
 pub step_fails : (old middle new : Sessions) (name : List ℕ) (asked : Asked) (told : Option (List Line)) → IsStep old middle name asked told → Fails middle new name → IsStep old new name asked None
 step_fails old middle new name asked told step fails = record {
@@ -332,7 +362,8 @@ step_fails old middle new name asked told step fails = record {
   refused = λ refused. tt;
   posts = step.posts;
   posted = tt;
-  others = λ other elsewhere. subst (Hears name step.posts (old.session other)) (sym (fails.others other elsewhere)) (step.others other elsewhere);
+  front = λ none. step_front old middle name asked told step;
+  others = λ other elsewhere. subst (Hears old.settings.classes name step.posts (old.session other)) (sym (fails.others other elsewhere)) (step.others other elsewhere);
   settings = fails.settings ∙ step.settings;
   kept = λ was. fails.memory;
   memory = λ none. fails.memory;

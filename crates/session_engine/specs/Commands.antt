@@ -1,5 +1,6 @@
 -- What a command makes of the session at a place.
-use Rattle.std.specs.Prelude.{◌≡◌, ℕ, Bool, eqb, List, [], ◌∷◌, ◌++◌, Result, OnOk, IsFalse, IsTrue}
+use Rattle.std.specs.Prelude.{◌≡◌, ℕ, Bool, eqb, List, [], ◌∷◌, ◌++◌, Result, OnErr, OnOk, IsFalse, IsTrue}
+use Rattle.class_table.specs.declared.class.Class.{Class}
 use Rattle.refusals.specs.Answers.{OnDone, OnMemory}
 use Rattle.refusals.specs.declared.fault.Fault.{Fault}
 use Rattle.thread_model.specs.declared.line.Answer.{Answer}
@@ -7,7 +8,7 @@ use Rattle.thread_model.specs.declared.line.Line.{Line}
 use Rattle.thread_model.specs.declared.line.Line.TheVariants.{Reply}
 use Rattle.thread_model.specs.Asked.{Asked}
 use Rattle.thread_model.specs.Refusing.{refusal}
-use Rattle.thread_model.specs.Thread.{performs}
+use Rattle.thread_model.specs.Thread.{does, performs}
 use Rattle.session_tables.specs.declared.tables.Tables.{Tables}
 use Rattle.session_tables.specs.Refused.{OnRefused}
 use Rattle.session_tables.specs.Session.{gone}
@@ -18,9 +19,10 @@ use Rattle.session_effects.specs.declared.caller.Caller.{Caller}
 use Rattle.thread_model.specs.Items.{Next}
 use Rattle.thread_model.specs.Run.{run}
 use Rattle.nested_calls.specs.declared.telling.Telling.{Telling}
+use Rattle.nested_calls.specs.Front.{IsFront}
 use Rattle.nested_calls.specs.Telling.{doing_at}
 use Rattle.session_engine.specs.Returning.{Returns}
-use Rattle.session_engine.specs.Sessions.{session_after, session_does, session_refusal}
+use Rattle.session_engine.specs.Sessions.{is_shut, session_after, session_does, session_refusal}
 use Rattle.session_effects.specs.Setup.{settings_of}
 
 -- what is told of a reply
@@ -37,17 +39,19 @@ pub record KnowsProperties (caller : Caller) (tables : Tables) : Type 0 where
   pub stored : AreStored (state_at tables caller.place)
 
 -- all sessions but the one at a place have heard its posts, and whether one of them has failed by that
-pub record OthersHear (from : List ℕ) (place : ℕ) (posts : List Post) (old new : Tables) (failing : Bool) : Type 0 where
+pub record OthersHear (classes : List Class) (from : List ℕ) (place : ℕ) (posts : List Post) (old new : Tables) (failing : Bool) : Type 0 where
   pub shape : AreShaped old new
-  pub hear : (at : ℕ) → IsFalse (eqb at place) → IsPlaced old at → Hears from posts (session_at old at) (session_at new at)
-  pub all : IsFalse failing → (at : ℕ) → IsFalse (eqb at place) → IsPlaced old at → session_at new at ≡ heard from posts (session_at old at)
+  pub hear : (at : ℕ) → IsFalse (eqb at place) → IsPlaced old at → Hears classes from posts (session_at old at) (session_at new at)
+  pub all : IsFalse failing → (at : ℕ) → IsFalse (eqb at place) → IsPlaced old at → session_at new at ≡ heard classes from posts (session_at old at)
   pub one : IsTrue failing → (at : ℕ) × IsFalse (eqb at place) × IsPlaced old at × IsFalse (failed_at old at) × IsTrue (failed_at new at)
 
--- what a command begins with is done, and makes these posts, which all other sessions have heard
+-- what a command begins with is done, and makes these posts, which all other sessions have heard; where memory
+-- was wanted, these are the first of those that all of it posts
 pub record DoesAtFirst {T E : Type 0} (caller : Caller) (next : Next) (old new : Tables) (before after : Telling) (result : Result T E) : Type 0 where
   pub posts : List Post
   pub runs : OnOk result (run (settings_of caller.setup.now) next.items next.doing ≡ doing_at caller.place new after posts)
-  pub reaches : Reaches caller.name.now caller.place posts old new before.failing after.failing
+  pub front : OnErr result (IsFront posts (run (settings_of caller.setup.now) next.items next.doing).posts)
+  pub reaches : Reaches caller.setup.now.classes caller.name.now caller.place posts old new before.failing after.failing
 
 -- a command of a session that has not failed; `failing` says whether another session has failed by its posts,
 -- and `lines` what is told by what the call returns
@@ -55,14 +59,15 @@ pub record Performs {T : Type 0} (caller : Caller) (asked : Asked) (old new : Ta
   -- it is refused exactly by its refusal, and else tells its lines, unless memory was wanted
   pub returns : Returns (refusal (settings_of caller.setup.now) caller.name.now (state_at old caller.place) asked)
       (λ value. (performs (settings_of caller.setup.now) caller.name.now (state_at old caller.place) asked).lines ≡ lines value) result
-  -- its posts, up to where memory was wanted
+  -- its posts; where memory was wanted, the first of them
   pub posts : List Post
+  pub front : OnMemory result (IsFront posts (does (settings_of caller.setup.now) caller.name.now (state_at old caller.place) asked).posts)
   -- it has posted what it says, and changed the state of its session as it says
   pub posted : OnOk result (posts ≡ (performs (settings_of caller.setup.now) caller.name.now (state_at old caller.place) asked).posts)
   pub done : OnOk result (session_at new caller.place ≡ record { state = (performs (settings_of caller.setup.now) caller.name.now (state_at old caller.place) asked).state; failed = failed_at old caller.place })
   pub refused : OnRefused result (new ≡ old)
   -- and all other sessions have heard the posts
-  pub others : OthersHear caller.name.now caller.place posts old new failing
+  pub others : OthersHear caller.setup.now.classes caller.name.now caller.place posts old new failing
 
 -- a command of any session
 pub record Obeys (caller : Caller) (asked : Asked) (old new : Tables) (failing : Bool) (result : Result (List Line) Fault) : Type 0 where
@@ -71,7 +76,8 @@ pub record Obeys (caller : Caller) (asked : Asked) (old new : Tables) (failing :
   pub posts : List Post
   pub done : OnDone result ((session_at new caller.place ≡ session_after (settings_of caller.setup.now) caller.name.now (session_at old caller.place) asked)
       × (posts ≡ (session_does (settings_of caller.setup.now) caller.name.now (session_at old caller.place) asked).posts))
+  pub front : OnMemory result (IsFront posts (session_does (settings_of caller.setup.now) caller.name.now (session_at old caller.place) asked).posts)
   pub refused : OnRefused result (new ≡ old)
-  -- where memory was wanted, its session has failed, and had not before
-  pub fails : OnMemory result ((session_at new caller.place ≡ gone) × IsFalse (failed_at old caller.place))
-  pub others : OthersHear caller.name.now caller.place posts old new failing
+  -- where memory was wanted, its session has failed, and was not shut for the command
+  pub fails : OnMemory result ((session_at new caller.place ≡ gone) × IsFalse (is_shut (session_at old caller.place) asked))
+  pub others : OthersHear caller.setup.now.classes caller.name.now caller.place posts old new failing

@@ -4,3 +4,4 @@ pub mod Invocation
 pub mod Commands
 pub mod Core
 pub mod Engine
+pub mod Items

@@ -1,12 +1,12 @@
 -- The sessions of an engine or a server, by name, and what a command of one of them makes of all.
-use Rattle.std.specs.Prelude.{◌≡◌, ◌⊎◌, ℕ, Bool, List, Option, Some, None, IfSome, OnSome, IsSome, IsTrue, IsFalse, bytes_eq, if◌then◌else◌}
+use Rattle.std.specs.Prelude.{◌≡◌, ◌⊎◌, ◌&&◌, ℕ, Bool, true, false, not, List, Option, Some, None, IfSome, OnSome, IsSome, IsTrue, IsFalse, bytes_eq, if◌then◌else◌}
 use Rattle.isolation.specs.Machine.{Effect, Tagged}
 use Rattle.isolation.specs.World.{effect, after}
 use Rattle.refusals.specs.declared.code.Code.{Code}
 use Rattle.refusals.specs.declared.code.Code.TheVariants.{SessionFailed}
 use Rattle.thread_model.specs.declared.line.Line.{Line}
 use Rattle.thread_model.specs.declared.post.Post.{Post}
-use Rattle.thread_model.specs.Asked.{Asked}
+use Rattle.thread_model.specs.Asked.{Asked, Reset}
 use Rattle.thread_model.specs.Effects.{unless}
 use Rattle.thread_model.specs.Machine.{machine}
 use Rattle.thread_model.specs.Refusing.{refusal}
@@ -14,6 +14,7 @@ use Rattle.thread_model.specs.State.{IsDeclared, IsSound, State}
 use Rattle.thread_model.specs.Thread.{Settings, performs}
 use Rattle.session_tables.specs.Reaching.{Hears}
 use Rattle.session_tables.specs.Session.{Session, gone}
+use Rattle.nested_calls.specs.Front.{IsFront}
 
 -- what is seen of all sessions
 pub record Sessions : Type 0 where
@@ -28,17 +29,26 @@ pub record Sessions : Type 0 where
 abbrev pub states_of : Sessions → List ℕ → State
 states_of sessions name = (sessions.session name).state
 
+-- is a command the one that begins anew
+abbrev pub is_reset : Asked → Bool
+is_reset Reset = true
+is_reset _ = false
+
+-- a session that has failed is shut for every other command
+abbrev pub is_shut : Session → Asked → Bool
+is_shut session asked = session.failed && not (is_reset asked)
+
 -- why a session refuses a command: it has failed, or the command is refused
 abbrev pub session_refusal : Settings → List ℕ → Session → Asked → Option Code
-session_refusal settings name session asked = if session.failed then Some SessionFailed else refusal settings name session.state asked
+session_refusal settings name session asked = if is_shut session asked then Some SessionFailed else refusal settings name session.state asked
 
 -- what a session does with a command
 abbrev pub session_does : Settings → List ℕ → Session → Asked → Effect State Line Post
 session_does settings name session asked = unless (session_refusal settings name session asked) session.state (performs settings name session.state asked)
 
--- the session afterwards; a command neither fails nor mends it
+-- the session afterwards; no command fails it, and only the one that begins anew mends it
 abbrev pub session_after : Settings → List ℕ → Session → Asked → Session
-session_after settings name session asked = record { state = (session_does settings name session asked).state; failed = session.failed }
+session_after settings name session asked = record { state = (session_does settings name session asked).state; failed = is_shut session asked }
 
 abbrev pub given_by : List ℕ → Asked → Tagged (List ℕ) Asked
 given_by name asked = record { session = name; command = asked }
@@ -77,11 +87,12 @@ pub record IsStep (old new : Sessions) (name : List ℕ) (asked : Asked) (told :
   pub leaves : OnSome told (new.session name ≡ session_after old.settings name (old.session name) asked)
   -- a refused command changes nothing
   pub refused : IsSome (session_refusal old.settings name (old.session name) asked) → OnSome told (new.session ≡ old.session)
-  -- what it posts, up to where memory was wanted
+  -- what it posts; where memory was wanted, the first of that
   pub posts : List Post
   pub posted : OnSome told (posts ≡ (session_does old.settings name (old.session name) asked).posts)
+  pub front : told ≡ None → IsFront posts (session_does old.settings name (old.session name) asked).posts
   -- every other session has heard that, or has failed by it for want of memory
-  pub others : (other : List ℕ) → IsFalse (bytes_eq other name) → Hears name posts (old.session other) (new.session other)
+  pub others : (other : List ℕ) → IsFalse (bytes_eq other name) → Hears old.settings.classes name posts (old.session other) (new.session other)
   pub settings : new.settings ≡ old.settings
   -- that memory was refused is remembered, from the first command that wanted it in vain
   pub kept : IsTrue old.memory_refused → IsTrue new.memory_refused

@@ -11,6 +11,7 @@ use crate::connections::{connect, connect_functor, disconnect, disconnect_one};
 use crate::events::{spin, status};
 use crate::invocation::invoke;
 use crate::properties::{dynamic_names, get, set};
+use crate::sharing::{join, leave, publish, renew, reset, unpublish};
 use crate::trees::{children, delete_object, find, new_object};
 use nested_calls::{Actor, Answering, Telling};
 use plain_types::Items;
@@ -20,7 +21,8 @@ use session_tables::Tables;
 use std::alloc::{AllocError, Global};
 use thread_model::{Answer, Command, Deed, Line};
 
-/// Lets a session do a command. Where memory is wanted and not found, it has failed.
+/// Lets a session do a command; one that has failed can only begin anew. Where memory is wanted and not
+/// found, it has failed.
 pub fn obey<F: Answering>(
     actor: &Actor<F>,
     tables: &mut Tables,
@@ -33,11 +35,14 @@ pub fn obey<F: Answering>(
     ensures { Obeys actor.now.caller (asked command.now) tables.old tables.new failing.new result }
 {
     if tables.failed(actor.caller.place) {
-        return Err(Fault::Refused(Code::SessionFailed));
+        return match command {
+            Command::Reset => renew(&actor.caller, tables),
+            _ => Err(Fault::Refused(Code::SessionFailed)),
+        };
     }
     let replied = reply(actor, tables, failing, command);
     if wants_memory(&replied) {
-        tables.give_up(actor.caller.setup.alloc, actor.caller.place);
+        tables.give_up(actor.caller.place);
     }
     replied
 }
@@ -162,6 +167,34 @@ fn perform<F: Answering>(
         Command::Spin => spin(actor, tables, telling),
         Command::Do(deed) => deed_command(&actor.caller, tables, *deed),
         Command::Status => status(&actor.caller, tables),
+        Command::Publish {
+            object,
+            signal,
+            name,
+        } => publish(&actor.caller, tables, *object, signal, name),
+        Command::Unpublish { name } => unpublish(&actor.caller, tables, name),
+        Command::Join {
+            from,
+            name,
+            types,
+            object,
+            method,
+        } => join(
+            &actor.caller,
+            tables,
+            from,
+            name,
+            types.as_slice(),
+            *object,
+            method,
+        ),
+        Command::Leave {
+            from,
+            name,
+            object,
+            method,
+        } => leave(&actor.caller, tables, from, name, *object, method),
+        Command::Reset => reset(&actor.caller, tables),
     }
 }
 

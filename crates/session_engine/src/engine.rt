@@ -7,12 +7,13 @@ ghost use Rattle.stored_slots.specs.Table.{functors_of};
 ghost use Rattle.session_engine.specs.Core.{settings};
 
 use crate::engine_core::Core;
+use crate::item::Item;
 use class_table::ClassTable;
 use plain_types::{Items, Text};
 use refusals::Fault;
 use std::alloc::{AllocError, Global};
 use stored_slots::{Functor, Functors};
-use thread_model::{Command, Line};
+use thread_model::{Command, Line, Post};
 
 /// The sessions of a server. Each is named by a text, and has a place that calls use; none is ever
 /// closed.
@@ -32,7 +33,7 @@ impl Drop for Engine {
 }
 
 impl Engine {
-    ghost use Rattle.std.specs.Prelude.{◌≤◌, length, List, ℕ, ◌++◌, ◌∷◌, [], Some, None, IsTrue, IsFalse, IfOk, OnOk, OnErr};
+    ghost use Rattle.std.specs.Prelude.{◌≤◌, length, List, ℕ, ◌++◌, ◌∷◌, [], Some, None, IsTrue, IsFalse, IfOk, OnOk, OnErr, map};
     ghost use Rattle.std.specs.Result.{result_ok};
     ghost use Rattle.refusals.specs.Answers.{OnMemory};
     ghost use Rattle.stored_slots.specs.declared.limit.TheConstants.{FUNCTORS};
@@ -40,8 +41,9 @@ impl Engine {
     ghost use Rattle.thread_model.specs.Thread.{performs};
     ghost use Rattle.session_tables.specs.Refused.{OnRefused};
     ghost use Rattle.session_tables.specs.Session.{fresh, gone};
+    ghost use Rattle.session_engine.specs.Items.{BeginsAnew, HasArrived, RunsAlone, item_of};
     ghost use Rattle.session_engine.specs.Returning.{Returns, told};
-    ghost use Rattle.session_engine.specs.Sessions.{AreSound, AreWell, Fails, IsStep, session_refusal};
+    ghost use Rattle.session_engine.specs.Sessions.{AreSound, AreWell, Fails, IsStep, is_shut, session_refusal};
     ghost use Rattle.session_engine.specs.Core.{IsPlace, OfSession, failed, names, place, seen, sessions, states, was_refused};
     ghost use Rattle.session_engine.specs.Engine.{held};
 
@@ -109,8 +111,8 @@ impl Engine {
         // and a refused command changes nothing.
         ensures refused { OnRefused result (sessions (held self.new) ≡ sessions (held self.old)) }
         ensures fails { OfSession (held self.old) at (λ name. OnMemory result (sessions (held self.new) name ≡ gone)) }
-        // A session that has failed wants no memory.
-        ensures fine { OfSession (held self.old) at (λ name. OnMemory result (IsFalse (failed (held self.old) name))) }
+        // A session that has failed wants no memory but to begin anew.
+        ensures fine { OfSession (held self.old) at (λ name. OnMemory result (IsFalse (is_shut (sessions (held self.old) name) (asked command.now)))) }
         ensures names { names (held self.new) ≡ names (held self.old) }
         ensures there { IsPlace (held self.new) at }
     {
@@ -127,6 +129,40 @@ impl Engine {
         ensures there { IsPlace (held self.new) at }
     {
         self.core.told(&self.functors, at, command)
+    }
+
+    /// Lets a post of the session `from` come to a session. One that has failed ignores it; where memory is
+    /// wanted for it and not found, the session has failed.
+    pub fn arrive(&mut self, at: usize, from: &Text, post: &Post) -> Result<(), AllocError>
+        requires { IsPlace (held self.old) at }
+        ensures arrives { OfSession (held self.old) at (λ name. HasArrived (seen (held self.old)) (seen (held self.new)) name from.now post.now result) }
+        ensures names { names (held self.new) ≡ names (held self.old) }
+        ensures there { IsPlace (held self.new) at }
+    {
+        self.core.arrive(at, from, post)
+    }
+
+    /// Lets items come to a session, in order, and returns what its commands are told; a refusal is told by
+    /// its line. The first for which memory is wanted and not found is the last, and the session has failed.
+    pub fn alone(&mut self, at: usize, items: &[Item]) -> Result<Items<Line>, AllocError>
+        requires { IsPlace (held self.old) at }
+        ensures alone { OfSession (held self.old) at (λ name. RunsAlone (seen (held self.old)) (seen (held self.new)) name (map item_of items.now) (result_ok result)) }
+        ensures fails { OfSession (held self.old) at (λ name. OnErr result (sessions (held self.new) name ≡ gone)) }
+        ensures names { names (held self.new) ≡ names (held self.old) }
+        ensures there { IsPlace (held self.new) at }
+    {
+        self.core.alone(&self.functors, at, items)
+    }
+
+    /// Puts a session back to where it was before its first command, also one that has failed. What other
+    /// sessions have joined stays.
+    pub fn reset(&mut self, at: usize)
+        requires { IsPlace (held self.old) at }
+        ensures anew { OfSession (held self.old) at (λ name. BeginsAnew (seen (held self.old)) (seen (held self.new)) name) }
+        ensures names { names (held self.new) ≡ names (held self.old) }
+        ensures there { IsPlace (held self.new) at }
+    {
+        self.core.reset(at);
     }
 
     /// Lets a session fail, as where memory is wanted for it elsewhere and not found.

@@ -1,5 +1,5 @@
 //! What an engine has besides its functors, and what a command of one of its sessions does to all.
-ghost use Rattle.std.specs.Prelude.{◌≡◌, ◌≤◌, length, List, ℕ, ◌++◌, ◌∷◌, [], Some, None, IsTrue, IsFalse, IfOk, OnOk, OnErr};
+ghost use Rattle.std.specs.Prelude.{◌≡◌, ◌≤◌, length, List, ℕ, ◌++◌, ◌∷◌, [], Some, None, IsTrue, IsFalse, IfOk, OnOk, OnErr, map};
 ghost use Rattle.std.specs.Result.{result_ok};
 ghost use Rattle.refusals.specs.Answers.{OnMemory};
 ghost use Rattle.stored_slots.specs.declared.limit.TheConstants.{FUNCTORS};
@@ -8,11 +8,13 @@ ghost use Rattle.thread_model.specs.Asked.{asked};
 ghost use Rattle.thread_model.specs.Thread.{performs};
 ghost use Rattle.session_tables.specs.Refused.{OnRefused};
 ghost use Rattle.session_tables.specs.Session.{fresh, gone};
+ghost use Rattle.session_engine.specs.Items.{BeginsAnew, HasArrived, RunsAlone, item_of};
 ghost use Rattle.session_engine.specs.Returning.{Returns, told};
-ghost use Rattle.session_engine.specs.Sessions.{AreSound, AreWell, Fails, IsStep, session_refusal};
+ghost use Rattle.session_engine.specs.Sessions.{AreSound, AreWell, Fails, IsStep, is_shut, session_refusal};
 ghost use Rattle.session_engine.specs.Core.{IsPlace, KeepsPlaces, OfSession, failed, names, place, seen, sessions, settings, states, was_refused};
 
 use crate::commands::{obey, one_line, wants_memory};
+use crate::item::Item;
 use crate::layouts::layouts;
 use class_table::ClassTable;
 use indexmap::IndexSet;
@@ -24,7 +26,7 @@ use session_tables::Tables;
 use std::alloc::{AllocError, Global};
 use std::marker::Model;
 use stored_slots::Functor;
-use thread_model::{Command, Line};
+use thread_model::{Command, Line, Post};
 
 /// All of an engine but what answers the calls of its functors, which is lent to each command: a type that
 /// holds closures has no view of its own.
@@ -127,7 +129,7 @@ impl Core {
         self.tables.ready()?;
         let name = name.copy(self.setup.alloc)?;
         self.names.insert(name)?;
-        Ok(self.tables.open(self.setup.alloc))
+        Ok(self.tables.open())
     }
 
     /// Does a command of a session. A session that has failed for want of memory refuses every
@@ -148,8 +150,8 @@ impl Core {
         // and a refused command changes nothing.
         ensures refused { OnRefused result (sessions self.new ≡ sessions self.old) }
         ensures fails { OfSession self.old at (λ name. OnMemory result (sessions self.new name ≡ gone)) }
-        // A session that has failed wants no memory.
-        ensures fine { OfSession self.old at (λ name. OnMemory result (IsFalse (failed self.old name))) }
+        // A session that has failed wants no memory but to begin anew.
+        ensures fine { OfSession self.old at (λ name. OnMemory result (IsFalse (is_shut (sessions self.old name) (asked command.now)))) }
         ensures places { KeepsPlaces self.old self.new at }
     {
         let Some(name) = self.names.get_index(at) else {
@@ -204,13 +206,105 @@ impl Core {
         told
     }
 
+    /// Lets a post of the session `from` come to a session. One that has failed ignores it; where memory is
+    /// wanted for it and not found, the session has failed.
+    pub fn arrive(&mut self, at: usize, from: &Text, post: &Post) -> Result<(), AllocError>
+        requires { IsPlace self.old at }
+        ensures arrives { OfSession self.old at (λ name. HasArrived (seen self.old) (seen self.new) name from.now post.now result) }
+        ensures places { KeepsPlaces self.old self.new at }
+    {
+        let arrived = self
+            .tables
+            .arrive(self.setup.alloc, &self.setup.classes, at, from, post);
+        if arrived.is_err() {
+            self.memory_refused = true;
+        }
+        arrived
+    }
+
+    /// Lets items come to a session, in order, and returns what its commands are told; a refusal is told by
+    /// its line. The first for which memory is wanted and not found is the last.
+    pub fn alone<F: Answering>(
+        &mut self,
+        answering: &F,
+        at: usize,
+        items: &[Item],
+    ) -> Result<Items<Line>, AllocError>
+        requires there { IsPlace self.old at }
+        requires known { F.functors answering.now ≡ (settings self.old).functors }
+        ensures alone { OfSession self.old at (λ name. RunsAlone (seen self.old) (seen self.new) name (map item_of items.now) (result_ok result)) }
+        ensures fails { OfSession self.old at (λ name. OnErr result (sessions self.new name ≡ gone)) }
+        ensures places { KeepsPlaces self.old self.new at }
+    {
+        let mut told = Items::new(self.setup.alloc);
+        'items: for item in items {
+            let lines = self.come(answering, at, item)?;
+            self.append(at, &mut told, lines)?;
+        }
+        Ok(told)
+    }
+
+    /// Lets one item come to a session.
+    fn come<F: Answering>(
+        &mut self,
+        answering: &F,
+        at: usize,
+        item: &Item,
+    ) -> Result<Items<Line>, AllocError>
+        requires there { IsPlace self.old at }
+        requires known { F.functors answering.now ≡ (settings self.old).functors }
+        ensures alone { OfSession self.old at (λ name. RunsAlone (seen self.old) (seen self.new) name (item_of item.now ∷ []) (result_ok result)) }
+        ensures fails { OfSession self.old at (λ name. OnErr result (sessions self.new name ≡ gone)) }
+        ensures places { KeepsPlaces self.old self.new at }
+    {
+        match item {
+            Item::Own(command) => self.told(answering, at, command),
+            Item::Arrival(from, post) => {
+                self.arrive(at, from, post)?;
+                Ok(Items::new(self.setup.alloc))
+            }
+        }
+    }
+
+    /// Puts lines behind those that a session is told. Where there is no memory for that, it has failed.
+    fn append(
+        &mut self,
+        at: usize,
+        told: &mut Items<Line>,
+        lines: Items<Line>,
+    ) -> Result<(), AllocError>
+        requires { IsPlace self.old at }
+        ensures lines { OnOk result (told.new ≡ told.old ++ lines) }
+        ensures ok { OnOk result (self.new ≡ self.old) }
+        ensures err { OfSession self.old at (λ name. OnErr result (Fails (seen self.old) (seen self.new) name)) }
+        ensures places { KeepsPlaces self.old self.new at }
+    {
+        for line in lines.into_vec() {
+            let put = told.push(line);
+            if put.is_err() {
+                self.give_up(at);
+                return put;
+            }
+        }
+        Ok(())
+    }
+
+    /// Puts a session back to where it was before its first command, also one that has failed.
+    pub fn reset(&mut self, at: usize)
+        requires { IsPlace self.old at }
+        ensures anew { OfSession self.old at (λ name. BeginsAnew (seen self.old) (seen self.new) name) }
+        ensures places { KeepsPlaces self.old self.new at }
+    {
+        self.tables.renew(at);
+    }
+
     /// Lets a session fail, as where memory is wanted for it elsewhere and not found.
     pub fn give_up(&mut self, at: usize)
         requires { IsPlace self.old at }
         ensures fails { OfSession self.old at (λ name. Fails (seen self.old) (seen self.new) name) }
         ensures places { KeepsPlaces self.old self.new at }
     {
-        self.tables.give_up(self.setup.alloc, at);
+        self.tables.give_up(at);
         self.memory_refused = true;
     }
 

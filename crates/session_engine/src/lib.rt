@@ -8,8 +8,11 @@ mod engine;
 mod engine_core;
 mod events;
 mod invocation;
+mod item;
 mod layouts;
 mod properties;
+mod sharing;
 mod trees;
 
 pub use engine::Engine;
+pub use item::Item;

@@ -18,28 +18,32 @@ use Rattle.object_tree.specs.Table.{forest_at}
 use Rattle.places.specs.Table.{ChangesAt, IsPlace, Table}
 use Rattle.places.proofs.TableLemmas as column
 use Rattle.variant_value.specs.declared.value.Value.{Value}
-use Rattle.thread_model.specs.declared.post.Join.{Join}
+use Rattle.class_table.specs.declared.class.Class.{Class}
+use Rattle.signature_core.specs.declared.kind.Kind.{Kind}
+use Rattle.publish_board.specs.declared.join.Join.{Join}
+use Rattle.publish_board.specs.declared.publication.Publication.{Publication}
+use Rattle.publish_board.specs.Desk.{names_session, no_desk}
+use Rattle.publish_board.specs.Rows.{publishes}
+use Rattle.publish_board.specs.Table.{desk_at}
 use Rattle.thread_model.specs.declared.post.Post.{Post}
-use Rattle.thread_model.specs.declared.post.Publication.{Publication}
-use Rattle.thread_model.specs.Arriving.{post_of, posts_of_rows, publishes, reached, reached_by}
-use Rattle.thread_model.specs.State.{no_desk}
+use Rattle.thread_model.specs.Arriving.{post_of, posts_by, reached, reached_by}
 use Rattle.thread_model.specs.Thread.{arrives}
 use Rattle.session_tables.specs.declared.tables.Tables.{Tables}
 use Rattle.session_tables.specs.Session.{Session, gone}
-use Rattle.session_tables.specs.Tables.{ChangesOnly, IsPlaced, desk_at, failed_at, session_at, state_at, with_session}
+use Rattle.session_tables.specs.Tables.{ChangesOnly, IsPlaced, failed_at, session_at, state_at, with_session}
 use Rattle.session_tables.specs.Reaching.{Hears, Reaches, ReachesBy, heard, only_at}
-use Rattle.session_tables.proofs.TablesLemmas.{changes_twice, session_there}
-use Rattle.session_tables.proofs.ReachingLemmas.{heard-none, placed_shaped, reaches_by_twice, session_unchanged, shaped_changed}
+use Rattle.session_tables.proofs.TablesLemmas.{changes_same, changes_twice, session_there}
+use Rattle.session_tables.proofs.ReachingLemmas.{heard-none, heard_stranger, placed_shaped, reaches_by_twice, reaches_changed, session_unchanged, shaped_changed}
 
-module _ (from : List ℕ) (post : Post) (rows : List Row) where
+module _ (classes : List Class) (rows : List Row) (from : List ℕ) (post : Post) where
   -- the next join of a session is done
   pub arrive_next : (now new : Table Queue) (at i : ℕ) (joins : List Join) (join : Join) (whole : Queue) → IsPlace now at → i < length joins → join ≡ get_or joins i join
-      → new ≡ with_queue now at (reached from post rows (queue_at now at) join)
-      → reached_by from post rows (queue_at now at) (drop i joins) ≡ whole → reached_by from post rows (queue_at new at) (drop (i + 1) joins) ≡ whole
+      → new ≡ with_queue now at (reached classes rows from post (queue_at now at) join)
+      → reached_by classes rows from post (queue_at now at) (drop i joins) ≡ whole → reached_by classes rows from post (queue_at new at) (drop (i + 1) joins) ≡ whole
   arrive_next now new at i joins join whole placed within is e before =
-      ap (λ queue. reached_by from post rows queue (drop (i + 1) joins)) (ap (λ table. queue_at table at) e ∙ column.with_there empty_queue now at _ placed)
-      ∙ ap (λ join. reached_by from post rows (reached from post rows (queue_at now at) join) (drop (i + 1) joins)) is
-      ∙ ap (reached_by from post rows (queue_at now at)) (sym (drop_more joins i join within))
+      ap (λ queue. reached_by classes rows from post queue (drop (i + 1) joins)) (ap (λ table. queue_at table at) e ∙ column.with_there empty_queue now at _ placed)
+      ∙ ap (λ join. reached_by classes rows from post (reached classes rows from post (queue_at now at) join) (drop (i + 1) joins)) is
+      ∙ ap (reached_by classes rows from post (queue_at now at)) (sym (drop_more joins i join within))
       ∙ before
 
 -- another queue at a place changes no other session
@@ -66,6 +70,14 @@ changes_session old new at session placed e = record {
   failed = column.changes_with false old.failed new.failed at session.failed placed.4 (ap (λ tables. tables.failed) e);
 }
 
+-- nor a session that fails there behind another queue
+pub failed_only : (old new : Tables) (at : ℕ) (queues : Table Queue) → IsPlaced old at → ChangesAt empty_queue at old.queues queues → new ≡ with_session (record old { queues = queues }) at gone → ChangesOnly at old new
+failed_only old new at queues placed changed e =
+    let middle : Tables = record old { queues = queues } in
+    let first = changes_queue old at queues changed in
+    let still = placed_shaped old middle at (shaped_changed old middle at first) placed in
+    changes_twice old middle new at first (changes_session middle new at gone still e)
+
 apart_other : (at other : ℕ) → eqb at other ≡ false → eqb other at ≡ false
 apart_other at other apart = grind (arith, nat_tests, apart)
 
@@ -77,40 +89,44 @@ by_place P at posts here elsewhere other = by (eqb other at) refl
     by true e = let same : at ≡ other = grind (arith, nat_tests, e) in subst (λ n. P n posts) same here
     by false e = elsewhere other e
 
-module _ (from : List ℕ) (place : ℕ) where
+module _ (classes : List Class) (from : List ℕ) (place : ℕ) where
   -- what has changed one other session alone
-  reaches_one : (old new : Tables) (at : ℕ) (posts : List Post) (before after : Bool) → eqb at place ≡ false → ChangesOnly at old new → Hears from posts (session_at old at) (session_at new at)
-      → (IsFalse after → IsFalse before × (session_at new at ≡ heard from posts (session_at old at)))
+  reaches_one : (old new : Tables) (at : ℕ) (posts : List Post) (before after : Bool) → eqb at place ≡ false → ChangesOnly at old new → Hears classes from posts (session_at old at) (session_at new at)
+      → (IsFalse after → IsFalse before × (session_at new at ≡ heard classes from posts (session_at old at)))
       → (IsFalse before → IsTrue after → IsPlaced old at × IsFalse (failed_at old at) × IsTrue (failed_at new at))
-      → ReachesBy from place (only_at at posts) old new before after
+      → ReachesBy classes from place (only_at at posts) old new before after
   reaches_one old new at posts before after apart changes hears all one = record {
     shape = shaped_changed old new at changes;
     own = ap (λ (session : Session). session.failed) (session_unchanged old new at place changes (apart_other at place apart));
-    others = by_place (λ other posts. IsFalse (eqb other place) → IsPlaced old other → Hears from posts (session_at old other) (session_at new other)) at posts
+    others = by_place (λ other posts. IsFalse (eqb other place) → IsPlaced old other → Hears classes from posts (session_at old other) (session_at new other)) at posts
         (λ differs placed. hears)
-        (λ other else differs placed. inl (session_unchanged old new at other changes else ∙ sym (heard-none from (session_at old other))));
+        (λ other else differs placed. inl (session_unchanged old new at other changes else ∙ sym (heard-none classes from (session_at old other))));
     all = λ none. (
       (all none).0,
-      by_place (λ other posts. IsFalse (eqb other place) → IsPlaced old other → session_at new other ≡ heard from posts (session_at old other)) at posts
+      by_place (λ other posts. IsFalse (eqb other place) → IsPlaced old other → session_at new other ≡ heard classes from posts (session_at old other)) at posts
           (λ differs placed. (all none).1)
-          (λ other else differs placed. session_unchanged old new at other changes else ∙ sym (heard-none from (session_at old other))),
+          (λ other else differs placed. session_unchanged old new at other changes else ∙ sym (heard-none classes from (session_at old other))),
     );
     one = λ none some. let it = one none some in (at, apart, it.0, it.1, it.2);
   }
 
   -- one that has not failed hears the post
-  pub reach_heard : (old : Tables) (at : ℕ) (post : Post) (flag : Bool) (queues : Table Queue) → (at ≡ place → ⊥) → failed_at old at ≡ false → IsPlaced old at
-      → queues ≡ with_queue old.queues at (reached_by from post (forest_at old.forests at).rows (queue_at old.queues at) (desk_at old at).joins)
-      → ReachesBy from place (only_at at (post ∷ [])) old (record old { queues = queues }) flag flag
+  pub heard_one : (old : Tables) (at : ℕ) (post : Post) (queues : Table Queue) → failed_at old at ≡ false → IsPlaced old at
+      → queues ≡ with_queue old.queues at (reached_by classes (forest_at old.forests at).rows from post (queue_at old.queues at) (desk_at old.desks at).joins)
+      → session_at (record old { queues = queues }) at ≡ heard classes from (post ∷ []) (session_at old at)
   unfolding arrives
+  heard_one old at post queues fine placed e =
+      let queue : queue_at queues at ≡ reached_by classes (forest_at old.forests at).rows from post (queue_at old.queues at) (desk_at old.desks at).joins = ap (λ table. queue_at table at) e ∙ column.with_there empty_queue old.queues at _ placed.3 in
+      ap (λ queue. record { state = record (state_at old at) { queue = queue }; failed = failed_at old at }) queue
+      ∙ ap (λ failed. record { state = arrives classes (state_at old at) from post; failed = failed }) fine
+      ∙ sym (cond-false (failed_at old at) _ _ fine)
+
+  pub reach_heard : (old : Tables) (at : ℕ) (post : Post) (flag : Bool) (queues : Table Queue) → (at ≡ place → ⊥) → failed_at old at ≡ false → IsPlaced old at
+      → queues ≡ with_queue old.queues at (reached_by classes (forest_at old.forests at).rows from post (queue_at old.queues at) (desk_at old.desks at).joins)
+      → ReachesBy classes from place (only_at at (post ∷ [])) old (record old { queues = queues }) flag flag
   reach_heard old at post flag queues differ fine placed e =
       let changes = changes_queue old at queues (column.changes_with empty_queue old.queues queues at _ placed.3 e) in
-      let queue : queue_at queues at ≡ reached_by from post (forest_at old.forests at).rows (queue_at old.queues at) (desk_at old at).joins = ap (λ table. queue_at table at) e ∙ column.with_there empty_queue old.queues at _ placed.3 in
-      let is : session_at (record old { queues = queues }) at ≡ heard from (post ∷ []) (session_at old at) =
-      ap (λ queue. record { state = record (state_at old at) { queue = queue }; failed = failed_at old at }) queue
-      ∙ ap (λ failed. record { state = arrives (state_at old at) from post; failed = failed }) fine
-      ∙ sym (cond-false (failed_at old at) _ _ fine)
-      in
+      let is = heard_one old at post queues fine placed e in
       reaches_one old (record old { queues = queues }) at (post ∷ []) flag flag (apart_of at differ) changes (inl is) (λ none. (none, is)) (λ none some. absurd (true≢false (sym some ∙ none)))
     where
       apart_of : (at : ℕ) → (at ≡ place → ⊥) → eqb at place ≡ false
@@ -118,23 +134,20 @@ module _ (from : List ℕ) (place : ℕ) where
 
   -- or fails where memory is wanted
   pub reach_failed : (old new : Tables) (at : ℕ) (posts : List Post) (flag : Bool) (queues : Table Queue) → (at ≡ place → ⊥) → failed_at old at ≡ false → IsPlaced old at
-      → ChangesAt empty_queue at old.queues queues → new ≡ with_session (record old { queues = queues }) at gone → ReachesBy from place (only_at at posts) old new flag true
+      → ChangesAt empty_queue at old.queues queues → new ≡ with_session (record old { queues = queues }) at gone → ReachesBy classes from place (only_at at posts) old new flag true
   reach_failed old new at posts flag queues differ fine placed changed e =
-      let middle : Tables = record old { queues = queues } in
-      let first = changes_queue old at queues changed in
-      let still = placed_shaped old middle at (shaped_changed old middle at first) placed in
-      let changes = changes_twice old middle new at first (changes_session middle new at gone still e) in
-      let is : session_at new at ≡ gone = ap (λ tables. session_at tables at) e ∙ session_there middle at gone still in
+      let still = placed_shaped old (record old { queues = queues }) at (shaped_changed old (record old { queues = queues }) at (changes_queue old at queues changed)) placed in
+      let is : session_at new at ≡ gone = ap (λ tables. session_at tables at) e ∙ session_there (record old { queues = queues }) at gone still in
       let apart : eqb at place ≡ false = grind (arith, nat_tests, differ) in
-      reaches_one old new at posts flag true apart changes (inr (fine, is)) (λ none. absurd (true≢false none)) (λ none some. (placed, fine, ap (λ (session : Session). session.failed) is))
+      reaches_one old new at posts flag true apart (failed_only old new at queues placed changed e) (inr (fine, is)) (λ none. absurd (true≢false none)) (λ none some. (placed, fine, ap (λ (session : Session). session.failed) is))
 
   -- the posts may be told otherwise
-  reaches_alike : (posts more : ℕ → List Post) (old new : Tables) (before after : Bool) → ((at : ℕ) → IsPlaced old at → posts at ≡ more at) → ReachesBy from place posts old new before after → ReachesBy from place more old new before after
+  reaches_alike : (posts more : ℕ → List Post) (old new : Tables) (before after : Bool) → ((at : ℕ) → IsPlaced old at → posts at ≡ more at) → ReachesBy classes from place posts old new before after → ReachesBy classes from place more old new before after
   reaches_alike posts more old new before after alike reaches = record {
     shape = reaches.shape;
     own = reaches.own;
-    others = λ at apart placed. subst (λ posts. Hears from posts (session_at old at) (session_at new at)) (alike at placed) (reaches.others at apart placed);
-    all = λ none. ((reaches.all none).0, λ at apart placed. (reaches.all none).1 at apart placed ∙ ap (λ posts. heard from posts (session_at old at)) (alike at placed));
+    others = λ at apart placed. subst (λ posts. Hears classes from posts (session_at old at) (session_at new at)) (alike at placed) (reaches.others at apart placed);
+    all = λ none. ((reaches.all none).0, λ at apart placed. (reaches.all none).1 at apart placed ∙ ap (λ posts. heard classes from posts (session_at old at)) (alike at placed));
     one = reaches.one;
   }
 
@@ -142,11 +155,52 @@ module _ (from : List ℕ) (place : ℕ) where
   abbrev pub below : ℕ → List Post → ℕ → List Post
   below end posts at = cond (ltb at end) posts []
 
-  pub reaches_next : (posts : List Post) (end : ℕ) (old now new : Tables) (before between after : Bool) → IsPlaced old place → ReachesBy from place (below end posts) old now before between → ReachesBy from place (only_at end posts) now new between after
-      → ReachesBy from place (below (end + 1) posts) old new before after
+  -- nothing has been posted yet
+  pub reaches_first : (posts : List Post) (old : Tables) (flag : Bool) → ReachesBy classes from place (below 0 posts) old old flag flag
+  reaches_first posts old flag = reaches_alike (λ at. []) (below 0 posts) old old flag flag (λ at placed. none at)
+      (reaches_changed classes from place old old flag (changes_same old old place refl) refl)
+    where
+      none : (at : ℕ) → [] ≡ below 0 posts at
+      none at = let past : ltb at 0 ≡ false = grind (arith, nat_tests) in sym (cond-false (ltb at 0) posts [] past)
+
+  -- sessions that do not join this one have heard it as they are
+  pub reaches_strangers : (posts : List Post) (least end : ℕ) (old now : Tables) (before after : Bool) → least ≤ end → ((at : ℕ) → least ≤ at → session_at now at ≡ session_at old at)
+      → ((at : ℕ) → least ≤ at → at < end → IsPlaced old at → names_session from (state_at now at).desk ≡ false)
+      → ReachesBy classes from place (below least posts) old now before after → ReachesBy classes from place (below end posts) old now before after
+  reaches_strangers posts least end old now before after up rest strange reaches = record {
+    shape = reaches.shape;
+    own = reaches.own;
+    others = λ at apart placed. hears at placed (ltb at least) refl (reaches.others at apart placed);
+    all = λ none. ((reaches.all none).0, λ at apart placed. hear at placed (ltb at least) refl ((reaches.all none).1 at apart placed));
+    one = reaches.one;
+  }
+    where
+      past : (at : ℕ) → ltb at least ≡ false → (ends : Bool) → ltb at end ≡ ends → IsPlaced old at → session_at now at ≡ heard classes from (cond ends posts []) (session_at old at)
+      past at e true within placed =
+          let from_least : least ≤ at = grind (arith, nat_tests, e) in
+          let below_end : at < end = grind (arith, nat_tests, within) in
+          let same = rest at from_least in
+          same ∙ sym (heard_stranger classes from posts (session_at old at) (sym (ap (λ (session : Session). names_session from session.state.desk) same) ∙ strange at from_least below_end placed))
+      past at e false within placed =
+          let from_least : least ≤ at = grind (arith, nat_tests, e) in
+          rest at from_least ∙ sym (heard-none classes from (session_at old at))
+
+      still : (at : ℕ) → ltb at least ≡ true → posts ≡ below end posts at
+      still at e = let within : ltb at end ≡ true = grind (arith, nat_tests, e, up) in sym (cond-true (ltb at end) posts [] within)
+
+      hear : (at : ℕ) → IsPlaced old at → (less : Bool) → ltb at least ≡ less → session_at now at ≡ heard classes from (cond less posts []) (session_at old at) → session_at now at ≡ heard classes from (below end posts at) (session_at old at)
+      hear at placed false e was = past at e (ltb at end) refl placed
+      hear at placed true e was = was ∙ ap (λ posts. heard classes from posts (session_at old at)) (still at e)
+
+      hears : (at : ℕ) → IsPlaced old at → (less : Bool) → ltb at least ≡ less → Hears classes from (cond less posts []) (session_at old at) (session_at now at) → Hears classes from (below end posts at) (session_at old at) (session_at now at)
+      hears at placed false e was = inl (past at e (ltb at end) refl placed)
+      hears at placed true e was = subst (λ posts. Hears classes from posts (session_at old at) (session_at now at)) (still at e) was
+
+  pub reaches_next : (posts : List Post) (end : ℕ) (old now new : Tables) (before between after : Bool) → IsPlaced old place → ReachesBy classes from place (below end posts) old now before between → ReachesBy classes from place (only_at end posts) now new between after
+      → ReachesBy classes from place (below (end + 1) posts) old new before after
   reaches_next posts end old now new before between after placed first second =
       reaches_alike (λ at. below end posts at ++ only_at end posts at) (below (end + 1) posts) old new before after (λ at placed. by at (ltb at end) (eqb at end) refl refl)
-      (reaches_by_twice from place (below end posts) (only_at end posts) old now new before between after placed first second)
+      (reaches_by_twice classes from place (below end posts) (only_at end posts) old now new before between after placed first second)
     where
       by : (at : ℕ) (less same : Bool) → ltb at end ≡ less → eqb at end ≡ same → cond less posts [] ++ cond same posts [] ≡ below (end + 1) posts at
       by at true true e f = absurd (grind (arith, nat_tests, e, f))
@@ -154,34 +208,34 @@ module _ (from : List ℕ) (place : ℕ) where
       by at false true e f = let more : ltb at (end + 1) ≡ true = grind (arith, nat_tests, f) in sym (cond-true (ltb at (end + 1)) posts [] more)
       by at false false e f = let more : ltb at (end + 1) ≡ false = grind (arith, nat_tests, e, f) in sym (cond-false (ltb at (end + 1)) posts [] more)
 
-  pub reaches_all : (posts : List Post) (end : ℕ) (old new : Tables) (before after : Bool) → length old.failed.places ≤ end → ReachesBy from place (below end posts) old new before after → Reaches from place posts old new before after
+  pub reaches_all : (posts : List Post) (end : ℕ) (old new : Tables) (before after : Bool) → length old.failed.places ≤ end → ReachesBy classes from place (below end posts) old new before after → Reaches classes from place posts old new before after
   reaches_all posts end old new before after past reaches = reaches_alike (below end posts) (λ at. posts) old new before after
       (λ at placed. let within : ltb at end ≡ true = grind (arith, nat_tests, past, placed.4) in cond-true (ltb at end) posts [] within) reaches
 
 -- the posts of one more publication
-pub posts_next : (target signal : ℕ) (args : List Value) (rows : List Publication) (i : ℕ) → i < length rows
-    → posts_of_rows target signal args (take i rows) ++ option_map_or (λ row. posts_of_rows target signal args (row ∷ [])) (slice_get rows i) [] ≡ posts_of_rows target signal args (take (i + 1) rows)
-posts_next target signal args [] i within = absurd (omega arith)
-posts_next target signal args (first ∷ rest) i within =
-    ap (λ found. posts_of_rows target signal args (take i (first ∷ rest)) ++ option_map_or (λ row. posts_of_rows target signal args (row ∷ [])) found []) (slice_get-get_or (first ∷ rest) i first within)
-    ∙ sym (map-append (post_of args) (filter (publishes target signal) (take i (first ∷ rest))) (filter (publishes target signal) (get_or (first ∷ rest) i first ∷ [])))
-    ∙ ap (map (post_of args)) (sym (filter-append (publishes target signal) (take i (first ∷ rest)) (get_or (first ∷ rest) i first ∷ [])))
-    ∙ ap (posts_of_rows target signal args) (sym (take_more (first ∷ rest) i first within))
+pub posts_next : (target signal : ℕ) (kinds : List Kind) (args : List Value) (rows : List Publication) (i : ℕ) → i < length rows
+    → posts_by target signal kinds args (take i rows) ++ option_map_or (λ row. posts_by target signal kinds args (row ∷ [])) (slice_get rows i) [] ≡ posts_by target signal kinds args (take (i + 1) rows)
+posts_next target signal kinds args [] i within = absurd (omega arith)
+posts_next target signal kinds args (first ∷ rest) i within =
+    ap (λ found. posts_by target signal kinds args (take i (first ∷ rest)) ++ option_map_or (λ row. posts_by target signal kinds args (row ∷ [])) found []) (slice_get-get_or (first ∷ rest) i first within)
+    ∙ sym (map-append (post_of kinds args) (filter (publishes target signal) (take i (first ∷ rest))) (filter (publishes target signal) (get_or (first ∷ rest) i first ∷ [])))
+    ∙ ap (map (post_of kinds args)) (sym (filter-append (publishes target signal) (take i (first ∷ rest)) (get_or (first ∷ rest) i first ∷ [])))
+    ∙ ap (posts_by target signal kinds args) (sym (take_more (first ∷ rest) i first within))
 
 -- the post for the publication at an index
-pub post_row : (found rows : List Publication) (i : ℕ) (args : List Value) (row : Publication) → found ≡ rows → i < length rows → row ≡ get_or found i row → option_map_or (λ row. post_of args row ∷ []) (slice_get rows i) [] ≡ post_of args row ∷ []
-post_row found rows i args row e within is =
-    ap (λ found. option_map_or (λ row. post_of args row ∷ []) found []) (slice_get-get_or rows i row within ∙ ap Some (sym (is ∙ ap (λ rows. get_or rows i row) e)))
+pub post_row : (found rows : List Publication) (i : ℕ) (kinds : List Kind) (args : List Value) (row : Publication) → found ≡ rows → i < length rows → row ≡ get_or found i row → option_map_or (λ row. post_of kinds args row ∷ []) (slice_get rows i) [] ≡ post_of kinds args row ∷ []
+post_row found rows i kinds args row e within is =
+    ap (λ found. option_map_or (λ row. post_of kinds args row ∷ []) found []) (slice_get-get_or rows i row within ∙ ap Some (sym (is ∙ ap (λ rows. get_or rows i row) e)))
 
-pub posts_row : (found rows : List Publication) (i target signal : ℕ) (args : List Value) (row : Publication) (sent : Bool) → found ≡ rows → i < length rows → row ≡ get_or found i row → publishes target signal row ≡ sent
-    → option_map_or (λ row. posts_of_rows target signal args (row ∷ [])) (slice_get rows i) [] ≡ cond sent (post_of args row ∷ []) []
-posts_row found rows i target signal args row sent e within is passes =
-    ap (λ found. option_map_or (λ row. posts_of_rows target signal args (row ∷ [])) found []) (slice_get-get_or rows i row within ∙ ap Some (sym (is ∙ ap (λ rows. get_or rows i row) e)))
+pub posts_row : (found rows : List Publication) (i target signal : ℕ) (kinds : List Kind) (args : List Value) (row : Publication) (sent : Bool) → found ≡ rows → i < length rows → row ≡ get_or found i row → publishes target signal row ≡ sent
+    → option_map_or (λ row. posts_by target signal kinds args (row ∷ [])) (slice_get rows i) [] ≡ cond sent (post_of kinds args row ∷ []) []
+posts_row found rows i target signal kinds args row sent e within is passes =
+    ap (λ found. option_map_or (λ row. posts_by target signal kinds args (row ∷ [])) found []) (slice_get-get_or rows i row within ∙ ap Some (sym (is ∙ ap (λ rows. get_or rows i row) e)))
     ∙ by sent passes
   where
-    by : (sent : Bool) → publishes target signal row ≡ sent → posts_of_rows target signal args (row ∷ []) ≡ cond sent (post_of args row ∷ []) []
-    by true e = ap (map (post_of args)) (cond-true (publishes target signal row) (row ∷ []) [] e)
-    by false e = ap (map (post_of args)) (cond-false (publishes target signal row) (row ∷ []) [] e)
+    by : (sent : Bool) → publishes target signal row ≡ sent → posts_by target signal kinds args (row ∷ []) ≡ cond sent (post_of kinds args row ∷ []) []
+    by true e = ap (map (post_of kinds args)) (cond-true (publishes target signal row) (row ∷ []) [] e)
+    by false e = ap (map (post_of kinds args)) (cond-false (publishes target signal row) (row ∷ []) [] e)
 
 pub on_ok : {T E P : Type 0} (result : Result T E) → result_is_err result ≡ false → OnOk result P → P
 on_ok (Ok value) e h = h
@@ -190,3 +244,7 @@ on_ok (Err error) e h = absurd (cc)
 pub on_err : {T E P : Type 0} (result : Result T E) → result_is_err result ≡ true → OnErr result P → P
 on_err (Ok value) e h = absurd (cc)
 on_err (Err error) e h = h
+
+pub map_ok : {T E P : Type 0} (result : Result T E) → (T → P) → OnOk result P
+map_ok (Ok value) h = h value
+map_ok (Err error) h = tt

@@ -1,15 +1,17 @@
 -- Posts reach other sessions, one after another.
-use Rattle.std.proofs.Common.{◌≡◌, ◌≢◌, inl, inr, ℕ, Bool, true, false, true≢false, cond, eqb, IsFalse, IsTrue, List, [], ◌++◌, get_or, refl, sym, ap, ◌∙◌, arith}
+use Rattle.std.proofs.Common.{◌≡◌, ◌≢◌, inl, inr, ℕ, Bool, true, false, true≢false, cond, eqb, IsFalse, IsTrue, List, [], ◌∷◌, ◌++◌, get_or, refl, sym, ap, ◌∙◌, arith}
 use Rattle.std.proofs.lemmas.Bool.{cond-true}
 use Rattle.std.proofs.lemmas.List.{get_or-set_other}
+use Rattle.class_table.specs.declared.class.Class.{Class}
 use Rattle.connection_list.specs.Rows.{no_rows}
 use Rattle.event_queue.specs.Queue.{empty_queue}
 use Rattle.object_tree.specs.Forest.{empty_forest}
 use Rattle.places.proofs.TableLemmas as column
 use Rattle.thread_model.specs.declared.post.Post.{Post}
-use Rattle.thread_model.specs.State.{no_desk}
-use Rattle.thread_model.specs.Thread.{arrive_all}
+use Rattle.publish_board.specs.Desk.{names_session, no_desk}
+use Rattle.thread_model.specs.Thread.{arrive_all, joins_name}
 use Rattle.thread_model.proofs.ArrivingLemmas.{arrive_all-append}
+use Rattle.thread_model.proofs.JoinLemmas.{post_stranger}
 use Rattle.session_tables.specs.declared.tables.Tables.{Tables}
 use Rattle.session_tables.specs.Session.{Session}
 use Rattle.session_tables.specs.Tables.{ChangesOnly, IsPlaced, failed_at, session_at}
@@ -49,44 +51,44 @@ shaped_twice old middle new first second = record {
 pub placed_shaped : (old new : Tables) (at : ℕ) → AreShaped old new → IsPlaced old at → IsPlaced new at
 placed_shaped old new at shape placed = placed_by new at (shape.even placed.6) (omega (arith, shape.places, placed.4))
 
-module _ (from : List ℕ) where
-  pub heard-none : (session : Session) → heard from [] session ≡ session
+module _ (classes : List Class) (from : List ℕ) where
+  pub heard-none : (session : Session) → heard classes from [] session ≡ session
   heard-none session = by session.failed refl
     where
       by : (failed : Bool) → session.failed ≡ failed → cond failed session (record { state = session.state; failed = false }) ≡ session
       by true e = refl
       by false e = ap (λ failed. record { state = session.state; failed = failed }) (sym e)
 
-  pub heard-append : (posts more : List Post) (session : Session) → heard from (posts ++ more) session ≡ heard from more (heard from posts session)
+  pub heard-append : (posts more : List Post) (session : Session) → heard classes from (posts ++ more) session ≡ heard classes from more (heard classes from posts session)
   heard-append posts more session = by session.failed refl
     where
       hearing : List Post → Session → Bool → Session
-      hearing posts session failed = cond failed session (record { state = arrive_all session.state from posts; failed = false })
+      hearing posts session failed = cond failed session (record { state = arrive_all classes session.state from posts; failed = false })
 
-      by : (failed : Bool) → session.failed ≡ failed → hearing (posts ++ more) session failed ≡ heard from more (hearing posts session failed)
+      by : (failed : Bool) → session.failed ≡ failed → hearing (posts ++ more) session failed ≡ heard classes from more (hearing posts session failed)
       by true e = sym (cond-true session.failed _ _ e)
-      by false e = ap (λ state. record { state = state; failed = false }) (arrive_all-append session.state from posts more)
+      by false e = ap (λ state. record { state = state; failed = false }) (arrive_all-append classes session.state from posts more)
 
-  heard-failed : (posts : List Post) (session : Session) → (heard from posts session).failed ≡ session.failed
+  heard-failed : (posts : List Post) (session : Session) → (heard classes from posts session).failed ≡ session.failed
   heard-failed posts session = by session.failed refl
     where
-      by : (failed : Bool) → session.failed ≡ failed → (cond failed session (record { state = arrive_all session.state from posts; failed = false })).failed ≡ session.failed
+      by : (failed : Bool) → session.failed ≡ failed → (cond failed session (record { state = arrive_all classes session.state from posts; failed = false })).failed ≡ session.failed
       by true e = refl
       by false e = sym e
 
-  hears_twice : (posts more : List Post) (old middle new : Session) → Hears from posts old middle → Hears from more middle new → Hears from (posts ++ more) old new
-  hears_twice posts more old middle new (inl e) (inl f) = inl (f ∙ ap (heard from more) e ∙ sym (heard-append posts more old))
+  hears_twice : (posts more : List Post) (old middle new : Session) → Hears classes from posts old middle → Hears classes from more middle new → Hears classes from (posts ++ more) old new
+  hears_twice posts more old middle new (inl e) (inl f) = inl (f ∙ ap (heard classes from more) e ∙ sym (heard-append posts more old))
   hears_twice posts more old middle new (inl e) (inr f) = inr ((sym (heard-failed posts old) ∙ ap (λ (session : Session). session.failed) (sym e) ∙ f.0, f.1))
-  hears_twice posts more old middle new (inr e) (inl f) = inr ((e.0, f ∙ ap (heard from more) e.1))
+  hears_twice posts more old middle new (inr e) (inl f) = inr ((e.0, f ∙ ap (heard classes from more) e.1))
   hears_twice posts more old middle new (inr e) (inr f) = inr ((e.0, f.1))
 
   -- no post mends a session
-  pub stays_failed : (posts : List Post) (old new : Session) → Hears from posts old new → old.failed ≡ true → new.failed ≡ true
+  pub stays_failed : (posts : List Post) (old new : Session) → Hears classes from posts old new → old.failed ≡ true → new.failed ≡ true
   stays_failed posts old new (inl e) was = ap (λ (session : Session). session.failed) e ∙ heard-failed posts old ∙ was
   stays_failed posts old new (inr e) was = ap (λ (session : Session). session.failed) e.1
 
   -- so one that has not failed had not before
-  was_fine : (posts : List Post) (old new : Session) → Hears from posts old new → new.failed ≡ false → old.failed ≡ false
+  was_fine : (posts : List Post) (old new : Session) → Hears classes from posts old new → new.failed ≡ false → old.failed ≡ false
   was_fine posts old new hears fine = by old.failed refl
     where
       by : (failed : Bool) → old.failed ≡ failed → old.failed ≡ false
@@ -95,9 +97,9 @@ module _ (from : List ℕ) where
 
   module _ (place : ℕ) where
     -- what changes the session itself posts nothing
-    pub reaches_changed : (old new : Tables) (flag : Bool) → ChangesOnly place old new → new.failed ≡ old.failed → Reaches from place [] old new flag flag
+    pub reaches_changed : (old new : Tables) (flag : Bool) → ChangesOnly place old new → new.failed ≡ old.failed → Reaches classes from place [] old new flag flag
     reaches_changed old new flag changes same =
-        let unchanged : (at : ℕ) → IsFalse (eqb at place) → IsPlaced old at → session_at new at ≡ heard from [] (session_at old at) =
+        let unchanged : (at : ℕ) → IsFalse (eqb at place) → IsPlaced old at → session_at new at ≡ heard classes from [] (session_at old at) =
         λ at apart placed. session_unchanged old new place at changes apart ∙ sym (heard-none (session_at old at)) in
         record {
           shape = shaped_changed old new place changes;
@@ -107,7 +109,7 @@ module _ (from : List ℕ) where
           one = λ none some. absurd (true≢false (sym some ∙ none));
         }
 
-    module _ (posts more : ℕ → List Post) (old middle new : Tables) (before between after : Bool) (placed : IsPlaced old place) (first : ReachesBy from place posts old middle before between) (second : ReachesBy from place more middle new between after) where
+    module _ (posts more : ℕ → List Post) (old middle new : Tables) (before between after : Bool) (placed : IsPlaced old place) (first : ReachesBy classes from place posts old middle before between) (second : ReachesBy classes from place more middle new between after) where
       still : (at : ℕ) → IsPlaced old at → IsPlaced middle at
       still at placed = placed_shaped old middle at first.shape placed
 
@@ -120,7 +122,7 @@ module _ (from : List ℕ) where
           let there : IsPlaced old it.0 = placed_by old it.0 placed.6 (omega (arith, first.shape.places, it.2.4)) in
           (it.0, it.1, there, was_fine (posts it.0) (session_at old it.0) (session_at middle it.0) (first.others it.0 it.1 there) it.3, it.4)
 
-      pub reaches_by_twice : ReachesBy from place (λ at. posts at ++ more at) old new before after
+      pub reaches_by_twice : ReachesBy classes from place (λ at. posts at ++ more at) old new before after
       reaches_by_twice = record {
         shape = shaped_twice old middle new first.shape second.shape;
         own = second.own ∙ first.own;
@@ -128,9 +130,22 @@ module _ (from : List ℕ) where
         all = λ none.
             let then = second.all none in
             let so = first.all then.0 in
-            (so.0, λ at apart placed. then.1 at apart (still at placed) ∙ ap (heard from (more at)) (so.1 at apart placed) ∙ sym (heard-append (posts at) (more at) (session_at old at)));
+            (so.0, λ at apart placed. then.1 at apart (still at placed) ∙ ap (heard classes from (more at)) (so.1 at apart placed) ∙ sym (heard-append (posts at) (more at) (session_at old at)));
         one = one_of between refl;
       }
 
-    pub reaches_twice : (posts more : List Post) (old middle new : Tables) (before between after : Bool) → IsPlaced old place → Reaches from place posts old middle before between → Reaches from place more middle new between after → Reaches from place (posts ++ more) old new before after
+    pub reaches_twice : (posts more : List Post) (old middle new : Tables) (before between after : Bool) → IsPlaced old place → Reaches classes from place posts old middle before between → Reaches classes from place more middle new between after → Reaches classes from place (posts ++ more) old new before after
     reaches_twice posts more old middle new before between after placed first second = reaches_by_twice (λ at. posts) (λ at. more) old middle new before between after placed first second
+
+-- a session that does not join another one does not hear it
+pub heard_stranger : (classes : List Class) (from : List ℕ) (posts : List Post) (session : Session) → names_session from session.state.desk ≡ false → heard classes from posts session ≡ session
+unfolding joins_name
+heard_stranger classes from posts session unnamed = by session.failed refl
+  where
+    all : (posts : List Post) → arrive_all classes session.state from posts ≡ session.state
+    all [] = refl
+    all (post ∷ posts) = ap (λ state. arrive_all classes state from posts) (post_stranger classes session.state from post unnamed) ∙ all posts
+
+    by : (failed : Bool) → session.failed ≡ failed → cond failed session (record { state = arrive_all classes session.state from posts; failed = false }) ≡ session
+    by true e = refl
+    by false e = ap (λ state. record { state = state; failed = false }) (all posts) ∙ ap (λ failed. record { state = session.state; failed = failed }) (sym e)

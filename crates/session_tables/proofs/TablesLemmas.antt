@@ -10,8 +10,8 @@ use Rattle.event_queue.specs.Queue.{Queue, empty_queue}
 use Rattle.object_tree.specs.Forest.{Forest, empty_forest}
 use Rattle.property_store.specs.Store.{Store}
 use Rattle.property_store.specs.Table.{Shelves}
-use Rattle.thread_model.specs.declared.post.Desk.{Desk}
-use Rattle.thread_model.specs.State.{State, no_desk}
+use Rattle.publish_board.specs.Desk.{Desk, no_desk}
+use Rattle.thread_model.specs.State.{State}
 use Rattle.session_tables.specs.declared.tables.Tables.{Tables}
 use Rattle.session_tables.specs.Session.{Session, fresh}
 use Rattle.session_tables.specs.Tables.{AreEven, AreSame, ChangesOnly, IsPlaced, opened, session_at, state_at, with_session, with_state}

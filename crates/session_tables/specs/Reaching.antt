@@ -2,30 +2,37 @@
 use Rattle.std.specs.Prelude.{◌≡◌, ◌⊎◌, ℕ, Bool, false, eqb, IsFalse, IsTrue, List, [], ◌∷◌, length, if◌then◌else◌}
 use Rattle.std.specs.List.{slice_get}
 use Rattle.std.specs.Option.{option_map_or}
+use Rattle.class_table.specs.declared.class.Class.{Class}
+use Rattle.signature_core.specs.declared.kind.Kind.{Kind}
 use Rattle.variant_value.specs.declared.value.Value.{Value}
-use Rattle.thread_model.specs.declared.post.Desk.{Desk}
+use Rattle.publish_board.specs.Desk.{Desk}
 use Rattle.thread_model.specs.declared.post.Post.{Post}
-use Rattle.thread_model.specs.Arriving.{post_of, posts_of_rows}
+use Rattle.thread_model.specs.Arriving.{post_of, posts_by}
 use Rattle.thread_model.specs.Thread.{arrive_all}
+use Rattle.session_tables.specs.declared.posts.Posting.{Posting}
 use Rattle.session_tables.specs.declared.tables.Tables.{Tables}
 use Rattle.session_tables.specs.Session.{Session, gone}
 use Rattle.session_tables.specs.Tables.{AreEven, IsPlaced, failed_at, session_at}
 
 -- a session after posts of another one; one that has failed ignores them
-abbrev pub heard : List ℕ → List Post → Session → Session
-heard from posts session = if session.failed then session else record { state = arrive_all session.state from posts; failed = false }
+abbrev pub heard : List Class → List ℕ → List Post → Session → Session
+heard classes from posts session = if session.failed then session else record { state = arrive_all classes session.state from posts; failed = false }
 
 -- a session hears posts, or memory is wanted for one of them: then it has failed, and had not before
-abbrev pub Hears : List ℕ → List Post → Session → Session → Type 0
-Hears from posts old new = (new ≡ heard from posts old) ⊎ (IsFalse old.failed × (new ≡ gone))
+abbrev pub Hears : List Class → List ℕ → List Post → Session → Session → Type 0
+Hears classes from posts old new = (new ≡ heard classes from posts old) ⊎ (IsFalse old.failed × (new ≡ gone))
 
 -- the post of a signal for the publication at an index
-abbrev pub post_at : Desk → ℕ → List Value → List Post
-post_at desk index args = option_map_or (λ row. post_of args row ∷ []) (slice_get desk.publications index) []
+abbrev pub post_at : Desk → ℕ → List Kind → List Value → List Post
+post_at desk index kinds args = option_map_or (λ row. post_of kinds args row ∷ []) (slice_get desk.publications index) []
 
 -- where that is of this signal
-abbrev pub posts_at : Desk → ℕ → ℕ → ℕ → List Value → List Post
-posts_at desk index object signal args = option_map_or (λ row. posts_of_rows object signal args (row ∷ [])) (slice_get desk.publications index) []
+abbrev pub posts_at : Desk → ℕ → ℕ → ℕ → List Kind → List Value → List Post
+posts_at desk index object signal kinds args = option_map_or (λ row. posts_by object signal kinds args (row ∷ [])) (slice_get desk.publications index) []
+
+-- the post that is on its way
+abbrev pub post_in : Posting → Post
+post_in posting = record { name = posting.name.now; kinds = posting.kinds.now; arguments = posting.args.now }
 
 -- these posts at this place, and none elsewhere
 abbrev pub only_at : ℕ → List Post → ℕ → List Post
@@ -39,17 +46,17 @@ pub record AreShaped (old new : Tables) : Type 0 where
 
 -- these posts of the session at a place, which has this name, have reached each other place; `before` and
 -- `after` say whether any session has failed by a post so far
-pub record ReachesBy (from : List ℕ) (place : ℕ) (posts : ℕ → List Post) (old new : Tables) (before after : Bool) : Type 0 where
+pub record ReachesBy (classes : List Class) (from : List ℕ) (place : ℕ) (posts : ℕ → List Post) (old new : Tables) (before after : Bool) : Type 0 where
   pub shape : AreShaped old new
   -- the session itself has neither failed nor was mended
   pub own : failed_at new place ≡ failed_at old place
   -- every other one hears its posts
-  pub others : (at : ℕ) → IsFalse (eqb at place) → IsPlaced old at → Hears from (posts at) (session_at old at) (session_at new at)
+  pub others : (at : ℕ) → IsFalse (eqb at place) → IsPlaced old at → Hears classes from (posts at) (session_at old at) (session_at new at)
   -- where none is said to have failed, none has
-  pub all : IsFalse after → IsFalse before × ((at : ℕ) → IsFalse (eqb at place) → IsPlaced old at → session_at new at ≡ heard from (posts at) (session_at old at))
+  pub all : IsFalse after → IsFalse before × ((at : ℕ) → IsFalse (eqb at place) → IsPlaced old at → session_at new at ≡ heard classes from (posts at) (session_at old at))
   -- and where one is said to have, one has
   pub one : IsFalse before → IsTrue after → (at : ℕ) × IsFalse (eqb at place) × IsPlaced old at × IsFalse (failed_at old at) × IsTrue (failed_at new at)
 
 -- the same posts have reached all
-abbrev pub Reaches : List ℕ → ℕ → List Post → Tables → Tables → Bool → Bool → Type 0
-Reaches from place posts = ReachesBy from place (λ at. posts)
+abbrev pub Reaches : List Class → List ℕ → ℕ → List Post → Tables → Tables → Bool → Bool → Type 0
+Reaches classes from place posts = ReachesBy classes from place (λ at. posts)

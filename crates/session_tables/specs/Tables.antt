@@ -10,10 +10,11 @@ use Rattle.event_queue.specs.Table.{queue_at, with_queue}
 use Rattle.object_tree.specs.Forest.{empty_forest}
 use Rattle.object_tree.specs.Rows.{numbers}
 use Rattle.object_tree.specs.Table.{forest_at, with_forest}
+use Rattle.publish_board.specs.Desk.{no_desk}
+use Rattle.publish_board.specs.Table.{desk_at, with_desk}
 use Rattle.property_store.specs.Table as shelves
 use Rattle.property_store.specs.Table.{store_at, with_store}
-use Rattle.thread_model.specs.declared.post.Desk.{Desk}
-use Rattle.thread_model.specs.State.{State, fields_of, no_desk}
+use Rattle.thread_model.specs.State.{State, fields_of}
 use Rattle.session_tables.specs.declared.tables.Tables.{Tables}
 use Rattle.session_tables.specs.Session.{Session}
 
@@ -37,13 +38,9 @@ HasRoom tables = (1 ≤ tables.forests.room) × (1 ≤ tables.stores.table.room)
 abbrev pub opened : Tables → Tables
 opened tables = record { forests = places.opened tables.forests empty_forest; stores = record tables.stores { table = places.opened tables.stores.table [] }; connections = places.opened tables.connections no_rows; queues = places.opened tables.queues empty_queue; desks = places.opened tables.desks no_desk; failed = places.opened tables.failed false }
 
--- what the session at a place publishes and joins
-abbrev pub desk_at : Tables → ℕ → Desk
-desk_at tables place = slice_index_or tables.desks.places place no_desk
-
 -- the state of the session at a place
 abbrev pub state_at : Tables → ℕ → State
-state_at tables place = record { forest = forest_at tables.forests place; store = store_at tables.stores place; connections = rows_at tables.connections place; queue = queue_at tables.queues place; desk = desk_at tables place }
+state_at tables place = record { forest = forest_at tables.forests place; store = store_at tables.stores place; connections = rows_at tables.connections place; queue = queue_at tables.queues place; desk = desk_at tables.desks place }
 
 -- has the session at a place failed
 abbrev pub failed_at : Tables → ℕ → Bool
@@ -55,11 +52,11 @@ session_at tables place = record { state = state_at tables place; failed = faile
 
 -- with another state at a place, and all else as before
 abbrev pub with_state : Tables → ℕ → State → Tables
-with_state tables place state = record { forests = with_forest tables.forests place state.forest; stores = with_store tables.stores place state.store; connections = with_rows tables.connections place state.connections; queues = with_queue tables.queues place state.queue; desks = with_place tables.desks place state.desk; failed = tables.failed }
+with_state tables place state = record { forests = with_forest tables.forests place state.forest; stores = with_store tables.stores place state.store; connections = with_rows tables.connections place state.connections; queues = with_queue tables.queues place state.queue; desks = with_desk tables.desks place state.desk; failed = tables.failed }
 
 -- with another session at a place, and all else as before
 abbrev pub with_session : Tables → ℕ → Session → Tables
-with_session tables place session = record { forests = with_forest tables.forests place session.state.forest; stores = with_store tables.stores place session.state.store; connections = with_rows tables.connections place session.state.connections; queues = with_queue tables.queues place session.state.queue; desks = with_place tables.desks place session.state.desk; failed = with_place tables.failed place session.failed }
+with_session tables place session = record { forests = with_forest tables.forests place session.state.forest; stores = with_store tables.stores place session.state.store; connections = with_rows tables.connections place session.state.connections; queues = with_queue tables.queues place session.state.queue; desks = with_desk tables.desks place session.state.desk; failed = with_place tables.failed place session.failed }
 
 -- no session but the one at this place has changed
 pub record ChangesOnly (place : ℕ) (old new : Tables) : Type 0 where

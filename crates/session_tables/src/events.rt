@@ -8,7 +8,7 @@ ghost use Rattle.object_tree.specs.Rows.{row_of};
 ghost use Rattle.thread_model.specs.Deeds.{is_blocked};
 ghost use Rattle.thread_model.specs.Events.{status};
 ghost use Rattle.thread_model.specs.Posting.{post_refusal, spin_after};
-ghost use Rattle.thread_model.specs.State.{with_blocking, with_call, with_event, without_events, without_first};
+ghost use Rattle.thread_model.specs.State.{with_blocking, with_call, with_event, without_first};
 ghost use Rattle.session_tables.specs.Tables.{IsPlaced, state_at, with_state};
 
 use crate::tables::Tables;
@@ -52,14 +52,6 @@ impl Tables {
         } else {
             Err(Code::Limit)
         }
-    }
-
-    /// Drops the events that name an object.
-    pub fn forget(&mut self, place: usize, object: u32)
-        requires { IsPlaced self.old place }
-        ensures { self.new ≡ with_state self.old place (without_events (state_at self.old place) object) }
-    {
-        self.queues.drop_object(place, object);
     }
 
     /// The first event, which is taken out.
@@ -106,11 +98,14 @@ impl Tables {
     {
         self.forests.sound(place);
         let events = self.queues.counts(place);
+        let desk = self.desks.counts(place);
         Status {
             connections: self.connections.count(place) as u32,
+            joins: desk.joins as u32,
             lost: events.lost,
             mismatched: events.mismatched,
             objects: self.forests.count(place) as u32,
+            publications: desk.publications as u32,
             queued: events.queued as u32,
         }
     }

@@ -1,8 +1,9 @@
 //! The tables of a server's sessions, side by side: what each session holds, and whether it has
 //! failed for want of memory. A session has the same place in all of them, and no call touches
-//! another place than the one that it names.
+//! another place than the one that it names, but for a post, which reaches the sessions that join it.
 #![tactic(auto)]
 
+mod desks;
 mod events;
 mod posts;
 mod properties;

@@ -1,32 +1,39 @@
 //! Posts to the sessions that join what another one publishes.
-ghost use Rattle.std.specs.Prelude.{◌≡◌, ◌<◌, ◌∷◌, ◌&&◌, [], IsTrue, IsFalse, Some, OnOk, OnErr, eqb, length, take};
+ghost use Rattle.std.specs.Prelude.{◌≡◌, ◌<◌, ◌∷◌, [], IsFalse, OnOk, OnErr, length, take};
 ghost use Rattle.std.specs.List.{list_any};
 ghost use Rattle.places.specs.Table.{IsPlace};
 ghost use Rattle.event_queue.specs.Table.{queue_at, with_queue};
 ghost use Rattle.object_tree.specs.Table.{forest_at};
-ghost use Rattle.thread_model.specs.Arriving.{is_matched, listens, post_of, posts_of, publishes, reached, reached_by, with_call};
-ghost use Rattle.session_tables.specs.Reaching.{Reaches, ReachesBy, only_at, post_at, posts_at};
-ghost use Rattle.session_tables.specs.Tables.{IsPlaced, desk_at, state_at};
+ghost use Rattle.publish_board.specs.Rows.{listens, publishes};
+ghost use Rattle.publish_board.specs.Table.{desk_at};
+ghost use Rattle.thread_model.specs.Arriving.{is_matched, kinds_of, posts_by, reached, reached_by, with_call};
+ghost use Rattle.session_tables.specs.Reaching.{Reaches, ReachesBy, heard, only_at, post_at, post_in, posts_at};
+ghost use Rattle.session_tables.specs.Session.{gone};
+ghost use Rattle.session_tables.specs.Tables.{ChangesOnly, IsPlaced, failed_at, session_at, state_at};
 
 use crate::tables::Tables;
+use class_table::ClassTable;
 use connection_types::Callee;
 use event_queue::{Event, QueuedCall, Queues};
 use object_tree::Forests;
 use plain_types::Text;
-use signature_core::fits;
+use publish_board::{Join, Publication};
+use signature_core::{Kind, fits};
 use std::alloc::{AllocError, Global};
-use thread_model::{Join, Publication};
+use thread_model::Post;
 use variant_value::{Args, Value};
 
 /// A signal that a session sends: where the session is, its name, the object and its signal, and the
-/// arguments.
+/// arguments with their kinds.
 #[derive(Clone, Copy)]
 pub struct Sending<'a> {
     pub alloc: Global,
+    pub classes: &'a ClassTable,
     pub place: usize,
     pub from: &'a Text,
     pub object: u32,
     pub signal: u32,
+    pub kinds: &'a [Kind],
     pub args: &'a [Value],
 }
 
@@ -36,15 +43,15 @@ impl Tables {
     /// fails. Returns whether one has failed, now or before, as it is told.
     pub fn deliver(&mut self, sending: &Sending, failing: bool) -> bool
         requires { IsPlaced self.old sending.now.place }
-        ensures reaches { Reaches sending.now.from.now sending.now.place
-            (posts_of (state_at self.old sending.now.place).desk sending.now.object sending.now.signal sending.now.args.now)
+        ensures reaches { Reaches sending.now.classes.now sending.now.from.now sending.now.place
+            (posts_by sending.now.object sending.now.signal sending.now.kinds.now sending.now.args.now (state_at self.old sending.now.place).desk.publications)
             self.old self.new failing result }
         ensures own { state_at self.new sending.now.place ≡ state_at self.old sending.now.place }
     {
-        let count = self.desks.get(sending.place).publications.len();
+        let count = self.desks.publications(sending.place).len();
         let mut failing = failing;
         'publications: for index in 0..count {
-            failing = self.publish(sending, index, failing);
+            failing = self.post_by(sending, index, failing);
         }
         failing
     }
@@ -54,28 +61,31 @@ impl Tables {
         requires { IsPlaced self.now place }
         ensures { result ≡ list_any (publishes object signal) (state_at self.now place).desk.publications }
     {
-        let rows = self.desks.get(place).publications.as_slice();
-        rows.iter()
-            .any(|row| row.object == object && row.signal == signal)
+        self.desks.is_published(place, object, signal)
     }
 
     /// Posts it for one publication, where that is of this signal.
-    fn publish(&mut self, sending: &Sending, index: usize, failing: bool) -> bool
+    fn post_by(&mut self, sending: &Sending, index: usize, failing: bool) -> bool
         requires placed { IsPlaced self.old sending.now.place }
-        requires within { index < length (desk_at self.old sending.now.place).publications }
-        ensures reaches { Reaches sending.now.from.now sending.now.place
-            (posts_at (desk_at self.old sending.now.place) index sending.now.object sending.now.signal sending.now.args.now)
+        requires within { index < length (desk_at self.old.desks sending.now.place).publications }
+        ensures reaches { Reaches sending.now.classes.now sending.now.from.now sending.now.place
+            (posts_at (desk_at self.old.desks sending.now.place) index sending.now.object sending.now.signal sending.now.kinds.now sending.now.args.now)
             self.old self.new failing result }
         ensures own { state_at self.new sending.now.place ≡ state_at self.old sending.now.place }
     {
-        let row = &self.desks.get(sending.place).publications.as_slice()[index];
+        let row = &self.desks.publications(sending.place)[index];
         if !is_of(row, sending) {
             return failing;
         }
         let count = self.failed.len();
         let mut failing = failing;
-        'places: for at in 0..count {
+        let mut least = 0;
+        'joiners: while least < count {
+            let Some(at) = self.desks.next_joiner(sending.from, least) else {
+                break;
+            };
             failing = self.reach(sending, index, at, failing);
+            least = at + 1;
         }
         failing
     }
@@ -83,23 +93,66 @@ impl Tables {
     /// Posts it to one session.
     fn reach(&mut self, sending: &Sending, index: usize, at: usize, failing: bool) -> bool
         requires placed { IsPlaced self.old sending.now.place }
-        requires within { index < length (desk_at self.old sending.now.place).publications }
+        requires within { index < length (desk_at self.old.desks sending.now.place).publications }
         requires there { IsPlaced self.old at }
-        ensures reaches { ReachesBy sending.now.from.now sending.now.place
-            (only_at at (post_at (desk_at self.old sending.now.place) index sending.now.args.now)) self.old self.new failing result }
+        ensures reaches { ReachesBy sending.now.classes.now sending.now.from.now sending.now.place
+            (only_at at (post_at (desk_at self.old.desks sending.now.place) index sending.now.kinds.now sending.now.args.now)) self.old self.new failing result }
+        ensures only { ChangesOnly at self.old self.new }
         ensures own { state_at self.new sending.now.place ≡ state_at self.old sending.now.place }
     {
         if at == sending.place || *self.failed.get(at) {
             return failing;
         }
-        let row = &self.desks.get(sending.place).publications.as_slice()[index];
-        let joins = self.desks.get(at).joins.as_slice();
-        let posted = arrive(&self.forests, &mut self.queues, sending, row, at, joins);
+        let row = &self.desks.publications(sending.place)[index];
+        let posting = Posting {
+            alloc: sending.alloc,
+            classes: sending.classes,
+            from: sending.from,
+            name: &row.name,
+            kinds: sending.kinds,
+            args: sending.args,
+        };
+        let joins = self.desks.joins(at);
+        let posted = arrive(&self.forests, &mut self.queues, &posting, at, joins);
         if posted.is_err() {
-            self.give_up(sending.alloc, at);
+            self.give_up(at);
             return true;
         }
         failing
+    }
+
+    /// Lets a post of the session `from` arrive at a session. One that has failed ignores it; where memory
+    /// is wanted for it, the session fails.
+    pub fn arrive(
+        &mut self,
+        alloc: Global,
+        classes: &ClassTable,
+        place: usize,
+        from: &Text,
+        post: &Post,
+    ) -> Result<(), AllocError>
+        requires { IsPlaced self.old place }
+        ensures ok { OnOk result (session_at self.new place ≡ heard classes.now from.now (post.now ∷ []) (session_at self.old place)) }
+        ensures err { OnErr result ((session_at self.new place ≡ gone) × IsFalse (failed_at self.old place)) }
+        ensures only { ChangesOnly place self.old self.new }
+    {
+        if *self.failed.get(place) {
+            return Ok(());
+        }
+        let posting = Posting {
+            alloc,
+            classes,
+            from,
+            name: &post.name,
+            kinds: post.kinds.as_slice(),
+            args: post.arguments.as_slice(),
+        };
+        let joins = self.desks.joins(place);
+        let posted = arrive(&self.forests, &mut self.queues, &posting, place, joins);
+        if posted.is_err() {
+            self.give_up(place);
+        }
+        posted
     }
 }
 
@@ -110,23 +163,33 @@ fn is_of(row: &Publication, sending: &Sending) -> bool
     row.object == sending.object && row.signal == sending.signal
 }
 
+/// A post on its way, and the name of the session that has sent it.
+#[derive(Clone, Copy)]
+struct Posting<'a> {
+    alloc: Global,
+    classes: &'a ClassTable,
+    from: &'a Text,
+    name: &'a Text,
+    kinds: &'a [Kind],
+    args: &'a [Value],
+}
+
 /// Posts it by all joins of a session.
 fn arrive(
     forests: &Forests,
     queues: &mut Queues,
-    sending: &Sending,
-    row: &Publication,
+    posting: &Posting,
     at: usize,
     joins: &[Join],
 ) -> Result<(), AllocError>
     requires forests { IsPlace forests.now at }
     requires queues { IsPlace queues.old at }
     ensures ok { OnOk result (queues.new ≡ with_queue queues.old at
-        (reached_by sending.now.from.now (post_of sending.now.args.now row.now) (forest_at forests.now at).rows (queue_at queues.old at) joins.now)) }
+        (reached_by posting.now.classes.now (forest_at forests.now at).rows posting.now.from.now (post_in posting.now) (queue_at queues.old at) joins.now)) }
     ensures err { OnErr result (queues.new ≡ with_queue queues.old at (queue_at queues.new at)) }
 {
     'joins: for join in joins {
-        arrive_by(forests, queues, sending, row, at, join)?;
+        arrive_by(forests, queues, posting, at, join)?;
     }
     Ok(())
 }
@@ -135,34 +198,45 @@ fn arrive(
 fn arrive_by(
     forests: &Forests,
     queues: &mut Queues,
-    sending: &Sending,
-    row: &Publication,
+    posting: &Posting,
     at: usize,
     join: &Join,
 ) -> Result<(), AllocError>
     requires forests { IsPlace forests.now at }
     requires queues { IsPlace queues.old at }
     ensures ok { OnOk result (queues.new ≡ with_queue queues.old at
-        (reached sending.now.from.now (post_of sending.now.args.now row.now) (forest_at forests.now at).rows (queue_at queues.old at) join.now)) }
+        (reached posting.now.classes.now (forest_at forests.now at).rows posting.now.from.now (post_in posting.now) (queue_at queues.old at) join.now)) }
     ensures err { OnErr result (queues.new ≡ queues.old) }
 {
-    if !listens(join, sending.from, &row.name) {
+    if !listens(join, posting.from, posting.name) {
         return Ok(());
     }
-    if !is_matched(join, row) {
+    if !is_matched(join, posting.kinds) {
         queues.note_mismatched(at);
         return Ok(());
     }
-    if forests.row(at, join.object).is_none() {
-        return Ok(());
-    }
+    let wanted = wanted_by(forests, posting.classes, at, join);
     let call = QueuedCall {
         object: join.object,
         callee: Callee::Method(join.method),
         sender: 0,
-        args: Args::copied(sending.alloc, first(sending.args, join.wanted))?,
+        args: Args::copied(posting.alloc, first(posting.args, wanted))?,
     };
     post_call(queues, at, call)
+}
+
+/// How many arguments the method of a join takes.
+fn wanted_by(forests: &Forests, classes: &ClassTable, at: usize, join: &Join) -> usize
+    requires { IsPlace forests.now at }
+    ensures { result ≡ length (kinds_of classes.now (forest_at forests.now at).rows join.now.object join.now.method) }
+{
+    let Some(row) = forests.row(at, join.object) else {
+        return 0;
+    };
+    match classes.method_row(row.class, join.method) {
+        Some(method) => method.signature.kinds.len(),
+        None => 0,
+    }
 }
 
 /// Posts a call, or counts it as lost where there is no room for it.
@@ -184,12 +258,11 @@ fn listens(join: &Join, from: &Text, name: &Text) -> bool
     join.from == *from && join.name == *name
 }
 
-/// Whether a join and a publication have the same kinds of parameters.
-fn is_matched(join: &Join, row: &Publication) -> bool
-    ensures { result ≡ is_matched row.now.kinds join.now }
+/// Whether these are the kinds that a join names.
+fn is_matched(join: &Join, kinds: &[Kind]) -> bool
+    ensures { result ≡ is_matched kinds.now join.now }
 {
-    fits(row.kinds.as_slice(), join.kinds.as_slice())
-        && fits(join.kinds.as_slice(), row.kinds.as_slice())
+    fits(kinds, join.kinds.as_slice()) && fits(join.kinds.as_slice(), kinds)
 }
 
 /// The first values, as many as are wanted.

@@ -2,7 +2,7 @@
 ghost use Rattle.std.specs.Prelude.{◌≡◌, ◌+◌, IfOk, OnOk, OnErr, count_by, find, if◌then◌else◌, is_some};
 ghost use Rattle.std.specs.List.{list_any};
 ghost use Rattle.refusals.specs.Answers.{RefusedBy};
-ghost use Rattle.connection_list.specs.Ends.{matches, touches};
+ghost use Rattle.connection_list.specs.Ends.{matches};
 ghost use Rattle.connection_list.specs.Rows.{IsSound, connect_refusal, has_number, is_next};
 ghost use Rattle.thread_model.specs.State.{with_connection, without_connections};
 ghost use Rattle.session_tables.specs.Tables.{IsPlaced, state_at, with_state};
@@ -43,15 +43,6 @@ impl Tables {
             (without_connections (state_at self.old place) (matches pattern.now)) }
     {
         self.connections.disconnect_matching(place, pattern)
-    }
-
-    /// Breaks the connections that have an object at either end.
-    pub fn untie(&mut self, place: usize, object: u32)
-        requires { IsPlaced self.old place }
-        ensures { self.new ≡ with_state self.old place
-            (without_connections (state_at self.old place) (touches object)) }
-    {
-        self.connections.drop_object(place, object);
     }
 
     /// The connection that an emission of `sender`'s `signal` calls next: of those that stand, the one

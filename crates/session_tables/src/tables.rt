@@ -1,6 +1,6 @@
 //! The tables, and the places in them.
 ghost use Rattle.std.specs.Prelude.{◌≡◌, [], OnOk, length};
-ghost use Rattle.session_tables.specs.Session.{gone};
+ghost use Rattle.session_tables.specs.Session.{fresh, gone};
 ghost use Rattle.session_tables.specs.Tables.{AreSame, HasRoom, IsPlaced, failed_at, opened, with_session, with_state};
 ghost use Rattle.thread_model.specs.State.{empty};
 
@@ -10,8 +10,8 @@ use object_tree::Forests;
 use places::Places;
 use plain_types::Items;
 use property_store::{Field, Stores};
+use publish_board::Board;
 use std::alloc::{AllocError, Global};
-use thread_model::Desk;
 
 /// What a server keeps of each session.
 pub struct Tables {
@@ -19,7 +19,7 @@ pub struct Tables {
     pub(crate) stores: Stores,
     pub(crate) connections: Connections,
     pub(crate) queues: Queues,
-    pub(crate) desks: Places<Desk>,
+    pub(crate) desks: Board,
     /// Memory was wanted for the session and not found. Its objects, connections and events are gone,
     /// and it refuses every command.
     pub(crate) failed: Places<bool>,
@@ -55,7 +55,7 @@ impl Tables {
             stores: Stores::new(alloc, layouts),
             connections: Connections::new(alloc),
             queues: Queues::new(alloc),
-            desks: Places::new(alloc),
+            desks: Board::new(alloc),
             failed: Places::new(alloc),
         }
     }
@@ -74,7 +74,7 @@ impl Tables {
     }
 
     /// Opens the next place for a session that has had no command, and returns it.
-    pub fn open(&mut self, alloc: Global) -> usize
+    pub fn open(&mut self) -> usize
         requires { HasRoom self.old }
         ensures place { result ≡ length self.old.failed.places }
         ensures opened { self.new ≡ opened self.old }
@@ -83,16 +83,13 @@ impl Tables {
         self.stores.open();
         self.connections.open();
         self.queues.open();
-        self.desks.open(Desk {
-            publications: Items::new(alloc),
-            joins: Items::new(alloc),
-        });
+        self.desks.open();
         self.failed.open(false)
     }
 
     /// Takes all that a session holds out; the numbers of its objects and connections are then given
     /// again.
-    pub fn clear(&mut self, alloc: Global, place: usize)
+    pub fn clear(&mut self, place: usize)
         requires { IsPlaced self.old place }
         ensures { self.new ≡ with_state self.old place empty }
     {
@@ -100,19 +97,25 @@ impl Tables {
         self.stores.clear(place);
         self.connections.clear(place);
         self.queues.clear(place);
-        *self.desks.get_mut(place) = Desk {
-            publications: Items::new(alloc),
-            joins: Items::new(alloc),
-        };
+        self.desks.clear(place);
     }
 
     /// Lets a session fail.
-    pub fn give_up(&mut self, alloc: Global, place: usize)
+    pub fn give_up(&mut self, place: usize)
         requires { IsPlaced self.old place }
         ensures { self.new ≡ with_session self.old place gone }
     {
-        self.clear(alloc, place);
+        self.clear(place);
         *self.failed.get_mut(place) = true;
+    }
+
+    /// Lets a session begin anew, whether it has failed or not.
+    pub fn renew(&mut self, place: usize)
+        requires { IsPlaced self.old place }
+        ensures { self.new ≡ with_session self.old place fresh }
+    {
+        self.clear(place);
+        *self.failed.get_mut(place) = false;
     }
 
     /// Whether a session has failed.

@@ -1,5 +1,6 @@
 //! The server.
 use crate::lines::{given, lamps, text_of};
+use plain_types::Text;
 use server_world::{
     Entry, Report, Server, Tagged, influence_is_least, leaving_out_keeps_sessions,
     slicing_keeps_a_session,
@@ -135,6 +136,36 @@ fn runs_on_one_server_go_on_and_refused_memory_is_noted(rt: HostRuntime) -> Resu
     let (told, notes) = fresh_one_reports_and_notes(rt.alloc())?;
     assert!(rt; is_told(told.as_str()), "{told}");
     assert!(rt; notes);
+    Ok(())
+}
+
+/// What two sessions are asked for when one of them was reset, and what they are told.
+const BEHIND: &str = r#"{"do":"children","session":"a"}
+{"do":"children","session":"b"}"#;
+
+const TOLD_BEHIND: &str = r#"{"reply":[],"session":"a"}
+{"reply":[1],"session":"b"}
+"#;
+
+fn resets(alloc: Global, server: &mut Server, names: &[&'static str]) -> Result<(), AllocError> {
+    for name in names {
+        server.reset(&Text::from_str(alloc, name)?);
+    }
+    Ok(())
+}
+
+/// What a server reports when it has reset a session, and one that is not there.
+fn told_behind_resets(alloc: Global) -> Result<String, AllocError> {
+    let mut server = fresh(alloc)?;
+    reported(alloc, &mut server, RUNS[0])?;
+    resets(alloc, &mut server, &["a", "c"])?;
+    reported(alloc, &mut server, BEHIND)
+}
+
+#[test]
+fn a_session_is_reset_and_no_other(rt: HostRuntime) -> Result<(), Fail> {
+    let told = told_behind_resets(rt.alloc())?;
+    assert!(rt; told.as_str() == TOLD_BEHIND, "{told}");
     Ok(())
 }
 

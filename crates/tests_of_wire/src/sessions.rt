@@ -120,25 +120,6 @@ const TREES: Session = (
 {"reply":[4,2],"session":"a"}"#,
 );
 
-const DELETIONS: Session = (
-    r#"{"class":"QObject","do":"new","session":"a"}
-{"class":"QObject","do":"new","parent":1,"session":"a"}
-{"class":"QObject","do":"new","parent":2,"session":"a"}
-{"do":"setParent","object":1,"parent":3,"session":"a"}
-{"do":"delete","object":1,"session":"a"}
-{"do":"children","session":"a"}
-{"do":"get","object":3,"property":"objectName","session":"a"}
-{"class":"QObject","do":"new","session":"a"}"#,
-    r#"{"reply":1,"session":"a"}
-{"reply":2,"session":"a"}
-{"reply":3,"session":"a"}
-{"error":"E12","session":"a"}
-{"reply":true,"session":"a"}
-{"reply":[],"session":"a"}
-{"error":"E04","session":"a"}
-{"reply":4,"session":"a"}"#,
-);
-
 const CONNECTIONS: Session = (
     r#"{"class":"Probe","do":"new","session":"a"}
 {"class":"Probe","do":"new","session":"a"}
@@ -235,27 +216,6 @@ const UNIQUE: Session = (
 {"args":[],"call":"note()","object":1,"sender":1,"session":"a"}
 {"reply":true,"session":"a"}
 {"reply":false,"session":"a"}"#,
-);
-
-const RESCUED_CHILD: Session = (
-    r#"{"class":"Probe","do":"new","session":"a"}
-{"class":"Probe","do":"new","parent":1,"session":"a"}
-{"class":"Probe","do":"new","parent":1,"session":"a"}
-{"do":"set","object":2,"property":"objectName","session":"a","value":"c"}
-{"do":"connect","method":"rescue()","receiver":1,"sender":1,"session":"a","signal":"destroyed()"}
-{"do":"delete","object":1,"session":"a"}
-{"do":"children","session":"a"}
-{"do":"get","object":3,"property":"objectName","session":"a"}"#,
-    r#"{"reply":1,"session":"a"}
-{"reply":2,"session":"a"}
-{"reply":3,"session":"a"}
-{"reply":true,"session":"a"}
-{"reply":1,"session":"a"}
-{"args":[],"call":"rescue()","object":1,"sender":1,"session":"a"}
-{"object":1,"session":"a","warning":"E13"}
-{"reply":true,"session":"a"}
-{"reply":[2],"session":"a"}
-{"error":"E04","session":"a"}"#,
 );
 
 const EVENTS: Session = (
@@ -366,7 +326,7 @@ const CLAMPED: Session = (
 );
 
 /// Sessions of names, classes and objects, each from a fresh server.
-const OBJECTS: [Session; 9] = [
+const OBJECTS: [Session; 8] = [
     NOTHING,
     LAMP,
     TWO_SESSIONS,
@@ -375,18 +335,16 @@ const OBJECTS: [Session; 9] = [
     NO_COMMANDS,
     CLASSES,
     TREES,
-    DELETIONS,
 ];
 
 /// The same of signals and who is connected to them.
-const SIGNALS: [Session; 7] = [
+const SIGNALS: [Session; 6] = [
     CONNECTIONS,
     CONNECTED_MEANWHILE,
     SINGLE_SHOT,
     SENDER_DELETED,
     SIGNAL_TO_ITSELF,
     UNIQUE,
-    RESCUED_CHILD,
 ];
 
 /// The same of events, blocked objects, properties and functors.

@@ -21,16 +21,18 @@ use Rattle.object_tree.specs.Refusing.{keeps_parent}
 use Rattle.object_tree.specs.Changes.{added, changed, marked, moved, orphaned, removed, reparented, with_blocked}
 use Rattle.property_store.specs.Store.{Properties, properties_of}
 use Rattle.property_store.proofs.SoundLemmas.{added_found, added_others, changed_fields, without_others}
+use Rattle.publish_board.specs.declared.join.Join.{Join}
+use Rattle.publish_board.specs.declared.publication.Publication.{Publication}
 use Rattle.thread_model.specs.declared.line.Answer.{Answer}
 use Rattle.thread_model.specs.declared.line.Answer.TheVariants as a
 use Rattle.thread_model.specs.declared.line.Line.{Line}
 use Rattle.thread_model.specs.declared.post.Post.{Post}
 use Rattle.thread_model.specs.Agenda.{step, with_turn}
-use Rattle.thread_model.specs.Asked.{Asked, New, Delete, Children, Find, Set, Get, DynamicNames, Meta, Connect, ConnectFunctor, DisconnectOne, Disconnect, Invoke, Spin as TakeEvents, Do, Status}
+use Rattle.thread_model.specs.Asked.{Asked, New, Delete, Children, Find, Set, Get, DynamicNames, Meta, Connect, ConnectFunctor, DisconnectOne, Disconnect, Invoke, Spin as TakeEvents, Do, Status, Publish, Unpublish, Join as AsksJoin, Leave, Reset}
 use Rattle.thread_model.specs.declared.deed.Deed.{Deed}
 use Rattle.thread_model.specs.declared.deed.Deed.TheVariants as d
 use Rattle.thread_model.specs.Deeds.{deed_done, with_deed}
-use Rattle.thread_model.specs.Doing.{Doing, begun, dying, first_taken, forgotten, gone, in_state, lost, posted, posting, shot, told, turn_taken, untied, used_up}
+use Rattle.thread_model.specs.Doing.{Doing, begun, dying, first_taken, gone, in_state, lost, posted, posting, shot, told, turn_taken, used_up, severed}
 use Rattle.thread_model.specs.Effects.{does_next, unless}
 use Rattle.thread_model.specs.Items.{Delete as ToDelete, Emit, Item, Next, Reply, ReplySpun, Run, Spin, puts}
 use Rattle.thread_model.specs.Laws.{KeepsDeclared}
@@ -39,6 +41,7 @@ use Rattle.thread_model.specs.Posting.{is_queued}
 use Rattle.thread_model.specs.Properties.{is_declared, sets}
 use Rattle.thread_model.specs.Refusing.{refusal}
 use Rattle.thread_model.specs.Run.{run}
+use Rattle.thread_model.specs.Sharing.{asked_join, asked_listener, asked_publication, joins_found, leaves, publishes_found}
 use Rattle.thread_model.specs.Signals.{asked_connect, asked_connect_functor, asked_disconnect, asked_method, does_found, invoked, invoked_later, invokes}
 use Rattle.thread_model.specs.State.{IsDeclared, IsSound, State, fields_of, with_object, with_properties, without_connections}
 use Rattle.thread_model.specs.Thread.{Settings, arrives, does, performs}
@@ -140,13 +143,9 @@ module _ (classes : List Class) (doing : Doing) (declared : IsDeclared classes d
   unfolding shot
   shot_declared row = cond_both row.single (in_state doing (without_connections doing.state (has_connection_number row.number))) doing (λ (new : Doing). IsDeclared classes new.state) (λ single. declared) (λ lasting. declared)
 
-  untied_declared : (target : ℕ) → IsDeclared classes (untied doing target).state
-  unfolding untied
-  untied_declared target = declared
-
-  forgotten_declared : (target : ℕ) → IsDeclared classes (forgotten doing target).state
-  unfolding forgotten
-  forgotten_declared target = declared
+  severed_declared : (target : ℕ) → IsDeclared classes (severed doing target).state
+  unfolding severed
+  severed_declared target = declared
 
   posted_declared : (event : Event) → IsDeclared classes (posted doing event).state
   unfolding posted
@@ -200,8 +199,7 @@ holds classes = record {
   does = λ doing deed declared. change_declared classes doing declared deed;
   writes = λ doing target writing declared. declared_with_writing classes doing.state declared target writing;
   marks = λ doing target declared. dying_declared classes doing declared target;
-  unties = λ doing target declared. untied_declared classes doing declared target;
-  forgets = λ doing target declared. forgotten_declared classes doing declared target;
+  severs = λ doing target declared. severed_declared classes doing declared target;
   goes = λ doing target declared. gone_declared classes doing declared target;
 }
 
@@ -239,6 +237,18 @@ module _ (settings : Settings) (state : State) (declared : IsDeclared settings.c
       (λ later. declared)
       (λ now. done_declared (invoked settings state target index _) (a.Truth true) (invoked_declared target index _))
 
+  published_declared : (found : Found Publication) → IsDeclared settings.classes (publishes_found state found).state
+  published_declared (Ok row) = declared
+  published_declared (Err code) = declared
+
+  joined_declared : (found : Found Join) → IsDeclared settings.classes (joins_found state found).state
+  joined_declared (Ok join) = declared
+  joined_declared (Err code) = declared
+
+  left_declared : (from name : List ℕ) (target : ℕ) (found : Found ℕ) → IsDeclared settings.classes (leaves state from name target found).state
+  left_declared from name target (Ok method) = declared
+  left_declared from name target (Err code) = declared
+
   performed_declared : (self : List ℕ) (asked : Asked) → IsSound state → IsDeclared settings.classes (performs settings self state asked).state
   unfolding performs
   performed_declared self (New class parent) sound = declared_with_object settings.classes state declared parent _ sound.whole.forest.numbers_given
@@ -257,6 +267,11 @@ module _ (settings : Settings) (state : State) (declared : IsDeclared settings.c
   performed_declared self TakeEvents sound = run_declared settings (Spin ∷ ReplySpun ∷ []) (begun settings state) declared
   performed_declared self (Do deed) sound = found_declared' (Ok deed)
   performed_declared self Status sound = declared
+  performed_declared self (Publish target signal name) sound = published_declared (asked_publication settings state target signal name)
+  performed_declared self (Unpublish name) sound = declared
+  performed_declared self (AsksJoin from name types target method) sound = joined_declared (asked_join settings state from name types target method)
+  performed_declared self (Leave from name target method) sound = left_declared from name target (asked_listener settings state target method)
+  performed_declared self Reset sound = λ index default within. absurd (omega arith)
 
   -- a refused command leaves the state
   unless_declared : (refusal : Option Code) (outcome : Effect State Line Post) → IsDeclared settings.classes outcome.state → IsDeclared settings.classes (unless refusal state outcome).state
@@ -268,7 +283,7 @@ unfolding does
 command_declared settings self state asked sound declared =
     unless_declared settings state declared (refusal settings self state asked) (performs settings self state asked) (performed_declared settings state declared self asked sound)
 
-post_declared : (classes : List Class) (state : State) (from : List ℕ) (post : Post) → IsDeclared classes state → IsDeclared classes (arrives state from post)
+post_declared : (classes : List Class) (state : State) (from : List ℕ) (post : Post) → IsDeclared classes state → IsDeclared classes (arrives classes state from post)
 unfolding arrives
 post_declared classes state from post declared = declared
 

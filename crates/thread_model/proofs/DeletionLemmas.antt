@@ -3,7 +3,7 @@ use Rattle.std.proofs.Common.{◌≡◌, ℕ, true, false, [], ◌∷◌, refl}
 use Rattle.std.proofs.lemmas.Bool.{cond-false, cond-true}
 use Rattle.thread_model.specs.declared.call.TheConstants.{DESTROYED}
 use Rattle.thread_model.specs.Agenda.{kins, lives, lives_below, step}
-use Rattle.thread_model.specs.Doing.{Doing, dying, forgotten, gone, untied}
+use Rattle.thread_model.specs.Doing.{Doing, dying, gone, severed}
 use Rattle.thread_model.specs.Items.{Cut, Delete, Emit, Gone, Kin, puts}
 use Rattle.thread_model.specs.Settings.{Settings}
 
@@ -16,8 +16,8 @@ module _ (settings : Settings) (target depth : ℕ) (doing : Doing) where
   pub delete_some : lives doing target ≡ true → step settings (Delete target depth) doing ≡ puts (Emit target DESTROYED [] depth ∷ Cut target depth ∷ Gone target depth ∷ []) (dying doing target)
   delete_some living = cond-true (lives doing target) _ _ living
 
-  -- the connections of a dying object are broken and its events forgotten, and then its children are deleted
-  pub cut_kins : step settings (Cut target depth) doing ≡ puts (kins doing target depth) (forgotten (untied doing target) target)
+  -- nothing ties a dying object to others any more, and then its children are deleted
+  pub cut_kins : step settings (Cut target depth) doing ≡ puts (kins doing target depth) (severed doing target)
   cut_kins = refl
 
   -- a dying object goes at last

@@ -38,13 +38,13 @@ module _ (settings : Settings) (target signal : ℕ) (args : List Value) (depth 
   pub emit_absent : is_there doing.state.forest.rows target ≡ false → step settings (Emit target signal args depth) doing ≡ puts [] doing
   emit_absent absent = by (row_of doing.state.forest.rows target) absent
     where
-      by : (found : Option Row) → is_some found ≡ false → option_map_or (emitted doing target signal args depth) found (puts [] doing) ≡ puts [] doing
+      by : (found : Option Row) → is_some found ≡ false → option_map_or (emitted settings doing target signal args depth) found (puts [] doing) ≡ puts [] doing
       by (Some row) out = absurd (cc)
       by None out = refl
 
   module _ (row : Row) (there : row_of doing.state.forest.rows target ≡ Some row) where
-    is_emitted : step settings (Emit target signal args depth) doing ≡ emitted doing target signal args depth row
-    is_emitted = ap (λ found. option_map_or (emitted doing target signal args depth) found (puts [] doing)) there
+    is_emitted : step settings (Emit target signal args depth) doing ≡ emitted settings doing target signal args depth row
+    is_emitted = ap (λ found. option_map_or (emitted settings doing target signal args depth) found (puts [] doing)) there
 
     -- a signal that is held back is not sent
     pub emit_held_back : is_held_back signal row ≡ true → step settings (Emit target signal args depth) doing ≡ puts [] doing
@@ -52,7 +52,7 @@ module _ (settings : Settings) (target signal : ℕ) (args : List Value) (depth 
 
     module _ (sent : is_held_back signal row ≡ false) where
       is_sent : step settings (Emit target signal args depth) doing
-          ≡ cond (nat_le NESTED_SIGNALS depth) (puts (Warn Limit (Some target) ∷ []) doing) (puts (calls_of doing target signal args depth) (posting doing (posts_of doing.state.desk target signal args)))
+          ≡ cond (nat_le NESTED_SIGNALS depth) (puts (Warn Limit (Some target) ∷ []) doing) (puts (calls_of doing target signal args depth) (posting doing (posts_of settings.classes doing.state target signal args)))
       is_sent = is_emitted ∙ cond-false (is_held_back signal row) _ _ sent
 
       -- a signal that is nested too deep is not sent, and its object is warned of
@@ -60,7 +60,7 @@ module _ (settings : Settings) (target signal : ℕ) (args : List Value) (depth 
       emit_deep deep = let is : nat_le NESTED_SIGNALS depth ≡ true = grind (arith, nat_tests, deep) in is_sent ∙ cond-true (nat_le NESTED_SIGNALS depth) _ _ is
 
       -- a signal that is not nested too deep is posted, and calls what is connected to it
-      pub emit_calls : depth < NESTED_SIGNALS → step settings (Emit target signal args depth) doing ≡ puts (calls_of doing target signal args depth) (posting doing (posts_of doing.state.desk target signal args))
+      pub emit_calls : depth < NESTED_SIGNALS → step settings (Emit target signal args depth) doing ≡ puts (calls_of doing target signal args depth) (posting doing (posts_of settings.classes doing.state target signal args))
       emit_calls shallow = let is : nat_le NESTED_SIGNALS depth ≡ false = grind (arith, nat_tests, shallow) in is_sent ∙ cond-false (nat_le NESTED_SIGNALS depth) _ _ is
 
 -- that the turns are used up is told once

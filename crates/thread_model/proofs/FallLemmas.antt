@@ -26,7 +26,7 @@ use Rattle.thread_model.specs.Acts.{acts, chosen}
 use Rattle.thread_model.specs.Arriving.{posts_of}
 use Rattle.thread_model.specs.Agenda.{call_items, call_line, callee_called, called, calls_of, connection_of, emitted, event_items, functor_called, functor_line, functor_ran, is_held_back, kins, lives, lives_below, method_called, method_items, queued, ran, spun, step, with_turn}
 use Rattle.thread_model.specs.Deeds.{deed_done}
-use Rattle.thread_model.specs.Doing.{Doing, dying, first_taken, forgotten, gone, in_state, shot, told, turn_taken, untied, used_up, posting}
+use Rattle.thread_model.specs.Doing.{Doing, dying, first_taken, gone, in_state, shot, told, turn_taken, used_up, posting, severed}
 use Rattle.thread_model.specs.Items.{Act, Call, Cut, Delete, Emit, Gone, Item, Kin, Next, Reply, ReplySpun, Run, RunFunctor, Spin, Warn, puts}
 use Rattle.thread_model.specs.Functors.{functor_at}
 use Rattle.thread_model.specs.Methods.{Found, method_at}
@@ -40,7 +40,7 @@ use Rattle.thread_model.proofs.ActLemmas.{acted_cases}
 use Rattle.thread_model.proofs.LivingLemmas.{few_children, filter-fewer, living_rows}
 use Rattle.thread_model.proofs.WeightLemmas.{act-some, acts-weight, body-size, calls-weight, choice-weight, functor-size, kins-weight, weight-some, weights-append}
 use Rattle.thread_model.proofs.WritingLemmas.{written_cases}
-use Rattle.thread_model.proofs.ShrinkLemmas.{Shrinks, both, deed_shrinks, dying_less, dying_shrinks, first_taken-turns, forgotten_shrinks, gone_shrinks, queued_shrinks, same, shot_shrinks, taken_shrinks, told_shrinks, turn_shrinks, turn_taken-less, untied_shrinks, used_up_shrinks, written_shrinks, posting_shrinks}
+use Rattle.thread_model.proofs.ShrinkLemmas.{Shrinks, both, deed_shrinks, dying_less, dying_shrinks, first_taken-turns, gone_shrinks, queued_shrinks, same, shot_shrinks, taken_shrinks, told_shrinks, turn_shrinks, turn_taken-less, used_up_shrinks, written_shrinks, posting_shrinks, severed_shrinks}
 
 abbrev pub total : Most → Doing → ℕ → ℕ
 total n doing items = doing.turns * turn_weight n + living_rows doing.state.forest.rows * deletion_weight n + items
@@ -171,21 +171,21 @@ spun_falls settings doing (event ∷ later) =
     (λ some. by_turn settings Spin doing (puts (items ++ Spin ∷ []) (first_taken taken)) (taken_shrinks doing some)
     (let less = turn_taken-less doing some in omega (arith, less, turns)) (omega (arith, few, parts)))
 
-calls_fall : (settings : Settings) (target signal : ℕ) (args : List Value) (depth : ℕ) (doing : Doing) → FallsTo settings (Emit target signal args depth) doing (puts (calls_of doing target signal args depth) (posting doing (posts_of doing.state.desk target signal args)))
+calls_fall : (settings : Settings) (target signal : ℕ) (args : List Value) (depth : ℕ) (doing : Doing) → FallsTo settings (Emit target signal args depth) doing (puts (calls_of doing target signal args depth) (posting doing (posts_of settings.classes doing.state target signal args)))
 unfolding calls_of
 calls_fall settings target signal args depth doing =
     let rows = doing.state.connections.rows in
     let one = calls-weight (most settings doing) args depth (filter (calls target signal) rows) in
     let few = filter-fewer (calls target signal) rows in
-    lighter settings (Emit target signal args depth) doing (puts _ (posting doing (posts_of doing.state.desk target signal args))) (posting_shrinks doing (posts_of doing.state.desk target signal args)) (omega (arith, one, few))
+    lighter settings (Emit target signal args depth) doing (puts _ (posting doing (posts_of settings.classes doing.state target signal args))) (posting_shrinks doing (posts_of settings.classes doing.state target signal args)) (omega (arith, one, few))
 
-cut_falls : (settings : Settings) (target depth : ℕ) (doing : Doing) → FallsTo settings (Cut target depth) doing (puts (kins doing target depth) (forgotten (untied doing target) target))
+cut_falls : (settings : Settings) (target depth : ℕ) (doing : Doing) → FallsTo settings (Cut target depth) doing (puts (kins doing target depth) (severed doing target))
 unfolding kins
 cut_falls settings target depth doing =
     let rows = doing.state.forest.rows in
     let two = kins-weight (most settings doing) target depth (children rows (Some target)) in
     let few = few_children rows (Some target) in
-    lighter settings (Cut target depth) doing (puts _ (forgotten (untied doing target) target)) (both doing (untied doing target) (forgotten (untied doing target) target) (untied_shrinks doing target) (forgotten_shrinks (untied doing target) target)) (omega (arith, two, few))
+    lighter settings (Cut target depth) doing (puts _ (severed doing target)) (severed_shrinks doing target) (omega (arith, two, few))
 
 ran_falls : (settings : Settings) (target index sender : ℕ) (args : List Value) (depth : ℕ) (doing : Doing) (found : Option Method) → method_at settings doing.state target index ≡ found
     → FallsTo settings (Run target index sender args depth) doing (option_map_or (ran doing target sender args depth) found (puts [] doing))
@@ -222,13 +222,13 @@ chosen_falls settings test held failed args self sender depth doing (Err code) =
     lighter settings (Act (when test held failed) args self sender depth) doing (puts (Warn code (Some self) ∷ []) doing) (same doing) (omega (arith, some))
 
 emitted_falls : (settings : Settings) (target signal : ℕ) (args : List Value) (depth : ℕ) (doing : Doing) (found : Option Row)
-    → FallsTo settings (Emit target signal args depth) doing (option_map_or (emitted doing target signal args depth) found (puts [] doing))
+    → FallsTo settings (Emit target signal args depth) doing (option_map_or (emitted settings doing target signal args depth) found (puts [] doing))
 emitted_falls settings target signal args depth doing None = idle settings (Emit target signal args depth) doing doing (same doing)
 emitted_falls settings target signal args depth doing (Some row) =
     let item = Emit target signal args depth in
-    cond_both (is_held_back signal row) (puts [] doing) (if nat_le NESTED_SIGNALS depth then puts (Warn Limit (Some target) ∷ []) doing else puts (calls_of doing target signal args depth) (posting doing (posts_of doing.state.desk target signal args))) (FallsTo settings item doing)
+    cond_both (is_held_back signal row) (puts [] doing) (if nat_le NESTED_SIGNALS depth then puts (Warn Limit (Some target) ∷ []) doing else puts (calls_of doing target signal args depth) (posting doing (posts_of settings.classes doing.state target signal args))) (FallsTo settings item doing)
     (λ held. idle settings item doing doing (same doing))
-    (λ free. cond_both (nat_le NESTED_SIGNALS depth) (puts (Warn Limit (Some target) ∷ []) doing) (puts (calls_of doing target signal args depth) (posting doing (posts_of doing.state.desk target signal args))) (FallsTo settings item doing)
+    (λ free. cond_both (nat_le NESTED_SIGNALS depth) (puts (Warn Limit (Some target) ∷ []) doing) (puts (calls_of doing target signal args depth) (posting doing (posts_of settings.classes doing.state target signal args))) (FallsTo settings item doing)
     (λ deep. lighter settings item doing (puts (Warn Limit (Some target) ∷ []) doing) (same doing) (omega arith))
     (λ shallow. calls_fall settings target signal args depth doing))
 

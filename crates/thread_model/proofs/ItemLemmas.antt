@@ -25,7 +25,7 @@ use Rattle.thread_model.specs.declared.line.Line.TheVariants as line
 use Rattle.thread_model.specs.Acts.{acts, chosen}
 use Rattle.thread_model.specs.Arriving.{posts_of}
 use Rattle.thread_model.specs.Agenda.{call_items, call_line, called, callee_called, calls_of, connection_of, emitted, event_items, functor_called, functor_line, functor_ran, is_held_back, kins, lives, lives_below, method_called, method_items, queued, ran, spun, step, with_turn}
-use Rattle.thread_model.specs.Doing.{Doing, dying, first_taken, forgotten, in_state, posting, shot, told, turn_taken, untied, used_up}
+use Rattle.thread_model.specs.Doing.{Doing, dying, first_taken, in_state, posting, shot, told, turn_taken, used_up, severed}
 use Rattle.thread_model.specs.Items.{Act, Call, Cut, Delete, Emit, Gone, Item, Kin, Next, Reply, ReplySpun, Run, RunFunctor, Spin, Warn, puts}
 use Rattle.thread_model.specs.Functors.{functor_at}
 use Rattle.thread_model.specs.Methods.{Found, method_at}
@@ -89,16 +89,16 @@ abbrev Keeps : List Item → Next → Type 0
 Keeps agenda next = IsUnderWay (next.items ++ agenda) next.doing.state
 
 module _ (settings : Settings) (agenda : List Item) (doing : Doing) (under : IsUnderWay agenda doing.state) where
-  calls_kept : (target signal : ℕ) (args : List Value) (depth : ℕ) → Keeps agenda (puts (calls_of doing target signal args depth) (posting doing (posts_of doing.state.desk target signal args)))
+  calls_kept : (target signal : ℕ) (args : List Value) (depth : ℕ) → Keeps agenda (puts (calls_of doing target signal args depth) (posting doing (posts_of settings.classes doing.state target signal args)))
   unfolding calls_of
-  calls_kept target signal args depth = in_front (calls_of doing target signal args depth) agenda (posting doing (posts_of doing.state.desk target signal args)).state (calls_stay args depth (filter (calls target signal) doing.state.connections.rows)) (posting_under agenda doing under (posts_of doing.state.desk target signal args))
+  calls_kept target signal args depth = in_front (calls_of doing target signal args depth) agenda (posting doing (posts_of settings.classes doing.state target signal args)).state (calls_stay args depth (filter (calls target signal) doing.state.connections.rows)) (posting_under agenda doing under (posts_of settings.classes doing.state target signal args))
 
-  emitted_kept : (target signal : ℕ) (args : List Value) (depth : ℕ) (found : Option Row) → Keeps agenda (option_map_or (emitted doing target signal args depth) found (puts [] doing))
+  emitted_kept : (target signal : ℕ) (args : List Value) (depth : ℕ) (found : Option Row) → Keeps agenda (option_map_or (emitted settings doing target signal args depth) found (puts [] doing))
   emitted_kept target signal args depth None = under
   emitted_kept target signal args depth (Some row) =
-      cond_both (is_held_back signal row) (puts [] doing) (cond (nat_le NESTED_SIGNALS depth) (puts (Warn Limit (Some target) ∷ []) doing) (puts (calls_of doing target signal args depth) (posting doing (posts_of doing.state.desk target signal args)))) (Keeps agenda)
+      cond_both (is_held_back signal row) (puts [] doing) (cond (nat_le NESTED_SIGNALS depth) (puts (Warn Limit (Some target) ∷ []) doing) (puts (calls_of doing target signal args depth) (posting doing (posts_of settings.classes doing.state target signal args)))) (Keeps agenda)
       (λ held. under)
-      (λ free. cond_both (nat_le NESTED_SIGNALS depth) (puts (Warn Limit (Some target) ∷ []) doing) (puts (calls_of doing target signal args depth) (posting doing (posts_of doing.state.desk target signal args))) (Keeps agenda)
+      (λ free. cond_both (nat_le NESTED_SIGNALS depth) (puts (Warn Limit (Some target) ∷ []) doing) (puts (calls_of doing target signal args depth) (posting doing (posts_of settings.classes doing.state target signal args))) (Keeps agenda)
       (λ deep. in_front (Warn Limit (Some target) ∷ []) agenda doing.state refl under)
       (λ shallow. calls_kept target signal args depth))
 
@@ -176,9 +176,9 @@ module _ (settings : Settings) (agenda : List Item) (doing : Doing) (under : IsU
       (λ none. used_up_under agenda doing under)
       (λ left. in_front items agenda (first_taken some).state (event_stays settings some.state first) (first_taken_under agenda some (turn_under agenda doing under)))
 
-kins_kept : (target depth : ℕ) (agenda : List Item) (doing : Doing) → IsUnderWay agenda (forgotten (untied doing target) target).state → Keeps agenda (puts (kins doing target depth) (forgotten (untied doing target) target))
+kins_kept : (target depth : ℕ) (agenda : List Item) (doing : Doing) → IsUnderWay agenda (severed doing target).state → Keeps agenda (puts (kins doing target depth) (severed doing target))
 unfolding kins
-kins_kept target depth agenda doing rest = in_front (kins doing target depth) agenda (forgotten (untied doing target) target).state (kins_stay target depth (children doing.state.forest.rows (Some target))) rest
+kins_kept target depth agenda doing rest = in_front (kins doing target depth) agenda (severed doing target).state (kins_stay target depth (children doing.state.forest.rows (Some target))) rest
 
 pub item_under_way : (settings : Settings) (item : Item) (agenda : List Item) (doing : Doing) → IsUnderWay (item ∷ agenda) doing.state → IsUnderWay ((step settings item doing).items ++ agenda) (step settings item doing).doing.state
 item_under_way settings (Emit target signal args depth) agenda doing under =

@@ -1,6 +1,8 @@
 -- Commands, posts and items keep a session sound.
-use Rattle.std.proofs.Common.{◌≡◌, ◌==◌, ℕ, Bool, true, false, cond, List, [], ◌∷◌, ◌++◌, Option, Some, None, Ok, Err, refl, sym, ◌∙◌, arith}
+use Rattle.std.proofs.Common.{◌≡◌, ◌==◌, ℕ, Bool, true, false, cond, List, [], ◌∷◌, ◌++◌, Option, Some, None, Ok, Err, refl, sym, ap, subst, ◌∙◌, arith}
 use Rattle.std.specs.List.{list_any, All}
+use Rattle.std.specs.Option.{option_map_or}
+use Rattle.std.specs.Result.{result_ok}
 use Rattle.std.proofs.lemmas.Bool.{cond_both}
 use Rattle.std.proofs.lemmas.List.Elements.{All-weaker}
 use Rattle.isolation.specs.Machine.{Effect}
@@ -11,6 +13,7 @@ use Rattle.variant_value.specs.declared.value.Value.{Value}
 use Rattle.object_tree.specs.declared.row.Row.{Row}
 use Rattle.object_tree.specs.Rows.{is_there}
 use Rattle.object_tree.specs.Refusing.{parent_refusal}
+use Rattle.class_table.specs.declared.class.Class.{Class}
 use Rattle.connection_types.specs.declared.callee.Callee.TheVariants.{Method}
 use Rattle.connection_types.specs.declared.connection_type.ConnectionType.{ConnectionType}
 use Rattle.connection_list.specs.Rows.{has_number}
@@ -18,15 +21,20 @@ use Rattle.event_queue.specs.declared.event.Event.{Event}
 use Rattle.event_queue.specs.declared.event.Event.TheVariants.{Call}
 use Rattle.event_queue.specs.Queue as events
 use Rattle.event_queue.specs.Queue.{Queue}
+use Rattle.publish_board.specs.declared.join.Join.{Join}
+use Rattle.publish_board.specs.declared.publication.Publication.{Publication}
+use Rattle.publish_board.specs.Desk as board
+use Rattle.publish_board.specs.Desk.{Desk}
+use Rattle.signature_core.specs.declared.kind.Kind.{Kind}
 use Rattle.thread_model.specs.declared.line.Answer.{Answer}
 use Rattle.thread_model.specs.declared.line.Answer.TheVariants as a
 use Rattle.thread_model.specs.declared.line.Line.{Line}
 use Rattle.thread_model.specs.declared.post.Post.{Post}
 use Rattle.thread_model.specs.Absence.{absence}
 use Rattle.thread_model.specs.Agenda.{with_turn}
-use Rattle.thread_model.specs.Asked.{Asked, New, Delete, Children, Find, Set, Get, DynamicNames, Meta, Connect, ConnectFunctor, DisconnectOne, Disconnect, Invoke, Spin, Do, Status}
+use Rattle.thread_model.specs.Asked.{Asked, New, Delete, Children, Find, Set, Get, DynamicNames, Meta, Connect, ConnectFunctor, DisconnectOne, Disconnect, Invoke, Spin, Do, Status, Publish, Unpublish, Join as AsksJoin, Leave, Reset}
 use Rattle.thread_model.specs.declared.deed.Deed.{Deed}
-use Rattle.thread_model.specs.Deeds.{deed_done, deed_refusal, found_refusal, with_deed}
+use Rattle.thread_model.specs.Deeds.{behind, deed_done, deed_refusal, found_refusal, with_deed}
 use Rattle.thread_model.specs.Arriving.{joined_call, reached_by}
 use Rattle.thread_model.specs.Doing.{Doing, begun, turn_taken, used_up}
 use Rattle.thread_model.specs.Effects.{does_next, unless}
@@ -34,22 +42,24 @@ use Rattle.thread_model.specs.Events.{spins}
 use Rattle.thread_model.specs.Items as to_do
 use Rattle.thread_model.specs.Items.{Emit, Item, Next, Run, puts}
 use Rattle.thread_model.specs.Laws.{KeepsSound, KeepsUnderWay}
-use Rattle.thread_model.specs.Methods.{Found, is_signal_at, methods_of}
+use Rattle.thread_model.specs.Methods.{Found, ◌>>=◌, is_signal_at, method_named, methods_of, signal_named}
 use Rattle.thread_model.specs.Posting.{is_queued}
 use Rattle.thread_model.specs.Properties.{is_declared, sets}
 use Rattle.thread_model.specs.Refusing.{class_refusal, refusal}
 use Rattle.thread_model.specs.Run.{run}
+use Rattle.thread_model.specs.Sharing.{asked_join, asked_kinds, asked_listener, asked_publication, joining_refusal, joins_found, leaves, publication_refusal, publishes_found}
 use Rattle.thread_model.specs.Signals.{asked_connect, asked_connect_functor, asked_disconnect, asked_method, does_found, invoked, invoked_later, invokes}
-use Rattle.thread_model.specs.State.{IsMeant, IsSound, State, with_event}
+use Rattle.thread_model.specs.State.{IsMeant, IsSound, OfDesk, State, empty, with_desk, with_event}
 use Rattle.thread_model.specs.Thread.{Settings, arrives, does, performs}
 use Rattle.thread_model.specs.UnderWay.{IsUnderWay, is_gone}
 use Rattle.thread_model.specs.Writing.{Writing, asked_writing, with_writing, written}
 use Rattle.thread_model.proofs.ConnectionLemmas.{or_none}
+use Rattle.thread_model.proofs.DeskLemmas.{of_joined, of_left, of_published, of_unpublished, sound_joined, sound_left, sound_published, sound_unpublished}
 use Rattle.thread_model.proofs.DyingLemmas.{each_added}
 use Rattle.thread_model.proofs.FitLemmas.{IsFit, asked_fit}
 use Rattle.thread_model.proofs.ItemLemmas.{item_under_way}
 use Rattle.thread_model.proofs.RunLemmas.{run_keeps}
-use Rattle.thread_model.proofs.StateLemmas.{whole_empty, whole_with_event, whole_with_object, whole_without_connections, whole_with_queue}
+use Rattle.thread_model.proofs.StateLemmas.{whole_empty, whole_with_desk, whole_with_event, whole_with_object, whole_without_connections, whole_with_queue}
 use Rattle.thread_model.proofs.UnderWayLemmas.{IsGoing, deed_under, none_goes, turn_under, untied_staying, used_up_under, writing_under}
 use Rattle.thread_model.proofs.ArrivingLemmas.{reached_by_keeps}
 use Rattle.thread_model.proofs.QueueLemmas.{each_posted, sound_lost, sound_mismatched, sound_posted}
@@ -62,6 +72,7 @@ under_way agenda state none sound = record {
   going = All-weaker (λ (row : Row). row.dying ≡ false) (λ row. IsGoing agenda row.number row.dying) (λ row lives. none_goes row.number agenda none ∙ sym lives) state.forest.rows sound.living;
   in_time = λ index default within. record { sender = untied_staying _ agenda (none_goes _ agenda none); receiver = untied_staying _ agenda (none_goes _ agenda none) };
   forgotten = λ index default within. untied_staying _ agenda (none_goes _ agenda none);
+  withdrawn = record { publications = λ index default within. untied_staying _ agenda (none_goes _ agenda none); joins = λ index default within. untied_staying _ agenda (none_goes _ agenda none) };
 }
 
 -- where nothing is left to do, no object is dying
@@ -145,6 +156,51 @@ invokes_sound settings state target args mode (Some index) there sound =
 spins_sound : (settings : Settings) (state : State) → IsSound state → IsSound (spins settings state).state
 spins_sound settings state sound = run_sound settings (to_do.Spin ∷ to_do.ReplySpun ∷ []) (begun settings state) refl sound
 
+-- another desk, each of whose objects stands
+desk_sound : (state : State) (desk : Desk) → board.IsSound desk → OfDesk (λ number. is_there state.forest.rows number ≡ true) desk → IsSound state → IsSound (with_desk state desk)
+desk_sound state desk few named sound = record { whole = whole_with_desk state desk few named sound.whole; living = sound.living }
+
+-- what was looked for behind an object is found where that is there
+found_behind : {A : Type 0} (there : Bool) (found : Found A) (value : A) → behind (cond there None (Some NoSuchObject)) found ≡ Ok value → (there ≡ true) × (found ≡ Ok value)
+found_behind true found value is = (refl, is)
+found_behind false found value is = absurd (cc)
+
+-- a publication that was found is of an object that stands
+publication_there : (settings : Settings) (state : State) (target : ℕ) (signal name : List ℕ) (row : Publication) → asked_publication settings state target signal name ≡ Ok row → is_there state.forest.rows row.object ≡ true
+publication_there settings state target signal name row is =
+    let parts = found_behind (is_there state.forest.rows target) _ row is in
+    by (signal_named (methods_of settings state target) signal) parts.0 parts.1
+  where
+    by : (found : Found ℕ) → is_there state.forest.rows target ≡ true → (found >>= λ index. Ok (record { name = name; object = target; signal = index })) ≡ Ok row → is_there state.forest.rows row.object ≡ true
+    by (Err code) there e = absurd (cc)
+    by (Ok index) there e = let same : target ≡ row.object = ap (λ (found : Found Publication). option_map_or (λ (row : Publication). row.object) (result_ok found) target) e in subst (λ object. is_there state.forest.rows object ≡ true) same there
+
+-- and so does a join call one
+join_there : (settings : Settings) (state : State) (from name : List ℕ) (types : List (List ℕ)) (target : ℕ) (method : List ℕ) (join : Join) → asked_join settings state from name types target method ≡ Ok join → is_there state.forest.rows join.object ≡ true
+join_there settings state from name types target method join is =
+    let parts = found_behind (is_there state.forest.rows target) _ join is in
+    by (asked_kinds types) (method_named (methods_of settings state target) method) parts.0 parts.1
+  where
+    by : (kinds : Found (List Kind)) (found : Found ℕ) → is_there state.forest.rows target ≡ true → (kinds >>= λ kinds. found >>= λ index. Ok (record { from = from; name = name; kinds = kinds; object = target; method = index })) ≡ Ok join → is_there state.forest.rows join.object ≡ true
+    by (Err code) found there e = absurd (cc)
+    by (Ok kinds) (Err code) there e = absurd (cc)
+    by (Ok kinds) (Ok index) there e = let same : target ≡ join.object = ap (λ (found : Found Join). option_map_or (λ (join : Join). join.object) (result_ok found) target) e in subst (λ object. is_there state.forest.rows object ≡ true) same there
+
+published_sound : (state : State) (found : Found Publication) → ((row : Publication) → found ≡ Ok row → is_there state.forest.rows row.object ≡ true) → publication_refusal state found ≡ None → IsSound state → IsSound (publishes_found state found).state
+published_sound state (Err code) there passed sound = sound
+published_sound state (Ok row) there passed sound = desk_sound state _ (sound_published state.desk row passed sound.whole.desk) (of_published _ state.desk sound.whole.named row (there row refl)) sound
+
+joined_sound : (settings : Settings) (self : List ℕ) (state : State) (found : Found Join) → ((join : Join) → found ≡ Ok join → is_there state.forest.rows join.object ≡ true) → joining_refusal settings self state found ≡ None → IsSound state → IsSound (joins_found state found).state
+joined_sound settings self state (Err code) there passed sound = sound
+joined_sound settings self state (Ok join) there passed sound = desk_sound state _ (sound_joined self state.desk join _ passed sound.whole.desk) (of_joined _ state.desk sound.whole.named join (there join refl)) sound
+
+left_sound : (state : State) (from name : List ℕ) (target : ℕ) (found : Found ℕ) → IsSound state → IsSound (leaves state from name target found).state
+left_sound state from name target (Err code) sound = sound
+left_sound state from name target (Ok method) sound = desk_sound state _ (sound_left state.desk from name target method sound.whole.desk) (of_left _ state.desk sound.whole.named from name target method) sound
+
+empty_sound : IsSound empty
+empty_sound = record { whole = whole_empty; living = λ index default within. absurd (omega arith) }
+
 performed_sound : (settings : Settings) (self : List ℕ) (state : State) (asked : Asked) → refusal settings self state asked ≡ None → IsSound state → IsSound (performs settings self state asked).state
 unfolding refusal performs
 performed_sound settings self state (New class parent) passed sound =
@@ -166,6 +222,11 @@ performed_sound settings self state (Invoke target method args mode) passed soun
 performed_sound settings self state Spin passed sound = spins_sound settings state sound
 performed_sound settings self state (Do deed) passed sound = found_sound settings state (Ok deed) passed sound
 performed_sound settings self state Status passed sound = sound
+performed_sound settings self state (Publish target signal name) passed sound = published_sound state (asked_publication settings state target signal name) (publication_there settings state target signal name) passed sound
+performed_sound settings self state (Unpublish name) passed sound = desk_sound state _ (sound_unpublished state.desk name sound.whole.desk) (of_unpublished _ state.desk sound.whole.named name) sound
+performed_sound settings self state (AsksJoin from name types target method) passed sound = joined_sound settings self state (asked_join settings state from name types target method) (join_there settings state from name types target method) passed sound
+performed_sound settings self state (Leave from name target method) passed sound = left_sound state from name target (asked_listener settings state target method) sound
+performed_sound settings self state Reset passed sound = empty_sound
 
 -- a refused command leaves the state
 unless_sound : (refusal : Option Code) (state : State) (effect : Effect State Line Post) → IsSound state → (refusal ≡ None → IsSound effect.state) → IsSound (unless refusal state effect).state
@@ -177,19 +238,16 @@ unfolding does
 command_sound settings self state asked sound =
     unless_sound (refusal settings self state asked) state (performs settings self state asked) sound (λ passed. performed_sound settings self state asked passed sound)
 
-post_sound : (state : State) (from : List ℕ) (post : Post) → IsSound state → IsSound (arrives state from post)
+post_sound : (classes : List Class) (state : State) (from : List ℕ) (post : Post) → IsSound state → IsSound (arrives classes state from post)
 unfolding arrives
-post_sound state from post sound =
-    let queue = reached_by_keeps (λ (queue : Queue). events.IsSound queue × All (IsMeant state) queue.events) from post state.forest.rows
+post_sound classes state from post sound =
+    let queue = reached_by_keeps classes state.forest.rows from post (λ (queue : Queue). events.IsSound queue × All (IsMeant state) queue.events)
     (λ queue holds. (sound_mismatched queue holds.0, holds.1))
     (λ queue holds. (sound_lost queue holds.0, holds.1))
-    (λ queue join there holds. (sound_posted queue (Call (joined_call post.arguments join)) holds.0, each_posted (IsMeant state) queue (Call (joined_call post.arguments join)) there holds.1))
-    state.queue state.desk.joins (sound.whole.queue, sound.whole.meant) in
-    record { whole = whole_with_queue state (reached_by from post state.forest.rows state.queue state.desk.joins) queue.0 queue.1 sound.whole; living = sound.living }
+    (λ (join : Join). is_there state.forest.rows join.object ≡ true)
+    (λ queue join there holds. (sound_posted queue (Call (joined_call classes state.forest.rows post.arguments join)) holds.0, each_posted (IsMeant state) queue (Call (joined_call classes state.forest.rows post.arguments join)) there holds.1))
+    state.queue state.desk.joins sound.whole.named.joins (sound.whole.queue, sound.whole.meant) in
+    record { whole = whole_with_queue state (reached_by classes state.forest.rows from post state.queue state.desk.joins) queue.0 queue.1 sound.whole; living = sound.living }
 
 pub keeps_sound : KeepsSound
-keeps_sound = record {
-  at_first = record { whole = whole_empty; living = λ index default within. absurd (omega arith) };
-  by_command = command_sound;
-  by_post = post_sound;
-}
+keeps_sound = record { at_first = empty_sound; by_command = command_sound; by_post = post_sound }

@@ -3,6 +3,7 @@ pub mod DyingLemmas
 pub mod WeightLemmas
 pub mod ConnectionLemmas
 pub mod QueueLemmas
+pub mod DeskLemmas
 pub mod WritingLemmas
 pub mod StepLemmas
 pub mod ActLemmas
@@ -32,3 +33,4 @@ pub mod PropertyLemmas
 pub mod ClassLemmas
 pub mod SignalLemmas
 pub mod EventLemmas
+pub mod SharingLemmas

@@ -18,16 +18,17 @@ use Rattle.event_queue.specs.Queue.{has_room}
 use Rattle.thread_model.specs.declared.line.Line.{Line}
 use Rattle.thread_model.specs.declared.line.Line.TheVariants.{Warning}
 use Rattle.std.specs.List.{list_any}
-use Rattle.thread_model.specs.declared.post.Join.{Join}
+use Rattle.publish_board.specs.declared.join.Join.{Join}
 use Rattle.thread_model.specs.declared.post.Post.{Post}
 use Rattle.thread_model.specs.Agenda.{lives, queued}
 use Rattle.thread_model.specs.declared.deed.Deed.{Deed}
 use Rattle.thread_model.specs.declared.deed.Deed.TheVariants as d
 use Rattle.thread_model.specs.Deeds.{deed_done, deed_refusal}
-use Rattle.thread_model.specs.Doing.{Doing, dying, first_taken, forgotten, gone, in_state, lost, posted, shot, told, turn_taken, untied, used_up, posting}
+use Rattle.thread_model.specs.Doing.{Doing, dying, first_taken, gone, in_state, lost, posted, shot, told, turn_taken, used_up, posting, severed}
 use Rattle.thread_model.specs.State.{without_connections}
 use Rattle.thread_model.specs.Writing.{Declared, Dynamic, Nothing, Removed, Writing, with_writing}
 use Rattle.thread_model.proofs.ConnectionLemmas.{allowed, or_none}
+use Rattle.thread_model.proofs.DeskLemmas.{fewer_pass}
 use Rattle.thread_model.proofs.LivingLemmas.{all_orphaned-living, changed-as_many, filter-fewer, filter-living, living_rows, marked-one, reparented-as_many}
 
 -- nothing that bounds the run has grown
@@ -88,14 +89,16 @@ shot_shrinks doing row =
     (λ single. record { turns = omega arith; taken = omega arith; living = omega arith; objects = omega arith; connections = kept CONNECTIONS (λ other. not (has_number row.number other)) doing.state.connections.rows; joins = λ test held. held })
     (λ lasting. same doing)
 
-pub untied_shrinks : (doing : Doing) (target : ℕ) → Shrinks doing (untied doing target)
-unfolding untied
-untied_shrinks doing target = record { turns = omega arith; taken = omega arith; living = omega arith; objects = omega arith; connections = kept CONNECTIONS (λ row. not (touches target row)) doing.state.connections.rows; joins = λ test held. held }
-
--- what becomes of the events leaves all of this as it is
-pub forgotten_shrinks : (doing : Doing) (target : ℕ) → Shrinks doing (forgotten doing target)
-unfolding forgotten
-forgotten_shrinks doing target = record { turns = omega arith; taken = omega arith; living = omega arith; objects = omega arith; connections = omega arith; joins = λ test held. held }
+pub severed_shrinks : (doing : Doing) (target : ℕ) → Shrinks doing (severed doing target)
+unfolding severed
+severed_shrinks doing target = record {
+  turns = omega arith;
+  taken = omega arith;
+  living = omega arith;
+  objects = omega arith;
+  connections = kept CONNECTIONS (λ row. not (touches target row)) doing.state.connections.rows;
+  joins = λ test held. fewer_pass test (λ join. not (join.object == target)) doing.state.desk.joins held;
+}
 
 pub posted_shrinks : (doing : Doing) (event : Event) → Shrinks doing (posted doing event)
 unfolding posted

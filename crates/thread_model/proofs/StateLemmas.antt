@@ -15,12 +15,15 @@ use Rattle.connection_list.proofs.WithoutLemmas.{IsSound-without}
 use Rattle.event_queue.specs.declared.event.Event.{Event}
 use Rattle.event_queue.specs.Queue as events
 use Rattle.event_queue.specs.Queue.{IsSound, Queue, dropped, object_of, posted, taken}
+use Rattle.publish_board.specs.Desk as board
+use Rattle.publish_board.specs.Desk.{Desk, without_object as withdrawn}
 use Rattle.property_store.specs.Store.{AreSound, Properties, properties_of}
 use Rattle.property_store.proofs.SoundLemmas.{objects, objects_added, objects_changed, objects_without, sound_added, sound_changed, sound_empty, sound_without}
-use Rattle.thread_model.specs.State.{IsMeant, IsTied, IsWhole, State, empty, fields_of, with_blocking, with_connection, with_event, with_lost, with_object, with_parent, with_properties, without_connections, without_events, without_first, without_object}
+use Rattle.thread_model.specs.State.{IsMeant, IsTied, IsWhole, OfDesk, State, empty, fields_of, with_blocking, with_connection, with_desk, with_event, with_lost, with_object, with_parent, with_properties, without_connections, without_events, without_first, without_object, without_rows_of}
 use Rattle.thread_model.specs.Writing.{Declared, Dynamic, Nothing, Removed, Writing, with_writing}
 use Rattle.thread_model.proofs.ConnectionLemmas.{Ends, IsAllowed, sound_connected, sound_empty as none_connected, tied_more, tied_same, tied_without}
 use Rattle.thread_model.proofs.QueueLemmas.{each_dropped, each_posted, each_taken, meant_more, meant_same, meant_without, sound_dropped, sound_lost, sound_none, sound_posted, sound_taken}
+use Rattle.thread_model.proofs.DeskLemmas.{desk_more, desk_same, desk_without, of_withdrawn, sound_bare, sound_withdrawn}
 use Rattle.thread_model.proofs.FitLemmas.{IsFit}
 
 pub whole_empty : IsWhole empty
@@ -32,6 +35,8 @@ whole_empty = record {
   ends = λ index default within. absurd (omega arith);
   queue = sound_none;
   meant = λ index default within. absurd (omega arith);
+  desk = sound_bare;
+  named = record { publications = λ index default within. absurd (omega arith); joins = λ index default within. absurd (omega arith) };
 }
 
 pub whole_with_object : (classes : List Class) (state : State) (parent : Option ℕ) (class : ℕ) → add_refusal state.forest parent ≡ None → IsWhole state → IsWhole (with_object classes state parent class)
@@ -43,6 +48,8 @@ whole_with_object classes state parent class allowed whole = record {
   ends = tied_more state (with_object classes state parent class) (state.forest.last_number + 1) (keeps_numbers.by_added state.forest parent class) state.connections.rows whole.ends;
   queue = whole.queue;
   meant = meant_more state (with_object classes state parent class) (state.forest.last_number + 1) (keeps_numbers.by_added state.forest parent class) state.queue.events whole.meant;
+  desk = whole.desk;
+  named = desk_more state (with_object classes state parent class) (state.forest.last_number + 1) (keeps_numbers.by_added state.forest parent class) state.desk whole.named;
 }
   where
     below : AllByRecursion (λ number. number < state.forest.last_number + 1) (objects state.store)
@@ -60,6 +67,8 @@ whole_with_parent state number parent allowed whole = record {
   ends = tied_same state (with_parent state number parent) (keeps_numbers.by_reparented state.forest number parent) state.connections.rows whole.ends;
   queue = whole.queue;
   meant = meant_same state (with_parent state number parent) (keeps_numbers.by_reparented state.forest number parent) state.queue.events whole.meant;
+  desk = whole.desk;
+  named = desk_same state (with_parent state number parent) (keeps_numbers.by_reparented state.forest number parent) state.desk whole.named;
 }
 
 pub whole_with_properties : (state : State) (number : ℕ) (change : Properties → Properties) → ((of : Properties) → (change of).object ≡ of.object)
@@ -72,6 +81,8 @@ whole_with_properties state number change same keeps whole = record {
   ends = tied_same state (with_properties state number change) refl state.connections.rows whole.ends;
   queue = whole.queue;
   meant = meant_same state (with_properties state number change) refl state.queue.events whole.meant;
+  desk = whole.desk;
+  named = desk_same state (with_properties state number change) refl state.desk whole.named;
 }
 
 -- what is written fits its object
@@ -90,6 +101,8 @@ whole_with_dying state number whole = record {
   ends = tied_same state (record state { forest = marked state.forest number }) (keeps_numbers.by_marked state.forest number) state.connections.rows whole.ends;
   queue = whole.queue;
   meant = meant_same state (record state { forest = marked state.forest number }) (keeps_numbers.by_marked state.forest number) state.queue.events whole.meant;
+  desk = whole.desk;
+  named = desk_same state (record state { forest = marked state.forest number }) (keeps_numbers.by_marked state.forest number) state.desk whole.named;
 }
 
 pub whole_with_blocking : (state : State) (number : ℕ) (on : Bool) → IsWhole state → IsWhole (with_blocking state number on)
@@ -101,11 +114,14 @@ whole_with_blocking state number on whole = record {
   ends = tied_same state (with_blocking state number on) (keeps_numbers.by_blocked state.forest number on) state.connections.rows whole.ends;
   queue = whole.queue;
   meant = meant_same state (with_blocking state number on) (keeps_numbers.by_blocked state.forest number on) state.queue.events whole.meant;
+  desk = whole.desk;
+  named = desk_same state (with_blocking state number on) (keeps_numbers.by_blocked state.forest number on) state.desk whole.named;
 }
 
--- an object may go that no connection has as an end, and no event names
-pub whole_without_object : (state : State) (number : ℕ) → Ends (λ end. (end == number) ≡ false) state.connections.rows → All (λ event. (object_of event == number) ≡ false) state.queue.events → IsWhole state → IsWhole (without_object state number)
-whole_without_object state number loose unnamed whole = record {
+-- an object may go that no connection has as an end, no event names, and no publication and no join
+pub whole_without_object : (state : State) (number : ℕ) → Ends (λ end. (end == number) ≡ false) state.connections.rows → All (λ event. (object_of event == number) ≡ false) state.queue.events
+    → OfDesk (λ other. (other == number) ≡ false) state.desk → IsWhole state → IsWhole (without_object state number)
+whole_without_object state number loose unnamed bare whole = record {
   forest = keeps_sound.by_removed state.forest number whole.forest;
   objects = objects_without state.store number ∙ ap (filter (λ key. not (key == number))) whole.objects ∙ sym (keeps_numbers.by_removed state.forest number);
   properties = sound_without state.store number whole.properties;
@@ -113,6 +129,8 @@ whole_without_object state number loose unnamed whole = record {
   ends = tied_without state (without_object state number) number (keeps_numbers.by_removed state.forest number) state.connections.rows loose whole.ends;
   queue = whole.queue;
   meant = meant_without state (without_object state number) number (keeps_numbers.by_removed state.forest number) state.queue.events unnamed whole.meant;
+  desk = whole.desk;
+  named = desk_without state (without_object state number) number (keeps_numbers.by_removed state.forest number) state.desk bare whole.named;
 }
 
 pub whole_with_connection : (state : State) (new : NewConnection) → IsAllowed state.connections → is_there state.forest.rows new.sender ≡ true → is_there state.forest.rows new.receiver ≡ true → IsWhole state → IsWhole (with_connection state new)
@@ -125,6 +143,8 @@ whole_with_connection state new allowed sender receiver whole = record {
       (tied_same state (with_connection state new) refl state.connections.rows whole.ends) (record { sender = sender; receiver = receiver });
   queue = whole.queue;
   meant = meant_same state (with_connection state new) refl state.queue.events whole.meant;
+  desk = whole.desk;
+  named = desk_same state (with_connection state new) refl state.desk whole.named;
 }
 
 pub whole_without_connections : (state : State) (test : Connection → Bool) → IsWhole state → IsWhole (without_connections state test)
@@ -136,6 +156,8 @@ whole_without_connections state test whole = record {
   ends = All-filter (λ row. not (test row)) (IsTied (without_connections state test)) state.connections.rows (tied_same state (without_connections state test) refl state.connections.rows whole.ends);
   queue = whole.queue;
   meant = meant_same state (without_connections state test) refl state.queue.events whole.meant;
+  desk = whole.desk;
+  named = desk_same state (without_connections state test) refl state.desk whole.named;
 }
 
 -- other events: each names an object that stands
@@ -151,6 +173,8 @@ whole_with_queue state queue sound meant whole = record {
   ends = tied_same state (with_queue state queue) refl state.connections.rows whole.ends;
   queue = sound;
   meant = meant_same state (with_queue state queue) refl queue.events meant;
+  desk = whole.desk;
+  named = desk_same state (with_queue state queue) refl state.desk whole.named;
 }
 
 pub whole_with_event : (state : State) (event : Event) → IsMeant state event → IsWhole state → IsWhole (with_event state event)
@@ -167,3 +191,21 @@ whole_without_first state whole =
 
 pub whole_with_lost : (state : State) → IsWhole state → IsWhole (with_lost state)
 whole_with_lost state whole = whole_with_queue state (events.with_lost state.queue) (sound_lost state.queue whole.queue) whole.meant whole
+
+-- another desk: each object that it names stands
+pub whole_with_desk : (state : State) (desk : Desk) → board.IsSound desk → OfDesk (λ number. is_there state.forest.rows number ≡ true) desk → IsWhole state → IsWhole (with_desk state desk)
+whole_with_desk state desk sound named whole = record {
+  forest = whole.forest;
+  objects = whole.objects;
+  properties = whole.properties;
+  connections = whole.connections;
+  ends = tied_same state (with_desk state desk) refl state.connections.rows whole.ends;
+  queue = whole.queue;
+  meant = meant_same state (with_desk state desk) refl state.queue.events whole.meant;
+  desk = sound;
+  named = desk_same state (with_desk state desk) refl desk named;
+}
+
+pub whole_without_rows_of : (state : State) (number : ℕ) → IsWhole state → IsWhole (without_rows_of state number)
+whole_without_rows_of state number whole =
+    whole_with_desk state (withdrawn number state.desk) (sound_withdrawn number state.desk whole.desk) (of_withdrawn (λ number. is_there state.forest.rows number ≡ true) state.desk whole.named number) whole

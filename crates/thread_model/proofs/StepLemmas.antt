@@ -27,7 +27,7 @@ use Rattle.thread_model.specs.Acts.{chosen}
 use Rattle.thread_model.specs.Arriving.{posts_of}
 use Rattle.thread_model.specs.Deeds.{deed_done}
 use Rattle.thread_model.specs.Agenda.{call_line, callee_called, called, calls_of, connection_of, emitted, event_items, functor_called, functor_line, functor_ran, is_held_back, lives, lives_below, method_called, queued, ran, spun, step, with_turn}
-use Rattle.thread_model.specs.Doing.{Doing, dying, first_taken, forgotten, gone, in_state, lost, posted, posting, shot, told, turn_taken, untied, used_up}
+use Rattle.thread_model.specs.Doing.{Doing, dying, first_taken, gone, in_state, lost, posted, posting, shot, told, turn_taken, used_up, severed}
 use Rattle.thread_model.specs.Items.{Act, Call, Cut, Delete, Emit, Gone, Item, Kin, Next, Reply, ReplySpun, Run, RunFunctor, Spin, Warn, puts}
 use Rattle.thread_model.specs.Functors.{functor_at}
 use Rattle.thread_model.specs.Methods.{Found, method_at}
@@ -53,8 +53,7 @@ pub record Holds (R : Doing → Doing → Type 0) : Type 0 where
   pub does : (doing : Doing) (deed : Deed) → R doing (deed_done doing deed)
   pub writes : (doing : Doing) (target : ℕ) (writing : Writing) → R doing (in_state doing (with_writing doing.state target writing))
   pub marks : (doing : Doing) (target : ℕ) → R doing (dying doing target)
-  pub unties : (doing : Doing) (target : ℕ) → R doing (untied doing target)
-  pub forgets : (doing : Doing) (target : ℕ) → R doing (forgotten doing target)
+  pub severs : (doing : Doing) (target : ℕ) → R doing (severed doing target)
   pub goes : (doing : Doing) (target : ℕ) → R doing (gone doing target)
 
 module _ (settings : Settings) (R : Doing → Doing → Type 0) (holds : Holds R) where
@@ -62,10 +61,10 @@ module _ (settings : Settings) (R : Doing → Doing → Type 0) (holds : Holds R
   abbrev To : Doing → Next → Type 0
   To doing next = R doing next.doing
 
-  emits : (target signal : ℕ) (args : List Value) (depth : ℕ) (doing : Doing) (found : Option Row) → To doing (option_map_or (emitted doing target signal args depth) found (puts [] doing))
+  emits : (target signal : ℕ) (args : List Value) (depth : ℕ) (doing : Doing) (found : Option Row) → To doing (option_map_or (emitted settings doing target signal args depth) found (puts [] doing))
   emits target signal args depth doing None = holds.same doing
   emits target signal args depth doing (Some row) =
-      let posts = posts_of doing.state.desk target signal args in
+      let posts = posts_of settings.classes doing.state target signal args in
       cond_both (is_held_back signal row) (puts [] doing) (if nat_le NESTED_SIGNALS depth then puts (Warn Limit (Some target) ∷ []) doing else puts (calls_of doing target signal args depth) (posting doing posts)) (To doing)
       (λ held. holds.same doing)
       (λ free. cond_both (nat_le NESTED_SIGNALS depth) (puts (Warn Limit (Some target) ∷ []) doing) (puts (calls_of doing target signal args depth) (posting doing posts)) (To doing) (λ deep. holds.same doing) (λ shallow. holds.publishes doing posts))
@@ -134,7 +133,7 @@ module _ (settings : Settings) (R : Doing → Doing → Type 0) (holds : Holds R
   step_holds (Warn code object) doing = holds.tells doing (line.Warning code object)
   step_holds (Delete target depth) doing =
       cond_both (lives doing target) (puts (Emit target DESTROYED [] depth ∷ Cut target depth ∷ Gone target depth ∷ []) (dying doing target)) (puts [] doing) (To doing) (λ living. holds.marks doing target) (λ absent. holds.same doing)
-  step_holds (Cut target depth) doing = holds.both doing (untied doing target) (forgotten (untied doing target) target) (holds.unties doing target) (holds.forgets (untied doing target) target)
+  step_holds (Cut target depth) doing = holds.severs doing target
   step_holds (Kin parent child depth) doing =
       cond_both (lives_below doing parent child) (puts (Delete child depth ∷ []) doing) (puts [] doing) (To doing) (λ living. holds.same doing) (λ other. holds.same doing)
   step_holds (Gone target depth) doing = holds.goes doing target

@@ -22,16 +22,17 @@ use Rattle.thread_model.specs.Agenda.{queued}
 use Rattle.thread_model.specs.declared.deed.Deed.{Deed}
 use Rattle.thread_model.specs.declared.deed.Deed.TheVariants as d
 use Rattle.thread_model.specs.Deeds.{deed_done, deed_refusal}
-use Rattle.thread_model.specs.Doing.{Doing, dying, first_taken, forgotten, gone, in_state, lost, posted, shot, told, turn_taken, untied, used_up, posting}
+use Rattle.thread_model.specs.Doing.{Doing, dying, first_taken, gone, in_state, lost, posted, shot, told, turn_taken, used_up, posting, severed}
 use Rattle.thread_model.specs.Items.{Cut, Gone, Item}
-use Rattle.thread_model.specs.State.{IsTied, IsWhole, State, without_connections}
+use Rattle.thread_model.specs.State.{IsTied, IsWhole, State, without_connections, without_events}
 use Rattle.thread_model.specs.Writing.{Declared, Dynamic, Nothing, Removed, Writing, with_writing}
 use Rattle.thread_model.specs.UnderWay.{IsBrokenInTime, IsForgottenInTime, IsUnderWay, is_gone, is_untied_first, lets_go, unties}
 use Rattle.thread_model.proofs.ConnectionLemmas.{OfEnds, allowed, or_none}
 use Rattle.thread_model.proofs.DyingLemmas.{Stands, each_blocked, each_marked, each_removed, each_reparented, of_row, stands_living}
 use Rattle.thread_model.proofs.QueueLemmas.{each_posted, each_taken, others_named}
+use Rattle.thread_model.proofs.DeskLemmas.{each_of, of_others}
 use Rattle.thread_model.proofs.FitLemmas.{IsFit}
-use Rattle.thread_model.proofs.StateLemmas.{whole_with_blocking, whole_with_connection, whole_with_dying, whole_with_event, whole_with_lost, whole_with_parent, whole_with_writing, whole_without_connections, whole_without_events, whole_without_first, whole_without_object}
+use Rattle.thread_model.proofs.StateLemmas.{whole_with_blocking, whole_with_connection, whole_with_dying, whole_with_event, whole_with_lost, whole_with_parent, whole_with_writing, whole_without_connections, whole_without_events, whole_without_first, whole_without_object, whole_without_rows_of}
 
 -- an object is dying exactly where an agenda is to let it go
 abbrev pub IsGoing : List Item → ℕ → Bool → Type 0
@@ -88,6 +89,7 @@ in_front items agenda state none under = record {
       (λ row is. list_any-append (lets_go row.number) items agenda ∙ ap (λ b. b || list_any (lets_go row.number) agenda) (none_goes row.number items none) ∙ is) state.forest.rows under.going;
   in_time = in_time agenda (items ++ agenda) (λ number. untied_behind number items agenda none) state.connections.rows under.in_time;
   forgotten = still_forgotten agenda (items ++ agenda) (λ number. untied_behind number items agenda none) state.queue.events under.forgotten;
+  withdrawn = each_of _ _ (λ number. untied_behind number items agenda none) state.desk under.withdrawn;
 }
 
 -- an item may be done that neither lets an object go nor breaks its connections
@@ -98,6 +100,7 @@ behind item agenda state stays ties under = record {
       (λ row is. ap (λ b. b || list_any (lets_go row.number) agenda) (sym (stays row.number)) ∙ is) state.forest.rows under.going;
   in_time = in_time (item ∷ agenda) agenda rest state.connections.rows under.in_time;
   forgotten = still_forgotten (item ∷ agenda) agenda rest state.queue.events under.forgotten;
+  withdrawn = each_of _ _ rest state.desk under.withdrawn;
 }
   where
     rest : (number : ℕ) → is_untied_first (item ∷ agenda) number ≡ true → is_untied_first agenda number ≡ true
@@ -127,6 +130,7 @@ module _ (agenda : List Item) (doing : Doing) (under : IsUnderWay agenda doing.s
     going = under.going;
     in_time = All-filter (λ row. not (test row)) (IsBrokenInTime agenda) doing.state.connections.rows under.in_time;
     forgotten = under.forgotten;
+    withdrawn = under.withdrawn;
   }
 
   pub shot_under : (row : Connection) → IsUnderWay agenda (shot doing row).state
@@ -145,6 +149,7 @@ module _ (agenda : List Item) (doing : Doing) (under : IsUnderWay agenda doing.s
     going = under.going;
     in_time = under.in_time;
     forgotten = each_posted (IsForgottenInTime agenda) doing.state.queue event untied under.forgotten;
+    withdrawn = under.withdrawn;
   }
 
   -- as for one that lives
@@ -155,7 +160,7 @@ module _ (agenda : List Item) (doing : Doing) (under : IsUnderWay agenda doing.s
 
   pub lost_under : IsUnderWay agenda (lost doing).state
   unfolding lost
-  lost_under = record { whole = whole_with_lost doing.state under.whole; going = under.going; in_time = under.in_time; forgotten = under.forgotten }
+  lost_under = record { whole = whole_with_lost doing.state under.whole; going = under.going; in_time = under.in_time; forgotten = under.forgotten; withdrawn = under.withdrawn }
 
   -- a connection that stands has a receiver for which a call may be posted, also when the connection is
   -- broken before
@@ -172,6 +177,7 @@ module _ (agenda : List Item) (doing : Doing) (under : IsUnderWay agenda doing.s
     going = under.going;
     in_time = under.in_time;
     forgotten = each_taken (IsForgottenInTime agenda) doing.state.queue under.forgotten;
+    withdrawn = under.withdrawn;
   }
 
   -- properties may be written, which leaves all else
@@ -179,9 +185,9 @@ module _ (agenda : List Item) (doing : Doing) (under : IsUnderWay agenda doing.s
   writing_under target writing fit = by writing (whole_with_writing doing.state target writing fit under.whole)
     where
       by : (writing : Writing) → IsWhole (with_writing doing.state target writing) → IsUnderWay agenda (with_writing doing.state target writing)
-      by (Declared number value) whole = record { whole = whole; going = under.going; in_time = under.in_time; forgotten = under.forgotten }
-      by (Dynamic name value) whole = record { whole = whole; going = under.going; in_time = under.in_time; forgotten = under.forgotten }
-      by (Removed name) whole = record { whole = whole; going = under.going; in_time = under.in_time; forgotten = under.forgotten }
+      by (Declared number value) whole = record { whole = whole; going = under.going; in_time = under.in_time; forgotten = under.forgotten; withdrawn = under.withdrawn }
+      by (Dynamic name value) whole = record { whole = whole; going = under.going; in_time = under.in_time; forgotten = under.forgotten; withdrawn = under.withdrawn }
+      by (Removed name) whole = record { whole = whole; going = under.going; in_time = under.in_time; forgotten = under.forgotten; withdrawn = under.withdrawn }
       by Nothing whole = under
 
   pub deed_under : (deed : Deed) → deed_refusal doing.state deed ≡ None → IsUnderWay agenda (deed_done doing deed).state
@@ -196,6 +202,7 @@ module _ (agenda : List Item) (doing : Doing) (under : IsUnderWay agenda doing.s
         going = under.going;
         in_time = All-push (IsBrokenInTime agenda) doing.state.connections.rows (numbered (doing.state.connections.last_number + 1) new) under.in_time (record { sender = staying new.sender one; receiver = staying new.receiver other });
         forgotten = under.forgotten;
+        withdrawn = under.withdrawn;
       }
   deed_under (d.Disconnect pattern) passed = without_under (matches pattern)
   deed_under (d.SetParent target parent) passed = record {
@@ -203,6 +210,7 @@ module _ (agenda : List Item) (doing : Doing) (under : IsUnderWay agenda doing.s
     going = each_reparented (IsGoing agenda) doing.state.forest target parent under.going;
     in_time = under.in_time;
     forgotten = under.forgotten;
+    withdrawn = under.withdrawn;
   }
   deed_under (d.DeleteLater target) passed = meant_under (event.Deletion target) (or_none (object_refusal doing.state.forest.rows target) _ passed).0
   deed_under (d.Block target on) passed = record {
@@ -210,6 +218,7 @@ module _ (agenda : List Item) (doing : Doing) (under : IsUnderWay agenda doing.s
     going = each_blocked (IsGoing agenda) doing.state.forest target on under.going;
     in_time = under.in_time;
     forgotten = under.forgotten;
+    withdrawn = under.withdrawn;
   }
 
   -- an object that begins to die has its Cut and then its Gone put in front
@@ -222,6 +231,7 @@ module _ (agenda : List Item) (doing : Doing) (under : IsUnderWay agenda doing.s
         (λ number dying other is. ap (λ b. b || list_any (lets_go number) agenda) (nat_eq_equiv.symm target number ∙ other) ∙ is) under.going;
     in_time = in_time agenda (Cut target depth ∷ Gone target depth ∷ agenda) first doing.state.connections.rows under.in_time;
     forgotten = still_forgotten agenda (Cut target depth ∷ Gone target depth ∷ agenda) first doing.state.queue.events under.forgotten;
+    withdrawn = each_of _ _ first doing.state.desk under.withdrawn;
   }
     where
       first : (number : ℕ) → is_untied_first agenda number ≡ true → ((target == number) || (not (target == number) && is_untied_first agenda number)) ≡ true
@@ -232,8 +242,8 @@ module _ (agenda : List Item) (doing : Doing) (under : IsUnderWay agenda doing.s
           by false = untied
 
 -- the connections that do not have an object at either end
-loose : (target : ℕ) (P : Connection → Type 0) (rows : List Connection) → All P rows → All (λ row. P row × (touches target row ≡ false)) (filter (λ row. not (touches target row)) rows)
-loose target P rows all = All-from_recursion (λ row. P row × (touches target row ≡ false)) _ (those rows (recursion_from_All P rows all))
+loose_rows : (target : ℕ) (P : Connection → Type 0) (rows : List Connection) → All P rows → All (λ row. P row × (touches target row ≡ false)) (filter (λ row. not (touches target row)) rows)
+loose_rows target P rows all = All-from_recursion (λ row. P row × (touches target row ≡ false)) _ (those rows (recursion_from_All P rows all))
   where
     those : (rows : List Connection) → AllByRecursion P rows → AllByRecursion (λ row. P row × (touches target row ≡ false)) (filter (λ row. not (touches target row)) rows)
     those [] all = tt
@@ -244,17 +254,20 @@ loose target P rows all = All-from_recursion (λ row. P row × (touches target r
         by true is later = later
         by false is later = ((all.0, is), later)
 
--- what is left when the connections of an object are broken and its events forgotten needs its Cut no
--- more
-pub cut_under : (target depth : ℕ) (agenda : List Item) (doing : Doing) → IsUnderWay (Cut target depth ∷ agenda) doing.state → IsUnderWay agenda (forgotten (untied doing target) target).state
-unfolding forgotten untied
-cut_under target depth agenda doing under = record {
-  whole = whole_without_events (without_connections doing.state (touches target)) target (whole_without_connections doing.state (touches target) under.whole);
-  going = under.going;
-  in_time = All-weaker (λ row. IsBrokenInTime (Cut target depth ∷ agenda) row × (touches target row ≡ false)) (IsBrokenInTime agenda) one _ (loose target (IsBrokenInTime (Cut target depth ∷ agenda)) doing.state.connections.rows under.in_time);
-  forgotten = All-weaker (λ event. IsForgottenInTime (Cut target depth ∷ agenda) event × ((object_of event == target) ≡ false)) (IsForgottenInTime agenda) (λ event held. other (object_of event) held.1 held.0) _
-      (others_named (IsForgottenInTime (Cut target depth ∷ agenda)) target doing.state.queue.events under.forgotten);
-}
+-- what is left when nothing ties an object to others needs its Cut no more
+pub cut_under : (target depth : ℕ) (agenda : List Item) (doing : Doing) → IsUnderWay (Cut target depth ∷ agenda) doing.state → IsUnderWay agenda (severed doing target).state
+unfolding severed
+cut_under target depth agenda doing under =
+    let loose = without_connections doing.state (touches target) in
+    let unnamed = without_events loose target in
+    record {
+      whole = whole_without_rows_of unnamed target (whole_without_events loose target (whole_without_connections doing.state (touches target) under.whole));
+      going = under.going;
+      in_time = All-weaker (λ row. IsBrokenInTime (Cut target depth ∷ agenda) row × (touches target row ≡ false)) (IsBrokenInTime agenda) one _ (loose_rows target (IsBrokenInTime (Cut target depth ∷ agenda)) doing.state.connections.rows under.in_time);
+      forgotten = All-weaker (λ event. IsForgottenInTime (Cut target depth ∷ agenda) event × ((object_of event == target) ≡ false)) (IsForgottenInTime agenda) (λ event held. other (object_of event) held.1 held.0) _
+          (others_named (IsForgottenInTime (Cut target depth ∷ agenda)) target doing.state.queue.events under.forgotten);
+      withdrawn = each_of _ _ (λ number held. other number held.1 held.0) _ (of_others (λ number. is_untied_first (Cut target depth ∷ agenda) number ≡ true) doing.state.desk target under.withdrawn);
+    }
   where
     other : (number : ℕ) → (number == target) ≡ false → is_untied_first (Cut target depth ∷ agenda) number ≡ true → is_untied_first agenda number ≡ true
     other number apart untied = ap (λ b. b || is_untied_first agenda number) (sym (nat_eq_equiv.symm target number ∙ apart)) ∙ untied
@@ -272,11 +285,13 @@ gone_under target depth agenda doing under = record {
   whole = whole_without_object doing.state target
       (All-weaker (IsBrokenInTime (Gone target depth ∷ agenda)) (OfEnds (λ end. (end == target) ≡ false)) (λ row broken. record { sender = (parts row.sender broken.sender).0; receiver = (parts row.receiver broken.receiver).0 }) doing.state.connections.rows under.in_time)
       (All-weaker (IsForgottenInTime (Gone target depth ∷ agenda)) (λ event. (object_of event == target) ≡ false) (λ event untied. (parts (object_of event) untied).0) doing.state.queue.events under.forgotten)
+      (each_of _ _ (λ number untied. (parts number untied).0) doing.state.desk under.withdrawn)
       under.whole;
   going = each_removed (IsGoing (Gone target depth ∷ agenda)) (IsGoing agenda) doing.state.forest target
       (λ number dying apart is. ap (λ b. b || list_any (lets_go number) agenda) (sym (nat_eq_equiv.symm target number ∙ apart)) ∙ is) under.going;
   in_time = in_time (Gone target depth ∷ agenda) agenda (λ number untied. (parts number untied).1) doing.state.connections.rows under.in_time;
   forgotten = still_forgotten (Gone target depth ∷ agenda) agenda (λ number untied. (parts number untied).1) doing.state.queue.events under.forgotten;
+  withdrawn = each_of _ _ (λ number untied. (parts number untied).1) doing.state.desk under.withdrawn;
 }
   where
     parts : (number : ℕ) → (not (target == number) && is_untied_first agenda number) ≡ true → ((number == target) ≡ false) × (is_untied_first agenda number ≡ true)

@@ -24,7 +24,7 @@ use Rattle.thread_model.specs.declared.line.Line.{Line}
 use Rattle.thread_model.specs.declared.line.Line.TheVariants as line
 use Rattle.thread_model.specs.Arriving.{posts_of}
 use Rattle.thread_model.specs.Acts.{act_refusal, acted, acts, chosen, warns_or}
-use Rattle.thread_model.specs.Doing.{Doing, dying, first_taken, forgotten, gone, lost, posted, posting, shot, told, turn_taken, untied, used_up}
+use Rattle.thread_model.specs.Doing.{Doing, dying, first_taken, gone, lost, posted, posting, severed, shot, told, turn_taken, used_up}
 use Rattle.thread_model.specs.Items.{Act, Call, Cut, Delete, Emit, Gone, Item, Kin, Next, Reply, ReplySpun, Run, RunFunctor, Spin, Warn, puts}
 use Rattle.thread_model.specs.Functors.{functor_at}
 use Rattle.thread_model.specs.Methods.{method_at}
@@ -59,11 +59,11 @@ is_held_back signal row = row.blocked && not (signal == DESTROYED)
 
 -- a signal that is sent is posted under each name that it is published by, and calls what is connected to
 -- it; held back it does neither, and nested too deep neither
-abbrev pub emitted : Doing → ℕ → ℕ → List Value → ℕ → Row → Next
-emitted doing target signal args depth row =
+abbrev pub emitted : Settings → Doing → ℕ → ℕ → List Value → ℕ → Row → Next
+emitted settings doing target signal args depth row =
     if is_held_back signal row then puts [] doing
     else (if nat_le NESTED_SIGNALS depth then puts (Warn Limit (Some target) ∷ []) doing
-    else puts (calls_of doing target signal args depth) (posting doing (posts_of doing.state.desk target signal args)))
+    else puts (calls_of doing target signal args depth) (posting doing (posts_of settings.classes doing.state target signal args)))
 
 -- where a turn is left it is taken, and else none of this is done
 abbrev pub with_turn : Doing → (Doing → Next) → Next
@@ -141,7 +141,7 @@ functor_ran doing target sender args depth functor = puts (acts (acts_of functor
 
 -- what an item comes to
 abbrev pub step : Settings → Item → Doing → Next
-step settings (Emit target signal args depth) doing = option_map_or (emitted doing target signal args depth) (row_of doing.state.forest.rows target) (puts [] doing)
+step settings (Emit target signal args depth) doing = option_map_or (emitted settings doing target signal args depth) (row_of doing.state.forest.rows target) (puts [] doing)
 step settings (Call number args depth) doing = option_map_or (λ connection. with_turn doing (called settings connection args depth)) (connection_of doing number) (puts [] doing)
 step settings (Run target method sender args depth) doing = option_map_or (ran doing target sender args depth) (method_at settings doing.state target method) (puts [] doing)
 step settings (RunFunctor target functor sender args depth) doing = option_map_or (functor_ran doing target sender args depth) (functor_at settings functor) (puts [] doing)
@@ -149,7 +149,7 @@ step settings (Act (effect plain) args self sender depth) doing = warns_or (act_
 step settings (Act (when test held failed) args self sender depth) doing = chosen (truth_evaluated doing.state self sender args test) held failed args self sender depth doing
 step settings (Warn code object) doing = puts [] (told doing (line.Warning code object))
 step settings (Delete target depth) doing = if lives doing target then puts (Emit target DESTROYED [] depth ∷ Cut target depth ∷ Gone target depth ∷ []) (dying doing target) else puts [] doing
-step settings (Cut target depth) doing = puts (kins doing target depth) (forgotten (untied doing target) target)
+step settings (Cut target depth) doing = puts (kins doing target depth) (severed doing target)
 step settings (Kin parent child depth) doing = if lives_below doing parent child then puts (Delete child depth ∷ []) doing else puts [] doing
 step settings (Gone target depth) doing = puts [] (gone doing target)
 step settings Spin doing = spun settings doing doing.state.queue.events

@@ -41,6 +41,16 @@ pub data Asked : Type 0 where
   Spin : Asked
   -- do a deed
   Do : (deed : Deed) → Asked
+  -- publish a signal of this object under a name
+  Publish : (target : ℕ) (signal name : List ℕ) → Asked
+  -- publish nothing under this name any more
+  Unpublish : (name : List ℕ) → Asked
+  -- let what a session publishes under a name, with parameters of these types, call a method of this object
+  Join : (from name : List ℕ) (types : List (List ℕ)) (target : ℕ) (method : List ℕ) → Asked
+  -- take the joins out that have these four
+  Leave : (from name : List ℕ) (target : ℕ) (method : List ℕ) → Asked
+  -- begin anew
+  Reset : Asked
   -- how much there is
   Status : Asked
 
@@ -61,6 +71,11 @@ asked (c.Disconnect sender signal receiver method) = Disconnect sender signal re
 asked (c.Invoke target method args mode) = Invoke target method (map view args) mode
 asked c.Spin = Spin
 asked (c.Do deed) = Do deed
+asked (c.Publish target signal name) = Publish target signal name
+asked (c.Unpublish name) = Unpublish name
+asked (c.Join from name types target method) = Join from name types target method
+asked (c.Leave from name target method) = Leave from name target method
+asked c.Reset = Reset
 asked c.Status = Status
 
 -- a command and the session that gives it

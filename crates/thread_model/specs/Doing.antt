@@ -3,14 +3,13 @@ use Rattle.std.specs.Prelude.{◌+◌, ◌-◌, ℕ, Bool, true, false, List, []
 use Rattle.refusals.specs.declared.code.Code.TheVariants.{TurnsUsedUp}
 use Rattle.object_tree.specs.Changes.{marked}
 use Rattle.connection_list.specs.declared.connection.Connection.{Connection}
-use Rattle.connection_list.specs.Ends.{touches}
 use Rattle.connection_list.specs.Rows.{has_number}
 use Rattle.event_queue.specs.declared.event.Event.{Event}
 use Rattle.thread_model.specs.declared.line.Line.{Line}
 use Rattle.thread_model.specs.declared.line.Line.TheVariants.{Warning}
 use Rattle.thread_model.specs.declared.post.Post.{Post}
 use Rattle.thread_model.specs.Settings.{Settings}
-use Rattle.thread_model.specs.State.{State, with_event, with_lost, without_connections, without_events, without_first, without_object}
+use Rattle.thread_model.specs.State.{State, with_event, with_lost, without_connections, without_first, without_object, without_ties}
 
 pub record Doing : Type 0 where
   pub state : State
@@ -52,13 +51,9 @@ used_up doing = if doing.spent then doing else record doing { spent = true; line
 unfoldable pub dying : Doing → ℕ → Doing
 dying doing target = in_state doing (record doing.state { forest = marked doing.state.forest target })
 
--- the connections that have an object at either end are broken
-unfoldable pub untied : Doing → ℕ → Doing
-untied doing target = in_state doing (without_connections doing.state (touches target))
-
--- the events that name an object are forgotten
-unfoldable pub forgotten : Doing → ℕ → Doing
-forgotten doing target = in_state doing (without_events doing.state target)
+-- nothing ties an object to others any more
+unfoldable pub severed : Doing → ℕ → Doing
+severed doing target = in_state doing (without_ties doing.state target)
 
 -- an event is posted
 unfoldable pub posted : Doing → Event → Doing

@@ -20,9 +20,11 @@ spins settings state = ended (run settings (Spin ∷ ReplySpun ∷ []) (begun se
 abbrev pub status : State → Status
 status state = record {
   connections = length state.connections.rows;
+  joins = length state.desk.joins;
   lost = state.queue.lost;
   mismatched = state.queue.mismatched;
   objects = length state.forest.rows;
+  publications = length state.desk.publications;
   queued = length state.queue.events;
 }
 

@@ -21,7 +21,7 @@ use Rattle.thread_model.specs.UnderWay.{IsUnderWay, is_gone}
 pub record KeepsSound : Type 0 where
   pub at_first : IsSound empty
   pub by_command : (settings : Settings) (self : List ℕ) (state : State) (asked : Asked) → IsSound state → IsSound (does settings self state asked).state
-  pub by_post : (state : State) (from : List ℕ) (post : Post) → IsSound state → IsSound (arrives state from post)
+  pub by_post : (classes : List Class) (state : State) (from : List ℕ) (post : Post) → IsSound state → IsSound (arrives classes state from post)
 
 -- while it does an agenda exactly those objects are dying that it is still to let go, and their
 -- connections are broken and their events forgotten before; so at the end no object is dying, no
@@ -37,7 +37,7 @@ pub record KeepsDeclared : Type 0 where
   pub at_first : (classes : List Class) → IsDeclared classes empty
   pub by_item : (settings : Settings) (item : Item) (doing : Doing) → IsDeclared settings.classes doing.state → IsDeclared settings.classes (step settings item doing).doing.state
   pub by_command : (settings : Settings) (self : List ℕ) (state : State) (asked : Asked) → IsSound state → IsDeclared settings.classes state → IsDeclared settings.classes (does settings self state asked).state
-  pub by_post : (classes : List Class) (state : State) (from : List ℕ) (post : Post) → IsDeclared classes state → IsDeclared classes (arrives state from post)
+  pub by_post : (classes : List Class) (state : State) (from : List ℕ) (post : Post) → IsDeclared classes state → IsDeclared classes (arrives classes state from post)
 
 -- an action over the arguments of its slot does what it does with them put in, over none
 abbrev pub ActsInPlace : Type 0

@@ -22,6 +22,7 @@ pub mod Trees
 pub mod Properties
 pub mod Signals
 pub mod Events
+pub mod Sharing
 pub mod Refusing
 pub mod Thread
 pub mod Machine

@@ -9,7 +9,7 @@ use Rattle.thread_model.specs.Thread.{Settings, does, arrives, joins_name, accep
 
 -- what the sessions of a server with these settings do
 abbrev pub machine : Settings → Machine (List ℕ) State Asked Line Post
-machine settings = record { same = bytes_eq; does = does settings; arrives = arrives; names = joins_name; accepts = accepts_join }
+machine settings = record { same = bytes_eq; does = does settings; arrives = arrives settings.classes; names = joins_name; accepts = accepts_join settings }
 
 abbrev pub IsMetadLawful : Type 0
 IsMetadLawful = (settings : Settings) → IsLawful (machine settings)

@@ -6,8 +6,10 @@ use Rattle.refusals.specs.declared.code.Code.TheVariants.{BadSignature, NoSuchMe
 use Rattle.signature_core.specs.declared.kind.Kind.{Kind}
 use Rattle.signature_core.specs.declared.signature.Signature.{Signature}
 use Rattle.signature_core.specs.Reading.{signature_of}
+use Rattle.class_table.specs.declared.class.Class.{Class}
 use Rattle.class_table.specs.declared.class.Method.{Method}
 use Rattle.class_table.specs.Lookup.{method_number, methods}
+use Rattle.object_tree.specs.declared.row.Row.{Row}
 use Rattle.object_tree.specs.Rows.{row_of}
 use Rattle.thread_model.specs.Settings.{Settings}
 use Rattle.thread_model.specs.State.{State}
@@ -21,9 +23,13 @@ abbrev pub ◌>>=◌ : {A B : Type 0} → Found A → (A → Found B) → Found 
 (Ok value) >>= f = f value
 (Err code) >>= f = Err code
 
--- the methods that an object has from its class, by index
+-- the methods that one of these objects has from its class, by index
+abbrev pub methods_by : List Class → List Row → ℕ → List Method
+methods_by classes rows object = option_map_or (λ row. methods classes row.class) (row_of rows object) []
+
+-- and those of an object of a session
 abbrev pub methods_of : Settings → State → ℕ → List Method
-methods_of settings state object = option_map_or (λ row. methods settings.classes row.class) (row_of state.forest.rows object) []
+methods_of settings state object = methods_by settings.classes state.forest.rows object
 
 -- the method of an object with this index
 abbrev pub method_at : Settings → State → ℕ → ℕ → Option Method

@@ -10,11 +10,12 @@ use Rattle.class_table.specs.Lookup.{index_of}
 use Rattle.connection_types.specs.declared.connection_type.ConnectionType.{ConnectionType}
 use Rattle.object_tree.specs.Refusing.{add_refusal, parent_refusal}
 use Rattle.thread_model.specs.Absence.{absence, named_absence}
-use Rattle.thread_model.specs.Asked.{Asked, New, Delete, Children, Find, Set, Get, DynamicNames, Meta, Connect, ConnectFunctor, DisconnectOne, Disconnect, Invoke, Spin, Do, Status}
+use Rattle.thread_model.specs.Asked.{Asked, New, Delete, Children, Find, Set, Get, DynamicNames, Meta, Connect, ConnectFunctor, DisconnectOne, Disconnect, Invoke, Spin, Do, Status, Publish, Unpublish, Join, Leave, Reset}
 use Rattle.thread_model.specs.Deeds.{deed_refusal, found_refusal}
 use Rattle.thread_model.specs.Methods.{signature_in}
 use Rattle.thread_model.specs.Posting.{is_queued, post_refusal}
 use Rattle.thread_model.specs.Settings.{Settings}
+use Rattle.thread_model.specs.Sharing.{asked_join, asked_listener, asked_publication, joining_refusal, publication_refusal}
 use Rattle.thread_model.specs.Signals.{asked_connect, asked_connect_functor, asked_disconnect, asked_method, asked_values}
 use Rattle.thread_model.specs.State.{State}
 use Rattle.thread_model.specs.Writing.{asked_writing}
@@ -64,3 +65,8 @@ refusal settings self state (Invoke target method args mode) =
 refusal settings self state Spin = None
 refusal settings self state (Do deed) = deed_refusal state deed
 refusal settings self state Status = None
+refusal settings self state (Publish target signal name) = publication_refusal state (asked_publication settings state target signal name)
+refusal settings self state (Unpublish name) = None
+refusal settings self state (Join from name types target method) = joining_refusal settings self state (asked_join settings state from name types target method)
+refusal settings self state (Leave from name target method) = result_err (asked_listener settings state target method)
+refusal settings self state Reset = None

@@ -7,6 +7,7 @@ use Rattle.class_table.specs.declared.class.Property.{Property}
 use Rattle.class_table.specs.Lookup.{properties}
 use Rattle.connection_list.specs.declared.connection.Connection.{Connection}
 use Rattle.connection_list.specs.declared.connection.NewConnection.{NewConnection}
+use Rattle.connection_list.specs.Ends.{touches}
 use Rattle.connection_list.specs.Rows as list
 use Rattle.connection_list.specs.Rows.{Rows, connected, no_rows, without}
 use Rattle.event_queue.specs.declared.event.Event.{Event}
@@ -21,10 +22,11 @@ use Rattle.object_tree.specs.Changes.{added, reparented, removed, with_blocked}
 use Rattle.property_store.specs.declared.field.Field.{Field}
 use Rattle.property_store.specs.Store as stored
 use Rattle.property_store.specs.Store.{Properties, Store, changed, properties_of, value_at}
+use Rattle.publish_board.specs.Desk as board
+use Rattle.publish_board.specs.Desk.{Desk, no_desk, without_object as withdrawn}
 use Rattle.variant_value.specs.declared.value.Value.{Value}
 use Rattle.variant_value.specs.declared.value.Value.TheVariants as v
 use Rattle.thread_model.specs.declared.call.TheConstants.{OBJECT_NAME}
-use Rattle.thread_model.specs.declared.post.Desk.{Desk}
 
 pub record State : Type 0 where
   -- the objects in their trees
@@ -37,10 +39,6 @@ pub record State : Type 0 where
   pub queue : Queue
   -- what it publishes and joins
   pub desk : Desk
-
--- nothing is published or joined
-abbrev pub no_desk : Desk
-no_desk = record { publications = []; joins = [] }
 
 -- the state of a session that has had no command
 abbrev pub empty : State
@@ -111,6 +109,24 @@ with_call state call = if has_room state.queue then with_event state (Call call)
 abbrev pub with_blocking : State → ℕ → Bool → State
 with_blocking state number on = record state { forest = with_blocked state.forest number on }
 
+-- the state with another desk
+abbrev pub with_desk : State → Desk → State
+with_desk state desk = record state { desk = desk }
+
+-- the state without what an object publishes, and without the joins that call it
+abbrev pub without_rows_of : State → ℕ → State
+without_rows_of state number = with_desk state (withdrawn number state.desk)
+
+-- the state where nothing ties an object to others: without the connections that have it at either end, the
+-- events that name it, what it publishes and the joins that call it
+abbrev pub without_ties : State → ℕ → State
+without_ties state number = without_rows_of (without_events (without_connections state (touches number)) number) number
+
+-- something holds of each object that publishes something, and of each that a join calls
+pub record OfDesk (P : ℕ → Type 0) (desk : Desk) : Type 0 where
+  pub publications : All (λ row. P row.object) desk.publications
+  pub joins : All (λ join. P join.object) desk.joins
+
 -- the object that an event names stands
 abbrev pub IsMeant : State → Event → Type 0
 IsMeant state event = IsTrue (is_there state.forest.rows (object_of event))
@@ -135,6 +151,10 @@ pub record IsWhole (state : State) : Type 0 where
   pub queue : events.IsSound state.queue
   -- no event names an object that is gone
   pub meant : All (IsMeant state) state.queue.events
+  -- there are not too many publications and joins
+  pub desk : board.IsSound state.desk
+  -- and none of an object that is gone
+  pub named : OfDesk (λ number. IsTrue (is_there state.forest.rows number)) state.desk
 
 -- each object has the properties that its class declares
 abbrev pub IsDeclared : List Class → State → Type 0

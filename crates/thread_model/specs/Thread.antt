@@ -1,19 +1,22 @@
 -- What a session does. The rules are those of Qt's object model in this server's profile; codes and
 -- limits are its own.
-use Rattle.std.specs.Prelude.{ℕ, Bool, false, List, Ok, [], ◌∷◌, bytes_eq}
-use Rattle.std.specs.List.{list_any}
+use Rattle.std.specs.Prelude.{ℕ, Bool, true, false, ◌&&◌, List, Ok, [], ◌∷◌, bytes_eq, is_none}
 use Rattle.isolation.specs.Machine.{Effect}
+use Rattle.class_table.specs.declared.class.Class.{Class}
+use Rattle.publish_board.specs.Desk.{names_session}
+use Rattle.thread_model.specs.declared.line.Answer.TheVariants.{Truth}
 use Rattle.thread_model.specs.declared.line.Line.{Line}
 use Rattle.thread_model.specs.declared.post.Post.{Post}
-use Rattle.thread_model.specs.Asked.{Asked, New, Delete, Children, Find, Set, Get, DynamicNames, Meta, Connect, ConnectFunctor, DisconnectOne, Disconnect, Invoke, Spin, Do, Status}
+use Rattle.thread_model.specs.Asked.{Asked, New, Delete, Children, Find, Set, Get, DynamicNames, Meta, Connect, ConnectFunctor, DisconnectOne, Disconnect, Invoke, Spin, Do, Status, Publish, Unpublish, Join, Leave, Reset}
 use Rattle.thread_model.specs.Arriving.{reached_by}
 use Rattle.thread_model.specs.Classes.{describes}
-use Rattle.thread_model.specs.Effects.{unless}
+use Rattle.thread_model.specs.Effects.{replies, unless}
 use Rattle.thread_model.specs.Events.{counts, spins}
 use Rattle.thread_model.specs.Properties.{gets, names, sets}
 use Rattle.thread_model.specs.Refusing.{refusal}
 use Rattle.thread_model.specs.Signals.{asked_connect, asked_connect_functor, asked_disconnect, asked_method, disconnects_one, does_found, invokes}
-use Rattle.thread_model.specs.State.{State}
+use Rattle.thread_model.specs.Sharing.{asked_join, asked_listener, asked_publication, joins_found, leaves, publishes_found, unpublishes}
+use Rattle.thread_model.specs.State.{State, empty}
 use Rattle.thread_model.specs.Trees.{deletes, finds, lists, makes}
 use Rattle.thread_model.specs.Writing.{asked_writing}
 pub use Rattle.thread_model.specs.Settings.{Settings}
@@ -36,24 +39,30 @@ performs settings self state (Invoke target method args mode) = invokes settings
 performs settings self state Spin = spins settings state
 performs settings self state (Do deed) = does_found state (Ok deed)
 performs settings self state Status = counts state
+performs settings self state (Publish target signal name) = publishes_found state (asked_publication settings state target signal name)
+performs settings self state (Unpublish name) = unpublishes state name
+performs settings self state (Join from name types target method) = joins_found state (asked_join settings state from name types target method)
+performs settings self state (Leave from name target method) = leaves state from name target (asked_listener settings state target method)
+performs settings self state Reset = replies empty (Truth true)
 
 -- what a command does
 unfoldable pub does : Settings → List ℕ → State → Asked → Effect State Line Post
 does settings self state asked = unless (refusal settings self state asked) state (performs settings self state asked)
 
 -- the state after a post of the named session
-unfoldable pub arrives : State → List ℕ → Post → State
-arrives state from post = record state { queue = reached_by from post state.forest.rows state.queue state.desk.joins }
+unfoldable pub arrives : List Class → State → List ℕ → Post → State
+arrives classes state from post = record state { queue = reached_by classes state.forest.rows from post state.queue state.desk.joins }
 
 -- the state after posts of the named session, one after another
-abbrev pub arrive_all : State → List ℕ → List Post → State
-arrive_all state from [] = state
-arrive_all state from (post ∷ posts) = arrive_all (arrives state from post) from posts
+abbrev pub arrive_all : List Class → State → List ℕ → List Post → State
+arrive_all classes state from [] = state
+arrive_all classes state from (post ∷ posts) = arrive_all classes (arrives classes state from post) from posts
 
 -- does a join that stands name this session
 unfoldable pub joins_name : State → List ℕ → Bool
-joins_name state from = list_any (λ join. bytes_eq join.from from) state.desk.joins
+joins_name state from = names_session from state.desk
 
 -- is a command accepted as a join of this session
-unfoldable pub accepts_join : List ℕ → State → Asked → List ℕ → Bool
-accepts_join self state command name = false
+unfoldable pub accepts_join : Settings → List ℕ → State → Asked → List ℕ → Bool
+accepts_join settings self state (Join from name types target method) other = is_none (refusal settings self state (Join from name types target method)) && bytes_eq from other
+accepts_join settings self state asked other = false

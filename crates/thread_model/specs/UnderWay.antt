@@ -5,14 +5,14 @@ use Rattle.connection_list.specs.declared.connection.Connection.{Connection}
 use Rattle.event_queue.specs.declared.event.Event.{Event}
 use Rattle.event_queue.specs.Queue.{object_of}
 use Rattle.thread_model.specs.Items.{Cut, Gone, Item}
-use Rattle.thread_model.specs.State.{IsWhole, State}
+use Rattle.thread_model.specs.State.{IsWhole, OfDesk, State}
 
 -- does an item let this object go
 abbrev pub lets_go : ℕ → Item → Bool
 lets_go number (Gone target depth) = target == number
 lets_go number _ = false
 
--- does an item break the connections of this object, and forget its events
+-- does an item break the connections of this object, forget its events, and withdraw its publications and joins
 abbrev pub unties : ℕ → Item → Bool
 unties number (Cut target depth) = target == number
 unties number _ = false
@@ -41,6 +41,8 @@ pub record IsUnderWay (agenda : List Item) (state : State) : Type 0 where
   pub whole : IsWhole state
   -- exactly those objects are dying that are still to be let go
   pub going : All (λ row. list_any (lets_go row.number) agenda ≡ row.dying) state.forest.rows
-  -- no object is let go before its connections are broken and its events forgotten
+  -- no object is let go before its connections are broken, its events forgotten, and its publications and
+  -- joins withdrawn
   pub in_time : All (IsBrokenInTime agenda) state.connections.rows
   pub forgotten : All (IsForgottenInTime agenda) state.queue.events
+  pub withdrawn : OfDesk (λ number. IsTrue (is_untied_first agenda number)) state.desk

@@ -99,6 +99,35 @@ pub enum Command {
     Spin,
     /// Does a deed, whose objects it names by their numbers, and replies what that answers.
     Do(Deed),
+    /// Publishes a signal of an object under a name: each time it is sent, every other session gets it that
+    /// has joined this name.
+    Publish {
+        object: u32,
+        signal: Text,
+        name: Text,
+    },
+    /// Publishes nothing under this name any more, and replies whether something was.
+    Unpublish {
+        name: Text,
+    },
+    /// Lets what the session `from` publishes under a name call a method of an object, by an event of this
+    /// session, whether it publishes anything yet or not. The types are those of the signal's parameters.
+    Join {
+        from: Text,
+        name: Text,
+        types: Items<Text>,
+        object: u32,
+        method: Text,
+    },
+    /// Takes the joins out that were made with these four, and replies whether there was one.
+    Leave {
+        from: Text,
+        name: Text,
+        object: u32,
+        method: Text,
+    },
+    /// Puts the session back to where it was before its first command, also where it has failed.
+    Reset,
     /// Replies how much there is in the session.
     Status,
 }

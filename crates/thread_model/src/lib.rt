@@ -21,7 +21,7 @@ pub use command::{Command, Tagged};
 pub use deed::Deed;
 pub use line::{Answer, Line, Spin, Status};
 pub use meta::MetaObject;
-pub use post::{Desk, Join, Post, Publication};
+pub use post::Post;
 
 /// The machine of metad's sessions keeps the laws under which the theory of isolated sessions holds:
 /// names are told apart, a post that no join names is passed over, and only an accepted join adds a

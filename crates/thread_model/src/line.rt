@@ -42,9 +42,11 @@ pub struct Spin {
 #[derive(Clone, Copy)]
 pub struct Status {
     pub connections: u32,
+    pub joins: u32,
     pub lost: u64,
     pub mismatched: u64,
     pub objects: u32,
+    pub publications: u32,
     /// How many events are in the queue.
     pub queued: u32,
 }

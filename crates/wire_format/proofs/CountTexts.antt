@@ -13,11 +13,11 @@ pub four_behind : (a b c d e f k1 v1 k2 v2 k3 v3 k4 v4 : List ℕ)
     → f ≡ a ++ (k1 ++ (v1 ++ (k2 ++ (v2 ++ (k3 ++ (v3 ++ (k4 ++ (v4 ++ 125 ∷ []))))))))
 four_behind a b c d e f k1 v1 k2 v2 k3 v3 k4 v4 h i j k l = rw (l, k, j, i, h) (simp append_assoc)
 
--- five of them
-pub five_behind : (a b c d e f g k1 v1 k2 v2 k3 v3 k4 v4 k5 v5 : List ℕ)
-    → b ≡ a ++ (k1 ++ v1) → c ≡ b ++ (k2 ++ v2) → d ≡ c ++ (k3 ++ v3) → e ≡ d ++ (k4 ++ v4) → f ≡ e ++ (k5 ++ v5) → g ≡ f ++ 125 ∷ []
-    → g ≡ a ++ (k1 ++ (v1 ++ (k2 ++ (v2 ++ (k3 ++ (v3 ++ (k4 ++ (v4 ++ (k5 ++ (v5 ++ 125 ∷ []))))))))))
-five_behind a b c d e f g k1 v1 k2 v2 k3 v3 k4 v4 k5 v5 h i j k l m = rw (m, l, k, j, i, h) (simp append_assoc)
+-- seven of them
+pub seven_behind : (a b c d e f g h i k1 v1 k2 v2 k3 v3 k4 v4 k5 v5 k6 v6 k7 v7 : List ℕ)
+    → b ≡ a ++ (k1 ++ v1) → c ≡ b ++ (k2 ++ v2) → d ≡ c ++ (k3 ++ v3) → e ≡ d ++ (k4 ++ v4) → f ≡ e ++ (k5 ++ v5) → g ≡ f ++ (k6 ++ v6) → h ≡ g ++ (k7 ++ v7) → i ≡ h ++ 125 ∷ []
+    → i ≡ a ++ (k1 ++ (v1 ++ (k2 ++ (v2 ++ (k3 ++ (v3 ++ (k4 ++ (v4 ++ (k5 ++ (v5 ++ (k6 ++ (v6 ++ (k7 ++ (v7 ++ 125 ∷ []))))))))))))))
+seven_behind a b c d e f g h i k1 v1 k2 v2 k3 v3 k4 v4 k5 v5 k6 v6 k7 v7 l m n o p q r t = rw (t, r, q, p, o, n, m, l) (simp append_assoc)
 
 pub spin_text : (spin : Spin) (events left : ℕ) → events ≡ spin.events → left ≡ spin.left →
     codes "{\"events\":" ++ (compact_text (json_of_number events) ++ (codes ",\"left\":" ++ (compact_text (json_of_number left)
@@ -26,12 +26,14 @@ pub spin_text : (spin : Spin) (events left : ℕ) → events ≡ spin.events →
 unfolding serde_json_on_literals
 spin_text spin events left e f = rw (e, f) refl
 
-pub status_text : (status : Status) (connections objects queued : ℕ) → connections ≡ status.connections → objects ≡ status.objects → queued ≡ status.queued →
+pub status_text : (status : Status) (connections joins objects publications queued : ℕ) → connections ≡ status.connections → joins ≡ status.joins → objects ≡ status.objects → publications ≡ status.publications → queued ≡ status.queued →
     codes "{\"bindings\":0,\"connections\":" ++ (compact_text (json_of_number connections)
-    ++ (codes ",\"group\":0,\"joins\":0,\"lost\":" ++ (compact_text (json_of_number status.lost)
+    ++ (codes ",\"group\":0,\"joins\":" ++ (compact_text (json_of_number joins)
+    ++ (codes ",\"lost\":" ++ (compact_text (json_of_number status.lost)
     ++ (codes ",\"mismatched\":" ++ (compact_text (json_of_number status.mismatched)
     ++ (codes ",\"objects\":" ++ (compact_text (json_of_number objects)
-    ++ (codes ",\"publications\":0,\"queued\":" ++ (compact_text (json_of_number queued) ++ 125 ∷ [])))))))))
+    ++ (codes ",\"publications\":" ++ (compact_text (json_of_number publications)
+    ++ (codes ",\"queued\":" ++ (compact_text (json_of_number queued) ++ 125 ∷ [])))))))))))))
     ≡ compact_text (json_of_status status)
 unfolding serde_json_on_literals digits
-status_text status connections objects queued e f g = rw (e, f, g) refl
+status_text status connections joins objects publications queued e f g h i = rw (e, f, g, h, i) refl

@@ -16,9 +16,9 @@ pub list_any_map : {A B : Type 0} (test : B → Bool) (seen : A → B) (xs : Lis
 list_any_map test seen [] = refl
 list_any_map test seen (x ∷ xs) = ap (λ rest. test (seen x) || rest) (list_any_map test seen xs)
 
--- what is held at some keys, in front of what is held at others
-abbrev pub in_front : List Held → Option (List Held) → Option (List Held)
-in_front first rest = option_map (λ held. first ++ held) rest
+-- what is read first, as what is held at some keys, in front of what is read next
+abbrev pub in_front : {A : Type 0} → List A → Option (List A) → Option (List A)
+in_front first rest = option_map (λ next. first ++ next) rest
 
 seen_behind : (all : List HeldInCode) (held : HeldInCode) → map held_seen (all ++ held ∷ []) ≡ map held_seen all ++ held_seen held ∷ []
 seen_behind [] held = refl

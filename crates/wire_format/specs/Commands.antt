@@ -5,7 +5,7 @@ use Rattle.serde_json.specs.Data.{Data}
 use Rattle.json_reading.specs.Fields.{◌>>=◌, text_at}
 use Rattle.thread_model.specs.Asked.{Asked}
 use Rattle.wire_format.specs.declared.commands.Word.{Word}
-use Rattle.wire_format.specs.declared.commands.Word.TheVariants.{New, Delete, SetParent, Children, Find, Set, Get, DynamicNames, Meta, Connect, ConnectFunctor, Disconnect, Invoke, Spin, DeleteLater, Block, Status}
+use Rattle.wire_format.specs.declared.commands.Word.TheVariants.{New, Delete, SetParent, Children, Find, Set, Get, DynamicNames, Meta, Connect, ConnectFunctor, Disconnect, Invoke, Spin, DeleteLater, Block, Status, Publish, Unpublish, Join, Leave, Reset}
 use Rattle.wire_format.specs.Form.{Form}
 use Rattle.wire_format.specs.Held.{held_by}
 use Rattle.wire_format.specs.Trees as trees
@@ -13,6 +13,7 @@ use Rattle.wire_format.specs.Properties as properties
 use Rattle.wire_format.specs.Classes as classes
 use Rattle.wire_format.specs.Signals as signals
 use Rattle.wire_format.specs.Events as events
+use Rattle.wire_format.specs.Sharing as sharing
 
 abbrev pub form_of : Word → Form
 form_of New = trees.new
@@ -32,9 +33,14 @@ form_of Spin = events.spin
 form_of DeleteLater = events.delete_later
 form_of Block = events.block
 form_of Status = events.status
+form_of Publish = sharing.publish
+form_of Unpublish = sharing.unpublish
+form_of Join = sharing.join
+form_of Leave = sharing.leave
+form_of Reset = sharing.reset
 
 abbrev pub all_words : List Word
-all_words = New ∷ Delete ∷ SetParent ∷ Children ∷ Find ∷ Set ∷ Get ∷ DynamicNames ∷ Meta ∷ Connect ∷ ConnectFunctor ∷ Disconnect ∷ Invoke ∷ Spin ∷ DeleteLater ∷ Block ∷ Status ∷ []
+all_words = New ∷ Delete ∷ SetParent ∷ Children ∷ Find ∷ Set ∷ Get ∷ DynamicNames ∷ Meta ∷ Connect ∷ ConnectFunctor ∷ Disconnect ∷ Invoke ∷ Spin ∷ DeleteLater ∷ Block ∷ Status ∷ Publish ∷ Unpublish ∷ Join ∷ Leave ∷ Reset ∷ []
 
 -- the command of this name
 abbrev pub word_named : List ℕ → Option Word

@@ -6,6 +6,7 @@ pub mod Properties
 pub mod Classes
 pub mod Signals
 pub mod Events
+pub mod Sharing
 pub mod Commands
 pub mod Command
 pub mod Input

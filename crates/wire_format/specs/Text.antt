@@ -51,17 +51,17 @@ json_of_spin spin =
     member (codes "lost") (json_of_number spin.lost) (
     member (codes "mismatched") (json_of_number spin.mismatched) no_members))))
 
--- how much there is in a session, in JSON; of bindings, groups, joins and publications there are none yet
+-- how much there is in a session, in JSON; of bindings and groups there are none yet
 abbrev pub json_of_status : Status → Data
 json_of_status status =
     object (member (codes "bindings") (json_of_number 0) (
     member (codes "connections") (json_of_number status.connections) (
     member (codes "group") (json_of_number 0) (
-    member (codes "joins") (json_of_number 0) (
+    member (codes "joins") (json_of_number status.joins) (
     member (codes "lost") (json_of_number status.lost) (
     member (codes "mismatched") (json_of_number status.mismatched) (
     member (codes "objects") (json_of_number status.objects) (
-    member (codes "publications") (json_of_number 0) (
+    member (codes "publications") (json_of_number status.publications) (
     member (codes "queued") (json_of_number status.queued) no_members)))))))))
 
 -- an answer in JSON

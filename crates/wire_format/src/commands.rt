@@ -16,6 +16,9 @@ use crate::events::{
 use crate::held::{Held, held_by};
 use crate::keys::{Key, MOST_KEYS};
 use crate::properties::{DYNAMIC_NAMES, GET, SET, dynamic_names_of, get_of, set_of};
+use crate::sharing::{
+    JOIN, LEAVE, PUBLISH, RESET, UNPUBLISH, join_of, leave_of, publish_of, reset_of, unpublish_of,
+};
 use crate::signals::{
     CONNECT, CONNECT_FUNCTOR, DISCONNECT, INVOKE, connect_functor_of, connect_of, disconnect_of,
     invoke_of,
@@ -47,6 +50,11 @@ pub enum Word {
     DeleteLater,
     Block,
     Status,
+    Publish,
+    Unpublish,
+    Join,
+    Leave,
+    Reset,
 }
 
 fn word_named(name: &str) -> Option<Word>
@@ -70,6 +78,11 @@ fn word_named(name: &str) -> Option<Word>
         "deleteLater" => Some(Word::DeleteLater),
         "block" => Some(Word::Block),
         "status" => Some(Word::Status),
+        "publish" => Some(Word::Publish),
+        "unpublish" => Some(Word::Unpublish),
+        "join" => Some(Word::Join),
+        "leave" => Some(Word::Leave),
+        "reset" => Some(Word::Reset),
         _ => None,
     }
 }
@@ -97,6 +110,11 @@ fn keys_of(word: Word) -> &'static [Key]
         Word::DeleteLater => &DELETE_LATER,
         Word::Block => &BLOCK,
         Word::Status => &STATUS,
+        Word::Publish => &PUBLISH,
+        Word::Unpublish => &UNPUBLISH,
+        Word::Join => &JOIN,
+        Word::Leave => &LEAVE,
+        Word::Reset => &RESET,
     }
 }
 
@@ -126,6 +144,11 @@ fn asked_with(
         Word::DeleteLater => Ok(delete_later_of(held)),
         Word::Block => Ok(block_of(held)),
         Word::Status => Ok(status_of(held)),
+        Word::Publish => publish_of(alloc, held),
+        Word::Unpublish => unpublish_of(alloc, held),
+        Word::Join => join_of(alloc, held),
+        Word::Leave => leave_of(alloc, held),
+        Word::Reset => Ok(reset_of(held)),
     }
 }
 

@@ -6,7 +6,7 @@ pub(crate) const MOST_KEYS: usize = 7;
 /// What a key holds.
 #[derive(Clone, Copy)]
 pub enum Holds {
-    /// A name, as that of a class, of a property or of a functor.
+    /// A name, as that of a class, of a property, of a functor, of a session or of what it publishes.
     Name,
     /// Any text.
     Text,

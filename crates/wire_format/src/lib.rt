@@ -13,6 +13,7 @@ mod line;
 mod parts;
 mod properties;
 mod reading;
+mod sharing;
 mod shown;
 mod signals;
 mod trees;

@@ -236,19 +236,21 @@ fn push_spin(buffer: &mut String, spin: &Spin) -> Result<(), AllocError>
     Ok(())
 }
 
-/// Appends how much there is in a session. The numbers of bindings, joins and publications and that of
-/// the group are 0, since there are none yet.
+/// Appends how much there is in a session. The number of bindings and that of the group are 0, since
+/// there are none yet.
 fn push_status(buffer: &mut String, status: &Status) -> Result<(), AllocError>
     ensures { OnOk result (string_bytes buffer.new
         ≡ string_bytes buffer.old ++ compact_text (json_of_status status.now)) }
 {
     let connections = "{\"bindings\":0,\"connections\":";
     push_count(buffer, connections, u64::from(status.connections))?;
-    push_count(buffer, ",\"group\":0,\"joins\":0,\"lost\":", status.lost)?;
+    push_count(buffer, ",\"group\":0,\"joins\":", u64::from(status.joins))?;
+    push_count(buffer, ",\"lost\":", status.lost)?;
     push_count(buffer, ",\"mismatched\":", status.mismatched)?;
     push_count(buffer, ",\"objects\":", u64::from(status.objects))?;
-    let queued = ",\"publications\":0,\"queued\":";
-    push_count(buffer, queued, u64::from(status.queued))?;
+    let publications = ",\"publications\":";
+    push_count(buffer, publications, u64::from(status.publications))?;
+    push_count(buffer, ",\"queued\":", u64::from(status.queued))?;
     buffer.push_str("}")?;
     Ok(())
 }

@@ -1,6 +1,6 @@
 //! Runs over whole inputs.
 ghost use Rattle.std.specs.Prelude.{◌≡◌, ◌<◌, ◌++◌, ◌∷◌, ℕ, List, [], length, Some, None, IfSome, IsOk, IfOk, OnOk};
-ghost use Rattle.server_world.specs.Server.{seen_as, was_refused};
+ghost use Rattle.server_world.specs.Server.{KnowsItsSessions, seen_as, was_refused};
 ghost use Rattle.wire_format.specs.Input.{NoEnd};
 ghost use Rattle.wire_lines.specs.Run.{RunsOver, DevicesFail, ReadFails, WriteFails, Ends, Runs, device_failed};
 ghost use Rattle.wire_lines.specs.Stream.{Later, SinkFails, Feeds, Finishes};
@@ -218,6 +218,8 @@ pub fn run<R: Source, W: Sink>(
     ensures devices { DevicesFail (R.failures reader.old) (R.failures reader.new) (W.failures writer.old) (W.failures writer.new) result }
     ensures memory { IfOk result (λ summary. summary.memory_refused ≡ was_refused (seen_as server.new)) }
     ensures later { Later (seen_as server.old) (seen_as server.new) }
+    // The names of the server are those of all sessions that may have a join, so a later run has its influence too.
+    ensures knows { KnowsItsSessions (seen_as server.new) }
 {
     run_bounded(alloc, reader, writer, server, MOST_LINES, MOST_READS)
 }

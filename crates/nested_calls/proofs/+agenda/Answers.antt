@@ -7,7 +7,8 @@ use Rattle.refusals.specs.declared.code.Code.TheVariants.{Limit}
 use Rattle.term_core.specs.declared.action.Effect.TheVariants as e
 use Rattle.thread_model.specs.Acts as model
 use Rattle.thread_model.specs.declared.call.TheConstants.{DESTROYED}
-use Rattle.thread_model.specs.Arriving.{posts_of, publishes}
+use Rattle.publish_board.specs.Rows.{publishes}
+use Rattle.thread_model.specs.Arriving.{posts_of}
 use Rattle.thread_model.specs.Items.{Cut, Delete, Emit, Gone}
 use Rattle.thread_model.specs.Run.{run}
 use Rattle.thread_model.specs.Targets.{truth_evaluated}
@@ -28,10 +29,11 @@ use Rattle.session_effects.specs.Writing.{items_of, notice_args}
 use Rattle.nested_calls.specs.Telling.{doing_at}
 use Rattle.session_effects.proofs.ActionLemmas.{keeps_same, keeps_twice, keeps_with, placed_kept}
 use Rattle.nested_calls.proofs.AgendaLemmas.{acts_end, acts_go_on, call_absent, call_functor, call_queued, call_signal, call_slot, call_spent, effect_done, effect_refused, effect_warned, emission_absent, emission_begins, emission_deep, emission_goes_on, emission_held_back, emission_unheard, failed_done, found_stands, held_done, is_held, is_let_through, keeps_posted, last_stays, left_at, left_falls, left_shot, left_stepped, longest_of, next_smaller, posting_is, posts_none, rank_falls, round_falls, taken, test_warned, told_is, warn_done}
-use Rattle.nested_calls.proofs.DoesLemmas.{OnOk-map, does_after, does_by, does_none, does_wanting, far_changed, far_end, far_item, far_next, far_none, far_wanting, here, placed_reached}
+use Rattle.nested_calls.proofs.DoesLemmas.{OnOk-map, does_after, does_by, does_none, does_wanting, far_changed, far_end, far_item, far_next, far_none, far_wanting, here, item_wanting, next_none, next_wanting, placed_reached}
 use Rattle.thread_model.specs.Agenda.{lives, lives_below}
-use Rattle.nested_calls.proofs.DeletionLemmas.{cut_first, cut_last, cut_next, delete_begins, delete_none, gone_is, kin_none, kin_some, kins_from, left_forgotten, left_marked, left_untied}
-use Rattle.nested_calls.proofs.FunctorLemmas.{answered_does, answered_short, functor_absent, functor_queued, functor_run, functor_short, queued_is}
+use Rattle.nested_calls.proofs.DeletionLemmas.{cut_first, cut_last, cut_next, delete_begins, delete_none, gone_is, kin_none, kin_some, kins_from, left_marked, left_severed}
+use Rattle.nested_calls.proofs.FrontLemmas.{part_front, told_front}
+use Rattle.nested_calls.proofs.FunctorLemmas.{answered_does, answered_short, callee_front, functor_absent, functor_queued, functor_run, functor_short, queued_is}
 use Rattle.nested_calls.proofs.+agenda.Goals as goal
 
 pub agenda::act-returns-in-Ok-true : goal.agenda::act-returns-in-Ok-true
@@ -78,7 +80,10 @@ agenda::acts-act-requires t g c = λ κs outlives.
 
 pub agenda::acts-returns-in_err-act : goal.agenda::acts-returns-in_err-act
 agenda::acts-returns-in_err-act t g c =
-    far_wanting c.args.actor.now.caller _ c.args.tables.now c.args.telling.now c.requires.placed _ c.actions.tables c.actions.telling c.actions.invariant.so _ c.act.new.tables c.act.new.telling c.act.result _ c.from_residual.ensures.0 c.act.ensures
+    let caller = c.args.actor.now.caller in
+    let settings = settings_of caller.setup.now in
+    far_wanting caller _ c.args.tables.now c.args.telling.now c.requires.placed _ c.actions.tables c.actions.telling c.actions.invariant.so _ c.act.new.tables c.act.new.telling _ _ c.from_residual.ensures.0 c.in_err-act.ensures
+    (λ posts. part_front settings _ _ _ (acts_go_on settings c.args.slot.now _ (doing_at caller.place c.actions.tables c.actions.telling posts) _ c.actions.action-index c.args.actions.now c.action-item.result (omega arith) c.action-item.is refl refl))
 
 pub agenda::acts-actions-preserved : goal.agenda::acts-actions-preserved
 agenda::acts-actions-preserved t g c =
@@ -306,21 +311,21 @@ agenda::emit-calls-init t g c =
     let place = caller.place in
     let old = c.args.tables.now in
     let before = c.args.telling.now in
-    let new = c.deliver-telling.new.self in
-    let after = record before { failing = c.deliver-telling.result } in
-    let posts = posts_of (state_at old place).desk c.args.target c.args.signal c.args.args.now in
-    let alike : left_at place new after ≡ left_at place old before = ap (λ (state : State). before.turns + living_rows state.forest.rows) c.deliver-telling.ensures.own in
+    let new = c.post-telling.new.tables in
+    let after = record before { failing = c.post-telling.result } in
+    let posts = posts_of settings.classes (state_at old place) c.args.target c.args.signal c.args.args.now in
+    let alike : left_at place new after ≡ left_at place old before = ap (λ (state : State). before.turns + living_rows state.forest.rows) c.post-telling.ensures.own in
     record {
       so = record {
         posts = posts;
         runs = λ earlier.
             ap (λ number. run settings (calls_to settings c.args.args.now c.args.depth (remaining c.args.target c.args.signal number 0 (state_at new place).connections.rows)) (doing_at place new after (earlier ++ posts))) c.last_connection-up_to.ensures.number
-            ∙ ap (λ (state : State). run settings (calls_to settings c.args.args.now c.args.depth (remaining c.args.target c.args.signal state.connections.last_number 0 state.connections.rows)) (doing_at place new after (earlier ++ posts))) c.deliver-telling.ensures.own
+            ∙ ap (λ (state : State). run settings (calls_to settings c.args.args.now c.args.depth (remaining c.args.target c.args.signal state.connections.last_number 0 state.connections.rows)) (doing_at place new after (earlier ++ posts))) c.post-telling.ensures.own
             ∙ emission_begins settings c.args.target c.args.signal c.args.args.now c.args.depth (doing_at place old before earlier) c.in-Some.blocked c.in-Some.ensures (is_let_through c.in-Some.blocked c.args.signal c.else-blocked.either) (omega arith)
-            (subst (λ (state : State). IsSound state.connections) c.deliver-telling.ensures.own c.last_connection-up_to.ensures.sound) (doing_at place new after (earlier ++ posts)) (posting_is place old new before after earlier posts c.deliver-telling.ensures.own refl);
-        reaches = c.deliver-telling.ensures.reaches;
+            (subst (λ (state : State). IsSound state.connections) c.post-telling.ensures.own c.last_connection-up_to.ensures.sound) (doing_at place new after (earlier ++ posts)) (posting_is place old new before after earlier posts c.post-telling.ensures.own refl);
+        reaches = c.post-telling.ensures.reaches;
       };
-      placed = placed_reached caller old new posts before.failing c.deliver-telling.result c.deliver-telling.ensures.reaches c.requires.placed;
+      placed = placed_reached caller old new posts before.failing c.post-telling.result c.post-telling.ensures.reaches c.requires.placed;
       left = omega (arith, alike);
       last = let number = c.last_connection-up_to.ensures.number in omega (arith, number);
     }
@@ -333,7 +338,11 @@ agenda::emit-call-requires t g c = λ κs outlives.
 
 pub agenda::emit-returns-in_err-call : goal.agenda::emit-returns-in_err-call
 agenda::emit-returns-in_err-call t g c =
-    far_wanting c.args.actor.now.caller _ c.args.tables.now c.args.telling.now c.requires.placed _ c.calls.tables c.calls.telling c.calls.invariant.so _ c.call.new.tables c.call.new.telling c.call.result _ c.from_residual.ensures.0 c.call.ensures
+    let caller = c.args.actor.now.caller in
+    let settings = settings_of caller.setup.now in
+    far_wanting caller _ c.args.tables.now c.args.telling.now c.requires.placed _ c.calls.tables c.calls.telling c.calls.invariant.so _ c.call.new.tables c.call.new.telling _ _ c.from_residual.ensures.0 c.in_err-call.ensures
+    (λ posts. part_front settings _ _ _ (emission_goes_on settings c.args.target c.args.signal c.args.args.now c.args.depth c.last_connection-up_to.result c.calls.after _ (doing_at caller.place c.calls.tables c.calls.telling posts) _ c.in-Some-next_connection.connection
+    c.next_connection.ensures.sound c.calls.invariant.last (sym c.in-Some-next_connection.ensures.next) refl refl))
 
 pub agenda::emit-calls-smaller : goal.agenda::emit-calls-smaller
 agenda::emit-calls-smaller t g c = next_smaller c.args.target c.args.signal c.calls.after c.last_connection-up_to.result _ c.in-Some-next_connection.connection (sym c.in-Some-next_connection.ensures.next)
@@ -384,14 +393,14 @@ agenda::notify-returns-then-not-is_sent t g c =
     let unheard : is_some (find (is_next notice.object notice.signal 0 state.connections.last_number) state.connections.rows) ≡ false = grind arith in
     let unpublished : list_any (publishes notice.object notice.signal) state.desk.publications ≡ false = grind arith in
     rw c.in-Some.is (does_none caller _ old before old before _ (keeps_same old old caller.place refl) refl
-    (λ earlier. emission_unheard settings notice.object notice.signal (notice_args settings state notice) c.args.depth (doing_at caller.place old before earlier) (omega arith) c.is_sent.ensures.sound (posts_none notice.object notice.signal (notice_args settings state notice) state.desk unpublished) unheard))
+    (λ earlier. emission_unheard settings notice.object notice.signal (notice_args settings state notice) c.args.depth (doing_at caller.place old before earlier) (omega arith) c.is_sent.ensures.sound (posts_none settings.classes state notice.object notice.signal (notice_args settings state notice) unpublished) unheard))
 
 pub agenda::call_functor-returns-in_default : goal.agenda::call_functor-returns-in_default
 agenda::call_functor-returns-in_default t g c =
     let caller = c.args.actor.now.caller in
     let old = c.args.tables.now in
     let before = c.args.telling.now in
-    does_none caller _ old before old before _ (keeps_same old old caller.place refl) refl
+    next_none caller _ old before (λ earlier. callee_front (settings_of caller.setup.now) c.args.connection.now c.args.index c.args.args.now c.args.depth (doing_at caller.place old before earlier)) old before _ (keeps_same old old caller.place refl) refl
     (λ earlier. functor_absent (settings_of caller.setup.now) c.args.connection.now c.args.index c.args.args.now c.args.depth (doing_at caller.place old before earlier) c.in_default.ensures)
 
 pub agenda::call_functor-returns-then-is_queued : goal.agenda::call_functor-returns-then-is_queued
@@ -399,7 +408,7 @@ agenda::call_functor-returns-then-is_queued t g c =
     let caller = c.args.actor.now.caller in
     let old = c.args.tables.now in
     let before = c.args.telling.now in
-    does_none caller _ old before c.call_later.new.tables before c.call_later.result (keeps_posted c.call_later.result caller.place old c.call_later.new.tables _ c.requires.placed c.call_later.ensures.ok c.call_later.ensures.err) refl (OnOk-map c.call_later.result
+    next_none caller _ old before (λ earlier. callee_front (settings_of caller.setup.now) c.args.connection.now c.args.index c.args.args.now c.args.depth (doing_at caller.place old before earlier)) c.call_later.new.tables before c.call_later.result (keeps_posted c.call_later.result caller.place old c.call_later.new.tables _ c.requires.placed c.call_later.ensures.ok c.call_later.ensures.err) refl (OnOk-map c.call_later.result
     (λ e earlier. functor_queued (settings_of caller.setup.now) c.args.connection.now c.args.index c.args.args.now c.args.depth (doing_at caller.place old before earlier) c.in-Some.functor.now c.in-Some.ensures
     c.first-given.result.now (c.first-given.ensures ∙ ap (λ n. take n c.args.args.now) c.len.ensures) (doing_at caller.place c.call_later.new.tables before earlier) c.requires.callee (sym c.if-is_queued.ensures)
     (queued_is caller.place old c.call_later.new.tables before earlier _ c.requires.placed e)) c.call_later.ensures.ok)
@@ -421,7 +430,7 @@ pub agenda::run_slot-returns-in_err-call : goal.agenda::run_slot-returns-in_err-
 agenda::run_slot-returns-in_err-call t g c =
     let caller = c.args.actor.now.caller in
     let old = c.args.tables.now in
-    does_wanting caller _ old c.args.telling.now old c.call.new.self _ c.from_residual.ensures.0 (keeps_same old old caller.place refl) c.call.ensures.failing
+    next_wanting caller _ old c.args.telling.now (λ earlier. told_front (doing_at caller.place old c.args.telling.now earlier) _) old c.call.new.self _ c.from_residual.ensures.0 (keeps_same old old caller.place refl) c.call.ensures.failing
 
 pub agenda::run_slot-returns : goal.agenda::run_slot-returns
 agenda::run_slot-returns t g c =
@@ -445,21 +454,15 @@ deletion::cut-children-init t g c =
     let place = caller.place in
     let old = c.args.tables.now in
     let before = c.args.telling.now in
-    let unties = keeps_with _ _ _ _ c.requires.placed c.untie.ensures in
-    let still = placed_kept _ _ _ unties c.requires.placed in
-    let keeps = keeps_twice _ _ _ _ unties (keeps_with _ _ _ _ still c.forget.ensures) in
-    let less = left_untied place c.args.target old c.untie.new.self before [] c.requires.placed c.untie.ensures in
-    let none = left_forgotten place c.args.target c.untie.new.self c.forget.new.self before [] still c.forget.ensures in
+    let keeps = keeps_with _ _ _ _ c.requires.placed c.sever.ensures in
+    let less = left_severed place c.args.target old c.sever.new.self before [] c.requires.placed c.sever.ensures in
     record {
-      so = far_none caller _ old before c.requires.placed _ c.forget.new.self before keeps refl
-          (λ earlier. cut_first (settings_of caller.setup.now) c.args.target c.args.depth place old c.untie.new.self c.forget.new.self before earlier c.requires.placed still c.as_slice-child-items.result.now
-          (c.as_slice-child-items.ensures.value ∙ c.in_ok-children.ensures) c.untie.ensures c.forget.ensures);
+      so = far_none caller _ old before c.requires.placed _ c.sever.new.self before keeps refl
+          (λ earlier. cut_first (settings_of caller.setup.now) c.args.target c.args.depth place old c.sever.new.self before earlier c.requires.placed c.as_slice-child-items.result.now
+          (c.as_slice-child-items.ensures.value ∙ c.in_ok-children.ensures) c.sever.ensures);
       placed = placed_kept _ _ _ keeps c.requires.placed;
-      left = omega (arith, less, none);
+      left = less;
     }
-
-pub deletion::cut-forget-requires : goal.deletion::cut-forget-requires
-deletion::cut-forget-requires t g c = placed_kept _ _ _ (keeps_with _ _ _ _ c.requires.placed c.untie.ensures) c.requires.placed
 
 pub deletion::cut-kin-requires : goal.deletion::cut-kin-requires
 deletion::cut-kin-requires t g c = λ κs outlives.
@@ -468,7 +471,10 @@ deletion::cut-kin-requires t g c = λ κs outlives.
 
 pub deletion::cut-returns-in_err-kin : goal.deletion::cut-returns-in_err-kin
 deletion::cut-returns-in_err-kin t g c =
-    far_wanting c.args.actor.now.caller _ c.args.tables.now c.args.telling.now c.requires.placed _ c.children.tables c.children.telling c.children.invariant.so _ c.kin.new.tables c.kin.new.telling c.kin.result _ c.from_residual-in_err-kin.ensures.0 c.kin.ensures
+    let caller = c.args.actor.now.caller in
+    let settings = settings_of caller.setup.now in
+    far_wanting caller _ c.args.tables.now c.args.telling.now c.requires.placed _ c.children.tables c.children.telling c.children.invariant.so _ c.kin.new.tables c.kin.new.telling _ _ c.from_residual-in_err-kin.ensures.0 c.in_err-kin.ensures
+    (λ posts. part_front settings _ _ _ (cut_next settings c.args.target c.args.depth c.children.child-index c.as_slice-child-items.result.now _ (doing_at caller.place c.children.tables c.children.telling posts) _ (omega arith) refl refl))
 
 pub deletion::cut-children-preserved : goal.deletion::cut-children-preserved
 deletion::cut-children-preserved t g c =
@@ -516,8 +522,8 @@ deletion::delete-returns-in_err-emit t g c =
     let before = c.args.telling.now in
     let dead = c.mark_dying.new.self in
     let living : lives (doing_at caller.place old before []) c.args.target ≡ true = grind arith in
-    far_wanting caller _ old before c.requires.placed _ dead before
-    (delete_begins caller c.args.target c.args.depth old dead before c.requires.placed living c.mark_dying.ensures) _ c.emit.new.tables c.emit.new.telling c.emit.result _ c.from_residual.ensures.0 c.emit.ensures
+    item_wanting caller _ old before c.requires.placed (Emit c.args.target DESTROYED [] c.args.depth) _ dead c.emit.new.tables before c.emit.new.telling _ _ c.from_residual.ensures.0
+    (delete_begins caller c.args.target c.args.depth old dead before c.requires.placed living c.mark_dying.ensures) c.in_err-emit.ensures
 
 pub deletion::delete-cut-requires : goal.deletion::delete-cut-requires
 deletion::delete-cut-requires t g c = λ κs outlives.
@@ -537,9 +543,9 @@ deletion::delete-returns-in_err-cut t g c =
     let before = c.args.telling.now in
     let dead = c.mark_dying.new.self in
     let living : lives (doing_at caller.place old before []) c.args.target ≡ true = grind arith in
-    far_wanting caller _ old before c.requires.placed _ c.emit.new.tables c.emit.new.telling
+    item_wanting caller _ old before c.requires.placed (Cut c.args.target c.args.depth) _ c.emit.new.tables c.cut.new.tables c.emit.new.telling c.cut.new.telling _ _ c.from_residual-in_err-cut.ensures.0
     (far_item caller _ old before c.requires.placed (Emit c.args.target DESTROYED [] c.args.depth) _ dead c.emit.new.tables before c.emit.new.telling _
-    (delete_begins caller c.args.target c.args.depth old dead before c.requires.placed living c.mark_dying.ensures) c.in_ok-emit.ensures) _ c.cut.new.tables c.cut.new.telling c.cut.result _ c.from_residual-in_err-cut.ensures.0 c.cut.ensures
+    (delete_begins caller c.args.target c.args.depth old dead before c.requires.placed living c.mark_dying.ensures) c.in_ok-emit.ensures) c.in_err-cut.ensures
 
 pub deletion::delete-remove-requires : goal.deletion::delete-remove-requires
 deletion::delete-remove-requires t g c =
@@ -601,13 +607,13 @@ pub agenda::run_functor-returns-in_err-call_functor : goal.agenda::run_functor-r
 agenda::run_functor-returns-in_err-call_functor t g c =
     let caller = c.args.actor.now.caller in
     let old = c.args.tables.now in
-    does_wanting caller _ old c.args.telling.now old c.call_functor.new.self _ c.from_residual.ensures.0 (keeps_same old old caller.place refl) c.call_functor.ensures.failing
+    next_wanting caller _ old c.args.telling.now (λ earlier. told_front (doing_at caller.place old c.args.telling.now earlier) _) old c.call_functor.new.self _ c.from_residual.ensures.0 (keeps_same old old caller.place refl) c.call_functor.ensures.failing
 
 pub agenda::run_functor-returns-in_err-answer : goal.agenda::run_functor-returns-in_err-answer
 agenda::run_functor-returns-in_err-answer t g c =
     let caller = c.args.actor.now.caller in
     let old = c.args.tables.now in
-    does_wanting caller _ old c.args.telling.now old c.call_functor.new.self _ c.from_residual-in_err-answer.ensures.0 (keeps_same old old caller.place refl) c.call_functor.ensures.failing
+    next_wanting caller _ old c.args.telling.now (λ earlier. told_front (doing_at caller.place old c.args.telling.now earlier) _) old c.call_functor.new.self _ c.from_residual-in_err-answer.ensures.0 (keeps_same old old caller.place refl) c.call_functor.ensures.failing
 
 pub agenda::run_functor-returns-in_default : goal.agenda::run_functor-returns-in_default
 agenda::run_functor-returns-in_default t g c =

@@ -1,7 +1,8 @@
-use Rattle.std.proofs.Common.{ap}
+use Rattle.std.proofs.Common.{[], ap}
+use Rattle.thread_model.proofs.EventLemmas.{refusal_spin}
 use Rattle.nested_calls.specs.declared.telling.Telling.{Telling}
-use Rattle.session_engine.proofs.CommandsLemmas.{at_first_reaches, others_reached, starved_posting}
-use Rattle.session_engine.proofs.EventsLemmas.{performs_spun}
+use Rattle.session_engine.proofs.CommandsLemmas.{at_first_reaches, starved_last}
+use Rattle.session_engine.proofs.EventsLemmas.{performs_spun, spin_runs}
 use Rattle.session_engine.proofs.events.spin.Goals as goal
 
 pub take_events-requires-clause-none : goal.take_events-requires-clause-none
@@ -10,9 +11,10 @@ take_events-requires-clause-none g c = ap (λ (telling : Telling). telling.taken
 pub returns-in_err-take_events : goal.returns-in_err-take_events
 returns-in_err-take_events g c =
     let caller = c.args.actor.now.caller in
-    starved_posting caller _ c.args.tables.now c.take_events.new.tables c.take_events.new.telling.failing c.take_events.ensures.posts _ _ c.from_residual.ensures.1
-    (others_reached caller.name.now c.args.tables.now c.take_events.new.tables caller.place c.take_events.ensures.posts c.take_events.new.telling.failing
-    (at_first_reaches caller c.args.tables.now c.take_events.new.tables c.args.telling.now c.take_events.new.telling c.take_events.ensures.posts c.requires.fresh c.take_events.ensures.reaches))
+    let does = c.in_err-take_events.ensures in
+    starved_last caller _ c.args.tables.now c.take_events.new.tables c.take_events.new.telling does.posts _ _ _ _ c.from_residual.ensures.1 (refusal_spin _ _ _)
+    (spin_runs caller c.args.tables.now c.take_events.new.tables c.args.telling.now c.requires.fresh) (does.front [])
+    (at_first_reaches caller c.args.tables.now c.take_events.new.tables c.args.telling.now c.take_events.new.telling does.posts c.requires.fresh does.reaches)
 
 pub returns : goal.returns
 returns g c = performs_spun c.args.actor.now.caller c.args.tables.now c.take_events.new.tables c.args.telling.now c.take_events.new.telling _ c.spun.result c.requires.fresh c.in_ok-take_events.ensures c.spun.ensures

@@ -6,6 +6,7 @@ use Rattle.session_effects.specs.Setup.{settings_of}
 use Rattle.session_effects.proofs.ActionLemmas.{keeps_same, keeps_with, placed_kept}
 use Rattle.nested_calls.specs.Telling.{doing_at}
 use Rattle.nested_calls.proofs.DoesLemmas.{OnOk-map, does_none, far_end, far_last, far_next, far_none, far_wanting, here, placed_reached}
+use Rattle.nested_calls.proofs.FrontLemmas.{part_front}
 use Rattle.std.proofs.lemmas.Grind.{common_steps}
 use Rattle.session_engine.proofs.EventsLemmas.{event_taken, few_taken, spin_ends, spin_goes_on, spin_spent, turns_left, with_event_taken}
 use Rattle.session_engine.proofs.events.take_events.Goals as goal
@@ -16,16 +17,21 @@ returns-then-telling-eq0 g c =
     let now = c.events.tables in
     let between = c.events.telling in
     far_last caller _ c.args.tables.now c.args.telling.now c.requires.placed _ now between c.events.invariant.so (here caller (Spin ∷ []) now between) now c.use_up.new.self c.use_up.result
-    (does_none caller (here caller (Spin ∷ []) now between) now between now c.use_up.new.self c.use_up.result (keeps_same now now caller.place refl) c.use_up.ensures.failing (OnOk-map c.use_up.result
+    (does_none caller (Spin ∷ []) now between now c.use_up.new.self c.use_up.result (keeps_same now now caller.place refl) c.use_up.ensures.failing (OnOk-map c.use_up.result
     (λ e earlier. spin_spent (settings_of caller.setup.now) caller.place now between c.use_up.new.self earlier (sym c.events-test.ensures.waits) (omega arith) e) c.use_up.ensures.told))
     (λ posts done e. e)
 
 pub returns-in_err-deliver : goal.returns-in_err-deliver
 returns-in_err-deliver g c =
     let caller = c.args.actor.now.caller in
-    far_wanting caller _ c.args.tables.now c.args.telling.now c.requires.placed _ c.take_event.new.self (with_event_taken c.events.telling)
-    (event_taken caller c.args.tables.now c.events.tables c.take_event.new.self c.args.telling.now c.events.telling c.requires.placed c.events.invariant.placed c.events.invariant.so c.take_event.ensures.rest c.in-Some.event (sym c.in-Some.ensures.first) (omega arith))
-    _ c.deliver.new.tables c.deliver.new.telling c.deliver.result _ c.from_residual.ensures.0 c.deliver.ensures
+    let settings = settings_of caller.setup.now in
+    let middle = c.take_event.new.self in
+    let taken = with_event_taken c.events.telling in
+    let items = event_items settings (state_at middle caller.place) c.in-Some.event in
+    far_wanting caller _ c.args.tables.now c.args.telling.now c.requires.placed _ middle taken
+    (event_taken caller c.args.tables.now c.events.tables middle c.args.telling.now c.events.telling c.requires.placed c.events.invariant.placed c.events.invariant.so c.take_event.ensures.rest c.in-Some.event (sym c.in-Some.ensures.first) (omega arith))
+    (here caller items middle taken) c.deliver.new.tables c.deliver.new.telling _ _ c.from_residual.ensures.0 c.in_err-deliver.ensures
+    (λ posts. part_front settings (Spin ∷ []) _ _ (spin_goes_on settings items (doing_at caller.place middle taken posts) _ _ refl refl))
 
 pub events-smaller : goal.events-smaller
 events-smaller g c =

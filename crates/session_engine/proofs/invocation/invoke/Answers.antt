@@ -10,8 +10,8 @@ use Rattle.thread_model.proofs.SignalLemmas.{invoke_none, refusal_invoke}
 use Rattle.session_tables.specs.Tables.{state_at}
 use Rattle.session_tables.proofs.TablesLemmas.{changes_same}
 use Rattle.session_effects.specs.Setup.{settings_of}
-use Rattle.session_engine.proofs.CommandsLemmas.{at_first_reaches, found_fault, made_fault, others_reached, quietly, starved_posting, on_refused, or_first, or_second, replied, replied_by, silently, stopped}
-use Rattle.session_engine.proofs.InvocationLemmas.{asked_is, method_there, number_is, number_none, performs_invoked, posts_invoked, refusal_absent, refusal_found, refusal_later, refusal_now}
+use Rattle.session_engine.proofs.CommandsLemmas.{at_first_reaches, found_fault, made_fault, quietly, starved_last, on_refused, or_first, or_second, replied, replied_by, silently, stopped}
+use Rattle.session_engine.proofs.InvocationLemmas.{asked_is, invoke_runs, method_there, number_is, number_none, performs_invoked, posts_invoked, refusal_absent, refusal_found, refusal_later, refusal_now}
 use Rattle.session_engine.proofs.invocation.invoke.Goals as goal
 
 pub returns-in_err-check_object : goal.returns-in_err-check_object
@@ -96,6 +96,16 @@ returns g c =
 pub returns-in_err-run : goal.returns-in_err-run
 returns-in_err-run g c =
     let caller = c.args.actor.now.caller in
-    starved_posting caller _ c.args.tables.now c.run.new.tables c.run.new.telling.failing c.run.ensures.posts _ _ c.from_residual-in_err-run.ensures.1
-    (others_reached caller.name.now c.args.tables.now c.run.new.tables caller.place c.run.ensures.posts c.run.new.telling.failing
-    (at_first_reaches caller c.args.tables.now c.run.new.tables c.args.telling.now c.run.new.telling c.run.ensures.posts c.requires.fresh c.run.ensures.reaches))
+    let settings = settings_of caller.setup.now in
+    let state = state_at c.args.tables.now caller.place in
+    let spelled = rw c.as_str.ensures at c.in_ok-signature.ensures.exact in
+    let asked : asked_method settings state c.args.object c.args.method.now ≡ Some c.in-Ok.index =
+    asked_is settings state c.args.object c.args.method.now c.in_ok-signature.signature (Some c.in-Ok.index) spelled (number_is (method_number c.in_ok-signature.signature (methods_of settings state c.args.object)) _ c.in-Ok.ensures) in
+    let given : asked_values settings state c.args.object c.in-Ok.index (map view c.args.args.now) ≡ Ok c.in_ok-values.values = rw c.kinds_at-kinds.ensures at c.in_ok-values.ensures in
+    let runs = rw c.as_slice-2.ensures at c.in_err-run.ensures in
+    starved_last caller _ c.args.tables.now c.run.new.tables c.run.new.telling runs.posts _ _ _ _ c.from_residual-in_err-run.ensures.1
+    (refusal_now caller c.args.object c.args.method.now (map view c.args.args.now) c.args.mode c.args.tables.now c.run.new.tables c.in_ok-signature.signature c.in_ok-check_object.ensures spelled c.in-Ok.index c.in_ok-values.values asked given
+    (sym c.if-is_queued.ensures))
+    (invoke_runs caller c.args.object c.args.method.now (map view c.args.args.now) c.args.mode c.args.tables.now c.run.new.tables c.in-Ok.index c.in_ok-values.values (sym c.if-is_queued.ensures) asked given)
+    runs.front
+    (at_first_reaches caller c.args.tables.now c.run.new.tables c.args.telling.now c.run.new.telling runs.posts c.requires.fresh runs.reaches)

@@ -1,6 +1,7 @@
 use Rattle.std.proofs.Common.{[], refl, arith}
 use Rattle.session_effects.proofs.ActionLemmas.{keeps_same}
-use Rattle.nested_calls.proofs.DoesLemmas.{OnOk-map, reaches_none}
+use Rattle.nested_calls.proofs.DoesLemmas.{OnOk-map, on_error, reaches_none}
+use Rattle.nested_calls.proofs.FrontLemmas.{front_none}
 use Rattle.session_engine.proofs.InvocationLemmas.{at_first, run_called, run_sent, run_spent}
 use Rattle.session_engine.proofs.invocation.run.Goals as goal
 
@@ -17,6 +18,7 @@ returns-then-telling-eq0 g c =
     record {
       posts = [];
       runs = OnOk-map c.use_up.result (run_spent caller c.args.object c.args.index c.args.values.now old c.args.telling.now c.requires.fresh c.in-Some.method.now c.in-Some.ensures.value c.if-method.false c.use_up.new.self (omega arith)) c.use_up.ensures.told;
+      front = on_error c.use_up.result (front_none _);
       reaches = reaches_none caller old old c.args.telling.now.failing c.use_up.new.self.failing (keeps_same old old caller.place refl) c.use_up.ensures.failing;
     }
 

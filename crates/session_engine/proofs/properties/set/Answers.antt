@@ -1,4 +1,4 @@
-use Rattle.std.proofs.Common.{None, Ok, true, false, refl, sym, ap, ◌∙◌}
+use Rattle.std.proofs.Common.{[], None, Ok, true, false, refl, sym, ap, ◌∙◌}
 use Rattle.std.specs.Result.{result_err}
 use Rattle.serde_json.specs.View.{view}
 use Rattle.thread_model.specs.Methods.{◌>>=◌}
@@ -7,8 +7,8 @@ use Rattle.thread_model.proofs.PropertyLemmas.{refusal_set}
 use Rattle.session_tables.specs.Tables.{state_at}
 use Rattle.session_effects.proofs.ActionLemmas.{keeps_same}
 use Rattle.session_effects.proofs.WritingLemmas.{place_is}
-use Rattle.session_engine.proofs.CommandsLemmas.{at_first_reaches, found_fault, or_first, or_second, others_reached, quietly, starved_posting, stopped}
-use Rattle.session_engine.proofs.PropertiesLemmas.{asked_dynamic, asked_nothing, asked_value, dynamic_undeclared, performs_written, tells_none, written_fault, written_reaches}
+use Rattle.session_engine.proofs.CommandsLemmas.{at_first_reaches, found_fault, or_first, or_second, quietly, starved_last, stopped}
+use Rattle.session_engine.proofs.PropertiesLemmas.{asked_dynamic, asked_nothing, asked_value, dynamic_undeclared, performs_written, set_passed, set_runs, tells_none, written_fault, written_reaches}
 use Rattle.session_engine.proofs.properties.set.Goals as goal
 
 pub returns-in_err-class : goal.returns-in_err-class
@@ -61,10 +61,19 @@ returns-in_err-value-2 g c =
 pub returns-in_err-notify : goal.returns-in_err-notify
 returns-in_err-notify g c =
     let caller = c.args.actor.now.caller in
-    starved_posting caller _ c.args.tables.now c.notify.new.tables c.notify.new.telling.failing c.notify.ensures.posts _ _ c.from_residual-in_err-notify.ensures.1
-    (others_reached caller.name.now c.args.tables.now c.notify.new.tables caller.place c.notify.ensures.posts c.notify.new.telling.failing
-    (at_first_reaches caller c.args.tables.now c.notify.new.tables c.args.telling.now c.notify.new.telling c.notify.ensures.posts c.requires.fresh
-    (written_reaches caller c.args.tables.now c.write_declared-told.new.tables c.notify.new.tables c.args.telling.now.failing c.notify.new.telling.failing c.notify.ensures.posts c.requires.placed c.write_declared-told.ensures.keeps c.notify.ensures.reaches)))
+    let state = state_at c.args.tables.now caller.place in
+    let middle = c.write_declared-told.new.tables in
+    let does = c.in_err-notify.ensures in
+    let asked =
+    asked_value state c.args.object c.args.property.now (view c.args.value.now) _ (place_is (c.in-Some.number, c.in-Some.kind) _ (rw c.as_str.ensures at c.in-Some.ensures)) (sym c.if-is_null.ensures)
+    ∙ ap (λ found. found >>= λ value. Ok (Declared c.in-Some.number value)) c.in_ok-value-2.ensures.exact in
+    starved_last caller _ c.args.tables.now c.notify.new.tables c.notify.new.telling does.posts _ _ _ _ c.from_residual-in_err-notify.ensures.1
+    (set_passed caller c.args.object c.args.property.now (view c.args.value.now) c.args.tables.now c.notify.new.tables (Declared c.in-Some.number c.in_ok-value-2.value) c.in_ok-class.ensures.refusal asked)
+    (set_runs caller c.args.object c.args.property.now (view c.args.value.now) c.args.tables.now middle c.notify.new.tables c.args.telling.now (Declared c.in-Some.number c.in_ok-value-2.value) true c.write_declared-told.result refl c.requires.fresh asked
+    c.write_declared-told.ensures.writes)
+    (does.front [])
+    (at_first_reaches caller c.args.tables.now c.notify.new.tables c.args.telling.now c.notify.new.telling does.posts c.requires.fresh
+    (written_reaches caller c.args.tables.now middle c.notify.new.tables c.args.telling.now.failing c.notify.new.telling.failing does.posts c.requires.placed c.write_declared-told.ensures.keeps does.reaches))
 
 -- and a value is written, and told of where it is another one
 pub returns : goal.returns

@@ -1,4 +1,5 @@
 use Rattle.server_world.specs.Server.{seen_as, states, settings}
+use Rattle.server_world.proofs.ServerLemmas.{knows_all}
 use Rattle.wire_lines.proofs.Whole.{Runs-well, Runs-lines, Runs-prefix, Runs-endless}
 use Rattle.wire_lines.proofs.Isolated.{told_as_alone, told_as_without}
 use Rattle.wire_lines.proofs.stream.run.Goals as goal
@@ -24,3 +25,6 @@ returns-clause-runs g c = λ input known.
       all_read = c.run_bounded.ensures.all_read input known;
       counted = Runs-lines _ _ input held held_after old new c.run_bounded.result runs;
     }
+
+pub returns-clause-knows : goal.returns-clause-knows
+returns-clause-knows g c = knows_all (settings (seen_as c.run_bounded.new.server)) (seen_as c.run_bounded.new.server).engine

@@ -1,12 +1,13 @@
-use Rattle.std.proofs.Common.{sym, ap, subst, ◌∙◌, ◌⊎◌, inr, arith, ◌+◌, map, take}
+use Rattle.std.proofs.Common.{sym, ap, subst, ◌∙◌, ◌⊎◌, inr, arith, ◌+◌, ◌∷◌, ◌++◌, [], bytes_eq, map, take}
+use Rattle.std.specs.List.{list_any}
 use Rattle.std.proofs.lemmas.List.{take_all}
 use Rattle.isolation.specs.World.{world_after, world_lines}
 use Rattle.thread_model.specs.Machine.{machine}
 use Rattle.server_world.specs.declared.report.Entry.TheVariants.{Lines}
 use Rattle.server_world.specs.Names.{with_names}
 use Rattle.server_world.specs.Server as server
-use Rattle.server_world.specs.Runs.{IsShort, tags}
-use Rattle.server_world.proofs.RunLemmas.{blame_more, failed_more, isolated, lines_more, names_more, states_more, tags_more}
+use Rattle.server_world.specs.Runs.{AnotherFailed, IsShort, tags}
+use Rattle.server_world.proofs.RunLemmas.{blame_more, isolated, lines_more, names_more, states_more, tags_more, there_more}
 use Rattle.server_world.proofs.ServerLemmas.{knows_all}
 use Rattle.server_world.proofs.server.Server.run.Goals as goal
 
@@ -35,9 +36,10 @@ loop-given-preserved g c =
       names = λ found.
           names_more initial now next given entry c.entry.ensures.step invariant.settings before c.entry.ensures.there invariant.names found
           ∙ ap (with_names (server.names initial)) (sym more);
-      failed = failed_more initial now next given entry c.entry.ensures.step invariant.settings before c.entry.ensures.lost invariant.failed;
-      blame = λ was refused. subst (λ entries. IsShort entries ⊎ server.SomeFails initial next) (sym c.push_reserved.ensures.items)
-          (blame_more initial now next given entry c.entry.ensures.step invariant.settings before c.entry.ensures.lost invariant.failed c.loop-given.entries.items invariant.blame was refused);
+      there = λ name known. ap (λ ts. list_any (bytes_eq name) (with_names (server.names initial) ts)) more ∙ there_more initial now next given entry c.entry.ensures.step invariant.settings before c.entry.ensures.known invariant.there name known;
+      blame = λ was refused. subst (λ entries. IsShort entries ⊎ AnotherFailed initial next (tags (take (c.loop-given.given-index + 1) c.args.list.now))) (sym c.push_reserved.ensures.items)
+          (subst (λ ts. IsShort (c.loop-given.entries.items ++ entry ∷ []) ⊎ AnotherFailed initial next ts) (sym more)
+          (blame_more initial now next given entry c.entry.ensures.step invariant.settings before c.entry.ensures.lost c.entry.ensures.known invariant.there c.loop-given.entries.items invariant.blame was refused));
     }
 
 pub returns-clause-world : goal.returns-clause-world
@@ -55,7 +57,12 @@ pub returns-clause-isolated : goal.returns-clause-isolated
 returns-clause-isolated g c = λ found. isolated (server.seen_as c.args.self.now) (server.seen_as c.loop-given.self) (tags c.args.list.now) _ (returns-clause-world g c found)
 
 pub returns-clause-blame : goal.returns-clause-blame
-returns-clause-blame g c = λ was refused. inr (subst (λ entries. IsShort entries ⊎ server.SomeFails (server.seen_as c.args.self.now) (server.seen_as c.loop-given.self)) (sym c.from_vec.ensures) (c.loop-given.invariant.blame was (sym c.memory_refused.ensures ∙ refused)))
+returns-clause-blame g c = λ was refused.
+    let old = server.seen_as c.args.self.now in
+    let new = server.seen_as c.loop-given.self in
+    let whole = take_all c.loop-given.given-index c.args.list.now (omega arith) in
+    inr (subst (λ entries. IsShort entries ⊎ AnotherFailed old new (tags c.args.list.now)) (sym c.from_vec.ensures)
+    (subst (λ list. IsShort c.loop-given.entries.items ⊎ AnotherFailed old new (tags list)) whole (c.loop-given.invariant.blame was (sym c.memory_refused.ensures ∙ refused))))
 
 pub returns-clause-later : goal.returns-clause-later
 returns-clause-later g c = record {

@@ -1,0 +1,6 @@
+use Rattle.thread_model.proofs.SharingLemmas.{performs_reset, refusal_reset}
+use Rattle.session_engine.proofs.CommandsLemmas.{replied}
+use Rattle.session_engine.proofs.sharing.reset.Goals as goal
+
+pub returns : goal.returns
+returns c = replied _ _ _ _ _ _ c.requires (refusal_reset _ _ _) (performs_reset _ _ _) c.clear.ensures

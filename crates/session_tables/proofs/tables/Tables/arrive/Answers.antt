@@ -1,0 +1,33 @@
+use Rattle.std.proofs.Common.{◌≡◌, List, ap, sym, ◌∙◌, false}
+use Rattle.event_queue.specs.Queue.{empty_queue}
+use Rattle.event_queue.specs.Table.{queue_at, with_queue}
+use Rattle.object_tree.specs.Table.{forest_at}
+use Rattle.places.specs.Table.{ChangesAt}
+use Rattle.publish_board.specs.Table.{desk_at}
+use Rattle.signature_core.specs.declared.kind.Kind.{Kind}
+use Rattle.thread_model.specs.declared.post.Post.{Post}
+use Rattle.thread_model.specs.Arriving.{reached_by}
+use Rattle.variant_value.specs.declared.value.Value.{Value}
+use Rattle.session_tables.proofs.PostLemmas.{failed_only, heard_one, map_ok, on_err, on_ok}
+use Rattle.session_tables.proofs.tables.Tables.arrive.Goals as goal
+
+pub returns-then-is_err-clause-only : goal.returns-then-is_err-clause-only
+returns-then-is_err-clause-only c =
+    failed_only c.args.self.now c.give_up.new.self c.args.place c.arrive-posted.new.queues c.requires
+    (on_err {P = ChangesAt empty_queue c.args.place c.args.self.now.queues c.arrive-posted.new.queues} c.arrive-posted.result (sym c.is_err.ensures.value ∙ c.if-is_err.true) c.arrive-posted.ensures.err) c.give_up.ensures
+
+pub returns-else-is_err-clause-ok : goal.returns-else-is_err-clause-ok
+returns-else-is_err-clause-ok c =
+    let classes = c.args.classes.now in
+    let from = c.args.from.now in
+    let old = c.args.self.now in
+    let at = c.args.place in
+    let rows = (forest_at old.forests at).rows in
+    let queue = queue_at old.queues at in
+    let told : List Kind → List Value → Post = λ kinds arguments. record { name = c.args.post.now.name; kinds = kinds; arguments = arguments } in
+    let done : c.arrive-posted.new.queues ≡ with_queue old.queues at (reached_by classes rows from (told c.as_slice.result.now c.as_slice-2.result.now) queue c.joins-joins.result.now) =
+    on_ok {P = c.arrive-posted.new.queues ≡ with_queue old.queues at (reached_by classes rows from (told c.as_slice.result.now c.as_slice-2.result.now) queue c.joins-joins.result.now)} c.arrive-posted.result (sym c.is_err.ensures.value ∙ c.if-is_err.false) c.arrive-posted.ensures.ok in
+    map_ok c.arrive-posted.result (λ value. heard_one classes from 0 old at c.args.post.now c.arrive-posted.new.queues (sym (c.get.ensures false) ∙ c.if-get.false) c.requires
+    (done ∙ ap (λ joins. with_queue old.queues at (reached_by classes rows from (told c.as_slice.result.now c.as_slice-2.result.now) queue joins)) c.joins-joins.ensures
+    ∙ ap (λ kinds. with_queue old.queues at (reached_by classes rows from (told kinds c.as_slice-2.result.now) queue (desk_at old.desks at).joins)) c.as_slice.ensures
+    ∙ ap (λ arguments. with_queue old.queues at (reached_by classes rows from (told c.args.post.now.kinds arguments) queue (desk_at old.desks at).joins)) c.as_slice-2.ensures))

@@ -1,0 +1,78 @@
+//! What sessions publish and join, and what ties an object to others.
+ghost use Rattle.std.specs.Prelude.{◌≡◌, OnOk, OnErr};
+ghost use Rattle.std.specs.List.{list_any};
+ghost use Rattle.refusals.specs.Answers.{RefusedBy};
+ghost use Rattle.publish_board.specs.Desk.{join_refusal, joined, left, publish_refusal, published, unpublished};
+ghost use Rattle.publish_board.specs.Rows.{has_name, is_join};
+ghost use Rattle.thread_model.specs.State.{with_desk, without_ties};
+ghost use Rattle.session_tables.specs.Tables.{IsPlaced, state_at, with_state};
+
+use crate::tables::Tables;
+use plain_types::Text;
+use publish_board::{Join, Publication};
+use refusals::Fault;
+use signature_core::Kind;
+
+impl Tables {
+    /// Publishes a signal of an object.
+    pub fn publish(&mut self, place: usize, row: Publication) -> Result<(), Fault>
+        requires { IsPlaced self.old place }
+        ensures refusal { RefusedBy (publish_refusal (state_at self.old place).desk row.name) result }
+        ensures ok { OnOk result (self.new ≡ with_state self.old place (with_desk (state_at self.old place) (published (state_at self.old place).desk row))) }
+        ensures err { OnErr result (self.new ≡ self.old) }
+    {
+        self.desks.publish(place, row)
+    }
+
+    /// Publishes nothing under a name any more, and returns whether something was.
+    pub fn unpublish(&mut self, place: usize, name: &Text) -> bool
+        requires { IsPlaced self.old place }
+        ensures was { result ≡ list_any (has_name name.now) (state_at self.old place).desk.publications }
+        ensures is { self.new ≡ with_state self.old place (with_desk (state_at self.old place) (unpublished (state_at self.old place).desk name.now)) }
+    {
+        self.desks.unpublish(place, name)
+    }
+
+    /// Makes a join, of a session that has this name, to a method with these parameters.
+    pub fn join(
+        &mut self,
+        place: usize,
+        own: &Text,
+        join: Join,
+        wanted: &[Kind],
+    ) -> Result<(), Fault>
+        requires { IsPlaced self.old place }
+        ensures refusal { RefusedBy (join_refusal own.now (state_at self.old place).desk join wanted.now) result }
+        ensures ok { OnOk result (self.new ≡ with_state self.old place (with_desk (state_at self.old place) (joined (state_at self.old place).desk join))) }
+        ensures err { OnErr result (self.new ≡ self.old) }
+    {
+        self.desks.join(place, own, join, wanted)
+    }
+
+    /// Takes the joins out that have these four, and returns whether there was one.
+    pub fn leave(
+        &mut self,
+        place: usize,
+        from: &Text,
+        name: &Text,
+        object: u32,
+        method: u32,
+    ) -> bool
+        requires { IsPlaced self.old place }
+        ensures was { result ≡ list_any (is_join from.now name.now object method) (state_at self.old place).desk.joins }
+        ensures is { self.new ≡ with_state self.old place (with_desk (state_at self.old place) (left (state_at self.old place).desk from.now name.now object method)) }
+    {
+        self.desks.leave(place, from, name, object, method)
+    }
+
+    /// Breaks the connections that have an object at either end, drops the events that name it, withdraws
+    /// what it publishes, and takes the joins out that call it.
+    pub fn sever(&mut self, place: usize, object: u32)
+        requires { IsPlaced self.old place }
+        ensures { self.new ≡ with_state self.old place (without_ties (state_at self.old place) object) }
+    {
+        self.connections.drop_object(place, object);
+        self.queues.drop_object(place, object);
+        self.desks.drop_object(place, object);
+    }
+}
