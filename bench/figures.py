@@ -13,6 +13,8 @@ INSTRUCTIONS, REQUESTS = "instructions", "requests for memory"
 LINES = 20_000
 SOME_LINES = 10_000
 SESSIONS = 10_000
+MANY_SESSIONS = 100_000
+LISTENERS = 100
 OBJECTS = 4_000
 CONNECTIONS = 16_384  # as many as a session may have; it may have as many events
 OTHER_CONNECTIONS = 15_000
@@ -142,6 +144,20 @@ def told(name, kind, slot):
     return Figure(name, "call", RINGS, lambda times: inputs.cells(kind, slot, EARS, times * RINGS), EARS)
 
 
+def unheard(sessions):
+    """The figure of a property that is set, published, and joined by none of so many sessions."""
+    name = f"set of an int that is published, beside {so_many(sessions, 'sessions')}"
+    return line(name, lambda lines: inputs.unheard(sessions, lines))
+
+
+def listened(sessions):
+    """The figure of what is told where so many sessions have joined a property that is set."""
+    told = inputs.SETS + (inputs.SETS + 1) * sessions
+    rounds = max(1, LINES // told)
+    name = f"{inputs.SETS} sets that are published, and a spin in each of {sessions:,} sessions"
+    return Figure(name, "line told", rounds * told, lambda times: inputs.listened(sessions, times * rounds))
+
+
 def class_file(count):
     """The figure of a class file with so many classes, against one with half as many; little else is given."""
     half = count // 2
@@ -172,6 +188,7 @@ CALLED = many_at_once("a call, of a signal with {:,} connections", "call", input
 POSTED = many_at_once("an event posted and taken, {:,} at once", "event", inputs.rings_later, SENT_AND_SPUN, LINES)
 SEEN = many_at_once("children, of {:,}", "object", inputs.seen, NONE_SEEN, 4 * LINES)
 SEARCHED = many_at_once("find, among {:,}", "object", inputs.searched, NONE_SEARCHED, 4 * LINES)
+ARRIVED = many_at_once("a post, in {:,} sessions", "arrival", inputs.posted, unheard(FEW), LINES)
 
 HEARD = heard(f"a call, of a signal with {EARS:,} ears")
 HEARD_BESIDE_SESSIONS = heard(f"a call, beside {SESSIONS:,} other sessions", lambda: inputs.other_sessions(SESSIONS))
@@ -206,11 +223,14 @@ FIGURES = [
     Ratio("a call by NOTIFY: from a slot that does nothing to one that sets", TOLD_SETS, TOLD, 1.5),
     SENT_AND_SPUN,
     *grown("an event", POSTED, FEW, CONNECTIONS, "at once", 1.2),
+    *grown("set of what is published", unheard, FEW, MANY_SESSIONS, "sessions", 1.02),
+    *grown("a post", ARRIVED, FEW, SESSIONS, "sessions"),
+    *grown("sets and spins", listened, LISTENERS, SESSIONS, "sessions"),
     NONE_SEEN,
     *grown("children", SEEN, FEW, OBJECTS, "objects", 2),
     NONE_SEARCHED,
     *grown("find", SEARCHED, FEW, OBJECTS, "objects", 2),
     line(f"meta of a class with {METHODS} methods", inputs.metas, METAS),
     *grown("a class file", class_file, 2 * FEW, CLASSES, "classes"),
-    *(memory(it) for it in (in_sessions(1), IN_TREES, HEARD, POSTED(CONNECTIONS))),
+    *(memory(it) for it in (in_sessions(1), IN_TREES, HEARD, POSTED(CONNECTIONS), listened(LISTENERS))),
 ]

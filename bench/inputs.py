@@ -11,9 +11,11 @@ from lines import (
     delete,
     disconnect,
     find_none,
+    join,
     look_around,
     meta,
     new,
+    publish,
     read,
     ring,
     set_x,
@@ -23,6 +25,8 @@ from lines import (
 )
 
 CHILDREN_OF_EACH = 4
+SETS = 10  # of what is published, before each session that hears it takes its events
+WAITING = 8  # events that wait in each of these sessions
 BLANKS_AND_ESCAPES = {",": ", ", ":": ": ", "lamp": "l\\u0061mp", "objectName": "object\\u004eame"}
 
 
@@ -194,3 +198,46 @@ def set_beside(standing, times):
     """A Cell that is set so many times beside so many others, without anybody to tell."""
     yield from numbered("a", 1, ["Cell"] * (standing + 1))
     yield from (set_x("a", value) for value in range(1, times + 1))
+
+
+# Publications and joins.
+
+
+def publisher():
+    """A Cell of session a that is published."""
+    yield new("a", 1, "Cell")
+    yield publish("a", "level")
+
+
+def listeners(count, other):
+    """So many sessions with an Ear each, which joins another session."""
+    for number in range(count):
+        yield new(f"l{number}", 1, "Ear")
+        yield join(f"l{number}", other, "level")
+
+
+def unheard(sessions, times):
+    """A Cell that is published, and set so many times beside so many sessions that have joined another one."""
+    yield from publisher()
+    yield from listeners(sessions, "b")
+    yield from (set_x("a", value) for value in range(1, times + 1))
+
+
+def posted(sessions, times):
+    """The same, where they have joined it, and each has some events already; nobody takes any."""
+    yield from publisher()
+    yield from listeners(sessions, "a")
+    yield from (set_x("a", value) for value in range(1, WAITING + times + 1))
+
+
+def listened(sessions, times):
+    """A Cell that is set some times over, after which so many sessions that have joined it take their events; so many
+    times."""
+    yield from publisher()
+    yield from listeners(sessions, "a")
+    for first in range(1, SETS * times + 1, SETS):
+        values = range(first, first + SETS)
+        yield from (set_x("a", value) for value in values)
+        for number in range(sessions):
+            name = f"l{number}"
+            yield spin(name, SETS, "".join(called(name, "hear(int)", [1], value, sender=0) for value in values))

@@ -139,6 +139,17 @@ def spin(session, events, calls=""):
     return command(session, "spin"), calls + reply(session, {"events": events, "left": 0, "lost": 0, "mismatched": 0})
 
 
+def publish(session, name):
+    """The first object, a Cell, tells other sessions of its changes."""
+    return command(session, "publish", object=1, signal="xChanged(int)", name=name), reply(session, True)
+
+
+def join(session, other, name):
+    """The first object, an Ear, hears what another session publishes."""
+    call = {"from": other, "types": ["int"], "object": 1, "method": "hear(int)"}
+    return command(session, "join", name=name, **call), reply(session, True)
+
+
 def children(session, number, found):
     return command(session, "children", object=number), reply(session, found)
 

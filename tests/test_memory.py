@@ -6,10 +6,11 @@ from collections import Counter
 from dataclasses import replace
 from subprocess import CompletedProcess
 
+from .plain.lines import answer, server_of
 from .support.cases import CASE, Cases, ProgramCases
 from .support.growths import COMPLAINT, KINDS, OUT_OF_MEMORY, Trial, count_start, missing, refuse_growths, start_of
 from .support.lines import lines_of
-from .support.program import ROWS, Row, library, rows_in
+from .support.program import ROWS, Row, library, row_of, rows_in
 
 
 class RefusedGrowths(ProgramCases):
@@ -115,22 +116,72 @@ CASES = [
 ]
 
 
+class PlainRow(Row):
+    """The row of the plain program."""
+
+    def run(self, program, **more):
+        server = server_of(self)
+        return ended(b"".join(answer(server, line) for line in self.given.split(b"\n")))
+
+
+POSTED = row_of(ROWS / "receiver_is_reset_after_a_post")
+TRUTH_A = text(reply=True, session="a")
+POSTED_B = text(args=[7], call="seen(int)", object=1, sender=0, session="b")
+SPUN, SPUN_NOTHING = (
+    text(reply={"events": events, "left": 0, "lost": 0, "mismatched": 0}, session="b") for events in (1, 0)
+)
+COUNTS = ("bindings", "connections", "group", "joins", "lost", "mismatched", "objects", "publications", "queued")
+NOTHING_B = text(reply=dict.fromkeys(COUNTS, 0), session="b")
+JOINS_B = text(reply=dict.fromkeys(COUNTS, 0) | {"joins": 1}, session="b")
+BEGUN = [NUMBER_A, NUMBER_B, TRUTH_B, TRUTH_A]
+FAILED_A, FAILED_B, LATER_A, LATER_B = (error(code, session) for code in ("E21", "E20") for session in "ab")
+CALLED_B = POSTED_B + SPUN
+RESET_B = [TRUTH_B, NOTHING_B]
+
+# what a program writes where one growth is refused while one session posts to another, line by line, and what that is
+CASES_OF_POSTS = [
+    ("the row itself", [*BEGUN, TRUTH_A, CALLED_B, TRUTH_A, *RESET_B], "not seen"),
+    ("the receiver fails", [*BEGUN, TRUTH_A, LATER_B, TRUTH_A, *RESET_B], "receiver failed"),
+    ("the receiver fails in its own command", [*BEGUN, TRUTH_A, FAILED_B, TRUTH_A, *RESET_B], "session failed"),
+    ("the receiver fails at its reset", [*BEGUN, TRUTH_A, CALLED_B, TRUTH_A, FAILED_B, LATER_B], "session failed"),
+    ("the receiver fails where it joins", [NUMBER_A, NUMBER_B, FAILED_B, TRUTH_A, TRUTH_A, LATER_B, TRUTH_A, *RESET_B], "session failed"),
+    ("the sender fails before its post", [*BEGUN, FAILED_A, SPUN_NOTHING, LATER_A, *RESET_B], "session failed"),
+    ("the sender fails behind its post", [*BEGUN, FAILED_A, CALLED_B, LATER_A, *RESET_B], "session failed"),
+    ("a line of the sender is lost", [*BEGUN, error("E21", "-"), SPUN_NOTHING, TRUTH_A, *RESET_B], "line lost"),
+    ("the sender is not entered", [FAILED_A, NUMBER_B, TRUTH_B, error("E04", "a"), error("E04", "a"), SPUN_NOTHING, error("E04", "a"), *RESET_B], "session not entered"),
+    ("the sender fails with the receiver", [*BEGUN, FAILED_A, LATER_B, LATER_A, *RESET_B], None),
+    ("the sender fails, and goes on", [*BEGUN, FAILED_A, SPUN_NOTHING, TRUTH_A, *RESET_B], None),
+    ("a post is lost without a failure", [*BEGUN, TRUTH_A, SPUN_NOTHING, TRUTH_A, *RESET_B], None),
+    ("the sender is told that the receiver fails", [*BEGUN, error("E14", "a"), LATER_B, TRUTH_A, *RESET_B], None),
+    ("the receiver fails where nothing is posted", [NUMBER_A, NUMBER_B, LATER_B, TRUTH_A, TRUTH_A, LATER_B, TRUTH_A, *RESET_B], None),
+    ("the receiver goes on", [*BEGUN, TRUTH_A, LATER_B, TRUTH_A, TRUTH_B, JOINS_B], None),
+    ("the receiver stays failed", [*BEGUN, TRUTH_A, LATER_B, TRUTH_A, LATER_B, LATER_B], None),
+    ("the receiver is told of its failure and goes on", [*BEGUN, TRUTH_A, LATER_B, TRUTH_A, TRUTH_B, LATER_B], None),
+]
+
+
 class Outcomes(Cases):
     """What came of a refused growth, told of programs that are made up here, each by what it writes then."""
 
     def test_outcomes(self):
         """The allowed outcomes are told by their names, and anything else is none of them."""
-        row = MadeUp(**vars(ROW))
+        self.check_outcomes(MadeUp(**vars(ROW)), CASES)
 
+    def test_outcomes_of_posts(self):
+        """So they are where one session posts to another, which may fail by that."""
+        cases = [(name, ended(b"".join(lines)), wanted) for name, lines, wanted in CASES_OF_POSTS]
+        self.check_outcomes(PlainRow(**vars(POSTED)), cases)
+
+    def check_outcomes(self, row, cases):
         def fault_of(case):
             ran, wanted = case
             told = Trial("made up", "", replace(row)).outcome(ran)
             return None if told == wanted else f"{told}, and not {wanted}, where it wrote {ran}"
 
-        self.check_each([(name, case) for name, *case in CASES], fault_of)
+        self.check_each([(name, case) for name, *case in cases], fault_of)
 
     def test_missing(self):
         """It is seen which outcomes never came: of a program that ends at every refused growth, and of others."""
-        self.assertEqual(missing(Counter({"program ended": 9})), list(KINDS[:3]))
+        self.assertEqual(missing(Counter({"program ended": 9})), list(KINDS[:-1]))
         self.assertEqual(missing(Counter(KINDS)), [])
         self.assertEqual(missing(Counter(KINDS[1:])), [KINDS[0]])

@@ -260,7 +260,8 @@ class Stack:
 
 
 class Limits(ProgramCases):
-    """The limits of signals, slots, events and properties; what has to be written is worked out from the rules."""
+    """The limits of signals, slots, events, properties, publications and joins; what has to be written is worked out from
+    the rules."""
 
     def setUp(self):
         self.folder = Path(self.enterContext(TemporaryDirectory(prefix="metad-limits-")))
@@ -270,7 +271,7 @@ class Limits(ProgramCases):
         return [(row.name, replace(row, folder=self.folder)) for row in rows]
 
     def test_wide(self):
-        """As many objects, connections, events and properties, and texts as long as may be."""
+        """As many objects, connections, events, properties, publications and joins, and texts as long as may be."""
         self.check_each(self.cases(limits.wide_rows()), lambda row: fault_on_stack(self.program, row), at_once=1)
 
     def test_deep(self):

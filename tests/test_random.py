@@ -1,19 +1,23 @@
 """Lines and sessions by chance, the same in every run: the built program is compared with the plain one, which works
 out what is wanted while it makes what is given."""
 
+import json
 import os
 import unittest
 from collections import Counter, defaultdict
 from concurrent.futures import ProcessPoolExecutor
-from dataclasses import dataclass, field
+from dataclasses import dataclass, field, replace
 from functools import cache, partial
 from pathlib import Path
 from tempfile import TemporaryDirectory
 
-from .generators import chance, sessions, signals, trees
+from .generators import chance, mixed, sessions, signals, trees
 from .plain.classes import Classes
-from .plain.lines import Server, answer, server_with
+from .plain.lines import answer, server_with
+from .plain.session import Session
+from .plain.world import Server, told_alone
 from .support.cases import CASE, ProgramCases
+from .support.differences import difference, shown_input
 from .support.lines import lines_of, text_of
 from .support.program import SECONDS, Row
 
@@ -113,6 +117,109 @@ class Signals(ProgramCases):
         self.assertEqual([] if CASE else lacking, [], "no session shows this")
 
 
+def by_session(lines):
+    """The lines of each session by its name."""
+    found = defaultdict(list)
+    for line in lines:
+        found[line["session"]].append(line)
+    return found
+
+
+def lines_by_session(text):
+    """What the program wrote to each session, by its name."""
+    found = defaultdict(bytes)
+    for line in text.splitlines(keepends=True):
+        found[json.loads(line)["session"]] += line
+    return found
+
+
+@dataclass
+class Part:
+    """A part of a run's commands that has to tell one session what the whole run tells it."""
+
+    session: str
+    what: str
+    commands: list
+
+    def given(self):
+        return lines_of(self.commands)
+
+
+def parts_of(run):
+    """The parts of a run that decide what each session is told."""
+    for name in run.server.sessions:
+        yield Part(name, "without those outside its influence", run.within_influence(name))
+        yield Part(name, "in its slice", run.slice(name))
+
+
+def part_faults(run, row, program):
+    """What is wrong with what sessions are told by parts of a run, each of which has names of its own in one input."""
+    parts = dict(enumerate(parts_of(run)))
+    given = [mixed.renamed(command, f"_{at}") for at, part in parts.items() for command in part.commands]
+    told = lines_by_session(replace(row, given=lines_of(given)).run(program).stdout)
+    for at, part in parts.items():
+        name = f"{part.session}_{at}"
+        fault = difference(lines_of(run.told(part.session), session=name), told[name])
+        if fault:
+            yield f"{part.session} {part.what}: {fault}\n{shown_input(part.given())}"
+
+
+def alone_faults(run):
+    """Sessions that are not told alone what they are told among the others."""
+    for name in run.server.sessions:
+        alone = told_alone(Session(name, run.server.classes, run.server.turns), run.items(name))
+        fault = difference(lines_of(run.told(name)), lines_of(alone))
+        if fault:
+            yield f"{name} alone: {fault}"
+
+
+def shown_by_run(run):
+    """What runs have to show."""
+    lines, parts = run.lines(), [len(part.commands) for part in parts_of(run)]
+    beside = sum(len(run.commands_beside(name)) for name in run.server.sessions)
+    spun = [line["reply"] for line in lines if isinstance(line.get("reply"), dict) and "events" in line["reply"]]
+    done = Counter(step.command["do"] for step in run.steps if "reply" in step.lines[-1])
+    return Counter({
+        "commands": len(run.steps),
+        "posts": sum(len(step.posts) for step in run.steps),
+        "posts of events": sum(len(step.posts) for step in run.steps if step.command["do"] == "spin"),
+        "arrivals": sum(step.arrived for step in run.steps),
+        "calls": signals.calls_in(lines),
+        "events": sum(it["events"] for it in spun),
+        "replies with mismatches": sum(it["mismatched"] > 0 for it in spun),
+        **{word: done[word] for word in ("publish", "join", "leave", "unpublish", "reset")},
+        "refusals": sum("error" in line for line in lines),
+        "commands left out": beside - sum(parts[::2]),
+        "more of them by slices": sum(parts[::2]) - sum(parts[1::2]),
+    })
+
+
+def try_mixed(program, seed):
+    """Tries some runs of sessions that listen to each other."""
+    made = mixed.Chance(seed)
+    declared, turns = list(made.classes()), made.choice(signals.TURNS)
+    run = mixed.run_of(made, Server(Classes(declared), turns))
+    with TemporaryDirectory(prefix="metad-mixed-") as room:
+        row = row_with_classes(f"by chance, {seed}", run.commands(), run.lines(), declared, room, turns)
+        faults = [row.fault(row.run(program)), *alone_faults(run), *part_faults(run, row, program)]
+    fault = next(filter(None, faults), None)
+    return Tried(fault and f"{fault}\nits class file: {text_of({'classes': declared})}", shown_by_run(run))
+
+
+class Mixed(ProgramCases):
+    """Sessions that listen to each other."""
+
+    def test_mixed(self):
+        """Runs of a few sessions by chance; and each session is told the same alone with what is posted to it, without the
+        commands of all that no join has led to it from, and by its slice."""
+        seeds = range(int(SEED), int(SEED) + mixed.RUNS // mixed.RUNS_AT_ONCE)
+        cases = ((f"by chance, {seed}", seed) for seed in seeds)
+        tried = self.check_each(cases, partial(try_mixed, self.program), lambda it: it.fault, ProcessPoolExecutor)
+        shown = sum((it.shown for it in tried), Counter())
+        self.tell(", ".join(f"{what}: {number:,}" for what, number in shown.items()))
+        self.assertEqual([] if CASE else [what for what, number in shown.items() if not number], [], "no run shows this")
+
+
 @cache
 def sessions_in_turn():
     """The commands of a hundred sessions in turn, and what the plain program tells to them."""
@@ -120,12 +227,25 @@ def sessions_in_turn():
     return commands, told_by_plain(commands, Classes(sessions.CLASSES))
 
 
-def by_session(lines):
-    """The lines of each session by its name."""
-    found = defaultdict(list)
-    for line in lines:
-        found[line["session"]].append(line)
-    return found
+def listening_in_turn():
+    """The commands of a hundred sessions that listen to each other, what the plain program tells to them, and what comes to
+    each by its name: its commands, and the posts of the others."""
+    server, wanted, items = Server(Classes(sessions.CLASSES)), [], defaultdict(list)
+    commands = sessions.in_turn(listen=True)
+    names = {command["session"] for command in commands}
+    for command in commands:
+        lines, posts = server.done(command)
+        wanted += lines
+        items[command["session"]].append(command)
+        for other in names - {command["session"]}:
+            items[other] += [(command["session"], post) for post in posts]
+    return commands, wanted, items
+
+
+def alone_fault(case):
+    """What is wrong with what a session was told, where the plain program tells it of it alone, or None."""
+    name, items, told = case
+    return difference(lines_of(told_alone(Session(name, Classes(sessions.CLASSES)), items)), told)
 
 
 class Sessions(ProgramCases):
@@ -142,6 +262,16 @@ class Sessions(ProgramCases):
         self.check_rows([row_with_classes("all in turn", commands, wanted, sessions.CLASSES, self.room)])
         self.tell(f"commands: {len(commands):,}, calls: {calls:,}")
 
+    def test_sessions_that_listen(self):
+        """A hundred sessions that take turns and listen to the next one are told what each is told by the plain program
+        alone, with what is posted to it."""
+        commands, wanted, items = listening_in_turn()
+        row = row_with_classes("all in turn", commands, wanted, sessions.CLASSES, self.room)
+        self.check_rows([row])
+        told = lines_by_session(row.run(self.program).stdout)
+        self.check_each(((name, (name, items[name], told[name])) for name in items), alone_fault, workers=ProcessPoolExecutor)
+        self.tell(f"commands: {len(commands):,}, calls: {signals.calls_in(wanted):,}")
+
     def test_sessions_alone(self):
         """Each of them is told by a server of its own what it is told among the others."""
         commands, wanted = map(by_session, sessions_in_turn())
@@ -151,12 +281,13 @@ class Sessions(ProgramCases):
     @unittest.skipUnless(os.environ.get("LONG"), "LONG=1 runs it, for some minutes")
     def test_sessions_at_length(self):
         """A million commands by chance, in fifty sessions of one server, are answered as by the plain program."""
-        made = signals.Chance(1)
+        made = mixed.Chance(1)
         declared = list(made.classes())
         server, commands, wanted = Server(Classes(declared), LONG_TURNS), [], []
+        names = [f"s{at}" for at in range(LONG_SESSIONS)]
         for _ in range(LONG_COMMANDS):
-            name = f"s{made.randrange(LONG_SESSIONS)}"
-            commands.append({**made.command(server.session(name)), "session": name})
+            name = made.choice(names)
+            commands.append({**made.command_among(server, name, names), "session": name})
             wanted += server.step(commands[-1])
         calls, refusals = signals.calls_in(wanted), sum("error" in line for line in wanted)
         self.assertGreater(calls, 0, "there are no calls")

@@ -8,8 +8,7 @@ from subprocess import CompletedProcess
 from tempfile import TemporaryDirectory
 
 from .generators.spelling import rows_respelled
-from .plain.lines import DEMONSTRATION, answer, server_with
-from .plain.session import TURNS
+from .plain.lines import answer, server_of
 from .support.cases import Cases, ProgramCases
 from .support.differences import LAST, difference
 from .support.documents import BLOCK, GIVEN, GUIDE, README, examples_of, line_number
@@ -33,14 +32,6 @@ class Rows(ProgramCases):
     def test_respelled_rows(self):
         """It answers each row alike with its keys turned round, with white space, and with escapes."""
         self.check_rows(rows_respelled(rows_in(ROWS)))
-
-
-def server_of(row):
-    """A server of the plain program with the classes and the turns that a row starts with."""
-    words = list(row.words)
-    turns = int(words.pop(words.index("--turns") + 1)) if "--turns" in words else TURNS
-    paths = [row.folder / word for word in words if word != "--turns"]
-    return server_with(paths[0] if paths else DEMONSTRATION, turns)
 
 
 def plain_fault(row):

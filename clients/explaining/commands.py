@@ -114,13 +114,37 @@ CONNECTION_FORMS = {
     )],
     "block": [Form(said.said_of_block, is_truth, {**ONE_OBJECT, "on": is_truth})],
 }
+PUBLICATION = {"from": is_text, "name": is_text}
+ONE_METHOD = {**ONE_OBJECT, "method": is_text}
+NO_SUCH_METHOD = {"E05": "object {object} has no method {method}"}
+LISTENING_FORMS = {
+    "publish": [Form(said.said_of_publish, is_true, {**ONE_OBJECT, "signal": is_text, "name": is_text}, {}, {
+        "E05": "object {object} has no signal {signal}",
+        "E06": "the text of the signal is no signature",
+        "E14": "the session has as many publications as it may",
+        "E15": "the session publishes something as {name} already",
+    })],
+    "unpublish": [Form(said.said_of_unpublish, is_truth, {"name": is_text})],
+    "join": [Form(said.said_of_join, is_true, {**PUBLICATION, "types": are(is_text), **ONE_METHOD}, {}, {
+        **NO_SUCH_METHOD,
+        "E06": "the text of the method is no signature, or the types are too many, or one of them is none",
+        "E07": "the types of the parameters of {method} are not the first of those that are joined",
+        "E14": "the session has as many joins as it may",
+    })],
+    "leave": [Form(said.said_of_leave, is_truth, {**PUBLICATION, **ONE_METHOD}, {}, {
+        **NO_SUCH_METHOD,
+        "E06": "the text of the method is no signature",
+    })],
+}
 FORMS = {
     **OBJECT_FORMS,
     **PROPERTY_FORMS,
     **CONNECTION_FORMS,
+    **LISTENING_FORMS,
     "spin": [Form(said.said_of_spin, IS_SPIN)],
     "status": [Form(said.said_of_status, IS_STATUS)],
     "meta": [Form(said.said_of_meta, IS_META, {"class": is_text}, {}, NO_CLASS)],
+    "reset": [Form(said.said_of_reset, is_true)],
 }
 
 

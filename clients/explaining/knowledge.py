@@ -50,6 +50,8 @@ class Knowledge:
         was_shaken = self.settle(session)
         if isinstance(line, Error):
             refuse(session, command, line.error)
+        elif command.word == "reset":
+            self.sessions[line.session] = Objects()
         elif command.word not in FORMS:
             session.shake()  # nothing is known of what it does
         else:

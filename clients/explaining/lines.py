@@ -85,7 +85,7 @@ class Call(Line):
     args: list
 
     def said(self) -> str:
-        by = f"object {self.sender}" if self.sender else "a command"
+        by = f"object {self.sender}" if self.sender else "a command or a post"
         called = "slot" if "(" in self.call else "functor"
         return f"object {self.object}: {called} {plain(self.call)} called by {by}, {arguments(self.args)}"
 

@@ -133,6 +133,35 @@ def said_of_status(asked, reply):
     return f"{said}, and {counted(reply['queued'], 'event')} in its queue; {lost_of(reply)}{further}"
 
 
+# ---- publications and joins ----
+
+
+def said_of_publish(asked, reply):
+    return f"{plain(asked['signal'])} of object {asked['object']} is published as {plain(asked['name'])}"
+
+
+def said_of_unpublish(asked, reply):
+    return f"nothing is published as {plain(asked['name'])} any more" if reply else f"nothing was published as {plain(asked['name'])}"
+
+
+def said_of_join(asked, reply):
+    types = f"with the types {listed(asked['types'])}" if asked["types"] else "without arguments"
+    return f"{publication_of(asked)}, {types}, is joined by {plain(asked['method'])} of object {asked['object']}"
+
+
+def said_of_leave(asked, reply):
+    now = "is not joined any more" if reply else "was not joined"
+    return f"{publication_of(asked)} {now} by {plain(asked['method'])} of object {asked['object']}"
+
+
+def publication_of(asked):
+    return f"{plain(asked['name'])} of session {plain(asked['from'])}"
+
+
+def said_of_reset(asked, reply):
+    return "the session is as it is before its first command"
+
+
 # ---- classes ----
 
 

@@ -8,6 +8,10 @@ reads the lines that are for it. The front gives each client a name, `c1`, `c2` 
 again, and names the session of each of its commands by it, whatever `session` the client has written or left out.
 So no client can speak for another one.
 
+Clients can listen to each other, by the names that the front gave them, which stand as `session` in the lines that
+they are told: the `from` of `join` and `leave` goes to the server as the client has written it. By a name that the
+front has not given, as one that a client has written as its own `session`, nobody ever publishes.
+
 How a session is named: `,"session":"NAME"` is put before the last brace of a line. Where a key stands twice in an
 object the last one counts, so this one does; and the line is JSON exactly where it was before, since a brace and a
 comma can stand in the same places behind a member. A line that does not begin with `{` and end with `}` is no object;

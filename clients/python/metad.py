@@ -42,13 +42,16 @@ Value = Any
 Word = Union[str, "PathLike[str]"]
 """A word of a command line, or a path."""
 
+NOBODY = "-"
+"""The session of the answer to a line of which nobody can say whose it was."""
+
 MEANINGS = {
     "E01": "the line is no JSON, no UTF-8 or too long",
     "E02": "the line is no command",
     "E03": "no such class",
     "E04": "no such object",
     "E05": "no such method",
-    "E06": "no signature",
+    "E06": "no signature or type",
     "E07": "signal and method do not fit",
     "E08": "connected already",
     "E09": "unique with a functor",
@@ -57,6 +60,8 @@ MEANINGS = {
     "E12": "a cycle of parents",
     "E13": "the object is dying",
     "E14": "a limit",
+    "E15": "the name is taken",
+    "E16": "the own session",
     "E19": "numbers used up",
     "E20": "the session has failed",
     "E21": "want of memory",
@@ -120,7 +125,7 @@ class Call:
     args: List[Value]
     """What it was called with."""
     sender: int
-    """The number of the object whose signal called it; 0 where a command called the slot."""
+    """The number of the object whose signal called it; 0 where a command or another session's post called the slot."""
 
 
 @dataclass(frozen=True)
@@ -222,6 +227,9 @@ class Session:
     def __init__(self, server: Server, name: str) -> None:
         self.name = name
         """The name that the commands of this session are given by."""
+        self.known_as: Optional[str] = None
+        """The name that its lines have, and by which others join it: behind a front the one that the front gave. None
+        before its first answer."""
         self.on_call: Optional[OnCall] = None
         """Told of the calls of the session's slots and functors; may be set at any time."""
         self.on_warning: Optional[OnWarning] = None
@@ -340,6 +348,26 @@ class Session:
         """Blocks the signals of an object or lets them through; returns whether they were blocked before."""
         return cast(bool, self.command("block", object=object, on=on))
 
+    def publish(self, object: int, signal: str, name: str) -> bool:
+        """Publishes a signal of an object under a name."""
+        return cast(bool, self.command("publish", object=object, signal=signal, name=name))
+
+    def unpublish(self, name: str) -> bool:
+        """Takes back what is published under a name; says whether there was anything."""
+        return cast(bool, self.command("unpublish", name=name))
+
+    def join(self, from_: str, name: str, types: Sequence[str], object: int, method: str) -> bool:
+        """Has what another session posts under a name, with these types, call a method of an object.
+
+        `from_` is the name by which the other session is known, its `known_as`.
+        """
+        call = {"types": list(types), "object": object, "method": method}
+        return cast(bool, self.command("join", from_=from_, name=name, **call))
+
+    def leave(self, from_: str, name: str, object: int, method: str) -> bool:
+        """Takes back all joins with these ends; says whether there was one."""
+        return cast(bool, self.command("leave", from_=from_, name=name, object=object, method=method))
+
     def spin(self) -> Spun:
         """Takes the events of the session."""
         return cast(Spun, self.command("spin"))
@@ -351,6 +379,10 @@ class Session:
     def meta(self, class_: str) -> Meta:
         """Tells what there is in a class."""
         return cast(Meta, self.command("meta", class_=class_))
+
+    def reset(self) -> bool:
+        """Puts the session back to how it is before its first command."""
+        return cast(bool, self.command("reset"))
 
     def _hear(self, line: Dict[str, Value]) -> None:
         """Tells a callback of a line that is no answer."""
@@ -463,7 +495,10 @@ class Server:
             raise ServerGone(*self._end())
         line = _line_of(text)
         if "reply" in line or "error" in line:
-            self._pending.popleft()._line = line
+            pending = self._pending.popleft()
+            pending._line = line
+            if line["session"] != NOBODY:
+                pending._session.known_as = line["session"]
         else:
             self._session_of(line)._hear(line)
 
@@ -536,7 +571,8 @@ def start(program: Word, *words: Word) -> Server:
 def connect(path: Word) -> Server:
     """Connects with the Unix-domain socket of a front. `OSError` where nobody listens there.
 
-    A front gives each connection one session, whatever names are asked for: take one `Session` of it.
+    A front gives each connection one session, whatever names are asked for: take one `Session` of it. Its `known_as` is
+    the name by which other clients join it.
     """
     return _Socket(path)
 

@@ -25,11 +25,14 @@ WORDS = (
     *("connectFunctor", "connectFunctor", "connectFunctor", "connect\\u0046unctor"),
     *("set", "set", "get", "dynamicNames", "dynamicNam\\u0065s"),
     *("spin", "spin", "deleteLater", "block", "status", "sp\\u0069n", "delete\\u004cater"),
+    *("publish", "publ\\u0069sh", *("join",) * 6, "jo\\u0069n", "unpublish", "leave", "l\\u0065ave", "invoke", "invoke", "invoke"),
 )
+SELDOM = ("reset", "r\\u0065set")
 KEYS = (
     *("do", "session", "object", "property", "value", "class", "parent", "name", "x", "d\\u006f", "obj\\u0065ct", "Do", ""),
     *("sender", "signal", "receiver", "method", "type", "unique", "single", "connection", "args", "on"),
     *("context", "functor", "s\\u0065nder", "typ\\u0065", "\\u006fn", "f\\u0075nctor"),
+    *("from", "types", "fr\\u006fm", "typ\\u0065s"),
 )
 SIGNALS = (*("ping()",) * 16, *("xChanged(int)",) * 4, "p\\u0069ng()", "ping\\u0028void\\u0029", " ping(\\t)", "destroyed()", "objectNameChanged(QString)", "note()", "ping")
 PROPERTIES = (
@@ -44,6 +47,9 @@ SLOTS = (
 FUNCTORS = (*('"clamp"',) * 16, '"cl\\u0061mp"', '"\\u0063lamp"', '"clam"', '"Clamp"', '"clamp(int)"', '""', "0")
 TYPES = (*('"auto"', '"direct"', '"queued"') * 4, '"dir\\u0065ct"', '"Queued"', '"blocking"', "0")
 TRUTHS = ("true", "false")
+JOINED = (*('"note()"',) * 9, *('"setX(int)"',) * 2, '"ping()"', '"late()"', '"seen(int)"')
+NAMES = (*('"ping"',) * 40, *('"x"',) * 10, '"p\\u0069ng"', '"\\u0078"', '"end"', '"other"', '"n n"', '"-"', '""', "0", '"' + "n" * 65 + '"')
+KINDS = (*('"int"',) * 8, '"i\\u006et"', '"uint"', '"bool"', '"QString"', '"qlonglong"', '"qulonglong"', '"Int"', '"int "', '""', "0", "null")
 CONNECTIONS = 40
 TURNS = 20
 NUMBERS = (
@@ -70,6 +76,9 @@ class Chance(random.Random):
 
     def session(self):
         return f'"{self.choice(SESSIONS)}{self.made // LINES_OF_SESSIONS}"'
+
+    def word(self):
+        return self.choice(SELDOM if self.is_so(0.001) else WORDS)
 
     def is_so(self, share):
         return self.random() < share
@@ -99,6 +108,10 @@ class Chance(random.Random):
     def object(self):
         """The number of an object, of the first ones most times."""
         return str(min(self.randint(1, OBJECTS) for _ in "abc"))
+
+    def old_object(self):
+        """The number of an object, of the very first ones most times."""
+        return str(min(self.randint(1, OBJECTS) for _ in range(8)))
 
     def method(self, share):
         """A signal, by this share, or a slot."""
@@ -138,7 +151,29 @@ class Chance(random.Random):
         if self.is_so(0.2):
             method, values = '"objectNameChanged ( const QString & )"', [self.text()]
         further = [("type", self.choice(TYPES))] if self.is_so(0.25) else []
-        return [("object", self.object()), ("method", method), ("args", f"[{','.join(values)}]"), *further]
+        number = self.old_object() if self.is_so(0.4) else self.object()
+        return [("object", number), ("method", method), ("args", f"[{','.join(values)}]"), *further]
+
+    def types(self, method):
+        """The types of a join of this method, most times those that some signal has."""
+        if self.is_so(0.1):
+            return [self.choice(KINDS) for _ in range(self.randrange(13))]
+        return ['"int"'] if "(int)" in method or self.is_so(0.2) else []
+
+    def publication(self):
+        name, signal = self.choice(NAMES), self.method(1)
+        if self.is_so(0.8):
+            name, signal = self.choice((('"ping"', '"ping()"'), ('"ping"', '"ping()"'), ('"x"', '"xChanged(int)"')))
+        return [("object", self.old_object()), ("signal", signal), ("name", name)]
+
+    def join_ends(self):
+        """What a join is called by."""
+        method = self.choice(JOINED) if self.is_so(0.8) else self.method(0.2)
+        return [("from", self.session()), ("name", self.choice(NAMES)), ("object", self.old_object()), ("method", method)]
+
+    def join(self):
+        ends = self.join_ends()
+        return [*ends, ("types", f"[{','.join(self.types(ends[-1][1]))}]")]
 
     def members_of(self, word):
         """The members of a command in form, but for its word and its session."""
@@ -164,6 +199,14 @@ class Chance(random.Random):
             return [("object", self.object())]
         if word in ("delete", "deleteLater", "delete\\u004cater"):
             return [("object", str(self.randint(1, OBJECTS)))]
+        if word in ("publish", "publ\\u0069sh"):
+            return self.publication()
+        if word == "unpublish":
+            return [("name", self.choice(NAMES))]
+        if word in ("join", "jo\\u0069n"):
+            return self.join()
+        if word in ("leave", "l\\u0065ave"):
+            return self.join_ends()
         members = []
         if word == "find" or word == "children" and self.is_so(0.6):
             members.append(("object", self.object()))
@@ -177,7 +220,7 @@ class Chance(random.Random):
 
     def members(self):
         """The members of a command, which may be out of form."""
-        word = self.choice(WORDS)
+        word = self.word()
         members = [("do", f'"{word}"'), ("session", self.session()), *self.members_of(word)]
         if self.is_so(0.15):
             at = self.randrange(len(members))

@@ -1,25 +1,33 @@
-"""Sessions at the limits of signals, slots, events and properties. What has to be written is worked out from the
-rules."""
+"""Sessions at the limits of signals, slots, events, properties, publications and joins. What has to be written is worked
+out from the rules."""
 
 from tests.support.lines import lines_of
 from tests.support.program import Row
 
 CONNECTIONS = 16_384
 EVENTS = 16_384
+PUBLICATIONS = 1_024
+JOINS = 1_024
 TURNS = 10_000
 LEVELS = 64
 TEXT_BYTES = 4_096
 DYNAMIC_PROPERTIES = 64
-E07, E08, E09, E10, E14, E22 = ({"error": code} for code in ("E07", "E08", "E09", "E10", "E14", "E22"))
-SPIN, STATUS, CHILDREN = ({"do": word} for word in ("spin", "status", "children"))
+E07, E08, E09, E10, E14 = ({"error": code} for code in ("E07", "E08", "E09", "E10", "E14"))
+E05, E15, E16, E22 = ({"error": code} for code in ("E05", "E15", "E16", "E22"))
+SPIN, STATUS, CHILDREN, RESET = ({"do": word} for word in ("spin", "status", "children", "reset"))
 
 
 def row_of(name, steps, *words):
-    """A row of steps, each a command and the lines that it has to be answered by."""
-    steps = list(steps)
-    given = lines_of((step[0] for step in steps), session="a")
-    wanted = lines_of((line for step in steps for line in step[1:]), session="a")
+    """A row of steps, each a command and the lines that it has to be answered by, of session `a` where they say no other."""
+    steps = [of("a", *step) for step in steps]
+    given = lines_of(step[0] for step in steps)
+    wanted = lines_of(line for step in steps for line in step[1:])
     return Row(name, given, wanted, words=("classes.json", *words))
+
+
+def of(session, *step):
+    """A step of this session, where it is not said to be of another one."""
+    return tuple({"session": session, **it} for it in step)
 
 
 def reply(value):
@@ -58,6 +66,22 @@ def get(number, name):
     return {"do": "get", "object": number, "property": name}
 
 
+def publish(number, signal, name):
+    return {"do": "publish", "object": number, "signal": signal, "name": name}
+
+
+def unpublish(name):
+    return {"do": "unpublish", "name": name}
+
+
+def join(source, name, types, number, method):
+    return {"do": "join", "from": source, "name": name, "types": types, "object": number, "method": method}
+
+
+def leave(source, name, number, method):
+    return {"do": "leave", "from": source, "name": name, "object": number, "method": method}
+
+
 def delete(number):
     return {"do": "delete", "object": number}
 
@@ -66,8 +90,8 @@ def delete_later(number):
     return {"do": "deleteLater", "object": number}
 
 
-def spun(events, left=0, lost=0):
-    return reply({"events": events, "left": left, "lost": lost, "mismatched": 0})
+def spun(events, left=0, lost=0, mismatched=0):
+    return reply({"events": events, "left": left, "lost": lost, "mismatched": mismatched})
 
 
 def counted(**there):
@@ -211,6 +235,111 @@ def values():
     yield delete(1), reply(True)
 
 
+def publications():
+    """As many publications as there may be, all of one signal, of which another session joins the last and the first."""
+    names = [f"p{at}" for at in range(PUBLICATIONS)]
+    yield new(), reply(1)
+    yield new(), reply(2)
+    yield from ((publish(1, "down()", name), reply(True)) for name in names)
+    yield publish(1, "down()", "one_more"), E14
+    yield publish(2, "down()", "one_more"), E14
+    yield publish(1, "down()", names[0]), E15
+    yield publish(1, "note()", names[0]), E05
+    yield STATUS, counted(objects=2, publications=PUBLICATIONS)
+    yield of("b", new(), reply(1))
+    yield of("b", join("a", names[-1], [], 1, "note()"), reply(True))
+    yield of("b", join("a", names[0], [], 1, "ask()"), reply(True))
+    yield of("b", join("a", names[1], ["int"], 1, "note()"), reply(True))
+    yield invoke(1, "down()"), reply(True)
+    yield of("b", STATUS, counted(joins=3, mismatched=1, objects=1, queued=2))
+    yield of("b", SPIN, call("ask()", 1, 0), call("note()", 1, 0), spun(3, 0, 0, 1))
+    yield unpublish(names[0]), reply(True)
+    yield unpublish(names[0]), reply(False)
+    yield publish(2, "down()", names[0]), reply(True)
+    yield publish(2, "down()", "one_more"), E14
+    yield delete(1), reply(True)
+    yield STATUS, counted(objects=1, publications=1)
+    yield from ((publish(2, "down()", name), reply(True)) for name in names[1:])
+    yield publish(2, "down()", "one_more"), E14
+    yield RESET, reply(True)
+    yield new(), reply(1)
+    yield publish(1, "down()", "one_more"), reply(True)
+
+
+def joins():
+    """As many joins as there may be, which make as many events as there may be, and one time more."""
+    names = [f"p{at}" for at in range(JOINS)]
+    posts, more = EVENTS // JOINS, JOINS // 2
+    yield new(), reply(1)
+    yield from ((publish(1, "xChanged(int)", name), reply(True)) for name in names)
+    yield of("b", new(), reply(1))
+    yield of("b", new(), reply(2))
+    yield from (of("b", join("a", name, ["int"], at % 2 + 1, "keep(int)"), reply(True)) for at, name in enumerate(names))
+    yield of("b", join("a", "one_more", ["int"], 1, "keep(int)"), E14)
+    yield of("b", join("b", names[0], ["int"], 1, "keep(int)"), E16)
+    yield of("b", join("a", names[0], [], 1, "keep(int)"), E07)
+    yield from ((set_to(1, "x", at), reply(True)) for at in range(1, posts + 1))
+    yield of("b", STATUS, counted(joins=JOINS, objects=2, queued=EVENTS))
+    yield set_to(1, "x", 0), reply(True)
+    yield of("b", STATUS, counted(joins=JOINS, lost=JOINS, objects=2, queued=EVENTS))
+    calls = [call("keep(int)", at % 2 + 1, 0, value) for value in range(1, posts + 1) for at in range(JOINS)]
+    yield of("b", SPIN, *calls, spun(EVENTS, 0, JOINS))
+    yield of("b", get(1, "x"), reply(posts))
+    yield of("b", delete(1), reply(True))
+    yield of("b", STATUS, counted(joins=more, lost=JOINS, objects=1))
+    again = join("a", names[1], ["int"], 2, "keep(int)")
+    yield from (of("b", again, reply(True)) for _ in range(JOINS - more))
+    yield of("b", again, E14)
+    yield set_to(1, "x", 1), reply(True)
+    yield of("b", STATUS, counted(joins=JOINS, lost=JOINS, objects=1, queued=JOINS))
+    yield of("b", leave("a", names[1], 2, "keep(int)"), reply(True))
+    yield of("b", STATUS, counted(joins=more - 1, lost=JOINS, objects=1, queued=JOINS))
+    yield of("b", SPIN, *[call("keep(int)", 2, 0, 1)] * JOINS, spun(JOINS, 0, JOINS))
+
+
+def lost_posts():
+    """Posts that meet as many events as there may be, of which more than one command can take are taken later."""
+    yield new(), reply(1)
+    yield of("b", new(), reply(1))
+    yield of("b", join("a", "temp", ["int"], 1, "keep(int)"), reply(True))
+    yield publish(1, "xChanged(int)", "temp"), reply(True)
+    yield from ((set_to(1, "x", at), reply(True)) for at in range(1, EVENTS + 2))
+    calls, spent = [call("keep(int)", 1, 0, at) for at in range(1, EVENTS + 1)], warning("E23")
+    yield of("b", SPIN, *calls[:TURNS], spent, spun(TURNS, EVENTS - TURNS, 1))
+    yield of("b", SPIN, *calls[TURNS:], spun(EVENTS - TURNS, 0, 1))
+    yield SPIN, spun(0)
+
+
+def full_neighbours():
+    """Sessions of which one has as many events as there may be: another one, with the same joins, loses nothing."""
+    yield new(), reply(1)
+    yield publish(1, "down()", "temp"), reply(True)
+    for session in "bc":
+        yield of(session, new(), reply(1))
+        yield of(session, join("a", "temp", [], 1, "note()"), reply(True))
+    yield from (of("b", delete_later(1), reply(True)) for _ in range(EVENTS))
+    yield invoke(1, "down()"), reply(True)
+    yield of("b", STATUS, counted(joins=1, lost=1, objects=1, queued=EVENTS))
+    yield of("c", STATUS, counted(joins=1, objects=1, queued=1))
+    yield of("b", SPIN, spun(1, 0, 1))
+    yield of("c", SPIN, call("note()", 1, 0), spun(1))
+    yield invoke(1, "down()"), reply(True)
+    yield of("b", STATUS, counted(lost=1))
+
+
+def posted_texts():
+    """Texts as long as may be that are posted."""
+    yield new(), reply(1)
+    yield of("b", new(), reply(1))
+    yield publish(1, "told(QString,int)", "temp"), reply(True)
+    yield of("b", join("a", "temp", ["QString", "int"], 1, "hear(QString,int)"), reply(True))
+    for unit in ("x", "ä", "\U0001f600"):
+        longest = unit * (TEXT_BYTES // len(unit.encode()))
+        yield invoke(1, "told(QString,int)", longest, 1), reply(True)
+        yield invoke(1, "told(QString,int)", longest + "x", 1), E14
+        yield of("b", SPIN, call("hear(QString,int)", 1, 0, longest, 1), spun(1))
+
+
 def ring(count):
     """Objects in a ring, each of which sets its property to what the one before it was set to."""
     def calls(first, value):
@@ -322,6 +451,11 @@ def wide_rows():
     yield row_of(f"calls that meet {EVENTS} events", lost_calls(), "--turns", str(EVENTS - 1))
     yield row_of(f"{DYNAMIC_PROPERTIES} dynamic properties of {TEXT_BYTES} bytes", values())
     yield row_of("a ring of objects that tell of their changes", ring(LEVELS * LEVELS))
+    yield row_of(f"{PUBLICATIONS} publications", publications())
+    yield row_of(f"{JOINS} joins", joins(), "--turns", str(EVENTS))
+    yield row_of(f"posts that meet {EVENTS} events", lost_posts())
+    yield row_of(f"{EVENTS} events of one session, and posts for two", full_neighbours())
+    yield row_of(f"posts with texts of {TEXT_BYTES} bytes", posted_texts())
 
 
 def deep_rows():

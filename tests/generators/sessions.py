@@ -1,4 +1,5 @@
-"""A hundred sessions that share a server and take turns, so that their rows stand among each other."""
+"""A hundred sessions that share a server and take turns, so that their rows stand among each other: each for itself, or
+each listening to the next, the last to the first."""
 
 import random
 
@@ -22,7 +23,33 @@ CLASSES = [
 ]
 
 
-def life_of(session):
+def begin_to_listen(chance, session):
+    """A session publishes two signals of its first object, and joins those of the next session."""
+    source, ear = f"s{(session + 1) % SESSIONS}", chance.randrange(2, OBJECTS + 1)
+
+    def join(name, types, number, method):
+        return {"do": "join", "from": source, "name": name, "types": types, "object": number, "method": method}
+
+    yield {"do": "publish", "object": 1, "signal": "rang(int)", "name": "rang"}
+    yield {"do": "publish", "object": 1, "signal": "destroyed()", "name": "fell"}
+    yield join("rang", ["int"], ear, "hear(int)")
+    yield join("rang", ["int"], 1, chance.choice(("rang(int)", "tell()")))
+    yield join("rang", [chance.choice(("int", "uint"))], ear, "deleteLater()")
+    yield join("fell", [], 1, "tell()")
+
+
+def end_to_listen(chance, session):
+    """A session leaves what it has joined by its first object, or takes back what it publishes, or is reset."""
+    source = f"s{(session + 1) % SESSIONS}"
+    yield chance.choice((
+        {"do": "leave", "from": source, "name": "rang", "object": 1, "method": "tell()"},
+        {"do": "unpublish", "name": "rang"},
+        *[{"do": "status"}] * 5,
+        {"do": "reset"},
+    ))
+
+
+def life_of(session, listens=False):
     """What a session is told to do: its first object calls its others, which come and go in an order of its own."""
     chance = random.Random(session)
     ears = range(2, OBJECTS + 1)
@@ -50,6 +77,7 @@ def life_of(session):
     yield from map(clamp, chance.sample(ears, 5))
     yield from (set_to(ear, "objectName", f"{session} {ear}") for ear in chance.sample(ears, 9))
     yield from (set_to(ear, chance.choice(("tag", "note")), f"{ear} {session}") for ear in chance.sample(ears, 9))
+    yield from begin_to_listen(chance, session) if listens else ()
     yield ring()
     yield set_to(1, "pitch", chance.randrange(1_000))
     yield from ({"do": "disconnect", "connection": chance.randrange(1, OBJECTS)} for _ in range(5))
@@ -66,6 +94,7 @@ def life_of(session):
     yield {"do": "status"}
     yield {"do": "spin"}
     yield {"do": "block", "object": 1, "on": False}
+    yield from end_to_listen(chance, session) if listens else ()
     yield {"do": "new", "class": "Ear"}
     yield {"do": "connect", "sender": 1, "signal": "rang(int)", "receiver": OBJECTS + 1, "method": "hear(int)", "unique": True}
     yield {"do": "disconnect", "sender": 1, "signal": "rang(int)", "receiver": chance.choice(ears)}
@@ -80,9 +109,9 @@ def life_of(session):
     yield from (get(number, "objectName") for number in range(1, OBJECTS + 2))
 
 
-def in_turn():
+def in_turn(listen=False):
     """The commands of all sessions, one of each in turn."""
-    lives = [[{**command, "session": f"s{number}"} for command in life_of(number)] for number in range(SESSIONS)]
+    lives = [[{**command, "session": f"s{number}"} for command in life_of(number, listen)] for number in range(SESSIONS)]
     if len({len(life) for life in lives}) != 1:
         raise ValueError("not all sessions have as many commands")
     return [command for turn in zip(*lives) for command in turn]

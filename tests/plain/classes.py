@@ -1,4 +1,4 @@
-"""The classes of a class file, and what a session holds: objects of them, connections and events."""
+"""The classes of a class file, and what a session holds: objects of them, connections, events, publications and joins."""
 
 from dataclasses import dataclass, field
 
@@ -150,6 +150,38 @@ class Event:
     callee: int | str | None = None
     sender: int = 0
     args: list = field(default_factory=list)
+
+
+@dataclass
+class Publication:
+    """A signal of an object, which other sessions may join by this name."""
+
+    name: str
+    number: int
+    signal: int
+
+
+@dataclass
+class Join:
+    """What waits for the posts of a name and a session: the index of a method of an object, and the kinds that it expects."""
+
+    source: str
+    name: str
+    kinds: list
+    number: int
+    method: int
+
+    def ends(self):
+        return self.source, self.name, self.number, self.method
+
+
+@dataclass
+class Post:
+    """What a published signal sends to all other sessions, by the name of the publication."""
+
+    name: str
+    kinds: list
+    args: list
 
 
 @dataclass

@@ -15,9 +15,10 @@ from tests.support import protocol
 from tests.support.lines import LINE_BYTES, is_blank, lines_of
 from tests.support.program import ROWS
 
-from .classes import FUNCTORS, Classes, Event
-from .session import TURNS, Session
-from .values import NAME, NUMBERS, Refused, is_long, is_number, is_of_kind, refuse
+from .classes import Classes
+from .session import TURNS
+from .values import NAME, NUMBERS, is_number
+from .world import Server
 
 DEPTH = 127
 DIGITS = 20  # of a whole number of 64 bits, with its sign
@@ -87,13 +88,18 @@ def is_truth(value):
     return isinstance(value, bool)
 
 
+def are_texts(value):
+    return isinstance(value, list) and all(map(is_text, value))
+
+
 HOLDS = {
-    **dict.fromkeys(("class", "property", "functor"), is_name),
-    **dict.fromkeys(("name", "signal", "method"), is_text),
+    **dict.fromkeys(("class", "property", "functor", "from", "name"), is_name),
+    **dict.fromkeys(("signal", "method"), is_text),
     **dict.fromkeys(("object", "parent", "sender", "receiver", "context", "connection"), is_known_by),
     **dict.fromkeys(("unique", "single", "on"), is_truth),
     "type": lambda value: value in TYPES,
     "args": lambda value: isinstance(value, list),
+    "types": are_texts,
     "value": lambda value: True,
 }
 
@@ -110,6 +116,8 @@ FORMS = all_forms()
 
 
 def may_hold(word, key, value):
+    if (word, key) == ("find", "name"):
+        return is_text(value)
     return HOLDS[key](value) or (word, key) == ("setParent", "parent") and value is None
 
 
@@ -122,154 +130,6 @@ def is_command(given):
     if word == "disconnect" and "method" in keys and "receiver" not in keys:
         return False
     return all(may_hold(word, key, given[key]) for key in keys)
-
-
-# What commands do and reply.
-
-
-def delete(session, command):
-    session.known(command["object"])
-    session.run([("delete", command["object"], 0)])
-    return True
-
-
-def list_children(session, command):
-    if "object" in command:
-        session.known(command["object"])
-    return [row.number for row in session.children(command.get("object"))]
-
-
-def set_property(session, command):
-    name, value = command["property"], command["value"]
-    row = session.known(command["object"])
-    is_written = session.declared(row, name) is not None and value is not None
-    session.run(session.write(row, name, value, 0))
-    return is_written
-
-
-def get_property(session, command):
-    return session.read(session.known(command["object"]), command["property"])
-
-
-def dynamic_names(session, command):
-    return list(session.known(command["object"]).dynamic)
-
-
-def connect(session, command):
-    sender, receiver = command["sender"], command["receiver"]
-    session.known(sender)
-    session.known(receiver)
-    signal = session.signal(sender, command["signal"])
-    method = session.index(receiver, command["method"])
-    return session.connect(sender, signal, receiver, method, command)
-
-
-def connect_functor(session, command):
-    sender, context, functor = command["sender"], command["context"], command["functor"]
-    session.known(sender)
-    session.known(context)
-    signal = session.signal(sender, command["signal"])
-    return session.connect(sender, signal, context, functor if functor in FUNCTORS else refuse("E10"), command)
-
-
-def disconnect(session, command):
-    if "connection" in command:
-        return session.disconnect(lambda row: row.number == command["connection"]) == 1
-    sender, receiver = command["sender"], command.get("receiver")
-    session.known(sender)
-    if receiver is not None:
-        session.known(receiver)
-    signal = session.signal(sender, command["signal"]) if "signal" in command else None
-    method = session.index(receiver, command["method"]) if "method" in command else None
-    return session.disconnect_pattern(sender, signal, receiver, method)
-
-
-def invoke(session, command):
-    number, args = command["object"], command["args"]
-    session.known(number)
-    try:
-        index = session.index(number, command["method"])
-    except Refused as refused:
-        return False if str(refused) == "E05" else refuse(str(refused))
-    method = session.methods(number)[index]
-    if len(args) != len(method.kinds) or not all(map(is_of_kind, args, method.kinds)):
-        refuse("E22")
-    if any(map(is_long, args)):
-        refuse("E14")
-    if command.get("type") == "queued":
-        return session.post(Event(number, index, args=args)) or refuse("E14")
-    if method.is_signal:
-        session.run([("emit", number, index, args, 0)])
-    elif session.takes_turn():
-        session.run([("run", number, index, 0, args, 0)])
-    return True
-
-
-def delete_later(session, command):
-    return session.delete_later(session.known(command["object"]).number)
-
-
-def block(session, command):
-    row = session.known(command["object"])
-    before, row.blocked = row.blocked, command["on"]
-    return before
-
-
-def spin(session, command):
-    session.run([("spin",)])
-    return {"events": session.taken, "left": len(session.queue), "lost": session.lost, "mismatched": 0}
-
-
-def status(session, command):
-    there = {"connections": len(session.connections), "lost": session.lost, "objects": len(session.rows), "queued": len(session.queue)}
-    return dict.fromkeys(("bindings", "group", "joins", "mismatched", "publications"), 0) | there
-
-
-def describe(session, command):
-    name = command["class"]
-    return session.classes.described(name) if name in session.classes else refuse("E03")
-
-
-COMMANDS = {
-    "new": lambda session, command: session.new(command["class"], command.get("parent")),
-    "delete": delete,
-    "setParent": lambda session, command: session.set_parent(command["object"], command["parent"]),
-    "children": list_children,
-    "find": lambda session, command: session.find(command["object"], command.get("name"), command.get("class")),
-    "set": set_property,
-    "get": get_property,
-    "dynamicNames": dynamic_names,
-    "connect": connect,
-    "connectFunctor": connect_functor,
-    "disconnect": disconnect,
-    "invoke": invoke,
-    "deleteLater": delete_later,
-    "block": block,
-    "spin": spin,
-    "status": status,
-    "meta": describe,
-}
-
-
-class Server:
-    """Sessions by their names, which know nothing of each other."""
-
-    def __init__(self, classes=None, turns=TURNS):
-        self.classes, self.turns, self.sessions = classes, turns, {}
-
-    def session(self, name):
-        return self.sessions.setdefault(name, Session(self.classes, self.turns))
-
-    def step(self, command):
-        """What is told to a command, line by line."""
-        name = command["session"]
-        session = self.session(name)
-        session.begin()
-        try:
-            last = {"reply": COMMANDS[command["do"]](session, command)}
-        except Refused as refused:
-            session.lines, last = [], {"error": str(refused)}
-        return [{**line, "session": name} for line in (*session.lines, last)]
 
 
 # Lines.
@@ -291,11 +151,28 @@ def told(server, line):
     return server.step(given) if is_command(given) else error("E02", session)
 
 
+def command_of(line):
+    """The command that a line is, or None."""
+    try:
+        given = json_of(line)
+    except ValueError:
+        return None
+    return given if isinstance(given, dict) and is_name(given.get("session")) and is_command(given) else None
+
+
 def answer(server, line):
     """The text that is written for a line, which has no LF."""
     return lines_of([] if is_blank(line) else told(server, line))
 
 
-def server_with(path=DEMONSTRATION, turns=TURNS):
+def server_with(path=DEMONSTRATION, turns=TURNS, kind=Server):
     """A server with the classes of a file."""
-    return Server(Classes(json.loads(path.read_text())["classes"]), turns)
+    return kind(Classes(json.loads(path.read_text())["classes"]), turns)
+
+
+def server_of(row, kind=Server):
+    """A server with the classes and the turns that a row starts with."""
+    words = list(row.words)
+    turns = int(words.pop(words.index("--turns") + 1)) if "--turns" in words else TURNS
+    paths = [row.folder / word for word in words if word != "--turns"]
+    return server_with(paths[0] if paths else DEMONSTRATION, turns, kind)

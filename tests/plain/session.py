@@ -1,15 +1,17 @@
-"""A session as its definitions have it: lists of rows, and an agenda that is done item by item.
+"""A session as its definitions have it: lists of rows, an agenda that is done item by item, and what it posts to others.
 
 Nothing here is quick, and nothing is kept beside the rows: whatever is asked is looked for by going through them.
 """
 
-from .classes import DESTROYED, FUNCTORS, Classes, Connection, Event, Frame, Row
+from .classes import DESTROYED, FUNCTORS, Classes, Connection, Event, Frame, Post, Publication, Row
 from .values import Refused, computed, is_long, is_of_kind, is_value, normal, refuse
 
 OBJECTS = 4_096
 DEPTH = 64
 CONNECTIONS = 16_384
 EVENTS = 16_384
+PUBLICATIONS = 1_024
+JOINS = 1_024
 NESTED_SIGNALS = 64
 DYNAMIC_PROPERTIES = 64
 TURNS = 10_000
@@ -18,18 +20,28 @@ TURNS = 10_000
 class Session:
     """A session as its definition has it."""
 
-    def __init__(self, classes=None, turns=TURNS):
+    def __init__(self, name, classes=None, turns=TURNS):
+        self.name = name
         self.classes = classes or Classes()
         self.most_turns = turns
-        self.rows = []
-        self.connections = []
-        self.queue = []
-        self.last_number = self.last_stamp = self.last_connection = self.lost = 0
+        self.reset()
         self.begin()
+
+    def reset(self):
+        """Puts it back to how it is before its first command."""
+        self.rows, self.connections, self.queue, self.publications, self.joins = [], [], [], [], []
+        self.last_number = self.last_stamp = self.last_connection = self.lost = self.mismatched = 0
+        self.failed = False
+        return True
+
+    def fail(self):
+        """It has found no memory: all that it held is gone."""
+        self.reset()
+        self.failed = True
 
     def begin(self):
         """The beginning of a command."""
-        self.turns, self.spent, self.taken, self.lines = self.most_turns, False, 0, []
+        self.turns, self.spent, self.taken, self.lines, self.posts = self.most_turns, False, 0, [], []
 
     # Objects.
 
@@ -219,6 +231,52 @@ class Session:
             return [("emit", event.number, event.callee, event.args, 0)]
         return [("run", event.number, event.callee, event.sender, event.args, 0)]
 
+    # Publications and joins.
+
+    def publish(self, name, number, signal):
+        if any(it.name == name for it in self.publications):
+            refuse("E15")
+        if len(self.publications) >= PUBLICATIONS:
+            refuse("E14")
+        self.publications.append(Publication(name, number, signal))
+        return True
+
+    def unpublish(self, name):
+        """Takes out a publication, and answers whether it was there."""
+        before = len(self.publications)
+        self.publications = [it for it in self.publications if it.name != name]
+        return len(self.publications) < before
+
+    def join(self, join):
+        kinds = self.called(join.number, join.method).kinds
+        if join.kinds[: len(kinds)] != kinds:
+            refuse("E07")
+        if join.source == self.name:
+            refuse("E16")
+        if len(self.joins) >= JOINS:
+            refuse("E14")
+        self.joins.append(join)
+        return True
+
+    def leave(self, *ends):
+        """Takes out all joins with these ends, and answers whether there was one."""
+        before = len(self.joins)
+        self.joins = [it for it in self.joins if it.ends() != ends]
+        return len(self.joins) < before
+
+    def joins_of(self, source, post):
+        """The joins that name a post of another session."""
+        return [it for it in self.joins if (it.source, it.name) == (source, post.name)]
+
+    def arrive(self, source, post):
+        """A post of another session, which each join that names it makes an event of. A failed session has none."""
+        for join in self.joins_of(source, post):
+            if join.kinds != post.kinds:
+                self.mismatched += 1
+                continue
+            taken = len(self.called(join.number, join.method).kinds)
+            self.lost += not self.post(Event(join.number, join.method, args=post.args[:taken]))
+
     # What a slot or functor names and computes.
 
     def target(self, frame, target):
@@ -276,6 +334,8 @@ class Session:
             return None
         if depth >= NESTED_SIGNALS:
             return self.warn("E14", number)
+        kinds = self.methods(number)[signal].kinds
+        self.posts += [Post(it.name, kinds, args) for it in self.publications if (it.number, it.signal) == (number, signal)]
         called = [row for row in self.connections if (row.sender, row.signal) == (number, signal)]
         return [("call", row, args, depth) for row in called]
 
@@ -320,6 +380,8 @@ class Session:
 
     def do_cut(self, number, depth):
         self.disconnect(lambda row: number in (row.sender, row.receiver))
+        self.publications = [it for it in self.publications if it.number != number]
+        self.joins = [it for it in self.joins if it.number != number]
         self.queue = [event for event in self.queue if event.number != number]
         return [("kin", number, child.number, depth) for child in self.children(number)]
 

@@ -11,9 +11,10 @@ RANGES = {
     "qulonglong": (0, 2**64 - 1),
 }
 NUMBERS = (-(2**63), 2**64 - 1)
+KINDS = ("bool", *RANGES, "QString")
 
 NAME = r"[A-Za-z_][A-Za-z0-9_]{0,63}"
-TYPE = "(bool|int|uint|qlonglong|qulonglong|QString)"
+TYPE = f"({'|'.join(KINDS)})"
 SPACE = r"[ \t\n\r]"
 PARAMETER = re.compile(rf"{TYPE}|const{SPACE}+{TYPE}(?:{SPACE}*&)?|{TYPE}{SPACE}+const(?:{SPACE}*&)?", re.ASCII)
 SIGNATURE = re.compile(rf"{SPACE}*({NAME}){SPACE}*\(([^()]*)\){SPACE}*", re.ASCII)

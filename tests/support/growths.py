@@ -5,19 +5,26 @@ The answer to a command is all that it prints: calls and warnings, and then its 
 - not show: the run is the row's;
 - fail a session: one command is answered by E21 alone, every later one of its session by E20, and all
   others as in the row, also the session's lines that are no commands;
+- fail a session that a post reaches: the command that posts is answered as in the row, and every later
+  one of that session by E20;
 - lose a line that was being read: it is answered by E21 for the session `-`, and all others as if it
   had not been there;
 - keep a session from being entered, where it had no command before: the command is answered by E21 for
   its session, and all others as if it had not been there;
 - end the program with status 5 and a prefix of the row's answer, which is none while it starts.
 
-Anything else is wrong.
+Where sessions are joined or reset, what others are told behind a failure, and a failed session behind its
+`reset`, is not that of the row: the plain program says what it is. Anything else is wrong.
 """
 
 import json
 import os
 from collections import Counter
 from dataclasses import dataclass, field, replace
+from functools import partial
+
+from tests.plain.failing import failing_answers
+from tests.plain.lines import server_of
 
 from .differences import LAST, difference, shown_input
 from .lines import lines_in, lines_of
@@ -27,7 +34,8 @@ LARGE = 4 * 1024
 PART = 50
 OUT_OF_MEMORY = 5
 COMPLAINT = b"metad: out of memory\n"
-KINDS = ("session failed", "line lost", "session not entered", "program ended")
+KINDS = ("session failed", "receiver failed", "line lost", "session not entered", "program ended")
+OF_MANY = (b'"join"', b'"reset"')  # words of commands for which the row does not say what is told behind a failure
 
 
 def line(code, session):
@@ -77,6 +85,7 @@ class Trial:
         self.lines = lines_in(row.given)
         self.answers = answers_in(row.stdout)
         self.without = {}
+        self.failing = None
 
     def is_plain(self):
         """Whether each line has one answer, or none is read."""
@@ -100,6 +109,21 @@ class Trial:
             self.without[at] = answers_in(replace(self.row, given=given).run(self.program).stdout)
         return self.without[at]
 
+    def has_many(self):
+        """Whether sessions are joined or reset."""
+        return any(word in self.row.given for word in OF_MANY)
+
+    def failed(self, answers, at):
+        """Which kind of session has failed, where that leads to these answers, of which this is the first that is not as in
+        the row; or None."""
+        if not self.has_many():
+            return KINDS[0] if answers == with_failed_session(self.answers, at) else None
+        if self.failing is None:
+            lines = [it.removesuffix(b"\n") for it in self.lines]
+            found = failing_answers(partial(server_of, self.row), lines)
+            self.failing = {tuple(told): KINDS[0] if is_own else KINDS[1] for is_own, told in found}
+        return self.failing.get(tuple(answers))
+
     def outcome(self, ran):
         """What a refused growth led to, or None where it is none of the allowed."""
         if ran.returncode == OUT_OF_MEMORY:
@@ -114,8 +138,8 @@ class Trial:
         others = answers[:at] + answers[at + 1 :]
         if answers[at] == line("E21", "-"):
             return "line lost" if others == self.answers_without(at) else None
-        if answers == with_failed_session(self.answers, at):
-            return "session failed"
+        if failed := self.failed(answers, at):
+            return failed
         session = session_of(self.answers[at])
         is_first = not any(is_command_of(session, it) for it in self.answers[:at])
         if is_first and answers[at] == line("E21", session) and others == self.answers_without(at):

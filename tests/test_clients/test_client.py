@@ -145,7 +145,7 @@ class Client(ClientCases):
         session = metad.Server(replies, written).session("a")
         for do, required, optional, _ in protocol.commands():
             for keys in map(sorted, (required, required | optional)):
-                command = {key: [1, "one"] if key == "args" else f"the {key}" for key in keys}
+                command = {key: [1, "one"] if key in ("args", "types") else f"the {key}" for key in keys}
                 written.seek(0)
                 written.truncate()
                 getattr(session, method_of(do))(**keys_of(command))
@@ -210,8 +210,10 @@ class Client(ClientCases):
         with metad.start(self.program) as server:
             one, other = (server.session(name, on_call=heard[name].append) for name in heard)
             self.assertIs(server.session("a"), one, "the session of a name")
+            self.assertIsNone(one.known_as, "what it is known as before its first answer")
             for session in (one, other):
                 self.assertEqual(session.new("Probe"), 1, "its first object")
+                self.assertEqual(session.known_as, session.name, "what it is known as")
             first = one.send("invoke", object=1, method="note()", args=[])
             second = other.send("invoke", object=1, method="late()", args=[])
             self.assertEqual((first.done(), second.done()), (False, False), "what is read before anybody waits")
@@ -302,7 +304,7 @@ class Page(FrontCases):
     def test_page(self):
         """The programs of the page print what it says; a front listens where they expect it."""
         examples = PROGRAM_AND_PRINT.findall((PYTHON / "README.md").read_text())
-        self.assertEqual(len(examples), 2, "programs of the page")
+        self.assertEqual(len(examples), 3, "programs of the page")
         where = {**os.environ, "PYTHONPATH": str(PYTHON), "PYTHONDONTWRITEBYTECODE": "1"}
         with self.front() as (path, _):
             lay_out(self.room, {"bin/metad": self.program, "metad.sock": path})

@@ -16,9 +16,10 @@ from explaining.drawing import MARKS
 from explaining.telling import Telling
 from explaining.words import CODES
 
-from tests.generators.signals import TURNS, Chance
+from tests.generators.mixed import Chance
+from tests.generators.signals import TURNS
 from tests.plain.classes import Classes
-from tests.plain.lines import Server
+from tests.plain.world import Server
 from tests.support import protocol
 from tests.support.cases import CASE, Cases, ProgramCases
 from tests.support.differences import shown_input
@@ -31,6 +32,7 @@ from . import CLIENTS
 EXPLAIN = CLIENTS / "explain"
 WORKED = ROOT / "tests" / "explained"
 SESSIONS, COMMANDS = 100, 80  # by chance, of which each command is followed
+NAMES = ("a", "b")  # of those that listen to each other
 UNKNOWN_CODE = "a code that is not known here"
 EMPTY_WORDS = ("not answer", "no answer", "no command left", "no tree", "not known, since")
 NOT_EXPLAINED = ("not a line of metad", UNKNOWN_CODE, *EMPTY_WORDS)
@@ -160,19 +162,20 @@ def untrue(known, session):
     return f"{wrong} have other names" if wrong else None
 
 
-def command_of(chance, session, at):
-    """A command by chance; now and then one that lists children or counts objects."""
+def command_of(chance, server, name, at):
+    """A command by chance of a session; now and then one that lists children or counts objects."""
+    session = server.session(name)
     if at < 3:
         return {"do": "new", "class": "Lamp"}
     if at % 9 == 8:
         below = chance.choice([row.number for row in session.rows] + [None])
         return {"do": "children", **({"object": below} if below else {})}
-    return chance.command(session)
+    return chance.command_among(server, name, [it for it in NAMES if it != name]) if chance.is_so(0.3) else chance.command(session)
 
 
 @dataclass
 class Followed:
-    """A session that was followed: after how many commands, after how many of them all objects were known, and a fault."""
+    """Sessions that were followed: after how many commands, after how many of them all objects were known, and a fault."""
 
     states: int = 0
     whole: int = 0
@@ -180,17 +183,17 @@ class Followed:
 
 
 def knowledge_of(seed):
-    """Follows a session by chance, up to what is held for known and is not so."""
+    """Follows sessions by chance, up to what is held for known of one and is not so."""
     chance, followed = Chance(seed), Followed()
-    server = Server(Classes(list(chance.classes())), chance.choice(TURNS))
-    session, commands = server.session("a"), []
+    server, commands = Server(Classes(list(chance.classes())), chance.choice(TURNS)), []
     telling = Telling(lambda line: None, iter(lambda: commands.pop(), None))
     for at in range(COMMANDS):
-        command = {**command_of(chance, session, at), "session": "a"}
+        name = chance.choice(NAMES)
+        command = {**command_of(chance, server, name, at), "session": name}
         commands.append(Command(at, b"", command))
         for line in server.step(command):
             telling.tell(text_of(line).encode())
-        known = telling.knowledge.sessions.get("a", objects.Objects())
+        session, known = server.session(name), telling.knowledge.sessions.get(name, objects.Objects())
         fault = "the commands were left aside" if telling.misfits else untrue(known, session)
         if fault:
             followed.fault = f"after command {at + 1}, {text_of(command)}: {fault}"

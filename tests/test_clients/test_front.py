@@ -234,6 +234,28 @@ class Clients(FrontCases):
             self.assertEqual([it["reply"] for it in told], [1, 1, 2], "their objects")
             self.assertEqual([it["session"] == told[0]["session"] for it in told], [True, False, True], "whose they are")
 
+    def test_listening(self):
+        """Clients join each other by the names that the front gave them, and by no other ones."""
+        cell, publish = {"do": "new", "class": "Cell"}, {"do": "publish", "object": 1, "signal": "xChanged(int)", "name": "level"}
+        to_it = {"name": "level", "object": 1, "method": "seen(int)"}
+        with self.front() as (path, _), Client(path) as one, Client(path) as other:
+            names = [json.loads(client.ask(text_of({**cell, "session": "mine"})))["session"] for client in (one, other)]
+            joins = [{"do": "join", "from": name, "types": ["int"], **to_it} for name in (*names, "mine")]
+            self.assertEqual(one.ask(text_of({**joins[0], "session": names[1]})), error("E16", names[0]), "a join of its own session")
+            for join in (joins[0], joins[2]):
+                self.assertEqual(other.ask(text_of({**join, "session": names[0]})), reply(True, names[1]), "a join")
+            self.assertEqual(one.ask(text_of({**publish, "session": names[1]})), reply(True, names[0]), "a publication")
+            self.assertEqual(other.ask(text_of(publish)), reply(True, names[1]), "a publication of the same name")
+            for value in (7, 8):
+                told = one.ask(text_of({"do": "set", "object": 1, "property": "x", "value": value, "session": "mine"}))
+                self.assertEqual(told, reply(True, names[0]), "what is posted")
+                leave = {"do": "leave", "from": names[0], **to_it}
+                self.assertEqual(other.ask(text_of(leave)), reply(value == 7, names[1]), "whether there was a join")
+            call = {"args": [7], "call": "seen(int)", "object": 1, "sender": 0, "session": names[1]}
+            self.assertEqual(other.ask(text_of({"do": "spin"})), text_of(call), "what is heard")
+            self.assertEqual(json.loads(other.hear())["reply"], {"events": 1, "left": 0, "lost": 0, "mismatched": 0}, "and no more")
+            self.assertEqual(json.loads(one.ask(text_of({"do": "spin"})))["reply"]["events"], 0, "what the publisher hears")
+
     def test_by_client(self):
         """The Python client over a front: calls and warnings come to its session, though the front names another one."""
         heard = []
@@ -246,6 +268,7 @@ class Clients(FrontCases):
                 self.assertEqual(heard[0], metad.Call(2, "kill()", [], 1), "what is called")
                 self.assertEqual([(it.code, it.object) for it in heard[1:]], [("E04", 2)], "what is warned of")
                 heard.clear()
+            self.assertNotEqual(*(server.session("c1").known_as for server in (one, other)), "what they are known as")
             refused = self.raised("a line that is too long", metad.Refused, session.command, "x" * LINE_MOST)
             self.assertEqual(refused.code, "E01", "its code")
             self.assertEqual([it.result() for it in [session.send("children") for _ in range(1_000)]], [[2]] * 1_000, "many at once")
