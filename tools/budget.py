@@ -3,8 +3,8 @@
 
 For each crate: its lines of code (contracts among them, without comments and blank lines), the lines of
 its definitions, how many lines of proof there are for one of code, its public functions, its edits and
-its longest contract. It fails at a contract of more than 8 clauses, a crate of more than 1,500 or a file
-of more than 800 lines of code, more than two edits for each public function, and more than 220 edits in
+its longest contract. It fails at a contract that ensures more than 8 clauses, a crate of more than 1,500 or a file
+of more than 800 lines of code, more than two edits for each public function, and more than 240 edits in
 all. An edit that begins with a line `wrong body: WORDS` is counted in all, and not with its crate's.
 Usage: budget.py REPOSITORY
 """
@@ -18,12 +18,12 @@ MOST_CLAUSES = 8
 MOST_IN_CRATE = 1_500
 MOST_IN_FILE = 800
 MOST_FOR_FUNCTION = 2
-MOST_EDITS = 220
+MOST_EDITS = 240
 
 EXPORT = re.compile(r"^pub use ([^;]+);", re.MULTILINE)
 BLOCK = re.compile(r"^(?:pub )?(?:unsafe )?(?P<kind>impl|trait)\b(?P<head>[^{]*)\{")
 FUNCTION = re.compile(r"^(?P<indent> *)(?P<open>pub(?:\([^)]*\))? )?(?:const )?(?:unsafe )?fn (?P<name>\w+)")
-CLAUSE = re.compile(r"^ +(?:requires|ensures)\*?(?: |$)")
+CLAUSE = re.compile(r"^ +ensures\*?(?: |$)")
 WRONG_BODY = re.compile(r"^wrong body: \S", re.MULTILINE)
 
 
@@ -38,7 +38,7 @@ def lines_in(folder, ending):
 
 @dataclass
 class Function:
-    """A function of a source: the type or trait that it belongs to, and how many clauses it has."""
+    """A function of a source: the type or trait that it belongs to, and how many clauses it ensures."""
 
     owner: str | None
     name: str
@@ -108,7 +108,7 @@ class Crate:
             yield f"a file of {self.longest_file:,} lines of code; at most {MOST_IN_FILE:,}"
         for function in self.functions:
             if function.clauses > MOST_CLAUSES:
-                yield f"{function.name} has {function.clauses} clauses; at most {MOST_CLAUSES}"
+                yield f"{function.name} ensures {function.clauses} clauses; at most {MOST_CLAUSES}"
         if self.edits > MOST_FOR_FUNCTION * self.public:
             yield f"{self.edits} edits for {self.public} public functions; at most {MOST_FOR_FUNCTION} for each"
 

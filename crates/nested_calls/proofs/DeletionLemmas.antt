@@ -1,15 +1,17 @@
 -- Deleting by nested calls: a rule for each way that an item goes.
-use Rattle.std.proofs.Common.{◌≡◌, ◌<◌, ◌≤◌, ◌+◌, ℕ, true, false, List, [], ◌∷◌, length, map, drop, get_or, Some, refl, sym, ap, ◌∙◌, arith}
+use Rattle.std.proofs.Common.{◌≡◌, ◌<◌, ◌≤◌, ◌+◌, ℕ, true, false, List, [], ◌∷◌, length, map, drop, get_or, Some, None, Ok, refl, sym, ap, ◌∙◌, arith}
 use Rattle.std.proofs.lemmas.List.{drop_all, drop_more}
+use Rattle.binding_graph.specs.declared.change.Change.{Change}
 use Rattle.object_tree.specs.Changes.{marked}
 use Rattle.object_tree.specs.Rows.{children}
 use Rattle.thread_model.specs.declared.call.TheConstants.{DESTROYED}
-use Rattle.thread_model.specs.Agenda.{kins, lives, lives_below}
+use Rattle.thread_model.specs.Agenda.{kins, lives, lives_below, step}
 use Rattle.thread_model.specs.declared.post.Post.{Post}
-use Rattle.thread_model.specs.Doing.{Doing, dying, gone, in_state, severed}
-use Rattle.thread_model.specs.Items.{Cut, Delete, Emit, Gone, Item, Kin}
+use Rattle.thread_model.specs.Doing.{Doing, dying, in_state, severed}
+use Rattle.thread_model.specs.Items.{Cut, Delete, Emit, Gone, Item, Kin, puts}
 use Rattle.thread_model.specs.Run.{run}
 use Rattle.thread_model.specs.Settings.{Settings}
+use Rattle.thread_model.specs.Showing.{changes}
 use Rattle.thread_model.specs.State.{State, without_object, without_ties}
 use Rattle.thread_model.proofs.DeletionLemmas as rule
 use Rattle.thread_model.proofs.LivingLemmas.{living_rows}
@@ -19,12 +21,14 @@ use Rattle.session_tables.specs.declared.tables.Tables.{Tables}
 use Rattle.session_tables.specs.Tables.{IsPlaced, state_at, with_state}
 use Rattle.session_tables.proofs.TablesLemmas.{state_with}
 use Rattle.nested_calls.specs.declared.telling.Telling.{Telling}
+use Rattle.nested_calls.specs.Agenda.{DoesNext}
 use Rattle.nested_calls.specs.Telling.{doing_at}
 use Rattle.session_effects.specs.declared.caller.Caller.{Caller}
 use Rattle.session_effects.specs.Setup.{settings_of}
+use Rattle.session_effects.specs.Writing.{told_items}
 use Rattle.session_effects.proofs.ActionLemmas.{keeps_with}
 use Rattle.nested_calls.proofs.AgendaLemmas.{left_at}
-use Rattle.nested_calls.proofs.DoesLemmas.{SoFar, far_none, here}
+use Rattle.nested_calls.proofs.DoesLemmas.{SoFar, far_item, far_none, here}
 
 -- the state with an object that is dying
 abbrev pub dying_in : State → ℕ → State
@@ -43,9 +47,14 @@ module _ (place target : ℕ) (old new : Tables) (telling : Telling) (earlier : 
   unfolding severed
   severed_is e = put_there (without_ties (state_at old place) target) e
 
-  pub gone_is : new ≡ with_state old place (without_object (state_at old place) target) → doing_at place new telling earlier ≡ gone (doing_at place old telling earlier) target
-  unfolding gone
-  gone_is e = put_there (without_object (state_at old place) target) e
+  -- an object that goes is told of by these changes
+  pub gone_told : (settings : Settings) (depth : ℕ) (told : List Change) → told ≡ changes (state_at old place) (state_at new place) None → new ≡ with_state old place (without_object (state_at old place) target)
+      → step settings (Gone target depth) (doing_at place old telling earlier) ≡ puts (told_items settings (state_at new place) depth told) (doing_at place new telling earlier)
+  gone_told settings depth told e f =
+      let there : state_at new place ≡ without_object (state_at old place) target = state_with old new place _ placed f in
+      rule.gone_now settings target depth (doing_at place old telling earlier)
+      ∙ ap (λ (state : State). puts (told_items settings state depth (changes (state_at old place) state None)) (in_state (doing_at place old telling earlier) state)) (sym there)
+      ∙ ap (λ (told : List Change). puts (told_items settings (state_at new place) depth told) (doing_at place new telling earlier)) (sym e)
 
   -- marking a living object leaves less to do
   pub left_marked : lives (doing_at place old telling earlier) target ≡ true → new ≡ with_state old place (dying_in (state_at old place) target) → left_at place new telling < left_at place old telling
@@ -107,3 +116,13 @@ delete_begins caller target depth old dead before placed living marked =
     (λ earlier.
     ap (run settings (Emit target DESTROYED [] depth ∷ Cut target depth ∷ Gone target depth ∷ [])) (marked_is caller.place target old dead before earlier placed marked)
     ∙ sym (by_step settings (Delete target depth) (doing_at caller.place old before earlier) _ (rule.delete_some settings target depth (doing_at caller.place old before earlier) living)))
+
+-- so far it has said so, and what ties it was cut
+pub delete_loose : (caller : Caller) (target depth : ℕ) (old dead sent loose : Tables) (before between after : Telling) {T E T' E' : Type 0} (said : T) (cut : T') → IsPlaced old caller.place → lives (doing_at caller.place old before []) target ≡ true → dead ≡ with_state old caller.place (dying_in (state_at old caller.place) target)
+    → DoesNext {E = E} caller (here caller (Emit target DESTROYED [] depth ∷ []) dead before) dead sent before between (Ok said)
+    → DoesNext {E = E'} caller (here caller (Cut target depth ∷ []) sent between) sent loose between after (Ok cut)
+    → SoFar caller (here caller (Delete target depth ∷ []) old before) (here caller (Gone target depth ∷ []) loose after) old loose before after
+delete_loose caller target depth old dead sent loose before between after said cut placed living marked says cuts =
+    far_item caller (here caller (Delete target depth ∷ []) old before) old before placed (Cut target depth) (Gone target depth ∷ []) sent loose between after cut
+    (far_item caller (here caller (Delete target depth ∷ []) old before) old before placed (Emit target DESTROYED [] depth) (Cut target depth ∷ Gone target depth ∷ []) dead sent before between said
+    (delete_begins caller target depth old dead before placed living marked) says) cuts

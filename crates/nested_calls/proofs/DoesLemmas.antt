@@ -193,13 +193,13 @@ module _ (caller : Caller) (whole : List Post → Next) (old : Tables) (before :
     reaches = so.reaches;
   }
 
-  -- the session changes at last
-  pub far_changed : {T E : Type 0} (rest : List Post → Next) (now new : Tables) (between : Telling) (value : T) → SoFar caller whole rest old now before between → Keeps caller.place now new
-      → ((posts : List Post) → done_by caller (rest posts) ≡ doing_at caller.place new between posts) → DoesNext {E = E} caller whole old new before between (Ok value)
-  far_changed rest now new between value so keeps end = record {
+  -- memory is wanted while the session changes, and what is left posts only behind what was before
+  pub far_stopped : {T E : Type 0} (rest : List Post → Next) (now new : Tables) (between : Telling) (end : Result T E) → IsErr end → SoFar caller whole rest old now before between → Keeps caller.place now new
+      → ((earlier : List Post) → IsFront earlier (rest earlier).doing.posts) → DoesNext caller whole old new before between end
+  far_stopped rest now new between end wanted so keeps begins = record {
     posts = so.posts;
-    runs = λ earlier. sym (so.runs earlier) ∙ end (earlier ++ so.posts);
-    front = tt;
+    runs = on_wanting _ end wanted;
+    front = on_error end (λ earlier. subst (λ (done : Doing). IsFront (earlier ++ so.posts) done.posts) (so.runs earlier) (run_front (settings_of caller.setup.now) (earlier ++ so.posts) (rest (earlier ++ so.posts)) (begins (earlier ++ so.posts))));
     reaches = subst (λ posts. Reaches caller.setup.now.classes caller.name.now caller.place posts old new before.failing between.failing) (append-nil so.posts)
         (reaches_twice caller.setup.now.classes caller.name.now caller.place so.posts [] old now new before.failing between.failing between.failing placed so.reaches (reaches_none caller now new between.failing between.failing keeps refl));
   }

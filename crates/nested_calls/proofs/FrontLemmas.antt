@@ -9,7 +9,7 @@ use Rattle.thread_model.specs.declared.line.Line.TheVariants.{Warning}
 use Rattle.thread_model.specs.declared.post.Post.{Post}
 use Rattle.thread_model.specs.Agenda.{step}
 use Rattle.thread_model.specs.Deeds.{deed_done}
-use Rattle.thread_model.specs.Doing.{Doing, dying, first_taken, gone, in_state, lost, posted, posting, severed, shot, told, turn_taken, used_up}
+use Rattle.thread_model.specs.Doing.{Doing, dying, first_taken, in_state, lost, posted, posting, severed, shot, told, turn_taken, used_up}
 use Rattle.thread_model.specs.Items.{Item, Next}
 use Rattle.thread_model.specs.Run.{run}
 use Rattle.thread_model.specs.Settings.{Settings}
@@ -46,7 +46,7 @@ told_front doing said = same doing
 
 -- what each change posts
 holds : Holds PostsBehind
-unfolding posting turn_taken used_up shot posted lost first_taken dying severed gone deed_done
+unfolding posting turn_taken used_up shot posted lost first_taken dying severed deed_done
 holds = record {
   same = same;
   both = λ one two three first second. front_both one.posts two.posts three.posts first second;

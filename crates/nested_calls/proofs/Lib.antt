@@ -1,5 +1,6 @@
 pub mod FrontLemmas
 pub mod DoesLemmas
 pub mod DeletionLemmas
+pub mod NewsLemmas
 pub mod AgendaLemmas
 pub mod FunctorLemmas

@@ -17,13 +17,13 @@ ghost use Rattle.class_table.specs.Sound.{IsMethod};
 ghost use Rattle.session_tables.specs.Tables.{IsPlaced, state_at, with_state};
 ghost use Rattle.session_effects.specs.Actions.{Keeps, act_of};
 ghost use Rattle.session_effects.specs.Setup.{settings_of};
-ghost use Rattle.session_effects.specs.Writing.{items_of};
 ghost use Rattle.nested_calls.specs.Agenda.{Does, DoesNext};
 ghost use Rattle.nested_calls.specs.Telling.{doing_at};
 
 use crate::actor::{Actor, answered};
 use crate::answering::Answering;
 use crate::deletion::delete;
+use crate::news::notify;
 use crate::posts::post;
 use crate::telling::Telling;
 use class_table::Method;
@@ -31,9 +31,7 @@ use connection_list::Connection;
 use connection_types::{Callee, ConnectionType};
 use event_queue::QueuedCall;
 use refusals::Code;
-use session_effects::{
-    Caller, Notice, Slot, change, deleted, functor_at, method_at, sent, set, told_args, truth,
-};
+use session_effects::{Caller, Slot, change, deleted, functor_at, method_at, sent, set, truth};
 use session_tables::Tables;
 use std::alloc::AllocError;
 use stored_slots::Functor;
@@ -81,43 +79,6 @@ pub fn emit<F: Answering>(
         after = connection.number;
     }
     Ok(())
-}
-
-/// Sends what tells of a change, where there is such a signal. Where it is not published and nothing is
-/// connected to it, there is nothing to do below the level where nested signals are warned of.
-#[cycle(agenda)]
-#[inline(always)]
-pub fn notify<F: Answering>(
-    actor: &Actor<F>,
-    tables: &mut Tables,
-    telling: &mut Telling,
-    told: Option<Notice>,
-    depth: u32,
-) -> Result<(), AllocError>
-    requires placed { IsPlaced tables.old actor.now.caller.place }
-    requires depth { depth ≤ NESTED_SIGNALS }
-    ensures { Does actor.now.caller (items_of (settings_of actor.now.caller.setup.now) (state_at tables.old actor.now.caller.place) depth told)
-        tables.old tables.new telling.old telling.new result }
-{
-    let Some(notice) = told else {
-        return Ok(());
-    };
-    if depth < NESTED_SIGNALS
-        && !tables.is_published(actor.caller.place, notice.object, notice.signal)
-        && !tables.is_sent(actor.caller.place, notice.object, notice.signal)
-    {
-        return Ok(());
-    }
-    let args = told_args(&actor.caller, tables, notice)?;
-    emit(
-        actor,
-        tables,
-        telling,
-        notice.object,
-        notice.signal,
-        args.as_slice(),
-        depth,
-    )
 }
 
 /// Calls what a connection calls, which stands: later, by an event, or at once. A single-shot connection

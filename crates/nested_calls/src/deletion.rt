@@ -12,6 +12,7 @@ ghost use Rattle.nested_calls.specs.Telling.{doing_at};
 use crate::actor::Actor;
 use crate::agenda::emit;
 use crate::answering::Answering;
+use crate::news::tell;
 use crate::telling::Telling;
 use session_tables::Tables;
 use std::alloc::AllocError;
@@ -36,8 +37,8 @@ pub fn delete<F: Answering>(
     tables.mark_dying(actor.caller.place, target);
     emit(actor, tables, telling, target, DESTROYED, &[], depth)?;
     cut(actor, tables, telling, target, depth)?;
-    tables.remove(actor.caller.place, target);
-    Ok(())
+    let changes = tables.remove(actor.caller.place, target)?;
+    tell(actor, tables, telling, changes, depth)
 }
 
 /// Breaks what ties a dying object to others, and deletes its children.

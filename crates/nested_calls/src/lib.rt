@@ -6,11 +6,13 @@ mod actor;
 mod agenda;
 mod answering;
 mod deletion;
+mod news;
 mod posts;
 mod telling;
 
 pub use actor::Actor;
-pub use agenda::{emit, is_queued, notify, run_functor, run_slot};
+pub use agenda::{emit, is_queued, run_functor, run_slot};
 pub use answering::Answering;
 pub use deletion::delete;
+pub use news::{notify, tell};
 pub use telling::Telling;

@@ -1,12 +1,13 @@
 //! What a command has told so far, and the turns that it has left.
 ghost use Rattle.std.specs.Prelude.{◌≡◌, OnOk};
-ghost use Rattle.thread_model.specs.declared.line.Line.TheVariants.{Warning};
+ghost use Rattle.thread_model.specs.declared.line.Line.TheVariants.{BindingWarning, Warning};
 ghost use Rattle.thread_model.specs.Agenda.{call_line, functor_line};
 ghost use Rattle.class_table.specs.Sound.{IsMethod};
 ghost use Rattle.nested_calls.specs.Telling.{Warns, fresh_telling, spent, with_line};
 
+use binding_values::{BindingError, Property};
 use class_table::Method;
-use plain_types::Items;
+use plain_types::{Items, Text};
 use refusals::{Code, Fault};
 use session_effects::{Setup, Slot};
 use std::alloc::{AllocError, Global};
@@ -55,6 +56,23 @@ impl Telling {
         ensures failing { self.new.failing ≡ self.old.failing }
     {
         self.tell(Line::Warning { code, object })
+    }
+
+    /// Warns of the error that a bound property of this name stands for.
+    pub(crate) fn warn_of_property(
+        &mut self,
+        at: Property,
+        name: Text,
+        error: BindingError,
+    ) -> Result<(), AllocError>
+        ensures told { OnOk result (self.new ≡ with_line self.old (BindingWarning at.object name error)) }
+        ensures failing { self.new.failing ≡ self.old.failing }
+    {
+        self.tell(Line::BindingWarning {
+            object: at.object,
+            property: name,
+            error,
+        })
     }
 
     /// Warns that a turn is wanted and none is left, once in a command.

@@ -78,7 +78,7 @@ fn turns_argument<'a>(alloc: Global) -> Arg<'a>
         .help("How many turns each command has for its calls, from 1 to 1000000 [default: 10000]")
 }
 
-const ABOUT: &str = "metad 0.7.2, proved with rattle-kit-13f logic dac8208d650f15bf
+const ABOUT: &str = "metad 0.8.0, proved with rattle-kit-13f logic dac8208d650f15bf
 
 A server of live objects with the meta-object system of Qt 6, in isolated
 sessions. It reads commands from standard input, one JSON object a line, and

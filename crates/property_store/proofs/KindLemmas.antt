@@ -16,7 +16,7 @@ use Rattle.property_store.specs.Store.{AreSound, Properties, default_of, fresh, 
 use Rattle.property_store.specs.Storing.{fit_in, with_fit}
 use Rattle.property_store.proofs.ListLemmas.{map_at, map_over_map}
 
-default_kind : (kind : Kind) → kind_of (default_of kind) ≡ Some kind
+pub default_kind : (kind : Kind) → kind_of (default_of kind) ≡ Some kind
 default_kind k.Bool = refl
 default_kind k.Int = refl
 default_kind k.Uint = refl
@@ -24,7 +24,7 @@ default_kind k.Longlong = refl
 default_kind k.Ulonglong = refl
 default_kind k.Text = refl
 
-default_short : (kind : Kind) → IsShort (default_of kind)
+pub default_short : (kind : Kind) → IsShort (default_of kind)
 default_short k.Bool = tt
 default_short k.Int = tt
 default_short k.Uint = tt
@@ -45,7 +45,7 @@ module _ (of : Properties) (sound : AreSound of) (number : ℕ) where
   same_kind : option_map kind_of (slice_get of.values number) ≡ option_map (λ (field : Field). Some field.kind) (slice_get of.fields number)
   same_kind = sym (slice_get-map kind_of of.values number) ∙ (ap (λ kinds. slice_get kinds number) sound.kinds ∙ slice_get-map (λ (field : Field). Some field.kind) of.fields number)
 
-  kind_there : (value : Value) (field : Field) → slice_get of.values number ≡ Some value → slice_get of.fields number ≡ Some field → IsOfKind field.kind value
+  pub kind_there : (value : Value) (field : Field) → slice_get of.values number ≡ Some value → slice_get of.fields number ≡ Some field → IsOfKind field.kind value
   kind_there value field value_is field_is =
       let kinds : Some (kind_of value) ≡ Some (Some field.kind) = ap (option_map kind_of) (sym value_is) ∙ (same_kind ∙ ap (option_map (λ (f : Field). Some f.kind)) field_is) in
       let kind : kind_of value ≡ Some field.kind = cc in
@@ -99,7 +99,7 @@ text_fits (v.Longlong z) fit short e = absurd (cc)
 text_fits (v.Ulonglong n) fit short e = absurd (cc)
 text_fits (v.Text text) fit short e = let same : v.Text text ≡ fit = cc in subst (IsOfKind k.Text) same (refl, short)
 
-converted_fits : (kind : Kind) (value fit : Value) → IsShort value → converted kind value ≡ Some fit → IsOfKind kind fit
+pub converted_fits : (kind : Kind) (value fit : Value) → IsShort value → converted kind value ≡ Some fit → IsOfKind kind fit
 converted_fits k.Bool value fit short e = truth_fits (truth_in value) fit e
 converted_fits k.Int value fit short e = number_fits k.Int (number_in value) fit e
 converted_fits k.Uint value fit short e = number_fits k.Uint (number_in value) fit e

@@ -27,6 +27,14 @@ module _ {layouts : List (List Field)} (rows : Table (List (Keyed Row))) {seen :
       ap (λ (s : Shelves). store_at s place) (sym view_is)
       ∙ get_or-map (store_of layouts) rows.places place [] [] (rows_open is_place)
 
+  pub stands_there : IsPlace seen.table place → (position : ℕ) → position < length (store_at seen place) → position < length (rows_at rows place)
+  stands_there is_place position stands = omega (arith, stands, ap (length {A = Properties}) (store_there is_place), length-map (rows_at rows place) (λ (keyed : Keyed Row). shown layouts keyed.row))
+
+  pub at_there : IsPlace seen.table place → (position : ℕ) → position < length (store_at seen place) → (keyed : Keyed Row) → get_or (rows_at rows place) position keyed ≡ keyed → (default : Properties) → get_or (store_at seen place) position default ≡ shown layouts keyed.row
+  at_there is_place position stands keyed is default =
+      ap (λ (store : Store). get_or store position default) (store_there is_place)
+      ∙ (get_or-map (λ (keyed : Keyed Row). shown layouts keyed.row) (rows_at rows place) position keyed default (stands_there is_place position stands) ∙ ap (λ (k : Keyed Row). shown layouts k.row) is)
+
   pub after : (new : Table (List (Keyed Row))) (list : List (Keyed Row)) (store : Store) → new ≡ with_place rows place list → store_of layouts list ≡ store → shelves_of layouts new ≡ with_store seen place store
   after new list store e is =
       ap (shelves_of layouts) e

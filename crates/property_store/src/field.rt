@@ -78,7 +78,8 @@ fn all_defaults(alloc: Global, fields: &[Field]) -> Result<Vec<Value>, AllocErro
     Ok(values)
 }
 
-fn default_of(alloc: Global, kind: Kind) -> Value
+/// What a property of a kind is until it is written. This takes no memory.
+pub fn default_of(alloc: Global, kind: Kind) -> Value
     ensures { result ≡ default_of kind }
 {
     match kind {

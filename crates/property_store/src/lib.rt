@@ -9,6 +9,6 @@ mod stores;
 mod unwritten;
 
 pub use dynamic::DYNAMIC;
-pub use field::Field;
+pub use field::{Field, default_of};
 pub use stores::Stores;
 pub use unwritten::Unwritten;

@@ -1,11 +1,11 @@
 //! The stores of all places.
-ghost use Rattle.std.specs.Prelude.{◌≡◌, ◌≤◌, [], IfOk, IfSome, None, OnOk, OnErr, Some, length, option_and_then};
+ghost use Rattle.std.specs.Prelude.{◌≡◌, ◌<◌, ◌≤◌, [], IfOk, IfSome, None, OnOk, OnErr, Some, length, option_and_then, slice_index_or};
 ghost use Rattle.std.specs.Option.{option_map};
 ghost use Rattle.std.specs.Result.{result_err};
 ghost use Rattle.places.specs.Table.{IsPlace, opened};
 ghost use Rattle.refusals.specs.Answers.{RefusedBy};
 ghost use Rattle.variant_value.specs.Values.{IsOfKind, IsShort};
-ghost use Rattle.property_store.specs.Store.{AreDistinct, IsSound, added, changed, declared_in, dynamic_names, dynamic_refusal, field_at, fields_in, is_change, named_value, next_object, properties_of, value_at, value_named, with_dynamic, without, without_dynamic, write_refusal, written};
+ghost use Rattle.property_store.specs.Store.{AreDistinct, IsSound, Properties, added, changed, declared_in, dynamic_names, dynamic_refusal, field_at, fields_in, is_change, named_value, next_object, properties_of, value_at, value_named, with_dynamic, without, without_dynamic, write_refusal, written};
 ghost use Rattle.property_store.specs.Named.{answer_named, written_named};
 ghost use Rattle.property_store.specs.Storing.{IsNamed, IsRemoved, IsSet, IsStored};
 ghost use Rattle.property_store.specs.Table.{fields_of, store_at, with_store};
@@ -118,6 +118,17 @@ impl Stores {
         ensures { result ≡ next_object (store_at self.now place) after }
     {
         first_above(&self.rows, place, after)
+    }
+
+    /// The object at a position, of which the least number has 0, and its declared properties.
+    pub fn object_at(&self, place: usize, position: usize) -> (u32, &[Field])
+        requires place { IsPlace self.now.table place }
+        requires stands { position < length (store_at self.now place) }
+        ensures object { (default : Properties) → result.0 ≡ (slice_index_or (store_at self.now place) position default).object }
+        ensures fields { (default : Properties) → result.1.now ≡ (slice_index_or (store_at self.now place) position default).fields }
+    {
+        let (_, row) = self.rows.at(place, position);
+        (row.object, fields_in(&self.layouts, row.class))
     }
 
     /// The number and the kind of the declared property of this name.

@@ -72,7 +72,6 @@ kind_within kinds at value new None past made = absurd (cc)
 kind_within kinds at value new (Some kind) met made = omega (arith, met.0)
 
 -- fewer values than kinds
--- fewer values than kinds
 pub converted_short : (done : List Value) (kind : Kind) (kinds kinds' : List Kind) (values : List Value) → kinds ≡ kind ∷ kinds' → values ≡ [] → behind done (all_converted kinds values) ≡ Err BadValue
 converted_short done kind kinds kinds' values here none = ap (λ kinds. behind done (all_converted kinds values)) here ∙ ap (λ values. behind done (all_converted (kind ∷ kinds') values)) none
 

@@ -2,4 +2,3 @@ pub mod ActionLemmas
 pub mod FoundLemmas
 pub mod WritingLemmas
 pub mod FunctorLemmas
-mod NamedLemmas

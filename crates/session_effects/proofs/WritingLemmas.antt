@@ -1,89 +1,55 @@
--- What becomes of properties that are written, and what is to be sent for it.
-use Rattle.std.proofs.Common.{◌≡◌, ◌==◌, ◌<◌, ℕ, Bool, true, false, cond, List, [], ◌∷◌, Option, Some, None, Result, Ok, Err, OnErr, OnOk, find, set, length, slice_get, refl, sym, ap, subst, ◌∙◌, if◌then◌else◌}
-use Rattle.std.specs.Prelude.{option_map, option_and_then, not}
-use Rattle.std.specs.List.{filter_map}
+-- What becomes of properties that are written, and what is told of it.
+use Rattle.std.proofs.Common.{◌≡◌, ℕ, true, cond, List, [], Option, Some, None, Result, Ok, Err, OnErr, OnOk, length, slice_get, refl, sym, ap, subst, ◌∙◌}
+use Rattle.std.specs.List.{cons_option}
+use Rattle.std.specs.Prelude.{option_map, option_and_then}
 use Rattle.std.specs.Option.{ok_or, option_map_or}
-use Rattle.std.proofs.lemmas.List.{get_or-set_same, length-set}
-use Rattle.std.proofs.lemmas.Option.{slice_get-get_or, slice_get_within}
+use Rattle.std.proofs.lemmas.Bool.{le-leb}
 use Rattle.refusals.specs.Answers.{RefusedBy}
-use Rattle.refusals.specs.declared.code.Code.TheVariants.{BadValue}
+use Rattle.refusals.specs.declared.code.Code.TheVariants.{BadValue, Limit}
 use Rattle.refusals.specs.declared.fault.Fault.{Fault}
 use Rattle.refusals.specs.declared.fault.Fault.TheVariants.{Refused, Memory}
-use Rattle.signature_core.specs.declared.kind.Kind.{Kind}
 use Rattle.variant_value.specs.declared.value.Value.{Value}
 use Rattle.variant_value.specs.declared.value.Value.TheVariants as v
-use Rattle.variant_value.specs.Values.{converted, is_same}
-use Rattle.property_store.specs.Store.{Properties, Store, changed, dynamic_refusal, is_change, properties_of, value_at, with_value}
+use Rattle.variant_value.specs.declared.value.TheConstants.{TEXT_BYTES}
+use Rattle.variant_value.specs.Values.{IsShort, converted}
+use Rattle.property_store.specs.Store.{dynamic_refusal}
+use Rattle.property_store.proofs.KindLemmas.{converted_fits}
 use Rattle.class_table.specs.Lookup.{properties}
 use Rattle.object_tree.specs.declared.row.Row.{Row}
 use Rattle.object_tree.specs.Rows.{is_there, row_of}
 use Rattle.term_core.specs.declared.action.Effect.TheVariants as e
 use Rattle.term_core.specs.declared.target.Target.{Target}
 use Rattle.term_core.specs.Term.{Term}
-use Rattle.thread_model.specs.Doing.{in_state}
-use Rattle.thread_model.specs.Items.{Emit, puts}
+use Rattle.binding_graph.specs.declared.change.Change.{Change}
+use Rattle.binding_values.specs.declared.property.Property.{Property as At}
+use Rattle.bound_stores.specs.declared.changed.Changed.{Changed}
+use Rattle.bound_stores.specs.declared.changed.Changed.TheVariants.{Written}
+use Rattle.bound_stores.specs.Changed.{changes_in}
+use Rattle.thread_model.specs.Doing.{Doing, in_state}
+use Rattle.thread_model.specs.Items.{Emit, Item, puts}
 use Rattle.thread_model.specs.Methods.{Found, ◌>>=◌}
 use Rattle.thread_model.specs.Settings.{Settings}
-use Rattle.thread_model.specs.State.{State}
+use Rattle.thread_model.specs.Showing.{changes, property_at, told_value}
+use Rattle.thread_model.specs.State.{State, shown}
 use Rattle.thread_model.specs.Targets.{evaluated, object_of}
+use Rattle.thread_model.specs.Writing.{Declared, Dynamic, Place, Removed, Writing, acted_writing, declared, dynamic_writing, short, with_writing, written}
 use Rattle.thread_model.proofs.ActionLemmas.{set_done, set_faulty}
-use Rattle.thread_model.specs.Writing.{Change, Declared, Dynamic, Place, Writing, acted_writing, changes, declared, dynamic_writing, notification, property_at, short, told_value, with_writing}
+use Rattle.thread_model.proofs.WritingLemmas.{dynamic_removed, dynamic_set}
 use Rattle.session_tables.specs.declared.tables.Tables.{Tables}
 use Rattle.session_tables.specs.Classes.{HasClass}
+use Rattle.session_tables.specs.Named.{Tells, WritesDeclared}
 use Rattle.session_tables.specs.Refused.{OnRefused}
 use Rattle.session_tables.specs.Tables.{IsPlaced, state_at, with_state}
 use Rattle.session_tables.proofs.TablesLemmas.{state_with}
+use Rattle.session_effects.specs.declared.announcing.News.{News}
+use Rattle.session_effects.specs.declared.announcing.News.TheVariants.{Nothing, One}
+use Rattle.session_effects.specs.declared.announcing.Notice.{Notice}
 use Rattle.session_effects.specs.declared.caller.Caller.{Caller}
 use Rattle.session_effects.specs.Actions.{Keeps, Tries}
 use Rattle.session_effects.specs.declared.slot.Slot.{Slot}
-use Rattle.session_effects.specs.declared.writing.Notice.{Notice}
 use Rattle.session_effects.specs.Setup.{settings_of}
-use Rattle.session_effects.specs.Writing.{TriesToWrite, Writes, items_of, standing}
+use Rattle.session_effects.specs.Writing.{TriesToWrite, Writes, items_of, told_items}
 use Rattle.session_effects.proofs.ActionLemmas.{keeps_same, keeps_with, put_at}
-
-abbrev is_of : ℕ → Properties → Bool
-is_of object of = of.object == object
-
--- the properties of an object that were changed
-first_changed : (change : Properties → Properties) (object : ℕ) (same : (of : Properties) → (change of).object ≡ of.object) (of : Properties) (store : Store) (own : Bool) → (of.object == object) ≡ own
-    → properties_of (changed change object store) object ≡ option_map change (properties_of store object)
-    → properties_of (changed change object (of ∷ store)) object ≡ option_map change (properties_of (of ∷ store) object)
-first_changed change object same of store true e rest =
-    ap (λ own. find (is_of object) ((if own then change of else of) ∷ changed change object store)) e
-    ∙ ap (λ own. cond own (Some (change of)) (properties_of (changed change object store) object)) (ap (λ n. n == object) (same of) ∙ e)
-    ∙ sym (ap (λ own. option_map change (cond own (Some of) (properties_of store object))) e)
-first_changed change object same of store false e rest =
-    ap (λ own. find (is_of object) ((if own then change of else of) ∷ changed change object store)) e
-    ∙ ap (λ own. cond own (Some of) (properties_of (changed change object store) object)) e
-    ∙ rest
-    ∙ sym (ap (λ own. option_map change (cond own (Some of) (properties_of store object))) e)
-
-properties_changed : (change : Properties → Properties) (object : ℕ) → ((of : Properties) → (change of).object ≡ of.object) → (store : Store) → properties_of (changed change object store) object ≡ option_map change (properties_of store object)
-properties_changed change object same [] = refl
-properties_changed change object same (of ∷ store) = first_changed change object same of store (of.object == object) refl (properties_changed change object same store)
-
--- a value that was written over another one stands
-value_written : (store : Store) (object number : ℕ) (old value : Value) → value_at store object number ≡ Some old → value_at (changed (with_value number value) object store) object number ≡ Some value
-value_written store object number old value there =
-    ap (option_and_then (λ of. slice_get of.values number)) (properties_changed (with_value number value) object (λ of. refl) store)
-    ∙ by (properties_of store object) there
-  where
-    by : (found : Option Properties) → option_and_then (λ of. slice_get of.values number) found ≡ Some old → option_and_then (λ of. slice_get of.values number) (option_map (with_value number value) found) ≡ Some value
-    by None e = absurd (cc)
-    by (Some of) e =
-        let within : number < length of.values = slice_get_within of.values number old e in
-        slice_get-get_or (set of.values number value) number value (subst (λ n. number < n) (sym (length-set of.values number value)) within)
-        ∙ ap Some (get_or-set_same of.values number value value within)
-
--- where a value is another one than before there was one before
-changed_from : (found : Option Value) (wanted : Option Value) → option_map_or (λ new. option_map_or (λ old. not (is_same old new)) found false) wanted false ≡ true → (old : Value) × (found ≡ Some old)
-changed_from (Some old) wanted e = (old, refl)
-changed_from None (Some new) e = absurd (cc)
-changed_from None None e = absurd (cc)
-
--- the notice of a property's change, where there is a signal that tells of it
-abbrev pub noticed : ℕ → ℕ → Option ℕ → Option Notice
-noticed object number signal = option_map (λ signal. record { object = object; property = number; signal = signal }) signal
 
 -- the signal that tells of changes of a property
 abbrev pub signal_of : Settings → State → ℕ → ℕ → Option ℕ
@@ -94,56 +60,69 @@ abbrev pub signal_in : Settings → ℕ → ℕ → Option ℕ
 signal_in settings class number = option_and_then (λ property. property.notify) (slice_get (properties settings.classes class) number)
 
 -- an object has the signals that its class declares
-signal_by_class : (settings : Settings) (state : State) (object class number : ℕ) → HasClass state object class → signal_in settings class number ≡ signal_of settings state object number
+pub signal_by_class : (settings : Settings) (state : State) (object class number : ℕ) → HasClass state object class → signal_of settings state object number ≡ signal_in settings class number
 signal_by_class settings state object class number has = ap (option_and_then (λ property. property.notify)) (by (row_of state.forest.rows object) has)
   where
-    by : (found : Option Row) → option_map (λ row. row.class) found ≡ Some class → slice_get (properties settings.classes class) number ≡ option_and_then (λ row. slice_get (properties settings.classes row.class) number) found
+    by : (found : Option Row) → option_map (λ row. row.class) found ≡ Some class → option_and_then (λ row. slice_get (properties settings.classes row.class) number) found ≡ slice_get (properties settings.classes class) number
     by None e = absurd (cc)
-    by (Some row) e = let same : class ≡ row.class = cc in ap (λ class. slice_get (properties settings.classes class) number) same
+    by (Some row) e = let same : row.class ≡ class = cc in ap (λ class. slice_get (properties settings.classes class) number) same
 
--- what tells of one change is sent, where there is such a signal
-told_one : (settings : Settings) (state : State) (depth : ℕ) (change : Change) (signal : Option ℕ) → standing state change.object change.number ≡ Some change
-    → items_of settings state depth (noticed change.object change.number signal)
-    ≡ filter_map (λ (one : Unit {0}). option_map (λ signal. Emit change.object signal (told_value settings state change signal) depth) signal) (tt ∷ [])
-told_one settings state depth change None stands = refl
-told_one settings state depth change (Some signal) stands = ap (λ (found : Option Change). Emit change.object signal (option_map_or (λ change. told_value settings state change signal) found []) depth ∷ []) stands
+-- where a class names a signal for a property, its value is told by that
+pub told_one : (settings : Settings) (state : State) (object class number : ℕ) → HasClass state object class → (depth : ℕ) (notice : Notice)
+    → Some notice ≡ option_map (λ signal. record { object = object; property = number; signal = signal }) (signal_in settings class number)
+    → items_of settings state depth (One notice) ≡ told_items settings state depth (changes_in (record { object = object; number = number }) (shown state object number).0 Written)
+told_one settings state object class number has depth notice e = by (signal_in settings class number) e ∙ ap sent (sym (signal_by_class settings state object class number has))
+  where
+    sent : Option ℕ → List Item
+    sent signal = cons_option (option_map (λ signal. Emit object signal (told_value settings state object (shown state object number).0 signal) depth) signal) []
+
+    by : (signal : Option ℕ) → Some notice ≡ option_map (λ signal. record { object = object; property = number; signal = signal }) signal → items_of settings state depth (One notice) ≡ sent signal
+    by None e = absurd (cc)
+    by (Some signal) e = let same : notice ≡ record { object = object; property = number; signal = signal } = cc in ap (λ notice. items_of settings state depth (One notice)) same
+
+-- what is told of changes, as news that say the same at every depth
+abbrev pub IsNews : Settings → State → List Change → News → Type 0
+IsNews settings state changes news = (depth : ℕ) → items_of settings state depth news ≡ told_items settings state depth changes
 
 module _ (caller : Caller) (object : ℕ) (old new : Tables) (placed : IsPlaced old caller.place) where
   abbrev before : State
   before = state_at old caller.place
 
-  -- a writing that changes no value that is told of
-  pub writes_silently : (writing : Writing) → changes before object writing ≡ [] → new ≡ with_state old caller.place (with_writing before object writing) → Writes caller object writing old None new
-  writes_silently writing none e = λ depth doing.
-      ap (λ (changes : List Change). puts (filter_map (notification (settings_of caller.setup.now) (with_writing before object writing) depth) changes) (in_state doing (with_writing before object writing))) none
-      ∙ put_at old new caller.place (with_writing before object writing) doing placed e
+  -- a writing that tells nothing
+  pub writes_silently : (writing : Writing) → ((depth : ℕ) (doing : Doing) → written (settings_of caller.setup.now) (in_state doing before) object depth writing ≡ puts [] (in_state doing (with_writing before object writing)))
+      → new ≡ with_state old caller.place (with_writing before object writing) → Writes caller object writing old Nothing new
+  writes_silently writing silent e = λ depth doing. silent depth doing ∙ put_at old new caller.place (with_writing before object writing) doing placed e
+
+  pub writes_removed : (name : List ℕ) → new ≡ with_state old caller.place (with_writing before object (Removed name)) → Writes caller object (Removed name) old Nothing new
+  writes_removed name = writes_silently (Removed name) (λ depth doing. dynamic_removed (settings_of caller.setup.now) (in_state doing before) object depth name)
+
+  pub writes_set : (name : List ℕ) (value : Value) → new ≡ with_state old caller.place (with_writing before object (Dynamic name value)) → Writes caller object (Dynamic name value) old Nothing new
+  writes_set name value = writes_silently (Dynamic name value) (λ depth doing. dynamic_set (settings_of caller.setup.now) (in_state doing before) object depth name value)
 
   module _ (number : ℕ) (value : Value) (e : new ≡ with_state old caller.place (with_writing before object (Declared number value))) where
     abbrev after : State
     after = with_writing before object (Declared number value)
 
-    abbrev change : Change
-    change = record { object = object; number = number; value = value }
+    abbrev at : At
+    at = record { object = object; number = number }
 
     is_after : state_at new caller.place ≡ after
     is_after = state_with old new caller.place after placed e
 
-    -- nothing is told of a declared property that has not changed
-    pub writes_same : is_change before.store object number value ≡ false → Writes caller object (Declared number value) old None new
-    writes_same same = writes_silently (Declared number value) (ap (λ (b : Bool). if b then change ∷ [] else []) same) e
+    -- no object has another class by it
+    pub class_kept : (class : ℕ) → HasClass before object class → HasClass (state_at new caller.place) object class
+    class_kept class has = subst (λ (state : State). HasClass state object class) (sym is_after) has
 
-    -- a declared property that has changed is told of
-    pub writes_change : is_change before.store object number value ≡ true → (class : ℕ) → HasClass before object class → (told : Option Notice) → told ≡ noticed object number (signal_in (settings_of caller.setup.now) class number)
-        → Writes caller object (Declared number value) old told new
-    writes_change is class has told noted = λ depth doing.
+    -- a write to a declared property tells of all that it changes
+    pub writes_declared : (changed : Changed) (news : News) → Tells at before (state_at new caller.place) changed
+        → IsNews (settings_of caller.setup.now) (state_at new caller.place) (changes_in at (shown (state_at new caller.place) object number).0 changed) news
+        → Writes caller object (Declared number value) old news new
+    writes_declared changed news tells is = λ depth doing.
         let settings = settings_of caller.setup.now in
-        let stood = changed_from (value_at before.store object number) _ is in
-        let stands : standing after object number ≡ Some change = ap (option_map (λ value. record { object = object; number = number; value = value })) (value_written before.store object number stood.0 value stood.1) in
-        let wanted : told ≡ noticed object number (signal_of settings after object number) = noted ∙ ap (noticed object number) (signal_by_class settings after object class number has) in
-        ap (λ (b : Bool). puts (filter_map (notification settings after depth) (if b then change ∷ [] else [])) (in_state doing after)) is
-        ∙ ap (λ items. puts items (in_state doing after)) (sym (told_one settings after depth change (signal_of settings after object number) stands))
-        ∙ ap (λ told. puts (items_of settings after depth told) (in_state doing after)) (sym wanted)
-        ∙ ap (λ state. puts (items_of settings state depth told) (in_state doing state)) (sym is_after)
+        let now = state_at new caller.place in
+        ap (λ (state : State). puts (told_items settings state depth (changes before state (Some at))) (in_state doing state)) (sym is_after)
+        ∙ ap (λ (changes : List Change). puts (told_items settings now depth changes) (in_state doing now)) (sym tells)
+        ∙ ap (λ items. puts items (in_state doing now)) (sym (is depth))
 
 -- a value that is not invalid is given to a dynamic property
 pub dynamic_valid : (state : State) (object : ℕ) (name : List ℕ) (value : Value) → (value ≡ v.Invalid → ⊥) → dynamic_writing state object name value ≡ option_map_or Err (dynamic_refusal state.store object name) (Ok (Dynamic name value))
@@ -159,11 +138,11 @@ dynamic_valid state object name (v.Text text) other = refl
 pub writes_dynamic : (caller : Caller) (object : ℕ) (name : List ℕ) (value : Value) (old new : Tables) (result : Result (Unit {0}) Fault) → IsPlaced old caller.place → (value ≡ v.Invalid → ⊥)
     → RefusedBy (dynamic_refusal (state_at old caller.place).store object name) result
     → OnOk result (new ≡ with_state old caller.place (with_writing (state_at old caller.place) object (Dynamic name value)))
-    → TriesToWrite caller object (dynamic_writing (state_at old caller.place) object name value) old (λ done. None) new result
+    → TriesToWrite caller object (dynamic_writing (state_at old caller.place) object name value) old (λ done. Nothing) new result
 writes_dynamic caller object name value old new (Ok done) placed other refused e = (
   Dynamic name value,
   dynamic_valid (state_at old caller.place) object name value other ∙ ap (λ refusal. option_map_or Err refusal (Ok (Dynamic name value))) refused,
-  writes_silently caller object old new placed (Dynamic name value) refl e,
+  writes_set caller object old new placed name value e,
 )
 writes_dynamic caller object name value old new (Err (Refused code)) placed other refused e =
     dynamic_valid (state_at old caller.place) object name value other ∙ ap (λ refusal. option_map_or Err refusal (Ok (Dynamic name value))) refused
@@ -175,32 +154,60 @@ refused_as P (Ok value) h = tt
 refused_as P (Err (Refused code)) h = h
 refused_as P (Err Memory) h = tt
 
--- where a declared property stands, by what was found of it
-pub place_is : (of : ℕ × Kind) (found : Option Place) → Some of ≡ option_map (λ place. (place.number, place.kind)) found → Some (record { number = of.0; kind = of.1 }) ≡ found
-place_is of None e = absurd (cc)
-place_is of (Some place) e = ap (option_map (λ (of : ℕ × Kind). record { number = of.0; kind = of.1 })) e
+-- a text that is not too long is taken as it is
+short_kept : (value : Value) → IsShort value → short value ≡ Ok value
+short_kept v.Invalid is = refl
+short_kept (v.Bool b) is = refl
+short_kept (v.Int z) is = refl
+short_kept (v.Uint n) is = refl
+short_kept (v.Longlong z) is = refl
+short_kept (v.Ulonglong n) is = refl
+short_kept (v.Text text) is = ap (λ fits. cond fits (Ok (v.Text text)) (Err Limit)) (le-leb (length text) TEXT_BYTES is)
 
--- what is written to a declared property
-module _ (state : State) (object : ℕ) (name : List ℕ) (given : Value) (place : Place) (there : Some place ≡ declared state object name) where
-  by_place : (found : Found Value) → ok_or (converted place.kind given) BadValue ≡ found → acted_writing state object name given ≡ found >>= short >>= λ value. Ok (Declared place.number value)
-  by_place found e =
-      ap (λ (found : Option Place). option_map_or (λ place. ok_or (converted place.kind given) BadValue >>= short >>= λ value. Ok (Declared place.number value)) found (short given >>= dynamic_writing state object name)) (sym there)
-      ∙ ap (λ (found : Found Value). found >>= short >>= λ value. Ok (Declared place.number value)) e
+-- what an action writes to the property of a name, by where that stands
+module _ (state : State) (object : ℕ) (name : List ℕ) (given : Value) (is_short : IsShort given) where
+  by_place : Place → Found Value → Found Writing
+  by_place place found = found >>= short >>= λ value. Ok (Declared place.number value)
 
-  pub acted_declared : (fitted value : Value) → ok_or (converted place.kind given) given ≡ Ok fitted → short fitted ≡ Ok value → acted_writing state object name given ≡ Ok (Declared place.number value)
-  acted_declared fitted value fits is = by_place (Ok fitted) (by (converted place.kind given) fits) ∙ ap (λ (found : Found Value). found >>= λ value. Ok (Declared place.number value)) is
-    where
-      by : (found : Option Value) → ok_or found given ≡ Ok fitted → ok_or found BadValue ≡ Ok fitted
-      by (Some x) e = cc
-      by None e = absurd (cc)
+  acted_at : (found : Option Place) → declared state object name ≡ found
+      → acted_writing state object name given ≡ option_map_or (λ place. ok_or (converted place.kind given) BadValue >>= short >>= λ value. Ok (Declared place.number value)) found (short given >>= dynamic_writing state object name)
+  acted_at found e = ap (λ (found : Option Place). option_map_or (λ place. ok_or (converted place.kind given) BadValue >>= short >>= λ value. Ok (Declared place.number value)) found (short given >>= dynamic_writing state object name)) e
 
-  -- a value that does not fit is refused, and so is a text that is too long
-  pub acted_unfit : (other : Value) → ok_or (converted place.kind given) given ≡ Err other → acted_writing state object name given ≡ Err BadValue
-  acted_unfit other unfit = by_place (Err BadValue) (by (converted place.kind given) unfit)
-    where
-      by : (found : Option Value) → ok_or found given ≡ Err other → ok_or found BadValue ≡ Err BadValue
-      by (Some x) e = absurd (cc)
-      by None e = refl
+  pub acted_declared : (place : Place) (fit : Value) → declared state object name ≡ Some place → converted place.kind given ≡ Some fit → acted_writing state object name given ≡ Ok (Declared place.number fit)
+  acted_declared place fit there fits =
+      acted_at (Some place) there
+      ∙ ap (λ (found : Option Value). ok_or found BadValue >>= short >>= λ value. Ok (Declared place.number value)) fits
+      ∙ ap (λ (found : Found Value). found >>= λ value. Ok (Declared place.number value)) (short_kept fit (converted_fits place.kind given fit is_short fits).1)
+
+  -- a value that does not fit is refused
+  pub acted_unfit : (place : Place) → declared state object name ≡ Some place → converted place.kind given ≡ None → acted_writing state object name given ≡ Err BadValue
+  acted_unfit place there misfit = acted_at (Some place) there ∙ ap (λ (found : Option Value). ok_or found BadValue >>= short >>= λ value. Ok (Declared place.number value)) misfit
+
+  -- and one of a name that is not declared is a dynamic property's
+  pub acted_dynamic : declared state object name ≡ None → acted_writing state object name given ≡ dynamic_writing state object name given
+  acted_dynamic none = acted_at None none ∙ ap (λ (found : Found Value). found >>= dynamic_writing state object name) (short_kept given is_short)
+
+module _ (caller : Caller) (object : ℕ) (name : List ℕ) (value : Value) (old middle : Tables) (placed : IsPlaced old caller.place) (is_short : IsShort value) where
+  -- a declared property of the name was written, and there is news of what has changed
+  pub named_declared : (number : ℕ) (changed : Changed) → WritesDeclared caller.place object name value old number changed middle → (class : ℕ) → HasClass (state_at old caller.place) object class → (news : News)
+      → ((state : State) → HasClass state object class → IsNews (settings_of caller.setup.now) state (changes_in (record { object = object; number = number }) (shown state object number).0 changed) news)
+      → TriesToWrite caller object (acted_writing (state_at old caller.place) object name value) old (λ told. told) middle (Ok news)
+  named_declared number changed done class has news told = (
+    Declared done.of.number done.written,
+    acted_declared (state_at old caller.place) object name value is_short done.of done.written done.named done.fits,
+    writes_declared caller object old middle placed done.of.number done.written done.new changed news done.told
+        (subst (λ number. (state : State) → HasClass state object class → IsNews (settings_of caller.setup.now) state (changes_in (record { object = object; number = number }) (shown state object number).0 changed) news) done.number told
+        (state_at middle caller.place) (class_kept caller object old middle placed done.of.number done.written done.new class has)),
+  )
+
+  -- there is none of the name: a dynamic property was written
+  pub named_undeclared : (handed : Value) → (handed ≡ value) × (declared (state_at old caller.place) object name ≡ None) × (middle ≡ old) → (new : Tables) (result : Result (Unit {0}) Fault)
+      → TriesToWrite caller object (dynamic_writing (state_at middle caller.place) object name handed) middle (λ done. Nothing) new result
+      → TriesToWrite caller object (acted_writing (state_at old caller.place) object name value) old (λ done. Nothing) new result
+  named_undeclared handed none new result tried =
+      subst (λ (wanted : Found Writing). TriesToWrite caller object wanted old (λ done. Nothing) new result) (sym (acted_dynamic (state_at old caller.place) object name value is_short none.1))
+      (subst (λ (value : Value). TriesToWrite caller object (dynamic_writing (state_at old caller.place) object name value) old (λ done. Nothing) new result) none.0
+      (subst (λ (tables : Tables). TriesToWrite caller object (dynamic_writing (state_at tables caller.place) object name handed) tables (λ done. Nothing) new result) none.2 tried))
 
 -- a call that has put another state, or failed, changes no other session
 pub set_keeps : {T E : Type 0} (place : ℕ) (old new : Tables) (state : State) (result : Result T E) → IsPlaced old place → OnOk result (new ≡ with_state old place state) → OnErr result (new ≡ old) → Keeps place old new
@@ -208,7 +215,7 @@ set_keeps place old new state (Ok value) placed ok err = keeps_with old new plac
 set_keeps place old new state (Err error) placed ok err = keeps_same old new place err
 
 -- an action that writes comes to what is written
-pub sets_property : (caller : Caller) (slot : Slot) (of : Target) (property : List ℕ) (term : Term) (old new : Tables) (result : Result (Option Notice) Fault) (object : ℕ) (value : Value)
+pub sets_property : (caller : Caller) (slot : Slot) (of : Target) (property : List ℕ) (term : Term) (old new : Tables) (result : Result News Fault) (object : ℕ) (value : Value)
     → object ≡ object_of (state_at old caller.place) slot.object slot.sender of
     → is_there (state_at old caller.place).forest.rows object ≡ true
     → evaluated (state_at old caller.place) slot.object slot.sender slot.args.now term ≡ Ok value

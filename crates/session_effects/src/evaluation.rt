@@ -35,13 +35,13 @@ impl Reads for Reader<'_> {
 
     ghost reads = { λ r target name. reads (state_at r.tables.now r.place) r.object r.sender target name };
 
-    fn read(&self, alloc: Global, target: &Target, name: &Text) -> Result<Value, Halt<()>> {
+    fn read(&self, _alloc: Global, target: &Target, name: &Text) -> Result<Value, Halt<()>> {
         let object = object_of(self, target)?;
         if !self.tables.is_there(self.place, object) {
             return Err(Halt::Refused(Code::NoSuchObject));
         }
-        match self.tables.named(self.place, object, name.as_str()) {
-            Some(value) => Ok(value.copy(alloc)?),
+        match self.tables.named(self.place, object, name.as_str())? {
+            Some(value) => Ok(value),
             None => Err(Halt::Refused(Code::NoSuchProperty)),
         }
     }

@@ -3,6 +3,7 @@
 //! action that does, it is said what it comes to.
 #![tactic(auto)]
 
+mod announcing;
 mod caller;
 mod connections;
 mod deeds;
@@ -14,6 +15,7 @@ mod setup;
 mod slot;
 mod writing;
 
+pub use announcing::{Announcement, News, Notice, announcements, property_name, told_args};
 pub use caller::Caller;
 pub use connections::{Options, asked_connection, asked_functor_connection, asked_pattern};
 pub use deeds::{do_deed, do_found};
@@ -22,4 +24,4 @@ pub use functors::{are_arguments, functor_at};
 pub use methods::{kinds_at, method_at, method_named, method_with, signal_named};
 pub use setup::Setup;
 pub use slot::Slot;
-pub use writing::{Notice, set, told_args, write_declared, write_dynamic};
+pub use writing::{set, write_declared, write_dynamic};

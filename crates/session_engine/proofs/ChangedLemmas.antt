@@ -19,6 +19,7 @@ use Rattle.session_tables.proofs.ReachingLemmas.{session_unchanged, shaped_chang
 use Rattle.session_tables.proofs.TablesLemmas.{session_there}
 use Rattle.session_engine.specs.Core.{Contents, IsKept, IsWhole, place, seen, sessions}
 use Rattle.session_engine.specs.Items.{BeginsAnew, HasArrived}
+use Rattle.session_engine.specs.Sessions.{Fails}
 use Rattle.session_engine.proofs.EngineLemmas.{one_name, placed, sessions-place, sound_by_name}
 use Rattle.session_engine.proofs.StepLemmas.{heard_state, kept_gone, kept_heard}
 
@@ -117,25 +118,49 @@ module _ {T E : Type 0} (engine : Contents) (new : Tables) (refused : Bool) (at 
         sound = sound_by_name (changed engine new refused) whole_arrived;
       }
 
+-- another session is put at a place
+module _ (engine : Contents) (new : Tables) (at : ℕ) (name : List ℕ) (session : Session) (whole : IsWhole engine) (there : place engine name ≡ Some at) (is : new ≡ with_session engine.tables at session) where
+  put_changes : ChangesOnly at engine.tables new
+  put_changes = changes_session engine.tables new at session (placed engine name at whole there) is
+
+  put_there : session_at new at ≡ session
+  put_there = ap (λ tables. session_at tables at) is ∙ session_there engine.tables at session (placed engine name at whole there)
+
+  whole_put : (refused : Bool) → (IsFalse refused → IsFalse engine.memory_refused) → IsKept engine.settings.classes refused session → IsWhole (changed engine new refused)
+  whole_put refused less kept = whole_changed engine new refused at name whole there put_changes less (subst (IsKept engine.settings.classes refused) (sym put_there) kept)
+
+  own_put : (refused : Bool) → sessions (changed engine new refused) name ≡ session
+  own_put refused = own_changed engine new refused at name whole there put_changes ∙ put_there
+
+  others_put : (refused : Bool) (other : List ℕ) → bytes_eq other name ≡ false → sessions (changed engine new refused) other ≡ sessions engine other
+  others_put refused = others_changed engine new refused at name whole there put_changes
+
 -- the session at a place begins anew
 module _ (engine : Contents) (new : Tables) (at : ℕ) (name : List ℕ) (whole : IsWhole engine) (there : place engine name ≡ Some at) (is : new ≡ with_session engine.tables at fresh) where
-  anew_changes : ChangesOnly at engine.tables new
-  anew_changes = changes_session engine.tables new at fresh (placed engine name at whole there) is
-
-  anew_there : session_at new at ≡ fresh
-  anew_there = ap (λ tables. session_at tables at) is ∙ session_there engine.tables at fresh (placed engine name at whole there)
-
   pub whole_anew : IsWhole (changed engine new engine.memory_refused)
-  whole_anew = whole_changed engine new engine.memory_refused at name whole there anew_changes (λ found. found)
-      (subst (IsKept engine.settings.classes engine.memory_refused) (sym anew_there) (record { well = λ found. refl; sound = keeps_sound.at_first; declared = keeps_declared.at_first engine.settings.classes }))
+  whole_anew = whole_put engine new at name fresh whole there is engine.memory_refused (λ found. found) (record { well = λ found. refl; sound = keeps_sound.at_first; declared = keeps_declared.at_first engine.settings.classes })
 
   pub begins_anew : BeginsAnew (seen engine) (seen (changed engine new engine.memory_refused)) name
   begins_anew = record {
-    fresh = own_changed engine new engine.memory_refused at name whole there anew_changes ∙ anew_there;
-    others = others_changed engine new engine.memory_refused at name whole there anew_changes;
+    fresh = own_put engine new at name fresh whole there is engine.memory_refused;
+    others = others_put engine new at name fresh whole there is engine.memory_refused;
     settings = refl;
     memory = refl;
     sound = sound_by_name (changed engine new engine.memory_refused) whole_anew;
+  }
+
+-- the session at a place has failed for memory that was refused
+module _ (engine : Contents) (new : Tables) (at : ℕ) (name : List ℕ) (whole : IsWhole engine) (there : place engine name ≡ Some at) (is : new ≡ with_session engine.tables at gone) where
+  pub whole_failed : IsWhole (changed engine new true)
+  whole_failed = whole_put engine new at name gone whole there is true (λ found. absurd (true≢false found)) (kept_gone engine.settings.classes)
+
+  pub fails_now : Fails (seen engine) (seen (changed engine new true)) name
+  fails_now = record {
+    fails = own_put engine new at name gone whole there is true;
+    others = others_put engine new at name gone whole there is true;
+    settings = refl;
+    memory = refl;
+    sound = sound_by_name (changed engine new true) whole_failed;
   }
 
 -- facts that hold whatever a call returns, or by what it has returned

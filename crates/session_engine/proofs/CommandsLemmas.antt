@@ -250,6 +250,11 @@ not_reset (c.Publish target signal name) other = refl
 not_reset (c.Unpublish name) other = refl
 not_reset (c.Join from name types target method) other = refl
 not_reset (c.Leave from name target method) other = refl
+not_reset (c.Bind target property to) other = refl
+not_reset (c.Unbind target property) other = refl
+not_reset (c.BindingError target property) other = refl
+not_reset c.Begin other = refl
+not_reset c.End other = refl
 not_reset c.Status other = refl
 not_reset c.Reset other = absurd (other refl)
 

@@ -1,14 +1,14 @@
 -- What changes of an engine by places change of its sessions by names.
-use Rattle.std.proofs.Common.{◌≡◌, ℕ, ◌+◌, ◌<◌, ◌≤◌, Bool, true, false, true≢false, not, cond, List, [], ◌∷◌, ◌++◌, Option, Some, None, length, position, get_or, slice_get, eqb, ltb, refl, sym, ap, subst, ◌∙◌, ⊎_elim, arith}
+use Rattle.std.proofs.Common.{◌≡◌, ℕ, ◌+◌, ◌<◌, ◌≤◌, Bool, true, false, not, cond, List, [], ◌∷◌, ◌++◌, Some, None, length, position, get_or, slice_get, eqb, ltb, refl, sym, ap, subst, ◌∙◌, ⊎_elim, arith}
 use Rattle.std.specs.Prelude.{bytes_eq}
 use Rattle.std.specs.List.{list_any, position_or_len}
 use Rattle.std.specs.Option.{option_map_or}
 use Rattle.std.proofs.Math.Path.{fun_ext}
-use Rattle.std.proofs.lemmas.Bool.{cases_Bool, both_ways, cond-true, cond-false}
+use Rattle.std.proofs.lemmas.Bool.{cases_Bool, cond-true, cond-false}
 use Rattle.std.proofs.lemmas.Grind.{common_steps}
 use Rattle.std.proofs.lemmas.Bool.Decides.{nat_tests}
 use Rattle.std.proofs.Math.Seq.{get_or-append_seam}
-use Rattle.std.proofs.lemmas.List.{get_or_append_left, length-append, length-set}
+use Rattle.std.proofs.lemmas.List.{get_or_append_left, length-append}
 use Rattle.std.proofs.lemmas.List.Folds.{position_or_len_push}
 use Rattle.std.proofs.lemmas.List.Sums.{prefix_len-le-length}
 use Rattle.std.proofs.lemmas.List.Quantifiers.{position-Some}
@@ -22,10 +22,10 @@ use Rattle.thread_model.specs.Thread.{Settings}
 use Rattle.thread_model.proofs.DeclaredLemmas.{keeps_declared}
 use Rattle.thread_model.proofs.LawLemmas.{keeps_sound}
 use Rattle.session_tables.specs.declared.tables.Tables.{Tables}
-use Rattle.session_tables.specs.Session.{Session, fresh, gone}
+use Rattle.session_tables.specs.Session.{Session, fresh}
 use Rattle.session_tables.specs.Tables.{AreEven, AreSame, IsPlaced, session_at}
-use Rattle.session_tables.proofs.TablesLemmas.{even_opened, even_same, even_with, placed_by, session_each, session_elsewhere, session_opened, session_past, session_same, session_there}
-use Rattle.session_engine.specs.Core.{Contents, IsKept, IsWhole, given_up, opened, place, refused_growth, seen, sessions, with_session_at}
+use Rattle.session_tables.proofs.TablesLemmas.{even_opened, even_same, placed_by, session_opened, session_past, session_same}
+use Rattle.session_engine.specs.Core.{Contents, IsKept, IsWhole, opened, place, seen, sessions}
 use Rattle.session_engine.specs.Sessions.{AreSound}
 
 -- where nothing has a place, nothing passes
@@ -135,37 +135,6 @@ named_opened names name absent named at within = by (ltb at (length names)) refl
         ∙ found_at (bytes_eq name) (position_or_len_push (bytes_eq name) names name ∙ grind (arith, itself, end, last))
 
 module _ (engine : Contents) (whole : IsWhole engine) where
-  -- with another session at a place, its name has that session
-  pub sessions-own : (name : List ℕ) (at : ℕ) (session : Session) → place engine name ≡ Some at → sessions (with_session_at engine at session) name ≡ session
-  sessions-own name at session there =
-      sessions-place (with_session_at engine at session) name at there ∙ session_there engine.tables at session (placed engine name at whole there)
-
-  -- and every other name keeps its own
-  pub sessions-others : (name other : List ℕ) (at : ℕ) (session : Session) → place engine name ≡ Some at → bytes_eq other name ≡ false → sessions (with_session_at engine at session) other ≡ sessions engine other
-  sessions-others name other at session there differ = by (place engine other) refl
-    where
-      by : (found : Option ℕ) → place engine other ≡ found → sessions (with_session_at engine at session) other ≡ sessions engine other
-      by None e = ap (λ found. option_map_or (session_at (with_session_at engine at session).tables) found fresh) e ∙ sym (ap (λ found. option_map_or (session_at engine.tables) found fresh) e)
-      by (Some at') e =
-          sessions-place (with_session_at engine at session) other at' e
-          ∙ session_elsewhere engine.tables at at' session (λ same. both_ways _ differ ((bytes_eq-Decides other name).1 (sym (one_name engine name other at there (e ∙ ap Some same)))))
-          ∙ sym (sessions-place engine other at' e)
-
-  -- and where memory was refused
-  pub whole_refused : IsWhole (refused_growth engine)
-  whole_refused = record { even = whole.even; paired = whole.paired; named = whole.named; laid = whole.laid; kept = λ at. record { well = λ found. absurd (true≢false found); sound = (whole.kept at).sound; declared = (whole.kept at).declared } }
-
-  -- so it does where a session has failed for it
-  pub whole_given_up : (name : List ℕ) (at : ℕ) → place engine name ≡ Some at → IsWhole (given_up engine at)
-  whole_given_up name at there = record {
-    even = even_with engine.tables at gone whole.even;
-    paired = whole.paired ∙ sym (length-set engine.tables.failed.places at true);
-    named = whole.named;
-    laid = whole.laid;
-    kept = session_each (IsKept engine.settings.classes true) engine.tables at gone (placed engine name at whole there)
-        (record { well = λ found. absurd (true≢false found); sound = keeps_sound.at_first; declared = keeps_declared.at_first engine.settings.classes }) whole_refused.kept;
-  }
-
   -- a new place changes no session: the new one is fresh, and was so before
   pub whole_opened : (name : List ℕ) → place engine name ≡ None → IsWhole (opened engine name)
   whole_opened name absent = record {
@@ -209,10 +178,10 @@ sessions-same engine ready same =
     ap (λ (session : ℕ → Session). λ name. option_map_or session (place engine name) fresh) (fun_ext (λ at. session_same engine.tables ready at same))
 
 -- with no place there is none to speak of
-pub whole_new : (settings : Settings) (names : List (List ℕ)) (layouts : List (List Field)) (tables : Tables) → names ≡ [] → tables.forests.places ≡ [] → tables.stores.table.places ≡ [] → tables.connections.places ≡ [] → tables.queues.places ≡ [] → tables.desks.places ≡ [] → tables.failed.places ≡ []
-    → tables.stores.layouts ≡ layouts → ((class : ℕ) → fields_in layouts class ≡ fields_of settings.classes class) → IsWhole (record { settings = settings; names = names; tables = tables; memory_refused = false })
-whole_new settings names layouts tables no_names forests stores connections queues desks failed same laid =
-    let even : AreEven tables = record { forests = ap length forests ∙ sym (ap length failed); stores = ap length stores ∙ sym (ap length failed); connections = ap length connections ∙ sym (ap length failed); queues = ap length queues ∙ sym (ap length failed); desks = ap length desks ∙ sym (ap length failed) } in
+pub whole_new : (settings : Settings) (names : List (List ℕ)) (layouts : List (List Field)) (tables : Tables) → names ≡ [] → tables.forests.places ≡ [] → tables.stores.shelves.table.places ≡ [] → tables.stores.graphs.places ≡ [] → tables.connections.places ≡ [] → tables.queues.places ≡ [] → tables.desks.places ≡ [] → tables.failed.places ≡ []
+    → tables.stores.shelves.layouts ≡ layouts → ((class : ℕ) → fields_in layouts class ≡ fields_of settings.classes class) → IsWhole (record { settings = settings; names = names; tables = tables; memory_refused = false })
+whole_new settings names layouts tables no_names forests stores graphs connections queues desks failed same laid =
+    let even : AreEven tables = record { forests = ap length forests ∙ sym (ap length failed); stores = ap length stores ∙ sym (ap length failed); graphs = ap length graphs ∙ sym (ap length failed); connections = ap length connections ∙ sym (ap length failed); queues = ap length queues ∙ sym (ap length failed); desks = ap length desks ∙ sym (ap length failed) } in
     let none : length tables.failed.places ≡ 0 = ap length failed in
     record {
       even = even;

@@ -2,10 +2,11 @@ pub mod EngineLemmas
 pub mod StepLemmas
 pub mod EventsLemmas
 pub mod CommandsLemmas
+pub mod ToldLemmas
+pub mod BindingsLemmas
 pub mod PropertiesLemmas
 pub mod ClassesLemmas
 pub mod ValuesLemmas
 pub mod InvocationLemmas
-pub mod TreesLemmas
 pub mod ItemsLemmas
 pub mod ChangedLemmas

@@ -16,39 +16,34 @@ use Rattle.variant_value.specs.Values.{inferred, value_of}
 use Rattle.property_store.specs.Store.{dynamic_refusal}
 use Rattle.thread_model.specs.declared.line.Answer.TheVariants as a
 use Rattle.thread_model.specs.declared.line.Line.{Line}
-use Rattle.thread_model.specs.declared.line.Line.TheVariants as line
 use Rattle.thread_model.specs.Absence.{absence}
 use Rattle.thread_model.specs.Asked.{Asked, Set}
-use Rattle.thread_model.specs.Doing.{begun, told}
-use Rattle.thread_model.specs.Effects.{does_next, ended}
-use Rattle.thread_model.specs.Items.{Next}
+use Rattle.thread_model.specs.Doing.{begun}
+use Rattle.thread_model.specs.Effects.{does_next}
+use Rattle.thread_model.specs.Items.{Item}
 use Rattle.thread_model.specs.Methods.{Found, ◌>>=◌}
 use Rattle.thread_model.specs.Properties.{is_declared}
-use Rattle.thread_model.specs.Run.{run}
 use Rattle.thread_model.specs.State.{State}
 use Rattle.thread_model.specs.Writing.{Declared, Dynamic, Nothing, Place, Removed, Writing, asked_place, asked_writing, declared, dynamic_writing, written}
 use Rattle.thread_model.proofs.PropertyLemmas.{refusal_set, set_written}
-use Rattle.thread_model.proofs.ThreadLemmas.{replies_last}
 use Rattle.session_tables.specs.declared.tables.Tables.{Tables}
 use Rattle.session_tables.specs.Refused.{OnRefused}
 use Rattle.session_tables.specs.Tables.{ChangesOnly, IsPlaced, state_at}
 use Rattle.session_effects.specs.Actions.{Keeps}
 use Rattle.session_effects.specs.declared.caller.Caller.{Caller}
-use Rattle.session_effects.specs.declared.writing.Notice.{Notice}
+use Rattle.session_effects.specs.declared.announcing.News.{News}
 use Rattle.session_effects.specs.Setup.{settings_of}
 use Rattle.session_effects.specs.Writing.{TriesToWrite, Writes, items_of}
 use Rattle.nested_calls.specs.declared.telling.Telling.{Telling}
 use Rattle.session_engine.specs.Commands.{Performs, reply_after}
 use Rattle.nested_calls.specs.Telling.{doing_at, fresh_telling}
-use Rattle.session_engine.proofs.CommandsLemmas.{at_first_reaches, its_effect, its_refusal, or_second, replied_last, starved, stopped}
+use Rattle.session_engine.proofs.CommandsLemmas.{its_effect, its_refusal, or_second, starved, stopped}
+use Rattle.session_engine.proofs.ToldLemmas.{performs_told, starved_told}
 use Rattle.nested_calls.specs.Agenda.{Does}
-use Rattle.nested_calls.proofs.DoesLemmas.{does_none, reaches_none}
+use Rattle.nested_calls.proofs.DoesLemmas.{does_none}
 use Rattle.session_effects.proofs.ActionLemmas.{keeps_same}
 use Rattle.thread_model.proofs.RunLemmas.{at_end}
 use Rattle.std.specs.declared.alloc.AllocError.{AllocError}
-use Rattle.session_tables.specs.Reaching.{Reaches}
-use Rattle.session_tables.proofs.ReachingLemmas.{reaches_twice}
-use Rattle.thread_model.specs.declared.post.Post.{Post}
 
 pub is_null : (json : Data) → is_some (as_null json) ≡ true → json ≡ d.null
 is_null d.null h = refl
@@ -67,7 +62,12 @@ place_valued (d.string s) place h = refl
 place_valued (d.array ds) place h = refl
 place_valued (d.object ms) place h = refl
 
--- where no property is declared, by what was found of it
+-- where a property is declared, by what was found of it
+pub place_is : (of : ℕ × Kind) (found : Option Place) → Some of ≡ option_map (λ place. (place.number, place.kind)) found → Some (record { number = of.0; kind = of.1 }) ≡ found
+place_is of None e = absurd (cc)
+place_is of (Some place) e = ap (option_map (λ (of : ℕ × Kind). record { number = of.0; kind = of.1 })) e
+
+-- and where none is
 absent_place : (found : Option Place) → ◌≡◌ {A = Option (ℕ × Kind)} None (option_map (λ (place : Place). (place.number, place.kind)) found) → found ≡ None
 absent_place None e = refl
 absent_place (Some place) e = absurd (cc)
@@ -105,53 +105,35 @@ dynamic_undeclared state object name value writing e = by value e
     by (v.Text text) e = given (dynamic_refusal state.store object name) (v.Text text) e
 
 -- a property's writing that is refused, or for which memory was wanted
-pub written_fault : {T U : Type 0} (caller : Caller) (asked : Asked) (old new : Tables) (lines : T → List Line) (object : ℕ) (wanted : Found Writing) (tell : U → Option Notice) (fault : Fault) (result : Result T Fault) → IsErrAnd result (λ other. other ≡ fault)
+pub written_fault : {T U : Type 0} (caller : Caller) (asked : Asked) (old new : Tables) (lines : T → List Line) (object : ℕ) (wanted : Found Writing) (tell : U → News) (fault : Fault) (result : Result T Fault) → IsErrAnd result (λ other. other ≡ fault)
     → its_refusal caller asked old new ≡ result_err wanted → TriesToWrite caller object wanted old tell new (Err fault) → OnRefused {T = U} (Err fault) (new ≡ old) → ChangesOnly caller.place old new → Performs caller asked old new false lines result
 written_fault caller asked old new lines object wanted tell (Refused code) result h is why same only = stopped caller asked old new lines code result h (is ∙ ap result_err why) same
 written_fault caller asked old new lines object wanted tell Memory result h is why same only = starved caller asked old new lines result h only
 
--- what was written has not posted anything
-pub written_reaches : (caller : Caller) (old middle new : Tables) (before after : Bool) (posts : List Post) → IsPlaced old caller.place → Keeps caller.place old middle → Reaches caller.setup.now.classes caller.name.now caller.place posts middle new before after → Reaches caller.setup.now.classes caller.name.now caller.place posts old new before after
-written_reaches caller old middle new before after posts placed keeps reaches = reaches_twice caller.setup.now.classes caller.name.now caller.place [] posts old middle new before before after placed (reaches_none caller old middle before before keeps refl) reaches
+-- a command that writes what was found
+module _ (caller : Caller) (object : ℕ) (property : List ℕ) (json : Data) (old middle new : Tables) (before after : Telling) (writing : Writing) (replied : Bool) (news : News)
+    (is : is_declared writing ≡ replied) (there : None ≡ absence (state_at old caller.place) object) (fresh : before ≡ fresh_telling caller.setup.now.turns) (asked : asked_writing (state_at old caller.place) object property json ≡ Ok writing)
+    (writes : Writes caller object writing old news middle) (placed : IsPlaced old caller.place) (keeps : Keeps caller.place old middle) where
+  abbrev pub items : List Item
+  items = items_of (settings_of caller.setup.now) (state_at middle caller.place) 0 news
 
--- what is written is told of, and then replied
-pub set_runs : (caller : Caller) (object : ℕ) (property : List ℕ) (json : Data) (old middle new : Tables) (before : Telling) (writing : Writing) (replied : Bool) (tell : Option Notice)
-    → is_declared writing ≡ replied → before ≡ fresh_telling caller.setup.now.turns
-    → asked_writing (state_at old caller.place) object property json ≡ Ok writing
-    → Writes caller object writing old tell middle
-    → its_effect caller (Set object property json) old new
-    ≡ ended (told (run (settings_of caller.setup.now) (items_of (settings_of caller.setup.now) (state_at middle caller.place) 0 tell) (doing_at caller.place middle before [])) (line.Reply (a.Truth replied)))
-set_runs caller object property json old middle new before writing replied tell is fresh asked writes =
-    let settings = settings_of caller.setup.now in
-    let state = state_at old caller.place in
-    let answer = a.Truth replied in
-    set_written settings caller.name.now state object property json writing asked
-    ∙ ap (λ truth. does_next settings (written settings (begun settings state) object 0 writing) (a.Truth truth)) is
-    ∙ ap (λ (next : Next). does_next settings next answer) (writes 0 (begun settings state))
-    ∙ replies_last settings _ answer
-    ∙ ap (λ (telling : Telling). ended (told (run settings (items_of settings (state_at middle caller.place) 0 tell) (doing_at caller.place middle telling [])) (line.Reply answer))) (sym fresh)
+  -- what was found is not refused
+  set_passed : its_refusal caller (Set object property json) old new ≡ None
+  set_passed = refusal_set (settings_of caller.setup.now) caller.name.now (state_at old caller.place) object property json ∙ or_second _ _ there ∙ ap result_err asked
 
--- a writing that was found is not refused
-pub set_passed : (caller : Caller) (object : ℕ) (property : List ℕ) (json : Data) (old new : Tables) (writing : Writing) → None ≡ absence (state_at old caller.place) object → asked_writing (state_at old caller.place) object property json ≡ Ok writing
-    → its_refusal caller (Set object property json) old new ≡ None
-set_passed caller object property json old new writing there asked = refusal_set (settings_of caller.setup.now) caller.name.now (state_at old caller.place) object property json ∙ or_second _ _ there ∙ ap result_err asked
+  -- and comes to what was written
+  set_comes : its_effect caller (Set object property json) old new ≡ does_next (settings_of caller.setup.now) (written (settings_of caller.setup.now) (begun (settings_of caller.setup.now) (state_at old caller.place)) object 0 writing) (a.Truth replied)
+  set_comes =
+      set_written (settings_of caller.setup.now) caller.name.now (state_at old caller.place) object property json writing asked
+      ∙ ap (λ truth. does_next (settings_of caller.setup.now) (written (settings_of caller.setup.now) (begun (settings_of caller.setup.now) (state_at old caller.place)) object 0 writing) (a.Truth truth)) is
 
--- so the command is performed
-pub performs_written : {T E : Type 0} (caller : Caller) (object : ℕ) (property : List ℕ) (json : Data) (old middle new : Tables) (before after : Telling) (value : T) (writing : Writing) (replied : Bool) (tell : Option Notice)
-    → is_declared writing ≡ replied
-    → None ≡ absence (state_at old caller.place) object → before ≡ fresh_telling caller.setup.now.turns
-    → asked_writing (state_at old caller.place) object property json ≡ Ok writing
-    → Writes caller object writing old tell middle
-    → IsPlaced old caller.place → Keeps caller.place old middle
-    → Does {E = E} caller (items_of (settings_of caller.setup.now) (state_at middle caller.place) 0 tell) middle new before after (Ok value)
-    → Performs caller (Set object property json) old new after.failing (reply_after after.lines) (Ok (a.Truth replied))
-performs_written caller object property json old middle new before after value writing replied tell is there fresh asked writes placed keeps does =
-    let answer = a.Truth replied in
-    replied_last caller (Set object property json) old new after answer does.posts
-    (set_passed caller object property json old new writing there asked)
-    (set_runs caller object property json old middle new before writing replied tell is fresh asked writes
-    ∙ ap (λ doing. ended (told doing (line.Reply answer))) (does.runs []))
-    (at_first_reaches caller old new before after does.posts fresh (written_reaches caller old middle new before.failing after.failing does.posts placed keeps does.reaches))
+  pub performs_written : {T E : Type 0} (value : T) → Does {E = E} caller items middle new before after (Ok value) → Performs caller (Set object property json) old new after.failing (reply_after after.lines) (Ok (a.Truth replied))
+  performs_written value does =
+      performs_told caller (Set object property json) old middle new before after items _ (a.Truth replied) placed fresh set_passed set_comes (writes 0 (begun (settings_of caller.setup.now) (state_at old caller.place))) keeps value does
+
+  pub starved_written : {T E U : Type 0} (error : E) (lines : U → List Line) (result : Result U Fault) → IsErrAnd result (λ fault. fault ≡ Memory) → Does {T = T} caller items middle new before after (Err error) → Performs caller (Set object property json) old new after.failing lines result
+  starved_written error lines result wanted does =
+      starved_told caller (Set object property json) old middle new before after items _ (a.Truth replied) placed fresh set_passed set_comes (writes 0 (begun (settings_of caller.setup.now) (state_at old caller.place))) keeps error lines result wanted does
 
 -- what is not told of comes to nothing
 pub tells_none : (caller : Caller) (tables : Tables) (telling : Telling) → Does {T = Unit {0}} {E = AllocError} caller [] tables tables telling telling (Ok tt)

@@ -1,13 +1,13 @@
 -- What contracts see of the core of an engine.
-use Rattle.std.specs.Prelude.{◌≡◌, ℕ, Bool, true, List, ◌∷◌, ◌++◌, [], Option, Some, IsFalse, bytes_eq, length, position, ◌<◌, slice_index_or as get_or}
+use Rattle.std.specs.Prelude.{◌≡◌, ℕ, Bool, List, ◌∷◌, ◌++◌, [], Option, Some, IsFalse, bytes_eq, length, position, ◌<◌, slice_index_or as get_or}
 use Rattle.std.specs.Option.{option_map_or}
 use Rattle.class_table.specs.declared.class.Class.{Class}
 use Rattle.thread_model.specs.State.{IsDeclared, IsSound, State}
 use Rattle.thread_model.specs.Thread.{Settings}
 use Rattle.session_tables.specs.declared.tables.Tables.{Tables}
-use Rattle.session_tables.specs.Session.{Session, fresh, gone}
+use Rattle.session_tables.specs.Session.{Session, fresh}
 use Rattle.session_tables.specs.Tables as tables
-use Rattle.session_tables.specs.Tables.{AreEven, AreLaid, session_at, with_session}
+use Rattle.session_tables.specs.Tables.{AreEven, AreLaid, session_at}
 use Rattle.session_effects.specs.declared.setup.Setup.{Setup}
 use Rattle.session_engine.specs.Sessions.{Sessions}
 use Rattle.session_effects.specs.Setup.{settings_of}
@@ -70,18 +70,6 @@ OfSession engine at P = (name : List ℕ) → place engine name ≡ Some at → 
 -- with one more session
 abbrev pub opened : Contents → List ℕ → Contents
 opened engine name = record { settings = engine.settings; names = engine.names ++ name ∷ []; tables = tables.opened engine.tables; memory_refused = engine.memory_refused }
-
--- with another session at a place
-abbrev pub with_session_at : Contents → ℕ → Session → Contents
-with_session_at engine at session = record { settings = engine.settings; names = engine.names; tables = with_session engine.tables at session; memory_refused = engine.memory_refused }
-
--- after memory was wanted and not found
-abbrev pub refused_growth : Contents → Contents
-refused_growth engine = record { settings = engine.settings; names = engine.names; tables = engine.tables; memory_refused = true }
-
--- after memory was wanted and not found for the session at a place, which has failed for it
-abbrev pub given_up : Contents → ℕ → Contents
-given_up engine at = refused_growth (with_session_at engine at gone)
 
 -- what holds of every session: it has failed only where memory was refused, its state is sound, and each
 -- object has the properties that its class declares

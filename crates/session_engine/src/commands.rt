@@ -6,6 +6,7 @@ ghost use Rattle.session_engine.specs.Commands.{KnowsProperties, Obeys, Performs
 ghost use Rattle.nested_calls.specs.Telling.{fresh_telling};
 ghost use Rattle.session_engine.specs.Returning.{wants_memory};
 
+use crate::bindings::{begin, bind, binding_error, end, unbind};
 use crate::classes::describe;
 use crate::connections::{connect, connect_functor, disconnect, disconnect_one};
 use crate::events::{spin, status};
@@ -195,6 +196,17 @@ fn perform<F: Answering>(
             method,
         } => leave(&actor.caller, tables, from, name, *object, method),
         Command::Reset => reset(&actor.caller, tables),
+        Command::Bind {
+            object,
+            property,
+            to,
+        } => bind(actor, tables, telling, *object, property, to),
+        Command::Unbind { object, property } => unbind(actor, tables, telling, *object, property),
+        Command::BindingError { object, property } => {
+            binding_error(&actor.caller, tables, *object, property)
+        }
+        Command::Begin => begin(&actor.caller, tables),
+        Command::End => end(actor, tables, telling),
     }
 }
 

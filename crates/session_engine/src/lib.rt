@@ -1,6 +1,7 @@
 //! The engine: the sessions of a server, and what a command of one of them does to all.
 #![tactic(auto)]
 
+mod bindings;
 mod classes;
 mod commands;
 mod connections;

@@ -38,8 +38,8 @@ pub fn set<F: Answering>(
         return Ok(Answer::Truth(false));
     }
     let value = Value::from_json(actor.caller.setup.alloc, kind, value)?;
-    let told = write_declared(&actor.caller, tables, object, class, number, value);
-    notify(actor, tables, telling, told, 0)?;
+    let news = write_declared(&actor.caller, tables, object, class, number, value)?;
+    notify(actor, tables, telling, news, 0)?;
     Ok(Answer::Truth(true))
 }
 

@@ -3,3 +3,4 @@ pub mod StoredLemmas
 pub mod PropertyLemmas
 pub mod ReachingLemmas
 pub mod PostLemmas
+pub mod NamedLemmas

@@ -11,6 +11,7 @@ use Rattle.std.proofs.lemmas.List.Elements.{filter-append}
 use Rattle.std.proofs.lemmas.Option.{slice_get-get_or}
 use Rattle.event_queue.specs.Queue.{Queue, empty_queue}
 use Rattle.event_queue.specs.Table.{queue_at, with_queue}
+use Rattle.binding_graph.specs.Graph.{no_graph}
 use Rattle.connection_list.specs.Rows.{no_rows}
 use Rattle.object_tree.specs.declared.row.Row.{Row}
 use Rattle.object_tree.specs.Forest.{empty_forest}
@@ -51,7 +52,8 @@ pub changes_queue : (tables : Tables) (at : ℕ) (queues : Table Queue) → Chan
 changes_queue tables at queues changes = record {
   forests = column.changes_same empty_forest tables.forests tables.forests at refl;
   layouts = refl;
-  stores = column.changes_same [] tables.stores.table tables.stores.table at refl;
+  stores = column.changes_same [] tables.stores.shelves.table tables.stores.shelves.table at refl;
+  graphs = column.changes_same no_graph tables.stores.graphs tables.stores.graphs at refl;
   connections = column.changes_same no_rows tables.connections tables.connections at refl;
   queues = changes;
   desks = column.changes_same no_desk tables.desks tables.desks at refl;
@@ -62,8 +64,9 @@ changes_queue tables at queues changes = record {
 pub changes_session : (old new : Tables) (at : ℕ) (session : Session) → IsPlaced old at → new ≡ with_session old at session → ChangesOnly at old new
 changes_session old new at session placed e = record {
   forests = column.changes_with empty_forest old.forests new.forests at session.state.forest placed.0 (ap (λ tables. tables.forests) e);
-  layouts = ap (λ tables. tables.stores.layouts) e;
-  stores = column.changes_with [] old.stores.table new.stores.table at session.state.store placed.1 (ap (λ tables. tables.stores.table) e);
+  layouts = ap (λ tables. tables.stores.shelves.layouts) e;
+  stores = column.changes_with [] old.stores.shelves.table new.stores.shelves.table at session.state.store placed.1 (ap (λ tables. tables.stores.shelves.table) e);
+  graphs = column.changes_with no_graph old.stores.graphs new.stores.graphs at session.state.graph placed.6 (ap (λ tables. tables.stores.graphs) e);
   connections = column.changes_with no_rows old.connections new.connections at session.state.connections placed.2 (ap (λ tables. tables.connections) e);
   queues = column.changes_with empty_queue old.queues new.queues at session.state.queue placed.3 (ap (λ tables. tables.queues) e);
   desks = column.changes_with no_desk old.desks new.desks at session.state.desk placed.5 (ap (λ tables. tables.desks) e);

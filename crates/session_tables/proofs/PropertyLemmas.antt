@@ -9,7 +9,7 @@ use Rattle.property_store.specs.Store.{Properties, declared_in, field_number, pr
 use Rattle.thread_model.specs.State.{State}
 use Rattle.thread_model.specs.Writing.{Place, declared}
 
-abbrev pair_of : Place → ℕ × Kind
+abbrev pub pair_of : Place → ℕ × Kind
 pair_of place = (place.number, place.kind)
 
 abbrev place_in : List Field → ℕ → Option Place

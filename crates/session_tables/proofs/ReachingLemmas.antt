@@ -3,6 +3,7 @@ use Rattle.std.proofs.Common.{◌≡◌, ◌≢◌, inl, inr, ℕ, Bool, true, f
 use Rattle.std.proofs.lemmas.Bool.{cond-true}
 use Rattle.std.proofs.lemmas.List.{get_or-set_other}
 use Rattle.class_table.specs.declared.class.Class.{Class}
+use Rattle.binding_graph.specs.Graph.{no_graph}
 use Rattle.connection_list.specs.Rows.{no_rows}
 use Rattle.event_queue.specs.Queue.{empty_queue}
 use Rattle.object_tree.specs.Forest.{empty_forest}
@@ -27,7 +28,8 @@ session_unchanged old new place at changes apart =
     let differ = differ_by at place apart in
     session_of
     (ap (λ table. get_or table.places at empty_forest) changes.forests ∙ get_or-set_other old.forests.places place at _ empty_forest differ)
-    (ap (λ table. get_or table.places at []) changes.stores ∙ get_or-set_other old.stores.table.places place at _ [] differ)
+    (ap (λ table. get_or table.places at []) changes.stores ∙ get_or-set_other old.stores.shelves.table.places place at _ [] differ)
+    (ap (λ table. get_or table.places at no_graph) changes.graphs ∙ get_or-set_other old.stores.graphs.places place at _ no_graph differ)
     (ap (λ table. get_or table.places at no_rows) changes.connections ∙ get_or-set_other old.connections.places place at _ no_rows differ)
     (ap (λ table. get_or table.places at empty_queue) changes.queues ∙ get_or-set_other old.queues.places place at _ empty_queue differ)
     (ap (λ table. get_or table.places at no_desk) changes.desks ∙ get_or-set_other old.desks.places place at _ no_desk differ)
@@ -49,7 +51,7 @@ shaped_twice old middle new first second = record {
 
 -- a place stays one
 pub placed_shaped : (old new : Tables) (at : ℕ) → AreShaped old new → IsPlaced old at → IsPlaced new at
-placed_shaped old new at shape placed = placed_by new at (shape.even placed.6) (omega (arith, shape.places, placed.4))
+placed_shaped old new at shape placed = placed_by new at (shape.even placed.7) (omega (arith, shape.places, placed.4))
 
 module _ (classes : List Class) (from : List ℕ) where
   pub heard-none : (session : Session) → heard classes from [] session ≡ session
@@ -76,7 +78,7 @@ module _ (classes : List Class) (from : List ℕ) where
       by true e = refl
       by false e = sym e
 
-  hears_twice : (posts more : List Post) (old middle new : Session) → Hears classes from posts old middle → Hears classes from more middle new → Hears classes from (posts ++ more) old new
+  pub hears_twice : (posts more : List Post) (old middle new : Session) → Hears classes from posts old middle → Hears classes from more middle new → Hears classes from (posts ++ more) old new
   hears_twice posts more old middle new (inl e) (inl f) = inl (f ∙ ap (heard classes from more) e ∙ sym (heard-append posts more old))
   hears_twice posts more old middle new (inl e) (inr f) = inr ((sym (heard-failed posts old) ∙ ap (λ (session : Session). session.failed) (sym e) ∙ f.0, f.1))
   hears_twice posts more old middle new (inr e) (inl f) = inr ((e.0, f ∙ ap (heard classes from more) e.1))
@@ -119,7 +121,7 @@ module _ (classes : List Class) (from : List ℕ) where
           (it.0, it.1, it.2, it.3, stays_failed (more it.0) (session_at middle it.0) (session_at new it.0) (second.others it.0 it.1 (still it.0 it.2)) it.4)
       one_of false e none some =
           let it = second.one e some in
-          let there : IsPlaced old it.0 = placed_by old it.0 placed.6 (omega (arith, first.shape.places, it.2.4)) in
+          let there : IsPlaced old it.0 = placed_by old it.0 placed.7 (omega (arith, first.shape.places, it.2.4)) in
           (it.0, it.1, there, was_fine (posts it.0) (session_at old it.0) (session_at middle it.0) (first.others it.0 it.1 there) it.3, it.4)
 
       pub reaches_by_twice : ReachesBy classes from place (λ at. posts at ++ more at) old new before after

@@ -3,3 +3,4 @@ pub mod Session
 pub mod Refused
 pub mod Tables
 pub mod Reaching
+pub mod Named

@@ -40,7 +40,7 @@ only_at place posts at = if eqb at place then posts else []
 
 -- there are as many places as before, and what classes declare stays
 pub record AreShaped (old new : Tables) : Type 0 where
-  pub layouts : new.stores.layouts ≡ old.stores.layouts
+  pub layouts : new.stores.shelves.layouts ≡ old.stores.shelves.layouts
   pub places : length new.failed.places ≡ length old.failed.places
   pub even : AreEven old → AreEven new
 

@@ -2,6 +2,9 @@
 use Rattle.std.specs.Prelude.{◌≡◌, ◌≤◌, ℕ, Bool, false, List, [], length, map, slice_index_or}
 use Rattle.places.specs.Table as places
 use Rattle.places.specs.Table.{ChangesAt, IsPlace, with_place}
+use Rattle.binding_graph.specs.Graph.{no_graph}
+use Rattle.binding_graph.specs.Table.{graph_at}
+use Rattle.bound_stores.specs.Bound.{with_bound}
 use Rattle.class_table.specs.declared.class.Class.{Class}
 use Rattle.connection_list.specs.Rows.{no_rows}
 use Rattle.connection_list.specs.Table.{rows_at, with_rows}
@@ -13,7 +16,7 @@ use Rattle.object_tree.specs.Table.{forest_at, with_forest}
 use Rattle.publish_board.specs.Desk.{no_desk}
 use Rattle.publish_board.specs.Table.{desk_at, with_desk}
 use Rattle.property_store.specs.Table as shelves
-use Rattle.property_store.specs.Table.{store_at, with_store}
+use Rattle.property_store.specs.Table.{store_at}
 use Rattle.thread_model.specs.State.{State, fields_of}
 use Rattle.session_tables.specs.declared.tables.Tables.{Tables}
 use Rattle.session_tables.specs.Session.{Session}
@@ -21,26 +24,27 @@ use Rattle.session_tables.specs.Session.{Session}
 -- the tables have as many places
 pub record AreEven (tables : Tables) : Type 0 where
   pub forests : length tables.forests.places ≡ length tables.failed.places
-  pub stores : length tables.stores.table.places ≡ length tables.failed.places
+  pub stores : length tables.stores.shelves.table.places ≡ length tables.failed.places
+  pub graphs : length tables.stores.graphs.places ≡ length tables.failed.places
   pub connections : length tables.connections.places ≡ length tables.failed.places
   pub queues : length tables.queues.places ≡ length tables.failed.places
   pub desks : length tables.desks.places ≡ length tables.failed.places
 
 -- the place has been opened in each table, and so has any place that one of them has
 abbrev pub IsPlaced : Tables → ℕ → Type 0
-IsPlaced tables place = IsPlace tables.forests place × IsPlace tables.stores.table place × IsPlace tables.connections place × IsPlace tables.queues place × IsPlace tables.failed place × IsPlace tables.desks place × AreEven tables
+IsPlaced tables place = IsPlace tables.forests place × IsPlace tables.stores.shelves.table place × IsPlace tables.connections place × IsPlace tables.queues place × IsPlace tables.failed place × IsPlace tables.desks place × IsPlace tables.stores.graphs place × AreEven tables
 
 -- one more place can be opened in each without memory
 abbrev pub HasRoom : Tables → Type 0
-HasRoom tables = (1 ≤ tables.forests.room) × (1 ≤ tables.stores.table.room) × (1 ≤ tables.connections.room) × (1 ≤ tables.queues.room) × (1 ≤ tables.desks.room) × (1 ≤ tables.failed.room)
+HasRoom tables = (1 ≤ tables.forests.room) × (1 ≤ tables.stores.shelves.table.room) × (1 ≤ tables.stores.graphs.room) × (1 ≤ tables.connections.room) × (1 ≤ tables.queues.room) × (1 ≤ tables.desks.room) × (1 ≤ tables.failed.room)
 
 -- with one more place, for a session that has had no command
 abbrev pub opened : Tables → Tables
-opened tables = record { forests = places.opened tables.forests empty_forest; stores = record tables.stores { table = places.opened tables.stores.table [] }; connections = places.opened tables.connections no_rows; queues = places.opened tables.queues empty_queue; desks = places.opened tables.desks no_desk; failed = places.opened tables.failed false }
+opened tables = record { forests = places.opened tables.forests empty_forest; stores = record { shelves = record tables.stores.shelves { table = places.opened tables.stores.shelves.table [] }; graphs = places.opened tables.stores.graphs no_graph }; connections = places.opened tables.connections no_rows; queues = places.opened tables.queues empty_queue; desks = places.opened tables.desks no_desk; failed = places.opened tables.failed false }
 
 -- the state of the session at a place
 abbrev pub state_at : Tables → ℕ → State
-state_at tables place = record { forest = forest_at tables.forests place; store = store_at tables.stores place; connections = rows_at tables.connections place; queue = queue_at tables.queues place; desk = desk_at tables.desks place }
+state_at tables place = record { forest = forest_at tables.forests place; store = store_at tables.stores.shelves place; graph = graph_at tables.stores.graphs place; connections = rows_at tables.connections place; queue = queue_at tables.queues place; desk = desk_at tables.desks place }
 
 -- has the session at a place failed
 abbrev pub failed_at : Tables → ℕ → Bool
@@ -52,18 +56,19 @@ session_at tables place = record { state = state_at tables place; failed = faile
 
 -- with another state at a place, and all else as before
 abbrev pub with_state : Tables → ℕ → State → Tables
-with_state tables place state = record { forests = with_forest tables.forests place state.forest; stores = with_store tables.stores place state.store; connections = with_rows tables.connections place state.connections; queues = with_queue tables.queues place state.queue; desks = with_desk tables.desks place state.desk; failed = tables.failed }
+with_state tables place state = record { forests = with_forest tables.forests place state.forest; stores = with_bound tables.stores place state.store state.graph; connections = with_rows tables.connections place state.connections; queues = with_queue tables.queues place state.queue; desks = with_desk tables.desks place state.desk; failed = tables.failed }
 
 -- with another session at a place, and all else as before
 abbrev pub with_session : Tables → ℕ → Session → Tables
-with_session tables place session = record { forests = with_forest tables.forests place session.state.forest; stores = with_store tables.stores place session.state.store; connections = with_rows tables.connections place session.state.connections; queues = with_queue tables.queues place session.state.queue; desks = with_desk tables.desks place session.state.desk; failed = with_place tables.failed place session.failed }
+with_session tables place session = record { forests = with_forest tables.forests place session.state.forest; stores = with_bound tables.stores place session.state.store session.state.graph; connections = with_rows tables.connections place session.state.connections; queues = with_queue tables.queues place session.state.queue; desks = with_desk tables.desks place session.state.desk; failed = with_place tables.failed place session.failed }
 
 -- no session but the one at this place has changed
 pub record ChangesOnly (place : ℕ) (old new : Tables) : Type 0 where
   pub forests : ChangesAt empty_forest place old.forests new.forests
   -- and what classes declare stays
-  pub layouts : new.stores.layouts ≡ old.stores.layouts
-  pub stores : ChangesAt [] place old.stores.table new.stores.table
+  pub layouts : new.stores.shelves.layouts ≡ old.stores.shelves.layouts
+  pub stores : ChangesAt [] place old.stores.shelves.table new.stores.shelves.table
+  pub graphs : ChangesAt no_graph place old.stores.graphs new.stores.graphs
   pub connections : ChangesAt no_rows place old.connections new.connections
   pub queues : ChangesAt empty_queue place old.queues new.queues
   pub desks : ChangesAt no_desk place old.desks new.desks
@@ -72,8 +77,9 @@ pub record ChangesOnly (place : ℕ) (old new : Tables) : Type 0 where
 -- each place is as before, and there may be more room
 pub record AreSame (old new : Tables) : Type 0 where
   pub forests : new.forests.places ≡ old.forests.places
-  pub layouts : new.stores.layouts ≡ old.stores.layouts
-  pub stores : new.stores.table.places ≡ old.stores.table.places
+  pub layouts : new.stores.shelves.layouts ≡ old.stores.shelves.layouts
+  pub stores : new.stores.shelves.table.places ≡ old.stores.shelves.table.places
+  pub graphs : new.stores.graphs.places ≡ old.stores.graphs.places
   pub connections : new.connections.places ≡ old.connections.places
   pub queues : new.queues.places ≡ old.queues.places
   pub desks : new.desks.places ≡ old.desks.places
@@ -81,7 +87,7 @@ pub record AreSame (old new : Tables) : Type 0 where
 
 -- the tables know the properties that each class declares
 abbrev pub AreLaid : List Class → Tables → Type 0
-AreLaid classes tables = (class : ℕ) → shelves.fields_of tables.stores class ≡ fields_of classes class
+AreLaid classes tables = (class : ℕ) → shelves.fields_of tables.stores.shelves class ≡ fields_of classes class
 
 -- every object of a session has its properties, and nothing else has any
 abbrev pub AreStored : State → Type 0

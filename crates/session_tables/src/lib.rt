@@ -3,13 +3,17 @@
 //! another place than the one that it names, but for a post, which reaches the sessions that join it.
 #![tactic(auto)]
 
+mod bindings;
 mod desks;
 mod events;
+mod named;
 mod posts;
 mod properties;
 mod signals;
 mod tables;
 mod trees;
 
+pub use bound_stores::Changed;
+pub use named::NamedWrite;
 pub use posts::Sending;
 pub use tables::Tables;

@@ -1,13 +1,19 @@
 //! The properties of objects.
-ghost use Rattle.std.specs.Prelude.{◌≡◌, IfOk, OnOk, OnErr, Some, option_and_then, option_map};
+ghost use Rattle.std.specs.Prelude.{◌≡◌, IfOk, OnOk, OnErr, Some, option_map};
+ghost use Rattle.std.specs.Option.{unwrap_or};
+ghost use Rattle.variant_value.specs.declared.value.Value.TheVariants.{Invalid};
 ghost use Rattle.refusals.specs.Answers.{RefusedBy};
 ghost use Rattle.variant_value.specs.Values.{IsShort};
-ghost use Rattle.property_store.specs.Named.{answer_named, written_named};
-ghost use Rattle.property_store.specs.Store.{dynamic_names, dynamic_refusal, fitting, is_change, named_value, properties_of, value_at, value_named};
+ghost use Rattle.property_store.specs.Store.{dynamic_names, dynamic_refusal, fitting};
+ghost use Rattle.thread_model.specs.Showing.{named_value};
 ghost use Rattle.thread_model.specs.Writing.{Declared, Dynamic, Removed, declared, with_writing};
-ghost use Rattle.session_tables.specs.Tables.{IsPlaced, state_at, with_state};
+ghost use Rattle.session_tables.specs.Named.{Tells, WritesNamed};
+ghost use Rattle.session_tables.specs.Tables.{ChangesOnly, IsPlaced, state_at, with_state};
 
+use crate::named::NamedWrite;
 use crate::tables::Tables;
+use binding_values::Property;
+use bound_stores::Changed;
 use plain_types::{Items, Text};
 use property_store::Unwritten;
 use refusals::Fault;
@@ -24,63 +30,63 @@ impl Tables {
         self.stores.declared(place, object, name)
     }
 
-    /// The value of the property of this name, declared or dynamic.
-    pub fn named(&self, place: usize, object: u32, name: &str) -> Option<&Value>
+    /// A copy of the value of the property of this name: of a declared one what it shows, of a dynamic one
+    /// what it was set to.
+    pub fn named(&self, place: usize, object: u32, name: &str) -> Result<Option<Value>, AllocError>
         requires { IsPlaced self.now place }
-        ensures { option_map (λ value. value.now) result
-            ≡ option_and_then (named_value name.now) (properties_of (state_at self.now place).store object) }
+        ensures { IfOk result (λ value. value ≡ named_value (state_at self.now place) object name.now) }
     {
-        self.stores.value_named(place, object, name)
+        self.stores.named(place, object, name)
     }
 
-    /// The value of the declared property of this number.
-    pub fn value(&self, place: usize, object: u32, number: usize) -> Option<&Value>
-        requires { IsPlaced self.now place }
-        ensures { option_map (λ value. value.now) result ≡ value_at (state_at self.now place).store object number }
-    {
-        self.stores.value(place, object, number)
-    }
-
-    /// A copy of the value of the property of this name, and `Invalid` where there is none.
+    /// The same, and `Invalid` where there is none.
     pub fn property(&self, place: usize, object: u32, name: &str) -> Result<Value, AllocError>
         requires { IsPlaced self.now place }
-        ensures { IfOk result (λ value. value ≡ value_named (state_at self.now place).store object name.now) }
+        ensures { IfOk result (λ value. value ≡ unwrap_or (named_value (state_at self.now place) object name.now) Invalid) }
     {
-        self.stores.read(place, object, name)
+        Ok(self.named(place, object, name)?.unwrap_or(Value::Invalid))
     }
 
-    /// Gives a declared property a value of its kind, and returns whether it is another than the one
-    /// that stood.
-    pub fn write(&mut self, place: usize, object: u32, number: usize, value: Value) -> bool
+    /// Gives a declared property a value of its kind, which is bound no longer then, and returns what has
+    /// changed by it. Where nothing is bound and no group is open this takes no memory.
+    pub fn write(
+        &mut self,
+        place: usize,
+        object: u32,
+        number: usize,
+        value: Value,
+    ) -> Result<Changed, AllocError>
         requires place { IsPlaced self.old place }
         requires fits { fitting (state_at self.old place).store object number value ≡ Some value }
         requires short { IsShort value }
-        ensures change { result ≡ is_change (state_at self.old place).store object number value }
-        ensures written { self.new ≡ with_state self.old place
-            (with_writing (state_at self.old place) object (Declared number value)) }
+        ensures told { IfOk result (Tells (record { object = object; number = number }) (state_at self.old place) (state_at self.new place)) }
+        ensures ok { OnOk result (self.new ≡ with_state self.old place
+            (with_writing (state_at self.old place) object (Declared number value))) }
+        ensures only { ChangesOnly place self.old self.new }
+        ensures failed { self.new.failed ≡ self.old.failed }
     {
-        self.stores
-            .write(place, object, number, value)
-            .unwrap_or(false)
+        self.stores.write(place, Property { object, number }, value)
     }
 
-    /// Gives the declared property of this name a value as one of its kind. The answer is that of
-    /// [`Stores::write_named`](property_store::Stores::write_named).
+    /// Gives the declared property of this name a value as one of its kind, in the same way.
     pub fn write_named(
         &mut self,
         place: usize,
         object: u32,
         name: &str,
         value: Value,
-    ) -> Result<(usize, bool), Unwritten>
+    ) -> Result<NamedWrite, Fault>
         requires place { IsPlaced self.old place }
         requires short { IsShort value }
-        ensures answer { result ≡ answer_named (state_at self.old place).store object name.now value }
-        ensures written { self.new ≡ with_state self.old place
-            (record (state_at self.old place) { store = written_named (state_at self.old place).store object name.now value }) }
-        ensures err { OnErr result (self.new ≡ self.old) }
+        ensures writes { WritesNamed place object name.now value self.old result self.new }
+        ensures only { ChangesOnly place self.old self.new }
+        ensures failed { self.new.failed ≡ self.old.failed }
     {
-        self.stores.write_named(place, object, name, value)
+        match self.stores.write_named(place, object, name, value)? {
+            Ok((number, changed)) => Ok(NamedWrite::Declared { number, changed }),
+            Err(Unwritten::Undeclared(value)) => Ok(NamedWrite::Undeclared(value)),
+            Err(Unwritten::Refused(code)) => Err(Fault::Refused(code)),
+        }
     }
 
     /// Gives a dynamic property a value, and makes it where the object has none of this name. The

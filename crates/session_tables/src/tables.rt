@@ -4,19 +4,20 @@ ghost use Rattle.session_tables.specs.Session.{fresh, gone};
 ghost use Rattle.session_tables.specs.Tables.{AreSame, HasRoom, IsPlaced, failed_at, opened, with_session, with_state};
 ghost use Rattle.thread_model.specs.State.{empty};
 
+use bound_stores::BoundStores;
 use connection_list::Connections;
 use event_queue::Queues;
 use object_tree::Forests;
 use places::Places;
 use plain_types::Items;
-use property_store::{Field, Stores};
+use property_store::Field;
 use publish_board::Board;
 use std::alloc::{AllocError, Global};
 
 /// What a server keeps of each session.
 pub struct Tables {
     pub(crate) forests: Forests,
-    pub(crate) stores: Stores,
+    pub(crate) stores: BoundStores,
     pub(crate) connections: Connections,
     pub(crate) queues: Queues,
     pub(crate) desks: Board,
@@ -43,8 +44,9 @@ impl Tables {
     /// stand here at the class's number.
     pub fn new(alloc: Global, layouts: Items<Items<Field>>) -> Tables
         ensures forests { result.forests.places ≡ [] }
-        ensures layouts { result.stores.layouts ≡ layouts }
-        ensures stores { result.stores.table.places ≡ [] }
+        ensures layouts { result.stores.shelves.layouts ≡ layouts }
+        ensures stores { result.stores.shelves.table.places ≡ [] }
+        ensures graphs { result.stores.graphs.places ≡ [] }
         ensures connections { result.connections.places ≡ [] }
         ensures queues { result.queues.places ≡ [] }
         ensures desks { result.desks.places ≡ [] }
@@ -52,7 +54,7 @@ impl Tables {
     {
         Tables {
             forests: Forests::new(alloc),
-            stores: Stores::new(alloc, layouts),
+            stores: BoundStores::new(alloc, layouts),
             connections: Connections::new(alloc),
             queues: Queues::new(alloc),
             desks: Board::new(alloc),

@@ -1,5 +1,5 @@
 //! The trees of objects.
-ghost use Rattle.std.specs.Prelude.{◌≡◌, ◌+◌, ◌&&◌, IfOk, OnOk, OnErr, Some, false};
+ghost use Rattle.std.specs.Prelude.{◌≡◌, ◌+◌, ◌&&◌, IfOk, OnOk, OnErr, Some, None, false};
 ghost use Rattle.std.specs.Option.{option_map, option_map_or};
 ghost use Rattle.std.specs.Result.{result_err};
 ghost use Rattle.refusals.specs.Answers.{RefusedBy};
@@ -8,6 +8,7 @@ ghost use Rattle.object_tree.specs.Changes.{marked};
 ghost use Rattle.object_tree.specs.Finding.{found_below};
 ghost use Rattle.object_tree.specs.Refusing.{add_refusal, object_refusal, parent_refusal, set_parent_refusal};
 ghost use Rattle.thread_model.specs.Agenda.{is_living};
+ghost use Rattle.thread_model.specs.Showing.{changes};
 ghost use Rattle.thread_model.specs.State.{is_text, title_of, with_object, with_parent, without_object};
 ghost use Rattle.thread_model.specs.Absence.{absence, named_absence};
 ghost use Rattle.thread_model.specs.Trees.{has_title, is_of_class};
@@ -16,12 +17,13 @@ ghost use Rattle.session_tables.specs.Refused.{OnRefused};
 ghost use Rattle.session_tables.specs.Tables.{AreLaid, AreStored, ChangesOnly, IsPlaced, state_at, with_state};
 
 use crate::tables::Tables;
+use binding_graph::Change;
+use binding_values::Property;
 use class_table::ClassTable;
-use plain_types::Text;
+use plain_types::{Items, Text};
 use refusals::{Code, Fault};
 use std::alloc::AllocError;
 use thread_model::OBJECT_NAME;
-use variant_value::Value;
 
 impl Tables {
     /// Makes an object below a parent, or a root, whose properties have their defaults, and returns its
@@ -64,13 +66,17 @@ impl Tables {
         self.forests.mark_dying(place, object);
     }
 
-    /// Takes an object out with its properties; its children become roots.
-    pub fn remove(&mut self, place: usize, object: u32)
+    /// Takes an object out with its properties and their bindings, and returns what has changed by it; its
+    /// children become roots.
+    pub fn remove(&mut self, place: usize, object: u32) -> Result<Items<Change>, AllocError>
         requires { IsPlaced self.old place }
-        ensures { self.new ≡ with_state self.old place (without_object (state_at self.old place) object) }
+        ensures told { IfOk result (λ told. told ≡ changes (state_at self.old place) (state_at self.new place) None) }
+        ensures ok { OnOk result (self.new ≡ with_state self.old place (without_object (state_at self.old place) object)) }
+        ensures only { ChangesOnly place self.old self.new }
+        ensures failed { self.new.failed ≡ self.old.failed }
     {
         self.forests.remove(place, object);
-        self.stores.drop_object(place, object);
+        self.stores.drop_object(place, object)
     }
 
     /// The children of an object by age; of none, the roots.
@@ -160,9 +166,7 @@ impl Tables {
         ensures { IfOk result (λ found. found ≡ found_below (state_at self.now place).forest.rows object
             (λ number. is_text title.now (title_of (state_at self.now place) number))) }
     {
-        self.forests.find_child(place, object, |number| {
-            Ok(self.is_titled(place, number, title))
-        })
+        self.forests.find_child(place, object, |number| self.is_titled(place, number, title))
     }
 
     /// Whether an object stands and is not dying.
@@ -204,33 +208,31 @@ impl Tables {
             && is_of_class classes.now (state_at self.now place) class number)) }
     {
         self.forests.find_child(place, object, |number| {
-            Ok(
-                self.has_title(place, number, title)
-                    && self.is_of_class(classes, place, number, class),
-            )
+            let titled = self.has_title(place, number, title)?;
+            Ok(titled && self.is_of_class(classes, place, number, class))
         })
     }
 
     /// Whether an object has this text for its title, which is its property `objectName`.
-    fn is_titled(&self, place: usize, object: u32, wanted: &str) -> bool
+    fn is_titled(&self, place: usize, object: u32, wanted: &str) -> Result<bool, AllocError>
         requires { IsPlaced self.now place }
-        ensures { result ≡ is_text wanted.now (title_of (state_at self.now place) object) }
+        ensures { IfOk result (λ is. is ≡ is_text wanted.now (title_of (state_at self.now place) object)) }
     {
-        match self.stores.value(place, object, OBJECT_NAME as usize) {
-            Some(Value::Text(text)) => text.as_str() == wanted,
-            Some(_) => false,
-            None => false,
-        }
+        let at = Property {
+            object,
+            number: OBJECT_NAME as usize,
+        };
+        self.stores.shows_text(place, at, wanted)
     }
 
     /// Whether an object has this title, where one is wanted.
-    fn has_title(&self, place: usize, object: u32, title: &Option<Text>) -> bool
+    fn has_title(&self, place: usize, object: u32, title: &Option<Text>) -> Result<bool, AllocError>
         requires { IsPlaced self.now place }
-        ensures { result ≡ has_title (state_at self.now place) title.now object }
+        ensures { IfOk result (λ has. has ≡ has_title (state_at self.now place) title.now object) }
     {
         match title {
             Some(wanted) => self.is_titled(place, object, wanted.as_str()),
-            None => true,
+            None => Ok(true),
         }
     }
 

@@ -1,5 +1,5 @@
 -- What holds of evaluation and of unfolding.
-use Rattle.std.specs.Prelude.{◌≡◌, ◌≤◌, ℕ, List, [], length, IfOk, IsTrue}
+use Rattle.std.specs.Prelude.{◌≡◌, ◌≤◌, ℕ, List, [], length, map, IfOk, IsTrue}
 use Rattle.std.specs.List.{All}
 use Rattle.variant_value.specs.declared.value.Value.{Value}
 use Rattle.variant_value.specs.Values.{IsShort}
@@ -11,6 +11,8 @@ use Rattle.term_core.specs.Bodies.{is_body_limited}
 use Rattle.term_core.specs.Term.{Term, nodes, has_short_texts}
 use Rattle.term_evaluation.specs.declared.reading.Read.{Read}
 use Rattle.term_evaluation.specs.Evaluation.{eval_by}
+use Rattle.term_evaluation.specs.Known.{Known, read_of}
+use Rattle.term_evaluation.specs.Met.{met_by}
 use Rattle.term_evaluation.specs.Outcomes.{Answer}
 use Rattle.term_evaluation.specs.Reading.{reads_of}
 use Rattle.term_evaluation.specs.Unfolding.{unfolded_body, unfolded_term}
@@ -22,6 +24,18 @@ AgreeOn reads one other = All (λ read. one read.target read.name ≡ other read
 -- the value of an expression depends on no property but those that it reads
 abbrev pub ReadsSuffice : Type 0 → Type 0
 ReadsSuffice O = (term : Term) (args : List Value) (one other : Target → List ℕ → Answer O) → AgreeOn (reads_of term) one other → eval_by args one term ≡ eval_by args other term
+
+-- nor on any but those that it really comes to: with the same answers there it comes to these again
+abbrev pub MetSuffice : Type 0 → Type 0
+MetSuffice O = (term : Term) (args : List Value) (one other : Target → List ℕ → Answer O) → AgreeOn (met_by args one term) one other → (eval_by args other term ≡ eval_by args one term) × (met_by args other term ≡ met_by args one term)
+
+-- what a reader answers at a property, as a row of finitely many
+abbrev pub known_by : {O : Type 0} → (Target → List ℕ → Answer O) → Read → Known O
+known_by read property = record { target = property.target; name = property.name; answer = read property.target property.name }
+
+-- a reader may be replaced by the finite map of what it answers at the properties that the expression reads
+abbrev pub FiniteReadsSuffice : Type 0 → Type 0
+FiniteReadsSuffice O = (term : Term) (args : List Value) (read : Target → List ℕ → Answer O) → eval_by args (read_of (map (known_by read) (reads_of term))) term ≡ eval_by args read term
 
 -- evaluating over arguments is evaluating what has them put in
 abbrev pub EvaluatesInPlace : Type 0 → Type 0

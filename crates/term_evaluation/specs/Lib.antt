@@ -3,5 +3,6 @@ pub mod Reading
 pub mod Known
 pub mod Operations
 pub mod Evaluation
+pub mod Met
 pub mod Unfolding
 pub mod Laws

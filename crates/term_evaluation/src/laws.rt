@@ -1,12 +1,24 @@
 //! What holds of evaluation and of unfolding. There is nothing to run in these functions: the clause of each
 //! is a theorem.
-ghost use Rattle.term_evaluation.specs.Laws.{EvaluatesInPlace, ReadsSuffice, UnfoldingKeepsActions, UnfoldingKeepsLimits, UnfoldingKeepsNodes, UnfoldingLeavesNoArgument, ValuesAreShort};
+ghost use Rattle.term_evaluation.specs.Laws.{EvaluatesInPlace, FiniteReadsSuffice, MetSuffice, ReadsSuffice, UnfoldingKeepsActions, UnfoldingKeepsLimits, UnfoldingKeepsNodes, UnfoldingLeavesNoArgument, ValuesAreShort};
 
 /// The value of an expression depends on no property but those that `reads_of` names: readers that
 /// answer the same at these, whatever they answer elsewhere and whatever faults of their own they
 /// have, give the expression the same value or the same fault.
 pub fn reads_suffice<O>()
     ensures { ReadsSuffice O }
+{}
+
+/// Nor does it depend on those of them that the evaluation does not come to.
+pub fn met_suffice<O>()
+    ensures { MetSuffice O }
+{}
+
+/// So a reader may be any finite map that has the properties of the expression. A property that the map
+/// lacks cannot be read: it is `NoSuchProperty` where the map has another of that object, and
+/// `NoSuchObject` where it has none.
+pub fn finite_reads_suffice<O>()
+    ensures { FiniteReadsSuffice O }
 {}
 
 /// An expression has over arguments what it has with the arguments put in, over none. So the body of a

@@ -13,8 +13,9 @@ mod substitution;
 pub use evaluation::{NoObjects, Reads, evaluate, standing};
 pub use halt::Halt;
 pub use laws::{
-    evaluates_in_place, reads_suffice, unfolding_keeps_limits, unfolding_leaves_no_argument,
-    values_are_short,
+    evaluates_in_place, finite_reads_suffice, met_suffice, reads_suffice, unfolding_keeps_limits,
+    unfolding_leaves_no_argument, values_are_short,
 };
+pub use operations::{apply, truth};
 pub use reading::{Read, reads_of};
 pub use substitution::unfold;

@@ -15,7 +15,7 @@ use variant_value::{TEXT_BYTES, Value};
 
 /// What the operator makes of its operands' values. Operands of another sort, and a number that no kind
 /// holds, are `BadValue`; a text of more than `TEXT_BYTES` is `Limit`.
-pub(crate) fn apply(alloc: Global, operator: Operator, a: &Value, b: &Value) -> Result<Value, Fault>
+pub fn apply(alloc: Global, operator: Operator, a: &Value, b: &Value) -> Result<Value, Fault>
     ensures { Answers result (applied operator a.now b.now) }
 {
     let value = match operator {
@@ -29,7 +29,7 @@ pub(crate) fn apply(alloc: Global, operator: Operator, a: &Value, b: &Value) -> 
 }
 
 /// The truth that a value is.
-pub(crate) fn truth(value: &Value) -> Option<bool>
+pub fn truth(value: &Value) -> Option<bool>
     ensures { result ≡ truth_in value.now }
 {
     match value {

@@ -1,7 +1,7 @@
 -- Each object keeps the properties that its class declares.
 use Rattle.std.proofs.Common.{◌≡◌, ◌+◌, ◌≤◌, ◌==◌, ℕ, Bool, true, false, not, cond, List, [], ◌∷◌, ◌++◌, Option, Some, None, Ok, Err, filter, get_or, refl, ap, ◌∙◌, arith}
 use Rattle.std.specs.List.{All}
-use Rattle.std.specs.Option.{option_map}
+use Rattle.std.specs.Option.{option_map, option_map_or}
 use Rattle.std.proofs.lemmas.Bool.{cond_both, not-true}
 use Rattle.std.proofs.lemmas.Bool.Decides.{nat_tests}
 use Rattle.std.proofs.lemmas.List.Elements.{All-filter, All-map, All-push, All-weaker, filter_passes}
@@ -19,7 +19,10 @@ use Rattle.object_tree.specs.Forest.{Forest}
 use Rattle.object_tree.specs.Rows.{has_number, has_parent}
 use Rattle.object_tree.specs.Refusing.{keeps_parent}
 use Rattle.object_tree.specs.Changes.{added, changed, marked, moved, orphaned, removed, reparented, with_blocked}
-use Rattle.property_store.specs.Store.{Properties, properties_of}
+use Rattle.property_store.specs.Store as stored
+use Rattle.property_store.specs.Store.{Properties, fitting, properties_of, with_value}
+use Rattle.binding_values.specs.declared.property.Property.{Property as At}
+use Rattle.binding_graph.specs.Graph.{is_bound, unbound, value_in}
 use Rattle.property_store.proofs.SoundLemmas.{added_found, added_others, changed_fields, without_others}
 use Rattle.publish_board.specs.declared.join.Join.{Join}
 use Rattle.publish_board.specs.declared.publication.Publication.{Publication}
@@ -27,12 +30,14 @@ use Rattle.thread_model.specs.declared.line.Answer.{Answer}
 use Rattle.thread_model.specs.declared.line.Answer.TheVariants as a
 use Rattle.thread_model.specs.declared.line.Line.{Line}
 use Rattle.thread_model.specs.declared.post.Post.{Post}
+use Rattle.thread_model.specs.Binding.{Bound, asked_binding, asked_property, binding_error_found, binds_found, ends, unbinds_found}
+use Rattle.thread_model.specs.Showing.{comes_to}
 use Rattle.thread_model.specs.Agenda.{step, with_turn}
-use Rattle.thread_model.specs.Asked.{Asked, New, Delete, Children, Find, Set, Get, DynamicNames, Meta, Connect, ConnectFunctor, DisconnectOne, Disconnect, Invoke, Spin as TakeEvents, Do, Status, Publish, Unpublish, Join as AsksJoin, Leave, Reset}
+use Rattle.thread_model.specs.Asked.{Asked, New, Delete, Children, Find, Set, Get, DynamicNames, Meta, Connect, ConnectFunctor, DisconnectOne, Disconnect, Invoke, Spin as TakeEvents, Do, Status, Publish, Unpublish, Join as AsksJoin, Leave, Reset, Bind, Unbind, BindingError, Begin, End}
 use Rattle.thread_model.specs.declared.deed.Deed.{Deed}
 use Rattle.thread_model.specs.declared.deed.Deed.TheVariants as d
 use Rattle.thread_model.specs.Deeds.{deed_done, with_deed}
-use Rattle.thread_model.specs.Doing.{Doing, begun, dying, first_taken, gone, in_state, lost, posted, posting, shot, told, turn_taken, used_up, severed}
+use Rattle.thread_model.specs.Doing.{Doing, begun, dying, first_taken, in_state, lost, posted, posting, shot, told, turn_taken, used_up, severed}
 use Rattle.thread_model.specs.Effects.{does_next, unless}
 use Rattle.thread_model.specs.Items.{Delete as ToDelete, Emit, Item, Next, Reply, ReplySpun, Run, Spin, puts}
 use Rattle.thread_model.specs.Laws.{KeepsDeclared}
@@ -43,10 +48,11 @@ use Rattle.thread_model.specs.Refusing.{refusal}
 use Rattle.thread_model.specs.Run.{run}
 use Rattle.thread_model.specs.Sharing.{asked_join, asked_listener, asked_publication, joins_found, leaves, publishes_found}
 use Rattle.thread_model.specs.Signals.{asked_connect, asked_connect_functor, asked_disconnect, asked_method, does_found, invoked, invoked_later, invokes}
-use Rattle.thread_model.specs.State.{IsDeclared, IsSound, State, fields_of, with_object, with_properties, without_connections}
+use Rattle.thread_model.specs.State.{IsDeclared, IsSound, State, fields_of, with_binding, with_binding_taken, with_object, with_properties, without_connections, without_group, without_object}
 use Rattle.thread_model.specs.Thread.{Settings, arrives, does, performs}
 use Rattle.thread_model.specs.Writing.{Declared, Dynamic, Nothing, Removed, Writing, asked_writing, with_writing, written}
 use Rattle.thread_model.proofs.RunLemmas.{run_keeps}
+use Rattle.thread_model.proofs.ShowingLemmas.{ending}
 use Rattle.thread_model.proofs.StepLemmas.{Holds, step_holds}
 
 -- something that is said of an object by its number and its class
@@ -109,6 +115,20 @@ module _ (classes : List Class) (state : State) (declared : IsDeclared classes s
   declared_with_writing object (Dynamic name value) = declared_with_properties object _ (λ of. refl) (λ of. refl)
   declared_with_writing object (Removed name) = declared_with_properties object _ (λ of. refl) (λ of. refl)
   declared_with_writing object Nothing = declared
+
+  -- what a bound property shows is stored
+  declared_with_binding_taken : (at : At) → IsDeclared classes (with_binding_taken state at)
+  declared_with_binding_taken at =
+      cond_both (is_bound state.graph.bindings at) (stored.written state.store at.object at.number shows) state.store (λ store. IsDeclared classes (record state { store = store; graph = unbound state.graph at }))
+      (λ bound. by (fitting state.store at.object at.number shows))
+      (λ free. declared)
+    where
+      shows : Value
+      shows = (value_in state.store state.graph at).0
+
+      by : (fit : Option Value) → IsDeclared classes (record state { store = option_map_or (λ fit. stored.changed (with_value at.number fit) at.object state.store) fit state.store; graph = unbound state.graph at })
+      by None = declared
+      by (Some fit) = declared_with_properties at.object (with_value at.number fit) (λ of. refl) (λ of. refl)
 
   -- a new object has those of its class, and its number is new
   declared_with_object : (parent : Option ℕ) (class : ℕ) → All (λ row. row.number ≤ state.forest.last_number) state.forest.rows → IsDeclared classes (with_object classes state parent class)
@@ -174,9 +194,8 @@ module _ (classes : List Class) (doing : Doing) (declared : IsDeclared classes d
   unfolding dying
   dying_declared target = each_marked (Has classes doing.state) doing.state.forest target declared
 
-  gone_declared : (target : ℕ) → IsDeclared classes (gone doing target).state
-  unfolding gone
-  gone_declared target = each_removed (Has classes doing.state) (Has classes (gone doing target).state) doing.state.forest target
+  gone_declared : (target : ℕ) → IsDeclared classes (without_object doing.state target)
+  gone_declared target = each_removed (Has classes doing.state) (Has classes (without_object doing.state target)) doing.state.forest target
       (λ number class apart has. ap (option_map (λ of. of.fields)) (without_others doing.state.store target number apart) ∙ has) declared
 
 -- so it is in what an item comes to
@@ -249,6 +268,21 @@ module _ (settings : Settings) (state : State) (declared : IsDeclared settings.c
   left_declared from name target (Ok method) = declared
   left_declared from name target (Err code) = declared
 
+  bound_declared : (found : Found Bound) → IsDeclared settings.classes (binds_found settings state found).state
+  bound_declared (Ok bound) = done_declared (comes_to settings (begun settings state) 0 (with_binding state bound.at bound.term) (Some bound.at)) (a.Truth true) declared
+  bound_declared (Err code) = declared
+
+  unbound_declared : (found : Found At) → IsDeclared settings.classes (unbinds_found settings state found).state
+  unbound_declared (Ok at) = done_declared (comes_to settings (begun settings state) 0 (with_binding_taken state at) (Some at)) (a.Truth (is_bound state.graph.bindings at)) (declared_with_binding_taken settings.classes state declared at)
+  unbound_declared (Err code) = declared
+
+  faulty_declared : (found : Found At) → IsDeclared settings.classes (binding_error_found state found).state
+  faulty_declared (Ok at) = declared
+  faulty_declared (Err code) = declared
+
+  ended_declared : IsDeclared settings.classes (ends settings state).state
+  ended_declared = done_declared (ending settings state) (a.Number (without_group state).graph.depth) declared
+
   performed_declared : (self : List ℕ) (asked : Asked) → IsSound state → IsDeclared settings.classes (performs settings self state asked).state
   unfolding performs
   performed_declared self (New class parent) sound = declared_with_object settings.classes state declared parent _ sound.whole.forest.numbers_given
@@ -271,6 +305,11 @@ module _ (settings : Settings) (state : State) (declared : IsDeclared settings.c
   performed_declared self (Unpublish name) sound = declared
   performed_declared self (AsksJoin from name types target method) sound = joined_declared (asked_join settings state from name types target method)
   performed_declared self (Leave from name target method) sound = left_declared from name target (asked_listener settings state target method)
+  performed_declared self (Bind target property to) sound = bound_declared (asked_binding state target property to)
+  performed_declared self (Unbind target property) sound = unbound_declared (asked_property state target property)
+  performed_declared self (BindingError target property) sound = faulty_declared (asked_property state target property)
+  performed_declared self Begin sound = declared
+  performed_declared self End sound = ended_declared
   performed_declared self Reset sound = λ index default within. absurd (omega arith)
 
   -- a refused command leaves the state

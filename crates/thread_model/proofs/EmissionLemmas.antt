@@ -24,9 +24,11 @@ use Rattle.thread_model.specs.declared.line.Line.TheVariants as line
 use Rattle.thread_model.specs.declared.line.Line.TheVariants.{Warning}
 use Rattle.thread_model.specs.Acts.{acts}
 use Rattle.thread_model.specs.Arriving.{posts_of}
-use Rattle.thread_model.specs.Agenda.{call_line, callee_called, called, calls_of, connection_of, emitted, functor_called, functor_line, functor_ran, is_held_back, method_called, method_items, ran, step, with_turn}
+use Rattle.binding_values.specs.declared.property.BindingError.{BindingError}
+use Rattle.binding_values.specs.declared.property.Property.{Property}
+use Rattle.thread_model.specs.Agenda.{binding_line, call_line, callee_called, called, calls_of, connection_of, emitted, functor_called, functor_line, functor_ran, is_held_back, method_called, method_items, ran, step, with_turn}
 use Rattle.thread_model.specs.Doing.{Doing, in_state, lost, posted, posting, shot, told, turn_taken, used_up}
-use Rattle.thread_model.specs.Items.{Call, Emit, Run, RunFunctor, Warn, puts}
+use Rattle.thread_model.specs.Items.{Call, Emit, Run, RunFunctor, Warn, WarnOf, puts}
 use Rattle.thread_model.specs.Functors.{functor_at}
 use Rattle.thread_model.specs.Methods.{method_at}
 use Rattle.thread_model.specs.Posting.{is_queued}
@@ -191,3 +193,6 @@ module _ (settings : Settings) (doing : Doing) where
   -- a warning and a reply are told
   pub warn_told : (code : Code) (object : Option ℕ) → step settings (Warn code object) doing ≡ puts [] (told doing (line.Warning code object))
   warn_told code object = refl
+
+  pub warn_of_told : (at : Property) (error : BindingError) → step settings (WarnOf at error) doing ≡ puts [] (told doing (binding_line settings doing.state at error))
+  warn_of_told at error = refl

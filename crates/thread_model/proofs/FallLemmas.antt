@@ -14,6 +14,7 @@ use Rattle.connection_list.specs.Ends.{calls}
 use Rattle.event_queue.specs.declared.event.Event.{Event}
 use Rattle.event_queue.specs.declared.event.Event.TheVariants as event
 use Rattle.event_queue.specs.declared.event.QueuedCall.{QueuedCall}
+use Rattle.binding_values.specs.declared.property.Property.{Property}
 use Rattle.object_tree.specs.declared.row.Row.{Row}
 use Rattle.object_tree.specs.Rows.{children, row_of}
 use Rattle.object_tree.specs.Changes.{marked}
@@ -24,22 +25,23 @@ use Rattle.thread_model.specs.declared.line.Line.TheVariants as line
 use Rattle.thread_model.specs.declared.line.Line.TheVariants.{Warning}
 use Rattle.thread_model.specs.Acts.{acts, chosen}
 use Rattle.thread_model.specs.Arriving.{posts_of}
-use Rattle.thread_model.specs.Agenda.{call_items, call_line, callee_called, called, calls_of, connection_of, emitted, event_items, functor_called, functor_line, functor_ran, is_held_back, kins, lives, lives_below, method_called, method_items, queued, ran, spun, step, with_turn}
+use Rattle.thread_model.specs.Agenda.{binding_line, call_items, call_line, callee_called, called, calls_of, connection_of, emitted, event_items, functor_called, functor_line, functor_ran, is_held_back, kins, lives, lives_below, method_called, method_items, queued, ran, spun, step, with_turn}
 use Rattle.thread_model.specs.Deeds.{deed_done}
-use Rattle.thread_model.specs.Doing.{Doing, dying, first_taken, gone, in_state, shot, told, turn_taken, used_up, posting, severed}
-use Rattle.thread_model.specs.Items.{Act, Call, Cut, Delete, Emit, Gone, Item, Kin, Next, Reply, ReplySpun, Run, RunFunctor, Spin, Warn, puts}
+use Rattle.thread_model.specs.Doing.{Doing, dying, first_taken, in_state, shot, told, turn_taken, used_up, posting, severed}
+use Rattle.thread_model.specs.Items.{Act, Call, Cut, Delete, Emit, Gone, Item, Kin, Next, Reply, ReplySpun, Run, RunFunctor, Spin, Warn, WarnOf, puts}
 use Rattle.thread_model.specs.Functors.{functor_at}
 use Rattle.thread_model.specs.Methods.{Found, method_at}
 use Rattle.thread_model.specs.Posting.{is_queued, spin_of}
-use Rattle.thread_model.specs.Run.{Most, deletion_weight, most, turn_weight, weight, weights}
+use Rattle.thread_model.specs.Run.{Most, action_weight, change_weight, deletion_weight, most, turn_weight, weight, weights}
 use Rattle.thread_model.specs.Settings.{Settings}
-use Rattle.thread_model.specs.State.{State}
+use Rattle.thread_model.specs.State.{State, without_object}
+use Rattle.thread_model.specs.Showing.{comes_to}
 use Rattle.thread_model.specs.Targets.{truth_evaluated}
-use Rattle.thread_model.specs.Writing.{Writing, with_writing, written}
+use Rattle.thread_model.specs.Writing.{Writing, with_writing, written, written_property}
 use Rattle.thread_model.proofs.ActLemmas.{acted_cases}
+use Rattle.thread_model.proofs.ShowingLemmas.{told-weight}
 use Rattle.thread_model.proofs.LivingLemmas.{few_children, filter-fewer, living_rows}
 use Rattle.thread_model.proofs.WeightLemmas.{act-some, acts-weight, body-size, calls-weight, choice-weight, functor-size, kins-weight, weight-some, weights-append}
-use Rattle.thread_model.proofs.WritingLemmas.{written_cases}
 use Rattle.thread_model.proofs.ShrinkLemmas.{Shrinks, both, deed_shrinks, dying_less, dying_shrinks, first_taken-turns, gone_shrinks, queued_shrinks, same, shot_shrinks, taken_shrinks, told_shrinks, turn_shrinks, turn_taken-less, used_up_shrinks, written_shrinks, posting_shrinks, severed_shrinks}
 
 abbrev pub total : Most → Doing → ℕ → ℕ
@@ -80,14 +82,17 @@ module _ (settings : Settings) (item : Item) (doing : Doing) where
   pub idle : (new : Doing) → Shrinks doing new → FallsTo settings item doing (puts [] new)
   idle new shrinks = let some = weight-some (most settings doing) item in lighter (puts [] new) shrinks (omega (arith, some))
 
--- a writing falls to what tells of it
-written_falls : (settings : Settings) (item : Item) (doing : Doing) (target depth : ℕ) (writing : Writing) → (most settings doing).connections + 2 < weight (most settings doing) item → FallsTo settings item doing (written settings doing target depth writing)
+-- another state falls to what tells of it
+telling_falls : (settings : Settings) (item : Item) (doing : Doing) (depth : ℕ) (after : State) (written : Option Property) → Shrinks doing (in_state doing after) → change_weight (most settings doing) < weight (most settings doing) item
+    → FallsTo settings item doing (comes_to settings doing depth after written)
+telling_falls settings item doing depth after written shrinks more =
+    let few = told-weight settings doing depth after written (most settings doing) shrinks.properties in
+    lighter settings item doing (comes_to settings doing depth after written) shrinks (omega (arith, few, more))
+
+-- and so does a writing
+written_falls : (settings : Settings) (item : Item) (doing : Doing) (target depth : ℕ) (writing : Writing) → change_weight (most settings doing) < weight (most settings doing) item → FallsTo settings item doing (written settings doing target depth writing)
 written_falls settings item doing target depth writing more =
-    let new = in_state doing (with_writing doing.state target writing) in
-    let shrinks = written_shrinks doing target writing in
-    written_cases settings doing target depth writing (FallsTo settings item doing)
-    (idle settings item doing new shrinks)
-    (λ signal values. lighter settings item doing (puts (Emit target signal values depth ∷ []) new) shrinks (omega (arith, more)))
+    telling_falls settings item doing depth (with_writing doing.state target writing) (written_property target writing) (written_shrinks doing target writing) more
 
 -- a method that is called comes to less than a turn may
 method_weight : (n : Most) (target index sender : ℕ) (args : List Value) (sent_at run_at : ℕ) (method : Method) → weights n (method_items target index sender args sent_at run_at method) < turn_weight n
@@ -195,7 +200,7 @@ ran_falls settings target index sender args depth doing (Some method) is =
     let its = acts-weight n (acts_of method.body.actions) args target sender (depth + 1) in
     let size = body-size settings doing.state target index method is in
     let within : counts (acts_of method.body.actions) ≤ n.actions = omega (arith, size) in
-    let short = mul-le-mul_right (n.connections + 3) within in
+    let short = mul-le-mul_right (action_weight n) within in
     lighter settings (Run target index sender args depth) doing (ran doing target sender args depth method) (told_shrinks doing (call_line method target sender args)) (omega (arith, its, short))
 
 functor_ran_falls : (settings : Settings) (target index sender : ℕ) (args : List Value) (depth : ℕ) (doing : Doing) (found : Option Functor) → functor_at settings index ≡ found
@@ -206,7 +211,7 @@ functor_ran_falls settings target index sender args depth doing (Some functor) i
     let its = acts-weight n (acts_of functor.body.actions) args target sender (depth + 1) in
     let size = functor-size settings index functor is in
     let within : counts (acts_of functor.body.actions) ≤ n.actions = omega (arith, size) in
-    let short = mul-le-mul_right (n.connections + 3) within in
+    let short = mul-le-mul_right (action_weight n) within in
     lighter settings (RunFunctor target index sender args depth) doing (functor_ran doing target sender args depth functor) (told_shrinks doing (functor_line functor target sender args)) (omega (arith, its, short))
 
 chosen_falls : (settings : Settings) (test : _) (held failed : Acts) (args : List Value) (self sender depth : ℕ) (doing : Doing) (truth : Found Bool)
@@ -249,6 +254,7 @@ falls settings (Act (effect plain) args self sender depth) doing =
     plain
 falls settings (Act (when test held failed) args self sender depth) doing = chosen_falls settings test held failed args self sender depth doing (truth_evaluated doing.state self sender args test)
 falls settings (Warn code object) doing = idle settings (Warn code object) doing (told doing (line.Warning code object)) (told_shrinks doing (line.Warning code object))
+falls settings (WarnOf at error) doing = idle settings (WarnOf at error) doing (told doing (binding_line settings doing.state at error)) (told_shrinks doing (binding_line settings doing.state at error))
 falls settings (Delete target depth) doing =
     let item = Delete target depth in
     cond_both (lives doing target) (puts (Emit target DESTROYED [] depth ∷ Cut target depth ∷ Gone target depth ∷ []) (dying doing target)) (puts [] doing) (FallsTo settings item doing)
@@ -260,7 +266,7 @@ falls settings (Kin parent child depth) doing =
     cond_both (lives_below doing parent child) (puts (Delete child depth ∷ []) doing) (puts [] doing) (FallsTo settings item doing)
     (λ living. lighter settings item doing (puts (Delete child depth ∷ []) doing) (same doing) (omega arith))
     (λ other. idle settings item doing doing (same doing))
-falls settings (Gone target depth) doing = idle settings (Gone target depth) doing (gone doing target) (gone_shrinks doing target)
+falls settings (Gone target depth) doing = telling_falls settings (Gone target depth) doing depth (without_object doing.state target) None (gone_shrinks doing target) (omega arith)
 falls settings Spin doing = spun_falls settings doing doing.state.queue.events
 falls settings (Reply answer) doing = idle settings (Reply answer) doing (told doing (line.Reply answer)) (told_shrinks doing (line.Reply answer))
 falls settings ReplySpun doing = idle settings ReplySpun doing (told doing (line.Reply (a.Spun (spin_of doing)))) (told_shrinks doing (line.Reply (a.Spun (spin_of doing))))

@@ -16,6 +16,7 @@ use Rattle.connection_list.specs.Rows.{has_number}
 use Rattle.event_queue.specs.declared.event.Event.{Event}
 use Rattle.event_queue.specs.declared.event.Event.TheVariants as event
 use Rattle.event_queue.specs.declared.event.QueuedCall.{QueuedCall}
+use Rattle.binding_values.specs.declared.property.Property.{Property}
 use Rattle.object_tree.specs.declared.row.Row.{Row}
 use Rattle.object_tree.specs.Rows.{children, row_of}
 use Rattle.stored_slots.specs.declared.functor.Functor.{Functor}
@@ -24,21 +25,22 @@ use Rattle.thread_model.specs.declared.line.Answer.TheVariants as a
 use Rattle.thread_model.specs.declared.line.Line.TheVariants as line
 use Rattle.thread_model.specs.Acts.{acts, chosen}
 use Rattle.thread_model.specs.Arriving.{posts_of}
-use Rattle.thread_model.specs.Agenda.{call_items, call_line, called, callee_called, calls_of, connection_of, emitted, event_items, functor_called, functor_line, functor_ran, is_held_back, kins, lives, lives_below, method_called, method_items, queued, ran, spun, step, with_turn}
+use Rattle.thread_model.specs.Agenda.{binding_line, call_items, call_line, called, callee_called, calls_of, connection_of, emitted, event_items, functor_called, functor_line, functor_ran, is_held_back, kins, lives, lives_below, method_called, method_items, queued, ran, spun, step, with_turn}
 use Rattle.thread_model.specs.Doing.{Doing, dying, first_taken, in_state, posting, shot, told, turn_taken, used_up, severed}
-use Rattle.thread_model.specs.Items.{Act, Call, Cut, Delete, Emit, Gone, Item, Kin, Next, Reply, ReplySpun, Run, RunFunctor, Spin, Warn, puts}
+use Rattle.thread_model.specs.Items.{Act, Call, Cut, Delete, Emit, Gone, Item, Kin, Next, Reply, ReplySpun, Run, RunFunctor, Spin, Warn, WarnOf, puts}
 use Rattle.thread_model.specs.Functors.{functor_at}
 use Rattle.thread_model.specs.Methods.{Found, method_at}
 use Rattle.thread_model.specs.Posting.{is_queued, spin_of}
 use Rattle.thread_model.specs.Settings.{Settings}
-use Rattle.thread_model.specs.State.{IsTied, State, without_connections}
+use Rattle.thread_model.specs.Showing.{changes, comes_to}
+use Rattle.thread_model.specs.State.{IsTied, State, without_connections, without_object}
 use Rattle.thread_model.specs.Targets.{truth_evaluated}
-use Rattle.thread_model.specs.Writing.{Writing, with_writing, written}
+use Rattle.thread_model.specs.Writing.{Writing, with_writing, written, written_property}
 use Rattle.thread_model.specs.UnderWay.{IsBrokenInTime, IsUnderWay, is_gone}
 use Rattle.thread_model.proofs.ActLemmas.{acted_cases}
 use Rattle.thread_model.proofs.ConnectionLemmas.{of_found}
 use Rattle.thread_model.proofs.UnderWayLemmas.{behind, cut_under, deed_under, dying_under, first_taken_under, gone_under, in_front, queued_under, shot_under, told_under, turn_under, used_up_under, writing_under, posting_under}
-use Rattle.thread_model.proofs.WritingLemmas.{written_cases}
+use Rattle.thread_model.proofs.ShowingLemmas.{tells_stay}
 use Rattle.thread_model.proofs.FitLemmas.{IsFit, acted_fit}
 
 -- actions, calls, children and what is called let nothing go
@@ -138,12 +140,13 @@ module _ (settings : Settings) (agenda : List Item) (doing : Doing) (under : IsU
       let said = functor_line functor target sender args in
       in_front _ agenda (told doing said).state (acts_stay (acts_of functor.body.actions) args target sender (depth + 1)) (told_under agenda doing under said)
 
+  -- another state may be told of
+  telling_kept : (depth : ℕ) (after : State) (written : Option Property) → IsUnderWay agenda after → Keeps agenda (comes_to settings doing depth after written)
+  telling_kept depth after written rest = in_front _ agenda after (tells_stay settings after depth (changes doing.state after written)) rest
+
   -- what is written fits its object
   written_kept : (target depth : ℕ) (writing : Writing) → IsFit doing.state target writing → Keeps agenda (written settings doing target depth writing)
-  written_kept target depth writing fit =
-      let after = with_writing doing.state target writing in
-      let rest = writing_under agenda doing under target writing fit in
-      written_cases settings doing target depth writing (Keeps agenda) rest (λ signal values. in_front (Emit target signal values depth ∷ []) agenda after refl rest)
+  written_kept target depth writing fit = telling_kept depth (with_writing doing.state target writing) (written_property target writing) (writing_under agenda doing under target writing fit)
 
   chosen_kept : (truth : Found Bool) (held failed : Acts) (args : List Value) (self sender depth : ℕ) → Keeps agenda (chosen truth held failed args self sender depth doing)
   chosen_kept (Ok true) held failed args self sender depth = in_front _ agenda doing.state (acts_stay held args self sender depth) under
@@ -207,6 +210,8 @@ item_under_way settings (Act (when test held failed) args self sender depth) age
     chosen_kept settings agenda doing rest (truth_evaluated doing.state self sender args test) held failed args self sender depth
 item_under_way settings (Warn code object) agenda doing under =
     told_under agenda doing (behind (Warn code object) agenda doing.state (λ number. refl) (λ number. refl) under) (line.Warning code object)
+item_under_way settings (WarnOf at error) agenda doing under =
+    told_under agenda doing (behind (WarnOf at error) agenda doing.state (λ number. refl) (λ number. refl) under) (binding_line settings doing.state at error)
 item_under_way settings (Delete target depth) agenda doing under =
     let rest = behind (Delete target depth) agenda doing.state (λ number. refl) (λ number. refl) under in
     cond_both (lives doing target) (puts (Emit target DESTROYED [] depth ∷ Cut target depth ∷ Gone target depth ∷ []) (dying doing target)) (puts [] doing) (Keeps agenda)
@@ -218,7 +223,9 @@ item_under_way settings (Kin parent child depth) agenda doing under =
     cond_both (lives_below doing parent child) (puts (Delete child depth ∷ []) doing) (puts [] doing) (Keeps agenda)
     (λ living. in_front (Delete child depth ∷ []) agenda doing.state refl rest)
     (λ other. rest)
-item_under_way settings (Gone target depth) agenda doing under = gone_under target depth agenda doing under
+item_under_way settings (Gone target depth) agenda doing under =
+    let after = without_object doing.state target in
+    in_front _ agenda after (tells_stay settings after depth (changes doing.state after None)) (gone_under target depth agenda doing under)
 item_under_way settings Spin agenda doing under =
     let rest = behind Spin agenda doing.state (λ number. refl) (λ number. refl) under in
     spun_kept settings agenda doing rest doing.state.queue.events

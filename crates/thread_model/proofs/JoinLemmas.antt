@@ -22,9 +22,13 @@ use Rattle.thread_model.specs.declared.line.Answer.{Answer}
 use Rattle.thread_model.specs.declared.line.Answer.TheVariants as a
 use Rattle.thread_model.specs.declared.line.Line.{Line}
 use Rattle.thread_model.specs.declared.post.Post.{Post}
+use Rattle.binding_values.specs.declared.property.Property.{Property as At}
+use Rattle.binding_graph.specs.Graph.{is_bound}
+use Rattle.thread_model.specs.Binding.{Bound, asked_binding, asked_property, binding_error_found, binds_found, unbinds_found}
+use Rattle.thread_model.specs.Showing.{comes_to}
 use Rattle.thread_model.specs.Agenda.{with_turn}
 use Rattle.thread_model.specs.Arriving.{is_matched, joined_call, kinds_of, reached, reached_by, with_call}
-use Rattle.thread_model.specs.Asked.{Asked, New, Delete, Children, Find, Set, Get, DynamicNames, Meta, Connect, ConnectFunctor, DisconnectOne, Disconnect, Invoke, Spin as TakeEvents, Do, Status, Publish, Unpublish, Join as AsksJoin, Leave, Reset}
+use Rattle.thread_model.specs.Asked.{Asked, New, Delete, Children, Find, Set, Get, DynamicNames, Meta, Connect, ConnectFunctor, DisconnectOne, Disconnect, Invoke, Spin as TakeEvents, Do, Status, Publish, Unpublish, Join as AsksJoin, Leave, Reset, Bind, Unbind, BindingError, Begin, End}
 use Rattle.thread_model.specs.declared.deed.Deed.{Deed}
 use Rattle.thread_model.specs.declared.deed.Deed.TheVariants as d
 use Rattle.thread_model.specs.Deeds.{behind, with_deed}
@@ -38,13 +42,13 @@ use Rattle.thread_model.specs.Properties.{is_declared, sets}
 use Rattle.thread_model.specs.Refusing.{refusal}
 use Rattle.thread_model.specs.Sharing.{asked_join, asked_kinds, asked_listener, asked_publication, joining_refusal, joins_found, leaves, publishes_found}
 use Rattle.thread_model.specs.Signals.{asked_connect, asked_connect_functor, asked_disconnect, asked_method, does_found, invoked, invoked_later, invokes}
-use Rattle.thread_model.specs.State.{State}
+use Rattle.thread_model.specs.State.{State, with_binding, with_binding_taken, without_group}
 use Rattle.thread_model.specs.Thread.{Settings, accepts_join, arrives, does, joins_name, performs}
 use Rattle.thread_model.specs.Writing.{Writing, asked_writing, written}
 use Rattle.thread_model.proofs.DeskLemmas.{fewer_pass}
 use Rattle.thread_model.proofs.RunLemmas.{run_shrinks}
 use Rattle.thread_model.proofs.ShrinkLemmas.{turn_shrinks, used_up_shrinks, written_shrinks}
-use Rattle.thread_model.proofs.WritingLemmas.{written_cases}
+use Rattle.thread_model.proofs.ShowingLemmas.{ending}
 
 -- every join that is there was there before
 abbrev pub Falls : State → State → Type 0
@@ -58,8 +62,7 @@ module _ (settings : Settings) (state : State) where
   set_falls target (Err code) = λ test held. held
   set_falls target (Ok writing) =
       let doing = begun settings state in
-      done_falls (written settings doing target 0 writing) (a.Truth (is_declared writing))
-      (written_cases settings doing target 0 writing (λ (next : Next). Falls state next.doing.state) (written_shrinks doing target writing).joins (λ signal values. (written_shrinks doing target writing).joins))
+      done_falls (written settings doing target 0 writing) (a.Truth (is_declared writing)) (written_shrinks doing target writing).joins
 
   deed_falls : (deed : Deed) → Falls state (with_deed state deed)
   deed_falls (d.Connect new unique) = λ test held. held
@@ -94,6 +97,18 @@ module _ (settings : Settings) (state : State) where
   left_falls from name target (Ok method) = λ test held. fewer_pass test (λ join. not (is_join from name target method join)) state.desk.joins held
   left_falls from name target (Err code) = λ test held. held
 
+  bound_falls : (found : Found Bound) → Falls state (binds_found settings state found).state
+  bound_falls (Ok bound) = done_falls (comes_to settings (begun settings state) 0 (with_binding state bound.at bound.term) (Some bound.at)) (a.Truth true) (λ test held. held)
+  bound_falls (Err code) = λ test held. held
+
+  unbound_falls : (found : Found At) → Falls state (unbinds_found settings state found).state
+  unbound_falls (Ok at) = done_falls (comes_to settings (begun settings state) 0 (with_binding_taken state at) (Some at)) (a.Truth (is_bound state.graph.bindings at)) (λ test held. held)
+  unbound_falls (Err code) = λ test held. held
+
+  faulty_falls : (found : Found At) → Falls state (binding_error_found state found).state
+  faulty_falls (Ok at) = λ test held. held
+  faulty_falls (Err code) = λ test held. held
+
   -- a join is asked for
   abbrev is_join_asked : Asked → Bool
   is_join_asked (AsksJoin from name types target method) = true
@@ -121,6 +136,11 @@ module _ (settings : Settings) (state : State) where
   performed_falls self (Unpublish name) plain = λ test held. held
   performed_falls self (Leave from name target method) plain = left_falls from name target (asked_listener settings state target method)
   performed_falls self (AsksJoin from name types target method) plain = absurd (cc)
+  performed_falls self (Bind target property to) plain = bound_falls (asked_binding state target property to)
+  performed_falls self (Unbind target property) plain = unbound_falls (asked_property state target property)
+  performed_falls self (BindingError target property) plain = faulty_falls (asked_property state target property)
+  performed_falls self Begin plain = λ test held. held
+  performed_falls self End plain = done_falls (ending settings state) (a.Number (without_group state).graph.depth) (λ test held. held)
   performed_falls self Reset plain = λ test held. absurd (cc)
 
   unless_falls : (refusal : Option Code) (outcome : Effect State Line Post) → Falls state outcome.state → Falls state (unless refusal state outcome).state

@@ -15,7 +15,7 @@ use Rattle.thread_model.specs.declared.deed.Deed.{Deed}
 use Rattle.thread_model.specs.declared.deed.Deed.TheVariants as d
 use Rattle.thread_model.specs.Agenda.{step}
 use Rattle.thread_model.specs.Deeds.{deed_done}
-use Rattle.thread_model.specs.Doing.{Doing, dying, first_taken, gone, in_state, lost, posted, posting, shot, told, turn_taken, used_up, severed}
+use Rattle.thread_model.specs.Doing.{Doing, dying, first_taken, in_state, lost, posted, posting, shot, told, turn_taken, used_up, severed}
 use Rattle.thread_model.specs.Items.{Item}
 use Rattle.thread_model.specs.Run.{run}
 use Rattle.thread_model.specs.Settings.{Settings}
@@ -90,7 +90,7 @@ written_later doing target Nothing = unchanged doing
 
 -- what each change makes of the connections
 holds : Holds Later
-unfolding told posting turn_taken used_up shot posted lost first_taken dying severed gone
+unfolding told posting turn_taken used_up shot posted lost first_taken dying severed
 holds = record {
   same = unchanged;
   both = λ one two three first second. later_both one.state.connections two.state.connections three.state.connections first second;

@@ -1,10 +1,11 @@
 -- Commands, posts and items keep a session sound.
-use Rattle.std.proofs.Common.{◌≡◌, ◌==◌, ℕ, Bool, true, false, cond, List, [], ◌∷◌, ◌++◌, Option, Some, None, Ok, Err, refl, sym, ap, subst, ◌∙◌, arith}
+use Rattle.std.proofs.Common.{◌≡◌, ◌==◌, ◌||◌, ℕ, Bool, true, false, cond, List, [], ◌∷◌, ◌++◌, Option, Some, None, Ok, Err, refl, sym, ap, subst, ◌∙◌, arith}
 use Rattle.std.specs.List.{list_any, All}
 use Rattle.std.specs.Option.{option_map_or}
 use Rattle.std.specs.Result.{result_ok}
 use Rattle.std.proofs.lemmas.Bool.{cond_both}
 use Rattle.std.proofs.lemmas.List.Elements.{All-weaker}
+use Rattle.std.proofs.lemmas.List.Folds.{list_any-append}
 use Rattle.isolation.specs.Machine.{Effect}
 use Rattle.refusals.specs.declared.code.Code.{Code}
 use Rattle.refusals.specs.declared.code.Code.TheVariants.{NoSuchObject}
@@ -31,8 +32,12 @@ use Rattle.thread_model.specs.declared.line.Answer.TheVariants as a
 use Rattle.thread_model.specs.declared.line.Line.{Line}
 use Rattle.thread_model.specs.declared.post.Post.{Post}
 use Rattle.thread_model.specs.Absence.{absence}
+use Rattle.binding_values.specs.declared.property.Property.{Property as At}
+use Rattle.binding_graph.specs.Graph.{is_bound}
+use Rattle.thread_model.specs.Binding.{Bound, asked_binding, asked_property, binding_error_found, binding_refusal, binds_found, ends, unbinds_found}
+use Rattle.thread_model.specs.Showing.{changes, comes_to}
 use Rattle.thread_model.specs.Agenda.{with_turn}
-use Rattle.thread_model.specs.Asked.{Asked, New, Delete, Children, Find, Set, Get, DynamicNames, Meta, Connect, ConnectFunctor, DisconnectOne, Disconnect, Invoke, Spin, Do, Status, Publish, Unpublish, Join as AsksJoin, Leave, Reset}
+use Rattle.thread_model.specs.Asked.{Asked, New, Delete, Children, Find, Set, Get, DynamicNames, Meta, Connect, ConnectFunctor, DisconnectOne, Disconnect, Invoke, Spin, Do, Status, Publish, Unpublish, Join as AsksJoin, Leave, Reset, Bind, Unbind, BindingError, Begin, End}
 use Rattle.thread_model.specs.declared.deed.Deed.{Deed}
 use Rattle.thread_model.specs.Deeds.{behind, deed_done, deed_refusal, found_refusal, with_deed}
 use Rattle.thread_model.specs.Arriving.{joined_call, reached_by}
@@ -49,21 +54,22 @@ use Rattle.thread_model.specs.Refusing.{class_refusal, refusal}
 use Rattle.thread_model.specs.Run.{run}
 use Rattle.thread_model.specs.Sharing.{asked_join, asked_kinds, asked_listener, asked_publication, joining_refusal, joins_found, leaves, publication_refusal, publishes_found}
 use Rattle.thread_model.specs.Signals.{asked_connect, asked_connect_functor, asked_disconnect, asked_method, does_found, invoked, invoked_later, invokes}
-use Rattle.thread_model.specs.State.{IsMeant, IsSound, OfDesk, State, empty, with_desk, with_event}
+use Rattle.thread_model.specs.State.{IsMeant, IsSound, OfDesk, State, empty, with_binding, with_binding_taken, with_desk, with_event, without_group}
 use Rattle.thread_model.specs.Thread.{Settings, arrives, does, performs}
 use Rattle.thread_model.specs.UnderWay.{IsUnderWay, is_gone}
-use Rattle.thread_model.specs.Writing.{Writing, asked_writing, with_writing, written}
+use Rattle.thread_model.specs.Writing.{Writing, asked_writing, with_writing, written_property}
 use Rattle.thread_model.proofs.ConnectionLemmas.{or_none}
 use Rattle.thread_model.proofs.DeskLemmas.{of_joined, of_left, of_published, of_unpublished, sound_joined, sound_left, sound_published, sound_unpublished}
 use Rattle.thread_model.proofs.DyingLemmas.{each_added}
 use Rattle.thread_model.proofs.FitLemmas.{IsFit, asked_fit}
 use Rattle.thread_model.proofs.ItemLemmas.{item_under_way}
 use Rattle.thread_model.proofs.RunLemmas.{run_keeps}
-use Rattle.thread_model.proofs.StateLemmas.{whole_empty, whole_with_desk, whole_with_event, whole_with_object, whole_without_connections, whole_with_queue}
+use Rattle.thread_model.proofs.StateLemmas.{whole_empty, whole_with_binding, whole_with_binding_taken, whole_with_desk, whole_with_event, whole_with_group, whole_with_object, whole_without_connections, whole_without_group, whole_with_queue}
 use Rattle.thread_model.proofs.UnderWayLemmas.{IsGoing, deed_under, none_goes, turn_under, untied_staying, used_up_under, writing_under}
 use Rattle.thread_model.proofs.ArrivingLemmas.{reached_by_keeps}
 use Rattle.thread_model.proofs.QueueLemmas.{each_posted, sound_lost, sound_mismatched, sound_posted}
-use Rattle.thread_model.proofs.WritingLemmas.{written_cases}
+use Rattle.thread_model.proofs.ShowingLemmas.{ending, ending_stays, tells_stay}
+use Rattle.thread_model.proofs.BindableLemmas.{MayBeBound, may_be_bound}
 
 -- between commands no agenda needs to let an object go
 under_way : (agenda : List Item) (state : State) → list_any is_gone agenda ≡ false → IsSound state → IsUnderWay agenda state
@@ -94,6 +100,10 @@ run_sound settings agenda doing none sound =
 done_sound : (settings : Settings) (next : Next) (answer : Answer) → list_any is_gone (next.items ++ to_do.Reply answer ∷ []) ≡ false → IsSound next.doing.state → IsSound (does_next settings next answer).state
 done_sound settings next answer none sound = run_sound settings (next.items ++ to_do.Reply answer ∷ []) next.doing none sound
 
+-- nor does a reply behind items let an object go
+replies_stay : (items : List Item) (answer : Answer) → list_any is_gone items ≡ false → list_any is_gone (items ++ to_do.Reply answer ∷ []) ≡ false
+replies_stay items answer none = list_any-append is_gone items (to_do.Reply answer ∷ []) ∙ ap (λ b. b || false) none
+
 is_present : (state : State) (target : ℕ) → absence state target ≡ None → is_there state.forest.rows target ≡ true
 is_present state target passed = by (is_there state.forest.rows target) passed
   where
@@ -110,13 +120,38 @@ record Begins (next : Next) : Type 0 where
 writing_sound : (doing : Doing) (target : ℕ) (writing : Writing) → IsFit doing.state target writing → IsSound doing.state → IsSound (with_writing doing.state target writing)
 writing_sound doing target writing fit sound = sound_at_end (with_writing doing.state target writing) (writing_under [] doing (under_way [] doing.state refl sound) target writing fit)
 
+-- another state is told of
+told_sound : (settings : Settings) (state after : State) (written : Option At) (answer : Answer) → IsSound after → IsSound (does_next settings (comes_to settings (begun settings state) 0 after written) answer).state
+told_sound settings state after written answer sound =
+    let next = comes_to settings (begun settings state) 0 after written in
+    done_sound settings next answer (replies_stay next.items answer (tells_stay settings after 0 (changes state after written))) sound
+
 set_sound : (settings : Settings) (state : State) (target : ℕ) (found : Found Writing) → ((writing : Writing) → found ≡ Ok writing → IsFit state target writing) → IsSound state → IsSound (sets settings state target found).state
 set_sound settings state target (Err code) fits sound = sound
 set_sound settings state target (Ok writing) fits sound =
-    let after = writing_sound (begun settings state) target writing (fits writing refl) sound in
-    let begins : Begins (written settings (begun settings state) target 0 writing) =
-    written_cases settings (begun settings state) target 0 writing Begins (record { none = λ answer. refl; sound = after }) (λ signal values. record { none = λ answer. refl; sound = after }) in
-    done_sound settings (written settings (begun settings state) target 0 writing) (a.Truth (is_declared writing)) (begins.none _) begins.sound
+    let after = with_writing state target writing in
+    told_sound settings state after (written_property target writing) (a.Truth (is_declared writing)) (writing_sound (begun settings state) target writing (fits writing refl) sound)
+
+-- a property is bound that may be, to an expression within the limits
+bound_sound : (settings : Settings) (state : State) (found : Found Bound) → ((bound : Bound) → found ≡ Ok bound → MayBeBound state bound) → binding_refusal state found ≡ None → IsSound state → IsSound (binds_found settings state found).state
+bound_sound settings state (Err code) may passed sound = sound
+bound_sound settings state (Ok bound) may passed sound =
+    let its = may bound refl in
+    told_sound settings state (with_binding state bound.at bound.term) (Some bound.at) (a.Truth true) (record { whole = whole_with_binding state bound.at bound.term its.bindable its.short passed sound.whole; living = sound.living })
+
+unbound_sound : (settings : Settings) (state : State) (found : Found At) → IsSound state → IsSound (unbinds_found settings state found).state
+unbound_sound settings state (Err code) sound = sound
+unbound_sound settings state (Ok at) sound =
+    told_sound settings state (with_binding_taken state at) (Some at) (a.Truth (is_bound state.graph.bindings at)) (record { whole = whole_with_binding_taken state at sound.whole; living = sound.living })
+
+faulty_sound : (state : State) (found : Found At) → IsSound state → IsSound (binding_error_found state found).state
+faulty_sound state (Err code) sound = sound
+faulty_sound state (Ok at) sound = sound
+
+ended_sound : (settings : Settings) (state : State) → IsSound state → IsSound (ends settings state).state
+ended_sound settings state sound =
+    done_sound settings (ending settings state) (a.Number (without_group state).graph.depth) (replies_stay (ending settings state).items (a.Number (without_group state).graph.depth) (ending_stays settings state))
+    (record { whole = whole_without_group state sound.whole; living = sound.living })
 
 deed_sound : (doing : Doing) (deed : Deed) → deed_refusal doing.state deed ≡ None → IsSound doing.state → IsSound (with_deed doing.state deed)
 unfolding deed_done
@@ -226,6 +261,11 @@ performed_sound settings self state (Publish target signal name) passed sound = 
 performed_sound settings self state (Unpublish name) passed sound = desk_sound state _ (sound_unpublished state.desk name sound.whole.desk) (of_unpublished _ state.desk sound.whole.named name) sound
 performed_sound settings self state (AsksJoin from name types target method) passed sound = joined_sound settings self state (asked_join settings state from name types target method) (join_there settings state from name types target method) passed sound
 performed_sound settings self state (Leave from name target method) passed sound = left_sound state from name target (asked_listener settings state target method) sound
+performed_sound settings self state (Bind target property to) passed sound = bound_sound settings state (asked_binding state target property to) (may_be_bound state target property to) passed sound
+performed_sound settings self state (Unbind target property) passed sound = unbound_sound settings state (asked_property state target property) sound
+performed_sound settings self state (BindingError target property) passed sound = faulty_sound state (asked_property state target property) sound
+performed_sound settings self state Begin passed sound = record { whole = whole_with_group state passed sound.whole; living = sound.living }
+performed_sound settings self state End passed sound = ended_sound settings state sound
 performed_sound settings self state Reset passed sound = empty_sound
 
 -- a refused command leaves the state

@@ -1,3 +1,10 @@
+pub mod BindingLemmas
+pub mod ShowingLemmas
+pub mod QuietLemmas
+pub mod AloneLemmas
+pub mod BindLemmas
+pub mod BoundTermLemmas
+pub mod BindableLemmas
 pub mod LivingLemmas
 pub mod DyingLemmas
 pub mod WeightLemmas

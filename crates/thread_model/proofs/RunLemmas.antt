@@ -1,5 +1,5 @@
 -- The run of an agenda comes to its end.
-use Rattle.std.proofs.Common.{◌≡◌, ◌<◌, ◌≤◌, ◌+◌, ◌*◌, ℕ, zero, suc, List, [], ◌∷◌, ◌++◌, refl, sym, ap, ◌∙◌, append_assoc, arith}
+use Rattle.std.proofs.Common.{◌≡◌, ◌<◌, ◌≤◌, ℕ, zero, suc, List, [], ◌∷◌, ◌++◌, refl, sym, ap, ◌∙◌, append_assoc, arith}
 use Rattle.std.proofs.Math.Nat.{mul-le-mul_left}
 use Rattle.std.proofs.lemmas.List.{append-nil}
 use Rattle.thread_model.specs.Agenda.{step}
@@ -10,25 +10,22 @@ use Rattle.thread_model.specs.Settings.{Settings}
 use Rattle.thread_model.proofs.FallLemmas.{FallsTo, falls, total}
 use Rattle.thread_model.proofs.ShrinkLemmas.{Shrinks, both, same}
 use Rattle.thread_model.proofs.LivingLemmas.{living_rows}
-use Rattle.thread_model.proofs.WeightLemmas.{IsAtMost, weight-some, weights-append, weights-more}
+use Rattle.thread_model.proofs.WeightLemmas.{IsAtMost, body-more, change-more, weight-some, weights-append, weights-more}
 
 -- what bounds a run bounds it after an item too
 bounded : (settings : Settings) (old new : Doing) → Shrinks old new → IsAtMost (most settings new) (most settings old)
-bounded settings old new shrinks = record { connections = shrinks.connections; objects = shrinks.objects; actions = refl }
+bounded settings old new shrinks = record { connections = shrinks.connections; objects = shrinks.objects; properties = shrinks.properties; actions = refl }
 
 -- with lower bounds less is enough
 total-more : (m n : Most) (doing : Doing) (items : ℕ) → IsAtMost m n → total m doing items ≤ total n doing items
 total-more m n doing items less =
-    let bodies = mul-le-mul_left m.actions (above m.connections n.connections less.connections) in
-    let same : m.actions * (n.connections + 3) ≡ n.actions * (n.connections + 3) = ap (λ k. k * (n.connections + 3)) less.actions in
-    let turn : turn_weight m ≤ turn_weight n = omega (arith, bodies, same, less.connections) in
-    let deletion : deletion_weight m ≤ deletion_weight n = omega (arith, less.objects, less.connections) in
+    let bodies = body-more m n less in
+    let change = change-more m n less in
+    let turn : turn_weight m ≤ turn_weight n = omega (arith, bodies, less.connections) in
+    let deletion : deletion_weight m ≤ deletion_weight n = omega (arith, change, less.objects, less.connections) in
     let turns = mul-le-mul_left doing.turns turn in
     let deletions = mul-le-mul_left (living_rows doing.state.forest.rows) deletion in
     omega (arith, turns, deletions)
-  where
-    above : (a b : ℕ) → a ≤ b → a + 3 ≤ b + 3
-    above a b le = omega arith
 
 enough-total : (settings : Settings) (agenda : List Item) (doing : Doing) → enough settings agenda doing ≡ total (most settings doing) doing (weights (most settings doing) agenda)
 unfolding enough living

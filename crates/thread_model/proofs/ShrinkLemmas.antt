@@ -24,9 +24,12 @@ use Rattle.thread_model.specs.Agenda.{lives, queued}
 use Rattle.thread_model.specs.declared.deed.Deed.{Deed}
 use Rattle.thread_model.specs.declared.deed.Deed.TheVariants as d
 use Rattle.thread_model.specs.Deeds.{deed_done, deed_refusal}
-use Rattle.thread_model.specs.Doing.{Doing, dying, first_taken, gone, in_state, lost, posted, shot, told, turn_taken, used_up, posting, severed}
-use Rattle.thread_model.specs.State.{without_connections}
+use Rattle.thread_model.specs.Doing.{Doing, dying, first_taken, in_state, lost, posted, shot, told, turn_taken, used_up, posting, severed}
+use Rattle.binding_values.specs.Stored.{properties_in}
+use Rattle.property_store.specs.Store.{with_dynamic, with_value, without_dynamic}
+use Rattle.thread_model.specs.State.{without_connections, without_object}
 use Rattle.thread_model.specs.Writing.{Declared, Dynamic, Nothing, Removed, Writing, with_writing}
+use Rattle.thread_model.proofs.BindingLemmas.{fewer_without, many_changed}
 use Rattle.thread_model.proofs.ConnectionLemmas.{allowed, or_none}
 use Rattle.thread_model.proofs.DeskLemmas.{fewer_pass}
 use Rattle.thread_model.proofs.LivingLemmas.{all_orphaned-living, changed-as_many, filter-fewer, filter-living, living_rows, marked-one, reparented-as_many}
@@ -39,11 +42,12 @@ pub record Shrinks (old new : Doing) : Type 0 where
   pub living : living_rows new.state.forest.rows ≤ living_rows old.state.forest.rows
   pub objects : length new.state.forest.rows ≤ length old.state.forest.rows
   pub connections : max CONNECTIONS (length new.state.connections.rows) ≤ max CONNECTIONS (length old.state.connections.rows)
+  pub properties : length (properties_in new.state.store) ≤ length (properties_in old.state.store)
   -- no join is made
   pub joins : (test : Join → Bool) → list_any test new.state.desk.joins ≡ true → list_any test old.state.desk.joins ≡ true
 
 pub same : (doing : Doing) → Shrinks doing doing
-same doing = record { turns = omega arith; taken = omega arith; living = omega arith; objects = omega arith; connections = omega arith; joins = λ test held. held }
+same doing = record { turns = omega arith; taken = omega arith; living = omega arith; objects = omega arith; connections = omega arith; properties = omega arith; joins = λ test held. held }
 
 pub both : (one two three : Doing) → Shrinks one two → Shrinks two three → Shrinks one three
 both one two three first second = record {
@@ -52,6 +56,7 @@ both one two three first second = record {
   living = omega (arith, first.living, second.living);
   objects = omega (arith, first.objects, second.objects);
   connections = omega (arith, first.connections, second.connections);
+  properties = omega (arith, first.properties, second.properties);
   joins = λ test held. first.joins test (second.joins test held);
 }
 
@@ -61,22 +66,22 @@ kept n test rows = let fewer = filter-fewer test rows in omega (arith, fewer)
 
 pub told_shrinks : (doing : Doing) (said : Line) → Shrinks doing (told doing said)
 unfolding told
-told_shrinks doing said = record { turns = omega arith; taken = omega arith; living = omega arith; objects = omega arith; connections = omega arith; joins = λ test held. held }
+told_shrinks doing said = record { turns = omega arith; taken = omega arith; living = omega arith; objects = omega arith; connections = omega arith; properties = omega arith; joins = λ test held. held }
 
 pub posting_shrinks : (doing : Doing) (more : List Post) → Shrinks doing (posting doing more)
 unfolding posting
-posting_shrinks doing more = record { turns = omega arith; taken = omega arith; living = omega arith; objects = omega arith; connections = omega arith; joins = λ test held. held }
+posting_shrinks doing more = record { turns = omega arith; taken = omega arith; living = omega arith; objects = omega arith; connections = omega arith; properties = omega arith; joins = λ test held. held }
 
 pub used_up_shrinks : (doing : Doing) → Shrinks doing (used_up doing)
 unfolding used_up
 used_up_shrinks doing =
     cond_both doing.spent doing (record doing { spent = true; lines = doing.lines ++ Warning TurnsUsedUp None ∷ [] }) (Shrinks doing)
     (λ spent. same doing)
-    (λ fresh. record { turns = omega arith; taken = omega arith; living = omega arith; objects = omega arith; connections = omega arith; joins = λ test held. held })
+    (λ fresh. record { turns = omega arith; taken = omega arith; living = omega arith; objects = omega arith; connections = omega arith; properties = omega arith; joins = λ test held. held })
 
 pub turn_shrinks : (doing : Doing) → Shrinks doing (turn_taken doing)
 unfolding turn_taken
-turn_shrinks doing = record { turns = omega arith; taken = omega arith; living = omega arith; objects = omega arith; connections = omega arith; joins = λ test held. held }
+turn_shrinks doing = record { turns = omega arith; taken = omega arith; living = omega arith; objects = omega arith; connections = omega arith; properties = omega arith; joins = λ test held. held }
 
 pub turn_taken-less : (doing : Doing) → (doing.turns == 0) ≡ false → (turn_taken doing).turns + 1 ≤ doing.turns
 unfolding turn_taken
@@ -86,7 +91,7 @@ pub shot_shrinks : (doing : Doing) (row : Connection) → Shrinks doing (shot do
 unfolding shot
 shot_shrinks doing row =
     cond_both row.single (in_state doing (without_connections doing.state (has_number row.number))) doing (Shrinks doing)
-    (λ single. record { turns = omega arith; taken = omega arith; living = omega arith; objects = omega arith; connections = kept CONNECTIONS (λ other. not (has_number row.number other)) doing.state.connections.rows; joins = λ test held. held })
+    (λ single. record { turns = omega arith; taken = omega arith; living = omega arith; objects = omega arith; connections = kept CONNECTIONS (λ other. not (has_number row.number other)) doing.state.connections.rows; properties = omega arith; joins = λ test held. held })
     (λ lasting. same doing)
 
 pub severed_shrinks : (doing : Doing) (target : ℕ) → Shrinks doing (severed doing target)
@@ -97,16 +102,17 @@ severed_shrinks doing target = record {
   living = omega arith;
   objects = omega arith;
   connections = kept CONNECTIONS (λ row. not (touches target row)) doing.state.connections.rows;
+  properties = omega arith;
   joins = λ test held. fewer_pass test (λ join. not (join.object == target)) doing.state.desk.joins held;
 }
 
 pub posted_shrinks : (doing : Doing) (event : Event) → Shrinks doing (posted doing event)
 unfolding posted
-posted_shrinks doing event = record { turns = omega arith; taken = omega arith; living = omega arith; objects = omega arith; connections = omega arith; joins = λ test held. held }
+posted_shrinks doing event = record { turns = omega arith; taken = omega arith; living = omega arith; objects = omega arith; connections = omega arith; properties = omega arith; joins = λ test held. held }
 
 pub lost_shrinks : (doing : Doing) → Shrinks doing (lost doing)
 unfolding lost
-lost_shrinks doing = record { turns = omega arith; taken = omega arith; living = omega arith; objects = omega arith; connections = omega arith; joins = λ test held. held }
+lost_shrinks doing = record { turns = omega arith; taken = omega arith; living = omega arith; objects = omega arith; connections = omega arith; properties = omega arith; joins = λ test held. held }
 
 pub queued_shrinks : (doing : Doing) (call : QueuedCall) → Shrinks doing (queued doing call)
 queued_shrinks doing call =
@@ -119,7 +125,7 @@ pub taken_shrinks : (doing : Doing) → (doing.turns == 0) ≡ false → Shrinks
 unfolding first_taken turn_taken
 taken_shrinks doing some =
     let more = eqb-false doing.turns 0 some in
-    record { turns = omega arith; taken = omega (arith, more); living = omega arith; objects = omega arith; connections = omega arith; joins = λ test held. held }
+    record { turns = omega arith; taken = omega (arith, more); living = omega arith; objects = omega arith; connections = omega arith; properties = omega arith; joins = λ test held. held }
 
 pub first_taken-turns : (doing : Doing) → (first_taken doing).turns ≡ doing.turns
 unfolding first_taken
@@ -127,9 +133,15 @@ first_taken-turns doing = refl
 
 -- what is written bounds nothing
 pub written_shrinks : (doing : Doing) (target : ℕ) (writing : Writing) → Shrinks doing (in_state doing (with_writing doing.state target writing))
-written_shrinks doing target (Declared number value) = record { turns = omega arith; taken = omega arith; living = omega arith; objects = omega arith; connections = omega arith; joins = λ test held. held }
-written_shrinks doing target (Dynamic name value) = record { turns = omega arith; taken = omega arith; living = omega arith; objects = omega arith; connections = omega arith; joins = λ test held. held }
-written_shrinks doing target (Removed name) = record { turns = omega arith; taken = omega arith; living = omega arith; objects = omega arith; connections = omega arith; joins = λ test held. held }
+written_shrinks doing target (Declared number value) =
+    let many = many_changed (with_value number value) target (λ of. refl) (λ of. refl) doing.state.store in
+    record { turns = omega arith; taken = omega arith; living = omega arith; objects = omega arith; connections = omega arith; properties = omega (arith, many); joins = λ test held. held }
+written_shrinks doing target (Dynamic name value) =
+    let many = many_changed (with_dynamic name value) target (λ of. refl) (λ of. refl) doing.state.store in
+    record { turns = omega arith; taken = omega arith; living = omega arith; objects = omega arith; connections = omega arith; properties = omega (arith, many); joins = λ test held. held }
+written_shrinks doing target (Removed name) =
+    let many = many_changed (without_dynamic name) target (λ of. refl) (λ of. refl) doing.state.store in
+    record { turns = omega arith; taken = omega arith; living = omega arith; objects = omega arith; connections = omega arith; properties = omega (arith, many); joins = λ test held. held }
 written_shrinks doing target Nothing = same doing
 
 -- a deed leaves as many living objects
@@ -144,19 +156,20 @@ deed_shrinks doing (d.Connect new unique) passed =
       living = omega arith;
       objects = omega arith;
       connections = omega (arith, its.room, length-append doing.state.connections.rows (numbered (doing.state.connections.last_number + 1) new ∷ []));
+      properties = omega arith;
       joins = λ test held. held;
     }
-deed_shrinks doing (d.Disconnect pattern) passed = record { turns = omega arith; taken = omega arith; living = omega arith; objects = omega arith; connections = kept CONNECTIONS (λ row. not (matches pattern row)) doing.state.connections.rows; joins = λ test held. held }
+deed_shrinks doing (d.Disconnect pattern) passed = record { turns = omega arith; taken = omega arith; living = omega arith; objects = omega arith; connections = kept CONNECTIONS (λ row. not (matches pattern row)) doing.state.connections.rows; properties = omega arith; joins = λ test held. held }
 deed_shrinks doing (d.SetParent target parent) passed =
     let many = reparented-as_many doing.state.forest target parent in
-    record { turns = omega arith; taken = omega arith; living = omega (arith, many.living); objects = omega (arith, many.objects); connections = omega arith; joins = λ test held. held }
-deed_shrinks doing (d.DeleteLater target) passed = record { turns = omega arith; taken = omega arith; living = omega arith; objects = omega arith; connections = omega arith; joins = λ test held. held }
+    record { turns = omega arith; taken = omega arith; living = omega (arith, many.living); objects = omega (arith, many.objects); connections = omega arith; properties = omega arith; joins = λ test held. held }
+deed_shrinks doing (d.DeleteLater target) passed = record { turns = omega arith; taken = omega arith; living = omega arith; objects = omega arith; connections = omega arith; properties = omega arith; joins = λ test held. held }
 deed_shrinks doing (d.Block target on) passed =
     let many = changed-as_many (λ (row : Row). record row { blocked = on }) target (λ row. refl) doing.state.forest.rows in
-    record { turns = omega arith; taken = omega arith; living = omega (arith, many.living); objects = omega (arith, many.objects); connections = omega arith; joins = λ test held. held }
+    record { turns = omega arith; taken = omega arith; living = omega (arith, many.living); objects = omega (arith, many.objects); connections = omega arith; properties = omega arith; joins = λ test held. held }
 
-pub gone_shrinks : (doing : Doing) (target : ℕ) → Shrinks doing (gone doing target)
-unfolding gone removed
+pub gone_shrinks : (doing : Doing) (target : ℕ) → Shrinks doing (in_state doing (without_object doing.state target))
+unfolding removed
 gone_shrinks doing target =
     let rows = doing.state.forest.rows in
     let left = filter (λ row. not (has_object target row)) rows in
@@ -168,6 +181,7 @@ gone_shrinks doing target =
       living = omega (arith, all_orphaned-living target left, filter-living (λ row. not (has_object target row)) rows);
       objects = omega (arith, fewer, mapped);
       connections = omega arith;
+      properties = fewer_without target doing.state.store;
       joins = λ test held. held;
     }
 
@@ -181,4 +195,4 @@ unfolding dying marked
 dying_shrinks doing target lives =
     let less = marked-one target doing.state.forest.rows lives in
     let mapped = length-map doing.state.forest.rows (λ row. cond (has_object target row) (record row { dying = true }) row) in
-    record { turns = omega arith; taken = omega arith; living = omega (arith, less); objects = omega (arith, mapped); connections = omega arith; joins = λ test held. held }
+    record { turns = omega arith; taken = omega arith; living = omega (arith, less); objects = omega (arith, mapped); connections = omega arith; properties = omega arith; joins = λ test held. held }

@@ -26,17 +26,17 @@ use Rattle.thread_model.specs.declared.post.Post.{Post}
 use Rattle.thread_model.specs.Acts.{chosen}
 use Rattle.thread_model.specs.Arriving.{posts_of}
 use Rattle.thread_model.specs.Deeds.{deed_done}
-use Rattle.thread_model.specs.Agenda.{call_line, callee_called, called, calls_of, connection_of, emitted, event_items, functor_called, functor_line, functor_ran, is_held_back, lives, lives_below, method_called, queued, ran, spun, step, with_turn}
-use Rattle.thread_model.specs.Doing.{Doing, dying, first_taken, gone, in_state, lost, posted, posting, shot, told, turn_taken, used_up, severed}
-use Rattle.thread_model.specs.Items.{Act, Call, Cut, Delete, Emit, Gone, Item, Kin, Next, Reply, ReplySpun, Run, RunFunctor, Spin, Warn, puts}
+use Rattle.thread_model.specs.Agenda.{binding_line, call_line, callee_called, called, calls_of, connection_of, emitted, event_items, functor_called, functor_line, functor_ran, is_held_back, lives, lives_below, method_called, queued, ran, spun, step, with_turn}
+use Rattle.thread_model.specs.Doing.{Doing, dying, first_taken, in_state, lost, posted, posting, shot, told, turn_taken, used_up, severed}
+use Rattle.thread_model.specs.Items.{Act, Call, Cut, Delete, Emit, Gone, Item, Kin, Next, Reply, ReplySpun, Run, RunFunctor, Spin, Warn, WarnOf, puts}
 use Rattle.thread_model.specs.Functors.{functor_at}
 use Rattle.thread_model.specs.Methods.{Found, method_at}
 use Rattle.thread_model.specs.Posting.{is_queued, spin_of}
 use Rattle.thread_model.specs.Settings.{Settings}
+use Rattle.thread_model.specs.State.{without_object}
 use Rattle.thread_model.specs.Targets.{truth_evaluated}
 use Rattle.thread_model.specs.Writing.{Writing, with_writing}
 use Rattle.thread_model.proofs.ActLemmas.{acted_cases}
-use Rattle.thread_model.proofs.WritingLemmas.{written_cases}
 
 -- what holds of each change, and of one after another
 pub record Holds (R : Doing → Doing → Type 0) : Type 0 where
@@ -54,7 +54,7 @@ pub record Holds (R : Doing → Doing → Type 0) : Type 0 where
   pub writes : (doing : Doing) (target : ℕ) (writing : Writing) → R doing (in_state doing (with_writing doing.state target writing))
   pub marks : (doing : Doing) (target : ℕ) → R doing (dying doing target)
   pub severs : (doing : Doing) (target : ℕ) → R doing (severed doing target)
-  pub goes : (doing : Doing) (target : ℕ) → R doing (gone doing target)
+  pub goes : (doing : Doing) (target : ℕ) → R doing (in_state doing (without_object doing.state target))
 
 module _ (settings : Settings) (R : Doing → Doing → Type 0) (holds : Holds R) where
   -- what an item comes to
@@ -126,11 +126,12 @@ module _ (settings : Settings) (R : Doing → Doing → Type 0) (holds : Holds R
       (λ code. holds.same doing)
       (λ target signal values. holds.same doing)
       (λ target. holds.same doing)
-      (λ target name value writing there found. written_cases settings doing target depth writing (To doing) (holds.writes doing target writing) (λ signal values. holds.writes doing target writing))
+      (λ target name value writing there found. holds.writes doing target writing)
       (λ deed passed. holds.does doing deed)
       plain
   step_holds (Act (when test held failed) args self sender depth) doing = chooses (truth_evaluated doing.state self sender args test) held failed args self sender depth doing
   step_holds (Warn code object) doing = holds.tells doing (line.Warning code object)
+  step_holds (WarnOf at error) doing = holds.tells doing (binding_line settings doing.state at error)
   step_holds (Delete target depth) doing =
       cond_both (lives doing target) (puts (Emit target DESTROYED [] depth ∷ Cut target depth ∷ Gone target depth ∷ []) (dying doing target)) (puts [] doing) (To doing) (λ living. holds.marks doing target) (λ absent. holds.same doing)
   step_holds (Cut target depth) doing = holds.severs doing target

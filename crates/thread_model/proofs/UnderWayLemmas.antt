@@ -22,9 +22,9 @@ use Rattle.thread_model.specs.Agenda.{queued}
 use Rattle.thread_model.specs.declared.deed.Deed.{Deed}
 use Rattle.thread_model.specs.declared.deed.Deed.TheVariants as d
 use Rattle.thread_model.specs.Deeds.{deed_done, deed_refusal}
-use Rattle.thread_model.specs.Doing.{Doing, dying, first_taken, gone, in_state, lost, posted, shot, told, turn_taken, used_up, posting, severed}
+use Rattle.thread_model.specs.Doing.{Doing, dying, first_taken, in_state, lost, posted, shot, told, turn_taken, used_up, posting, severed}
 use Rattle.thread_model.specs.Items.{Cut, Gone, Item}
-use Rattle.thread_model.specs.State.{IsTied, IsWhole, State, without_connections, without_events}
+use Rattle.thread_model.specs.State.{IsTied, IsWhole, State, without_connections, without_events, without_object}
 use Rattle.thread_model.specs.Writing.{Declared, Dynamic, Nothing, Removed, Writing, with_writing}
 use Rattle.thread_model.specs.UnderWay.{IsBrokenInTime, IsForgottenInTime, IsUnderWay, is_gone, is_untied_first, lets_go, unties}
 use Rattle.thread_model.proofs.ConnectionLemmas.{OfEnds, allowed, or_none}
@@ -279,8 +279,7 @@ cut_under target depth agenda doing under =
     }
 
 -- what stays when an object goes needs its Gone no more
-pub gone_under : (target depth : ℕ) (agenda : List Item) (doing : Doing) → IsUnderWay (Gone target depth ∷ agenda) doing.state → IsUnderWay agenda (gone doing target).state
-unfolding gone
+pub gone_under : (target depth : ℕ) (agenda : List Item) (doing : Doing) → IsUnderWay (Gone target depth ∷ agenda) doing.state → IsUnderWay agenda (without_object doing.state target)
 gone_under target depth agenda doing under = record {
   whole = whole_without_object doing.state target
       (All-weaker (IsBrokenInTime (Gone target depth ∷ agenda)) (OfEnds (λ end. (end == target) ≡ false)) (λ row broken. record { sender = (parts row.sender broken.sender).0; receiver = (parts row.receiver broken.receiver).0 }) doing.state.connections.rows under.in_time)

@@ -19,45 +19,49 @@ use Rattle.object_tree.specs.Rows.{row_of}
 use Rattle.stored_slots.specs.declared.functor.Functor.{Functor}
 use Rattle.thread_model.specs.Acts.{acts}
 use Rattle.thread_model.specs.Functors.{functor_at}
-use Rattle.thread_model.specs.Items.{Act, Call, Cut, Delete, Emit, Gone, Item, Kin, Reply, ReplySpun, Run, RunFunctor, Spin, Warn}
+use Rattle.thread_model.specs.Items.{Act, Call, Cut, Delete, Emit, Gone, Item, Kin, Reply, ReplySpun, Run, RunFunctor, Spin, Warn, WarnOf}
 use Rattle.thread_model.specs.Methods.{method_at, methods_of}
-use Rattle.thread_model.specs.Run.{Most, longest_body, longest_functor, weight, weights}
+use Rattle.thread_model.specs.Run.{Most, action_weight, change_weight, longest_body, longest_functor, weight, weights}
 use Rattle.thread_model.specs.Settings.{Settings}
 use Rattle.thread_model.specs.State.{State}
 
--- no more connections and objects, and bodies that are as long
+-- no more connections, objects and properties, and bodies that are as long
 pub record IsAtMost (one other : Most) : Type 0 where
   pub connections : one.connections ≤ other.connections
   pub objects : one.objects ≤ other.objects
+  pub properties : one.properties ≤ other.properties
   pub actions : one.actions ≡ other.actions
 
--- where there is no more an item weighs no more
+-- where there is no more a change weighs no more, nor does an action, nor a body
+pub change-more : (m n : Most) → IsAtMost m n → change_weight m ≤ change_weight n
+change-more m n less =
+    let above : m.connections + 3 ≤ n.connections + 3 = omega (arith, less.connections) in
+    let wider = mul-le-mul_left m.properties above in
+    let longer = mul-le-mul_right (n.connections + 3) less.properties in
+    omega (arith, wider, longer)
+
+pub action-more : (m n : Most) → IsAtMost m n → action_weight m ≤ action_weight n
+action-more m n less = let change = change-more m n less in omega (arith, change, less.connections)
+
+pub body-more : (m n : Most) → IsAtMost m n → m.actions * action_weight m ≤ n.actions * action_weight n
+body-more m n less =
+    let longer = mul-le-mul_left m.actions (action-more m n less) in
+    let same : m.actions * action_weight n ≡ n.actions * action_weight n = ap (λ k. k * action_weight n) less.actions in
+    omega (arith, longer, same)
+
+-- nor does an item
 weight-more : (m n : Most) (item : Item) → IsAtMost m n → weight m item ≤ weight n item
 weight-more m n (Emit target signal args depth) less = omega (arith, less.connections)
 weight-more m n (Call number args depth) less = omega arith
-weight-more m n (Run target method sender args depth) less =
-    let times = mul-le-mul_left m.actions (above m.connections n.connections less.connections) in
-    let same : m.actions * (n.connections + 3) ≡ n.actions * (n.connections + 3) = ap (λ k. k * (n.connections + 3)) less.actions in
-    omega (arith, times, same)
-  where
-    above : (a b : ℕ) → a ≤ b → a + 3 ≤ b + 3
-    above a b le = omega arith
-weight-more m n (RunFunctor target functor sender args depth) less =
-    let times = mul-le-mul_left m.actions (above m.connections n.connections less.connections) in
-    let same : m.actions * (n.connections + 3) ≡ n.actions * (n.connections + 3) = ap (λ k. k * (n.connections + 3)) less.actions in
-    omega (arith, times, same)
-  where
-    above : (a b : ℕ) → a ≤ b → a + 3 ≤ b + 3
-    above a b le = omega arith
-weight-more m n (Act action args self sender depth) less = mul-le-mul_left (count action) (above m.connections n.connections less.connections)
-  where
-    above : (a b : ℕ) → a ≤ b → a + 3 ≤ b + 3
-    above a b le = omega arith
+weight-more m n (Run target method sender args depth) less = let body = body-more m n less in omega (arith, body)
+weight-more m n (RunFunctor target functor sender args depth) less = let body = body-more m n less in omega (arith, body)
+weight-more m n (Act action args self sender depth) less = mul-le-mul_left (count action) (action-more m n less)
 weight-more m n (Warn code object) less = omega arith
+weight-more m n (WarnOf at error) less = omega arith
 weight-more m n (Delete target depth) less = omega arith
 weight-more m n (Cut target depth) less = omega (arith, less.objects)
 weight-more m n (Kin parent child depth) less = omega arith
-weight-more m n (Gone target depth) less = omega arith
+weight-more m n (Gone target depth) less = let change = change-more m n less in omega (arith, change)
 weight-more m n Spin less = omega arith
 weight-more m n (Reply answer) less = omega arith
 weight-more m n ReplySpun less = omega arith
@@ -76,8 +80,8 @@ pub count-some : (action : term.Act) → 1 ≤ count action
 count-some (effect plain) = omega arith
 count-some (when test held failed) = omega arith
 
-pub act-some : (n : Most) (action : term.Act) → n.connections + 3 ≤ count action * (n.connections + 3)
-act-some n action = let times = mul-le-mul_right (n.connections + 3) (count-some action) in omega (arith, times)
+pub act-some : (n : Most) (action : term.Act) → action_weight n ≤ count action * action_weight n
+act-some n action = let times = mul-le-mul_right (action_weight n) (count-some action) in omega (arith, times)
 
 pub weight-some : (n : Most) (item : Item) → 1 ≤ weight n item
 weight-some n (Emit target signal args depth) = omega arith
@@ -86,6 +90,7 @@ weight-some n (Run target method sender args depth) = omega arith
 weight-some n (RunFunctor target functor sender args depth) = omega arith
 weight-some n (Act action args self sender depth) = let some = act-some n action in omega (arith, some)
 weight-some n (Warn code object) = omega arith
+weight-some n (WarnOf at error) = omega arith
 weight-some n (Delete target depth) = omega arith
 weight-some n (Cut target depth) = omega arith
 weight-some n (Kin parent child depth) = omega arith
@@ -95,18 +100,18 @@ weight-some n (Reply answer) = omega arith
 weight-some n ReplySpun = omega arith
 
 -- the actions of a body weigh as much as their number says
-pub acts-weight : (n : Most) (body : Acts) (args : List Value) (self sender depth : ℕ) → weights n (acts body args self sender depth) ≡ counts body * (n.connections + 3)
+pub acts-weight : (n : Most) (body : Acts) (args : List Value) (self sender depth : ℕ) → weights n (acts body args self sender depth) ≡ counts body * action_weight n
 acts-weight n nothing args self sender depth = omega arith
 acts-weight n (more action rest) args self sender depth =
     let later = acts-weight n rest args self sender depth in
-    let parts = add-mul (count action) (counts rest) (n.connections + 3) in
+    let parts = add-mul (count action) (counts rest) (action_weight n) in
     omega (arith, later, parts)
 
 -- a choice weighs more than either branch, also where what warns takes its place
-pub choice-weight : (n : Most) (held failed : Acts) → (counts held * (n.connections + 3) < (counts held + counts failed + 1) * (n.connections + 3)) × (counts failed * (n.connections + 3) < (counts held + counts failed + 1) * (n.connections + 3))
+pub choice-weight : (n : Most) (held failed : Acts) → (counts held * action_weight n < (counts held + counts failed + 1) * action_weight n) × (counts failed * action_weight n < (counts held + counts failed + 1) * action_weight n)
 choice-weight n held failed =
-    let parts = add-mul (counts held + counts failed) 1 (n.connections + 3) in
-    let both = add-mul (counts held) (counts failed) (n.connections + 3) in
+    let parts = add-mul (counts held + counts failed) 1 (action_weight n) in
+    let both = add-mul (counts held) (counts failed) (action_weight n) in
     (omega (arith, parts, both), omega (arith, parts, both))
 
 -- calls weigh one each

@@ -1,8 +1,10 @@
 -- How a session does what it has to do, item by item.
-use Rattle.std.specs.Prelude.{◌+◌, ◌==◌, ◌&&◌, ℕ, Bool, false, not, List, [], ◌∷◌, ◌++◌, map, filter, find, take, length, nat_le, Option, Some, if◌then◌else◌}
+use Rattle.std.specs.Prelude.{◌+◌, ◌==◌, ◌&&◌, ℕ, Bool, false, not, List, [], ◌∷◌, ◌++◌, map, filter, find, take, length, nat_le, Option, Some, None, if◌then◌else◌}
 use Rattle.std.specs.Option.{option_map_or}
 use Rattle.refusals.specs.declared.code.Code.TheVariants.{Limit}
 use Rattle.variant_value.specs.declared.value.Value.{Value}
+use Rattle.binding_values.specs.declared.property.BindingError.{BindingError}
+use Rattle.binding_values.specs.declared.property.Property.{Property}
 use Rattle.term_core.specs.Act.{acts_of, effect, when}
 use Rattle.class_table.specs.declared.class.Method.{Method}
 use Rattle.class_table.specs.Lookup.{method_text}
@@ -24,13 +26,14 @@ use Rattle.thread_model.specs.declared.line.Line.{Line}
 use Rattle.thread_model.specs.declared.line.Line.TheVariants as line
 use Rattle.thread_model.specs.Arriving.{posts_of}
 use Rattle.thread_model.specs.Acts.{act_refusal, acted, acts, chosen, warns_or}
-use Rattle.thread_model.specs.Doing.{Doing, dying, first_taken, gone, lost, posted, posting, severed, shot, told, turn_taken, used_up}
-use Rattle.thread_model.specs.Items.{Act, Call, Cut, Delete, Emit, Gone, Item, Kin, Next, Reply, ReplySpun, Run, RunFunctor, Spin, Warn, puts}
+use Rattle.thread_model.specs.Doing.{Doing, dying, first_taken, lost, posted, posting, severed, shot, told, turn_taken, used_up}
+use Rattle.thread_model.specs.Items.{Act, Call, Cut, Delete, Emit, Gone, Item, Kin, Next, Reply, ReplySpun, Run, RunFunctor, Spin, Warn, WarnOf, puts}
 use Rattle.thread_model.specs.Functors.{functor_at}
 use Rattle.thread_model.specs.Methods.{method_at}
 use Rattle.thread_model.specs.Posting.{is_queued, spin_of}
 use Rattle.thread_model.specs.Settings.{Settings}
-use Rattle.thread_model.specs.State.{State}
+use Rattle.thread_model.specs.Showing.{comes_to, property_at}
+use Rattle.thread_model.specs.State.{State, without_object}
 use Rattle.thread_model.specs.Targets.{truth_evaluated}
 
 -- an object that stands is not dying
@@ -139,6 +142,10 @@ ran doing target sender args depth method = puts (acts (acts_of method.body.acti
 abbrev pub functor_ran : Doing → ℕ → ℕ → List Value → ℕ → Functor → Next
 functor_ran doing target sender args depth functor = puts (acts (acts_of functor.body.actions) args target sender (depth + 1)) (told doing (functor_line functor target sender args))
 
+-- the line that warns of the error of a bound property, by its name
+abbrev pub binding_line : Settings → State → Property → BindingError → Line
+binding_line settings state at error = line.BindingWarning at.object (option_map_or (λ property. property.name) (property_at settings state at.object at.number) []) error
+
 -- what an item comes to
 abbrev pub step : Settings → Item → Doing → Next
 step settings (Emit target signal args depth) doing = option_map_or (emitted settings doing target signal args depth) (row_of doing.state.forest.rows target) (puts [] doing)
@@ -148,10 +155,11 @@ step settings (RunFunctor target functor sender args depth) doing = option_map_o
 step settings (Act (effect plain) args self sender depth) doing = warns_or (act_refusal settings doing.state self sender args plain) self doing (acted settings doing self sender args depth plain)
 step settings (Act (when test held failed) args self sender depth) doing = chosen (truth_evaluated doing.state self sender args test) held failed args self sender depth doing
 step settings (Warn code object) doing = puts [] (told doing (line.Warning code object))
+step settings (WarnOf at error) doing = puts [] (told doing (binding_line settings doing.state at error))
 step settings (Delete target depth) doing = if lives doing target then puts (Emit target DESTROYED [] depth ∷ Cut target depth ∷ Gone target depth ∷ []) (dying doing target) else puts [] doing
 step settings (Cut target depth) doing = puts (kins doing target depth) (severed doing target)
 step settings (Kin parent child depth) doing = if lives_below doing parent child then puts (Delete child depth ∷ []) doing else puts [] doing
-step settings (Gone target depth) doing = puts [] (gone doing target)
+step settings (Gone target depth) doing = comes_to settings doing depth (without_object doing.state target) None
 step settings Spin doing = spun settings doing doing.state.queue.events
 step settings (Reply answer) doing = puts [] (told doing (line.Reply answer))
 step settings ReplySpun doing = puts [] (told doing (line.Reply (a.Spun (spin_of doing))))

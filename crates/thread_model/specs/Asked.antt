@@ -51,6 +51,16 @@ pub data Asked : Type 0 where
   Leave : (from name : List ℕ) (target : ℕ) (method : List ℕ) → Asked
   -- begin anew
   Reset : Asked
+  -- bind a property of this object to an expression
+  Bind : (target : ℕ) (property : List ℕ) (to : Data) → Asked
+  -- bind it no longer
+  Unbind : (target : ℕ) (property : List ℕ) → Asked
+  -- the error that a property stands for
+  BindingError : (target : ℕ) (property : List ℕ) → Asked
+  -- begin a group, in which changes of properties are not told
+  Begin : Asked
+  -- end a group
+  End : Asked
   -- how much there is
   Status : Asked
 
@@ -76,6 +86,11 @@ asked (c.Unpublish name) = Unpublish name
 asked (c.Join from name types target method) = Join from name types target method
 asked (c.Leave from name target method) = Leave from name target method
 asked c.Reset = Reset
+asked (c.Bind target property to) = Bind target property (view to)
+asked (c.Unbind target property) = Unbind target property
+asked (c.BindingError target property) = BindingError target property
+asked c.Begin = Begin
+asked c.End = End
 asked c.Status = Status
 
 -- a command and the session that gives it

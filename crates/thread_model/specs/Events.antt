@@ -19,7 +19,9 @@ spins settings state = ended (run settings (Spin ∷ ReplySpun ∷ []) (begun se
 -- how much there is in a session
 abbrev pub status : State → Status
 status state = record {
+  bindings = length state.graph.bindings;
   connections = length state.connections.rows;
+  group = state.graph.depth;
   joins = length state.desk.joins;
   lost = state.queue.lost;
   mismatched = state.queue.mismatched;

@@ -2,6 +2,8 @@
 use Rattle.std.specs.Prelude.{ℕ, List, Option}
 use Rattle.refusals.specs.declared.code.Code.{Code}
 use Rattle.variant_value.specs.declared.value.Value.{Value}
+use Rattle.binding_values.specs.declared.property.BindingError.{BindingError}
+use Rattle.binding_values.specs.declared.property.Property.{Property}
 use Rattle.term_core.specs.Act as term
 use Rattle.thread_model.specs.declared.line.Answer.{Answer}
 use Rattle.thread_model.specs.Doing.{Doing}
@@ -20,6 +22,8 @@ pub data Item : Type 0 where
   Act : (action : term.Act) (args : List Value) (self sender depth : ℕ) → Item
   -- warn of a code, and name an object with it
   Warn : (code : Code) (object : Option ℕ) → Item
+  -- warn of the error of a bound property
+  WarnOf : (at : Property) (error : BindingError) → Item
   -- delete an object, unless it is gone or dying
   Delete : (target depth : ℕ) → Item
   -- cut what ties a dying object to others, and then delete its children

@@ -11,6 +11,7 @@ pub mod Connecting
 pub mod Posting
 pub mod Deeds
 pub mod Targets
+pub mod Showing
 pub mod Writing
 pub mod Acts
 pub mod Agenda
@@ -23,6 +24,7 @@ pub mod Properties
 pub mod Signals
 pub mod Events
 pub mod Sharing
+pub mod Binding
 pub mod Refusing
 pub mod Thread
 pub mod Machine

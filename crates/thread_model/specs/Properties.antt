@@ -1,7 +1,9 @@
 -- What the commands for properties do, where they are not refused.
 use Rattle.std.specs.Prelude.{ℕ, Bool, true, false, List, Ok, Err}
 use Rattle.isolation.specs.Machine.{Effect}
-use Rattle.property_store.specs.Store.{dynamic_names, value_named}
+use Rattle.std.specs.Option.{unwrap_or}
+use Rattle.property_store.specs.Store.{dynamic_names}
+use Rattle.variant_value.specs.declared.value.Value.TheVariants as v
 use Rattle.thread_model.specs.declared.line.Answer.TheVariants as a
 use Rattle.thread_model.specs.declared.line.Line.{Line}
 use Rattle.thread_model.specs.declared.post.Post.{Post}
@@ -9,6 +11,7 @@ use Rattle.thread_model.specs.Doing.{begun}
 use Rattle.thread_model.specs.Effects.{does_next, refuses, replies}
 use Rattle.thread_model.specs.Methods.{Found}
 use Rattle.thread_model.specs.Settings.{Settings}
+use Rattle.thread_model.specs.Showing.{named_value}
 use Rattle.thread_model.specs.State.{State}
 use Rattle.thread_model.specs.Writing.{Writing, Declared, written}
 
@@ -24,7 +27,7 @@ sets settings state target (Err code) = refuses state code
 
 -- reading a property of an object, which is invalid where there is none of this name
 abbrev pub gets : State → ℕ → List ℕ → Effect State Line Post
-gets state target name = replies state (a.Value (value_named state.store target name))
+gets state target name = replies state (a.Value (unwrap_or (named_value state target name) v.Invalid))
 
 -- the names of the dynamic properties of an object, that first set first
 abbrev pub names : State → ℕ → Effect State Line Post

@@ -1,4 +1,6 @@
 -- Why a command is refused: the first of these, by command.
+use Rattle.binding_graph.specs.Graph.{begin_refusal, end_refusal}
+use Rattle.thread_model.specs.Binding.{asked_binding, asked_property, binding_refusal}
 use Rattle.std.specs.Prelude.{ℕ, ◌&&◌, List, Option, Some, None, is_some, if◌then◌else◌}
 use Rattle.std.specs.Option.{option_map_or, option_or}
 use Rattle.std.specs.Result.{result_err}
@@ -10,7 +12,7 @@ use Rattle.class_table.specs.Lookup.{index_of}
 use Rattle.connection_types.specs.declared.connection_type.ConnectionType.{ConnectionType}
 use Rattle.object_tree.specs.Refusing.{add_refusal, parent_refusal}
 use Rattle.thread_model.specs.Absence.{absence, named_absence}
-use Rattle.thread_model.specs.Asked.{Asked, New, Delete, Children, Find, Set, Get, DynamicNames, Meta, Connect, ConnectFunctor, DisconnectOne, Disconnect, Invoke, Spin, Do, Status, Publish, Unpublish, Join, Leave, Reset}
+use Rattle.thread_model.specs.Asked.{Asked, New, Delete, Children, Find, Set, Get, DynamicNames, Meta, Connect, ConnectFunctor, DisconnectOne, Disconnect, Invoke, Spin, Do, Status, Publish, Unpublish, Join, Leave, Reset, Bind, Unbind, BindingError, Begin, End}
 use Rattle.thread_model.specs.Deeds.{deed_refusal, found_refusal}
 use Rattle.thread_model.specs.Methods.{signature_in}
 use Rattle.thread_model.specs.Posting.{is_queued, post_refusal}
@@ -70,3 +72,8 @@ refusal settings self state (Unpublish name) = None
 refusal settings self state (Join from name types target method) = joining_refusal settings self state (asked_join settings state from name types target method)
 refusal settings self state (Leave from name target method) = result_err (asked_listener settings state target method)
 refusal settings self state Reset = None
+refusal settings self state (Bind target property to) = binding_refusal state (asked_binding state target property to)
+refusal settings self state (Unbind target property) = result_err (asked_property state target property)
+refusal settings self state (BindingError target property) = result_err (asked_property state target property)
+refusal settings self state Begin = begin_refusal state.graph
+refusal settings self state End = end_refusal state.graph

@@ -4,10 +4,11 @@ use Rattle.term_core.specs.Act.{acts_of, count, counts}
 use Rattle.class_table.specs.declared.class.Class.{Class}
 use Rattle.connection_list.specs.declared.limit.TheConstants.{CONNECTIONS}
 use Rattle.object_tree.specs.Lines.{greatest}
+use Rattle.binding_values.specs.Stored.{properties_in}
 use Rattle.stored_slots.specs.declared.functor.Functor.{Functor}
 use Rattle.thread_model.specs.Agenda.{is_living, step}
 use Rattle.thread_model.specs.Doing.{Doing}
-use Rattle.thread_model.specs.Items.{Act, Call, Cut, Delete, Emit, Gone, Item, Kin, Reply, ReplySpun, Run, RunFunctor, Spin, Warn}
+use Rattle.thread_model.specs.Items.{Act, Call, Cut, Delete, Emit, Gone, Item, Kin, Reply, ReplySpun, Run, RunFunctor, Spin, Warn, WarnOf}
 use Rattle.thread_model.specs.Settings.{Settings}
 
 -- at most so many items done, each with what it puts in front of the others
@@ -32,29 +33,41 @@ longest_functor functors = greatest (map (λ functor. counts (acts_of functor.bo
 pub record Most : Type 0 where
   pub connections : ℕ
   pub objects : ℕ
+  -- declared properties of all objects
+  pub properties : ℕ
   pub actions : ℕ
 
 abbrev pub most : Settings → Doing → Most
 most settings doing = record {
   connections = max CONNECTIONS (length doing.state.connections.rows);
   objects = length doing.state.forest.rows;
+  properties = length (properties_in doing.state.store);
   actions = max (longest_body settings.classes) (longest_functor settings.functors);
 }
+
+-- how many items a change comes to at most: of each property a warning, and a signal that tells of it
+abbrev pub change_weight : Most → ℕ
+change_weight most = most.properties * (most.connections + 3)
+
+-- how many an action comes to at most: a change, or a signal, or a warning
+abbrev pub action_weight : Most → ℕ
+action_weight most = change_weight most + most.connections + 3
 
 -- how many items an item comes to at most, where no further call is made and no further object deleted
 abbrev pub weight : Most → Item → ℕ
 weight most (Emit target signal args depth) = most.connections + 2
 weight most (Call number args depth) = 1
-weight most (Run target method sender args depth) = most.actions * (most.connections + 3) + 1
-weight most (RunFunctor target functor sender args depth) = most.actions * (most.connections + 3) + 1
-weight most (Act action args self sender depth) = count action * (most.connections + 3)
+weight most (Run target method sender args depth) = most.actions * action_weight most + 1
+weight most (RunFunctor target functor sender args depth) = most.actions * action_weight most + 1
+weight most (Act action args self sender depth) = count action * action_weight most
 weight most (Warn code object) = 1
+weight most (WarnOf at error) = 1
 weight most (Delete target depth) = 1
 weight most Spin = 1
 weight most ReplySpun = 1
 weight most (Cut target depth) = 2 * most.objects + 1
 weight most (Kin parent child depth) = 2
-weight most (Gone target depth) = 1
+weight most (Gone target depth) = change_weight most + 1
 weight most (Reply answer) = 1
 
 abbrev pub weights : Most → List Item → ℕ
@@ -63,11 +76,11 @@ weights most (item ∷ agenda) = weight most item + weights most agenda
 
 -- how many items a call comes to at most
 abbrev pub turn_weight : Most → ℕ
-turn_weight most = most.actions * (most.connections + 3) + most.connections + 3
+turn_weight most = most.actions * action_weight most + most.connections + 3
 
 -- how many items a deletion comes to at most
 abbrev pub deletion_weight : Most → ℕ
-deletion_weight most = 2 * most.objects + most.connections + 4
+deletion_weight most = 2 * most.objects + change_weight most + most.connections + 4
 
 -- enough steps to come to the end
 unfoldable pub enough : Settings → List Item → Doing → ℕ

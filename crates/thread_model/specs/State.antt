@@ -1,7 +1,11 @@
 -- What a session holds.
 use Rattle.std.specs.Prelude.{◌≡◌, ◌+◌, ℕ, Bool, false, List, [], Option, Some, IsFalse, IsTrue, bytes_eq, map, option_map, if◌then◌else◌}
 use Rattle.std.specs.List.{All}
-use Rattle.std.specs.Option.{unwrap_or}
+use Rattle.binding_values.specs.declared.property.BindingError.{BindingError}
+use Rattle.binding_values.specs.declared.property.Property.{Property as At}
+use Rattle.binding_graph.specs.Graph as graph
+use Rattle.binding_graph.specs.Graph.{Graph, is_open, no_graph, value_in}
+use Rattle.binding_values.specs.Stored.{is_bindable}
 use Rattle.class_table.specs.declared.class.Class.{Class}
 use Rattle.class_table.specs.declared.class.Property.{Property}
 use Rattle.class_table.specs.Lookup.{properties}
@@ -26,13 +30,16 @@ use Rattle.publish_board.specs.Desk as board
 use Rattle.publish_board.specs.Desk.{Desk, no_desk, without_object as withdrawn}
 use Rattle.variant_value.specs.declared.value.Value.{Value}
 use Rattle.variant_value.specs.declared.value.Value.TheVariants as v
+use Rattle.term_core.specs.Term.{Term}
 use Rattle.thread_model.specs.declared.call.TheConstants.{OBJECT_NAME}
 
 pub record State : Type 0 where
   -- the objects in their trees
   pub forest : Forest
-  -- the properties of each
+  -- the properties of each, with what is stored of them
   pub store : Store
+  -- which of them are bound, and the groups that are open
+  pub graph : Graph
   -- the connections between them
   pub connections : Rows
   -- the events that are to be taken
@@ -42,7 +49,7 @@ pub record State : Type 0 where
 
 -- the state of a session that has had no command
 abbrev pub empty : State
-empty = record { forest = empty_forest; store = []; connections = no_rows; queue = empty_queue; desk = no_desk }
+empty = record { forest = empty_forest; store = []; graph = no_graph; connections = no_rows; queue = empty_queue; desk = no_desk }
 
 -- a property that a class declares, as an object has it
 abbrev pub field_of : Property → Field
@@ -52,9 +59,18 @@ field_of property = record { name = property.name; kind = property.kind; bindabl
 abbrev pub fields_of : List Class → ℕ → List Field
 fields_of classes class = map field_of (properties classes class)
 
+-- the value of a property that an object's class declares, also where it is bound, and the error that it
+-- stands for; Invalid where there is none of this number
+abbrev pub shown : State → ℕ → ℕ → Value × Option BindingError
+shown state object number = value_in state.store state.graph (record { object = object; number = number })
+
+-- outside of groups nothing is kept
+abbrev pub closed : Graph → Graph
+closed graph = if is_open graph then graph else record graph { last = [] }
+
 -- the title of an object: its property `objectName`
 abbrev pub title_of : State → ℕ → Value
-title_of state number = unwrap_or (value_at state.store number OBJECT_NAME) v.Invalid
+title_of state number = (shown state number OBJECT_NAME).0
 
 -- is a title this text
 abbrev pub is_text : List ℕ → Value → Bool
@@ -73,9 +89,29 @@ with_parent state number parent = record state { forest = reparented state.fores
 abbrev pub with_properties : State → ℕ → (Properties → Properties) → State
 with_properties state number change = record state { store = changed change number state.store }
 
--- the state without an object: its children have become roots
+-- the state without an object: its children have become roots, and its bindings are gone
 abbrev pub without_object : State → ℕ → State
-without_object state number = record state { forest = removed state.forest number; store = stored.without number state.store }
+without_object state number = record state { forest = removed state.forest number; store = stored.without number state.store; graph = graph.without_object number state.graph }
+
+-- the state where a property is bound no longer
+abbrev pub without_binding : State → At → State
+without_binding state at = record state { graph = graph.unbound state.graph at }
+
+-- the state where a property is bound to an expression, whatever it was bound to
+abbrev pub with_binding : State → At → Term → State
+with_binding state at term = record state { graph = graph.bound state.graph at term }
+
+-- the state where the value that a property shows is stored, and it is bound no longer
+abbrev pub with_binding_taken : State → At → State
+with_binding_taken state at = record state { store = graph.taken state.store state.graph at; graph = graph.unbound state.graph at }
+
+-- the state with one more group; what properties show when the outermost begins is kept
+abbrev pub with_group : State → State
+with_group state = record state { graph = graph.begun state.store state.graph }
+
+-- the state with one group less; with the last one goes what was kept
+abbrev pub without_group : State → State
+without_group state = record state { graph = closed (graph.ended state.graph) }
 
 -- the state with one more connection, which has the next number
 abbrev pub with_connection : State → NewConnection → State
@@ -143,6 +179,12 @@ pub record IsWhole (state : State) : Type 0 where
   pub objects : map (λ of. of.object) state.store ≡ numbers state.forest.rows
   -- a value is of its property's kind, and no text is too long
   pub properties : stored.IsSound state.store
+  -- there are not too many bindings, and groups within groups
+  pub graph : graph.IsSound state.graph
+  -- what is bound are properties that are there and may be bound
+  pub bound : All (λ binding. IsTrue (is_bindable state.store binding.at)) state.graph.bindings
+  -- what properties showed before is kept while a group is open
+  pub closed : IsFalse (is_open state.graph) → state.graph.last ≡ []
   -- the numbers of connections rise, and there are not too many
   pub connections : list.IsSound state.connections
   -- no connection has an end that is gone

@@ -1,11 +1,10 @@
 -- The objects that an action names, and the values of its expressions.
-use Rattle.std.specs.Prelude.{ℕ, Bool, List, [], ◌∷◌, Option, Ok, Err, option_and_then, if◌then◌else◌}
+use Rattle.std.specs.Prelude.{ℕ, Bool, List, [], ◌∷◌, Option, Ok, Err, if◌then◌else◌}
 use Rattle.std.specs.Option.{ok_or, option_map, unwrap_or}
 use Rattle.refusals.specs.declared.code.Code.TheVariants.{BadValue, NoSuchObject, NoSuchProperty}
 use Rattle.signature_core.specs.declared.kind.Kind.{Kind}
 use Rattle.variant_value.specs.declared.value.Value.{Value}
 use Rattle.variant_value.specs.Values.{converted, truth_in}
-use Rattle.property_store.specs.Store.{named_value, properties_of}
 use Rattle.term_core.specs.declared.target.Target.{Target}
 use Rattle.term_core.specs.declared.target.Target.TheVariants.{Itself, Sender, Child, Object}
 use Rattle.term_core.specs.Term.{Term}
@@ -14,6 +13,7 @@ use Rattle.term_evaluation.specs.Outcomes.{Answer, own, refused}
 use Rattle.object_tree.specs.Finding.{found_below}
 use Rattle.object_tree.specs.Rows.{is_there}
 use Rattle.thread_model.specs.Methods.{Found, ◌>>=◌}
+use Rattle.thread_model.specs.Showing.{named_value}
 use Rattle.thread_model.specs.State.{State, is_text, title_of}
 
 -- the number of the object that a target is for the slot of `self`, as the session stands; 0 where
@@ -32,7 +32,7 @@ named_object_of state self sender target = option_map (object_of state self send
 abbrev pub property_of : State → ℕ → List ℕ → Answer (Unit {0})
 property_of state object name =
     if is_there state.forest.rows object
-    then ok_or (option_and_then (named_value name) (properties_of state.store object)) (refused NoSuchProperty)
+    then ok_or (named_value state object name) (refused NoSuchProperty)
     else Err (refused NoSuchObject)
 
 -- the value of a property that the slot of `self` reads

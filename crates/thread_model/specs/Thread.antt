@@ -1,5 +1,6 @@
 -- What a session does. The rules are those of Qt's object model in this server's profile; codes and
 -- limits are its own.
+use Rattle.thread_model.specs.Binding.{asked_binding, asked_property, begins, binding_error_found, binds_found, ends, unbinds_found}
 use Rattle.std.specs.Prelude.{ℕ, Bool, true, false, ◌&&◌, List, Ok, [], ◌∷◌, bytes_eq, is_none}
 use Rattle.isolation.specs.Machine.{Effect}
 use Rattle.class_table.specs.declared.class.Class.{Class}
@@ -7,7 +8,7 @@ use Rattle.publish_board.specs.Desk.{names_session}
 use Rattle.thread_model.specs.declared.line.Answer.TheVariants.{Truth}
 use Rattle.thread_model.specs.declared.line.Line.{Line}
 use Rattle.thread_model.specs.declared.post.Post.{Post}
-use Rattle.thread_model.specs.Asked.{Asked, New, Delete, Children, Find, Set, Get, DynamicNames, Meta, Connect, ConnectFunctor, DisconnectOne, Disconnect, Invoke, Spin, Do, Status, Publish, Unpublish, Join, Leave, Reset}
+use Rattle.thread_model.specs.Asked.{Asked, New, Delete, Children, Find, Set, Get, DynamicNames, Meta, Connect, ConnectFunctor, DisconnectOne, Disconnect, Invoke, Spin, Do, Status, Publish, Unpublish, Join, Leave, Reset, Bind, Unbind, BindingError, Begin, End}
 use Rattle.thread_model.specs.Arriving.{reached_by}
 use Rattle.thread_model.specs.Classes.{describes}
 use Rattle.thread_model.specs.Effects.{replies, unless}
@@ -44,6 +45,11 @@ performs settings self state (Unpublish name) = unpublishes state name
 performs settings self state (Join from name types target method) = joins_found state (asked_join settings state from name types target method)
 performs settings self state (Leave from name target method) = leaves state from name target (asked_listener settings state target method)
 performs settings self state Reset = replies empty (Truth true)
+performs settings self state (Bind target property to) = binds_found settings state (asked_binding state target property to)
+performs settings self state (Unbind target property) = unbinds_found settings state (asked_property state target property)
+performs settings self state (BindingError target property) = binding_error_found state (asked_property state target property)
+performs settings self state Begin = begins state
+performs settings self state End = ends settings state
 
 -- what a command does
 unfoldable pub does : Settings → List ℕ → State → Asked → Effect State Line Post

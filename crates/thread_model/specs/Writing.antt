@@ -1,6 +1,5 @@
 -- What is written to the properties of an object, and what is told of it.
-use Rattle.std.specs.Prelude.{ℕ, List, [], ◌∷◌, Option, Ok, Err, length, take, slice_get, option_map, option_and_then, if◌then◌else◌}
-use Rattle.std.specs.List.{filter_map}
+use Rattle.std.specs.Prelude.{ℕ, List, Option, Ok, Err, slice_get, option_map, option_and_then, Some, None}
 use Rattle.std.specs.Option.{ok_or, option_map_or}
 use Rattle.refusals.specs.declared.code.Code.TheVariants.{BadValue}
 use Rattle.serde_json.specs.Data.{Data, null}
@@ -8,15 +7,14 @@ use Rattle.signature_core.specs.declared.kind.Kind.{Kind}
 use Rattle.variant_value.specs.declared.value.Value.{Value}
 use Rattle.variant_value.specs.declared.value.Value.TheVariants as v
 use Rattle.variant_value.specs.Values.{converted, inferred, text_of, value_of}
-use Rattle.class_table.specs.declared.class.Property.{Property}
-use Rattle.class_table.specs.Lookup.{properties}
-use Rattle.object_tree.specs.Rows.{row_of}
-use Rattle.property_store.specs.Store.{dynamic_refusal, field_number, is_change, properties_of, with_dynamic, with_value, without_dynamic}
-use Rattle.thread_model.specs.Doing.{Doing, in_state}
-use Rattle.thread_model.specs.Items.{Emit, Item, Next, puts}
-use Rattle.thread_model.specs.Methods.{Found, ◌>>=◌, kinds_at, methods_of}
+use Rattle.binding_values.specs.declared.property.Property.{Property as At}
+use Rattle.property_store.specs.Store.{dynamic_refusal, field_number, properties_of, with_dynamic, with_value, without_dynamic}
+use Rattle.thread_model.specs.Doing.{Doing}
+use Rattle.thread_model.specs.Items.{Next}
+use Rattle.thread_model.specs.Methods.{Found, ◌>>=◌}
 use Rattle.thread_model.specs.Settings.{Settings}
-use Rattle.thread_model.specs.State.{State, with_properties}
+use Rattle.thread_model.specs.Showing.{comes_to}
+use Rattle.thread_model.specs.State.{State, with_properties, without_binding}
 
 pub data Writing : Type 0 where
   -- a declared property is given a value of its kind
@@ -69,40 +67,18 @@ acted_writing state object name value =
     option_map_or (λ place. ok_or (converted place.kind value) BadValue >>= short >>= λ value. Ok (Declared place.number value)) (declared state object name)
     (short value >>= dynamic_writing state object name)
 
--- the state with what is written
+-- the state with what is written; a declared property that is written is bound no longer
 abbrev pub with_writing : State → ℕ → Writing → State
-with_writing state object (Declared number value) = with_properties state object (with_value number value)
+with_writing state object (Declared number value) = without_binding (with_properties state object (with_value number value)) (record { object = object; number = number })
 with_writing state object (Dynamic name value) = with_properties state object (with_dynamic name value)
 with_writing state object (Removed name) = with_properties state object (without_dynamic name)
 with_writing state object Nothing = state
 
--- a property whose value has changed, and its value then
-pub record Change : Type 0 where
-  pub object : ℕ
-  pub number : ℕ
-  pub value : Value
-
--- the properties whose values a writing changes: none but the one that is written
-abbrev pub changes : State → ℕ → Writing → List Change
-changes state object (Declared number value) = if is_change state.store object number value then record { object = object; number = number; value = value } ∷ [] else []
-changes state object _ = []
-
--- the property of an object, as its class declares it
-abbrev pub property_at : Settings → State → ℕ → ℕ → Option Property
-property_at settings state object number = option_and_then (λ row. slice_get (properties settings.classes row.class) number) (row_of state.forest.rows object)
-
--- what a signal that tells of a change is sent with: the new value, where it takes one
-abbrev pub told_value : Settings → State → Change → ℕ → List Value
-told_value settings state change signal = take (length (kinds_at (methods_of settings state change.object) signal)) (change.value ∷ [])
-
--- a change is told by the property's signal for it (NOTIFY), where it has one
-abbrev pub notification : Settings → State → ℕ → Change → Option Item
-notification settings state depth change =
-    option_map (λ signal. Emit change.object signal (told_value settings state change signal) depth)
-    (option_and_then (λ property. property.notify) (property_at settings state change.object change.number))
+-- the declared property that is written, where one is
+abbrev pub written_property : ℕ → Writing → Option At
+written_property object (Declared number value) = Some (record { object = object; number = number })
+written_property object _ = None
 
 -- writing changes the properties, and then tells of what has changed
 abbrev pub written : Settings → Doing → ℕ → ℕ → Writing → Next
-written settings doing object depth writing =
-    let after = with_writing doing.state object writing in
-    puts (filter_map (notification settings after depth) (changes doing.state object writing)) (in_state doing after)
+written settings doing object depth writing = comes_to settings doing depth (with_writing doing.state object writing) (written_property object writing)

@@ -128,6 +128,27 @@ pub enum Command {
     },
     /// Puts the session back to where it was before its first command, also where it has failed.
     Reset,
+    /// Binds a property to an expression, and replies true.
+    Bind {
+        object: u32,
+        property: Text,
+        to: serde_json::Value,
+    },
+    /// Binds a property no longer, and replies whether it was bound. It keeps the value that it has.
+    Unbind {
+        object: u32,
+        property: Text,
+    },
+    /// Replies the error that a bound property stands for, where it does.
+    BindingError {
+        object: u32,
+        property: Text,
+    },
+    /// Begins a group, in which changes of properties are not told, and replies how many are open.
+    Begin,
+    /// Ends a group, and replies how many are left. With the outermost all that has changed since it began
+    /// is told.
+    End,
     /// Replies how much there is in the session.
     Status,
 }

@@ -38,8 +38,10 @@ pub fn agenda_runs_to_its_end()
 
 /// A session stays sound: between commands its objects stand in trees within the limits, none is being
 /// deleted, and both ends of every connection stand. Each has the properties that its class declares, with
-/// values of their kinds, and no more dynamic ones than it may have. Its events are no more than there may
-/// be, and the object that an event names stands: what is deleted takes its events with it.
+/// values of their kinds, and no more dynamic ones than it may have. What is bound are properties that are
+/// there and may be bound; there are no more bindings, and no more groups open, than there may be, and what
+/// properties showed before is kept while a group is open and no longer. Its events are no more than there
+/// may be, and the object that an event names stands: what is deleted takes its events and bindings with it.
 pub fn commands_keep_sessions_sound()
     ensures commands { KeepsSound }
     ensures items { KeepsUnderWay }

@@ -2,6 +2,7 @@
 use crate::boxed::Boxed;
 use crate::call::Call;
 use crate::meta::MetaObject;
+use binding_values::BindingError;
 use plain_types::{Items, Text};
 use refusals::Code;
 use variant_value::Value;
@@ -16,6 +17,8 @@ pub enum Answer {
     /// The numbers of objects, in order.
     Numbers(Items<u32>),
     Truth(bool),
+    /// The error that a bound property stands for, where it does.
+    BindingError(Option<BindingError>),
     Value(Value),
     /// The names of properties, in order.
     Names(Items<Text>),
@@ -41,7 +44,10 @@ pub struct Spin {
 /// How much there is in a session.
 #[derive(Clone, Copy)]
 pub struct Status {
+    pub bindings: u32,
     pub connections: u32,
+    /// How many groups are open.
+    pub group: u32,
     pub joins: u32,
     pub lost: u64,
     pub mismatched: u64,
@@ -60,7 +66,16 @@ pub enum Line {
     Call(Call),
     /// An action in the body of this object's slot, or of a functor that ran for it, was refused, or a
     /// signal of this object was not sent. That the turns are used up is said of no object.
-    Warning { code: Code, object: Option<u32> },
+    Warning {
+        code: Code,
+        object: Option<u32>,
+    },
+    /// A property of this name that is bound stands for an error, which is new or another one.
+    BindingWarning {
+        object: u32,
+        property: Text,
+        error: BindingError,
+    },
 }
 
 impl Drop for Line {
@@ -69,7 +84,12 @@ impl Drop for Line {
             Line::Reply(_)
             | Line::Error(_)
             | Line::Call(_)
-            | Line::Warning { code: _, object: _ } => (),
+            | Line::Warning { code: _, object: _ }
+            | Line::BindingWarning {
+                object: _,
+                property: _,
+                error: _,
+            } => (),
         }
     }
 }

@@ -1,6 +1,5 @@
 -- The texts of counts, key by key.
 use Rattle.std.proofs.Common.{◌≡◌, ℕ, List, [], ◌∷◌, ◌++◌, refl, codes, append_assoc}
-use Rattle.std.specs.Fmt.{digits}
 use Rattle.serde_json.specs.Written.{compact_text}
 use Rattle.serde_json.proofs.OnLiterals.{serde_json_on_literals}
 use Rattle.thread_model.specs.declared.line.Spin.{Spin}
@@ -13,11 +12,11 @@ pub four_behind : (a b c d e f k1 v1 k2 v2 k3 v3 k4 v4 : List ℕ)
     → f ≡ a ++ (k1 ++ (v1 ++ (k2 ++ (v2 ++ (k3 ++ (v3 ++ (k4 ++ (v4 ++ 125 ∷ []))))))))
 four_behind a b c d e f k1 v1 k2 v2 k3 v3 k4 v4 h i j k l = rw (l, k, j, i, h) (simp append_assoc)
 
--- seven of them
-pub seven_behind : (a b c d e f g h i k1 v1 k2 v2 k3 v3 k4 v4 k5 v5 k6 v6 k7 v7 : List ℕ)
-    → b ≡ a ++ (k1 ++ v1) → c ≡ b ++ (k2 ++ v2) → d ≡ c ++ (k3 ++ v3) → e ≡ d ++ (k4 ++ v4) → f ≡ e ++ (k5 ++ v5) → g ≡ f ++ (k6 ++ v6) → h ≡ g ++ (k7 ++ v7) → i ≡ h ++ 125 ∷ []
-    → i ≡ a ++ (k1 ++ (v1 ++ (k2 ++ (v2 ++ (k3 ++ (v3 ++ (k4 ++ (v4 ++ (k5 ++ (v5 ++ (k6 ++ (v6 ++ (k7 ++ (v7 ++ 125 ∷ []))))))))))))))
-seven_behind a b c d e f g h i k1 v1 k2 v2 k3 v3 k4 v4 k5 v5 k6 v6 k7 v7 l m n o p q r t = rw (t, r, q, p, o, n, m, l) (simp append_assoc)
+-- nine of them
+pub nine_behind : (a b c d e f g h i j k k1 v1 k2 v2 k3 v3 k4 v4 k5 v5 k6 v6 k7 v7 k8 v8 k9 v9 : List ℕ)
+    → b ≡ a ++ (k1 ++ v1) → c ≡ b ++ (k2 ++ v2) → d ≡ c ++ (k3 ++ v3) → e ≡ d ++ (k4 ++ v4) → f ≡ e ++ (k5 ++ v5) → g ≡ f ++ (k6 ++ v6) → h ≡ g ++ (k7 ++ v7) → i ≡ h ++ (k8 ++ v8) → j ≡ i ++ (k9 ++ v9) → k ≡ j ++ 125 ∷ []
+    → k ≡ a ++ (k1 ++ (v1 ++ (k2 ++ (v2 ++ (k3 ++ (v3 ++ (k4 ++ (v4 ++ (k5 ++ (v5 ++ (k6 ++ (v6 ++ (k7 ++ (v7 ++ (k8 ++ (v8 ++ (k9 ++ (v9 ++ 125 ∷ []))))))))))))))))))
+nine_behind a b c d e f g h i j k k1 v1 k2 v2 k3 v3 k4 v4 k5 v5 k6 v6 k7 v7 k8 v8 k9 v9 e1 e2 e3 e4 e5 e6 e7 e8 e9 e10 = rw (e10, e9, e8, e7, e6, e5, e4, e3, e2, e1) (simp append_assoc)
 
 pub spin_text : (spin : Spin) (events left : ℕ) → events ≡ spin.events → left ≡ spin.left →
     codes "{\"events\":" ++ (compact_text (json_of_number events) ++ (codes ",\"left\":" ++ (compact_text (json_of_number left)
@@ -26,14 +25,17 @@ pub spin_text : (spin : Spin) (events left : ℕ) → events ≡ spin.events →
 unfolding serde_json_on_literals
 spin_text spin events left e f = rw (e, f) refl
 
-pub status_text : (status : Status) (connections joins objects publications queued : ℕ) → connections ≡ status.connections → joins ≡ status.joins → objects ≡ status.objects → publications ≡ status.publications → queued ≡ status.queued →
-    codes "{\"bindings\":0,\"connections\":" ++ (compact_text (json_of_number connections)
-    ++ (codes ",\"group\":0,\"joins\":" ++ (compact_text (json_of_number joins)
+pub status_text : (status : Status) (bindings connections group joins objects publications queued : ℕ)
+    → bindings ≡ status.bindings → connections ≡ status.connections → group ≡ status.group → joins ≡ status.joins → objects ≡ status.objects → publications ≡ status.publications → queued ≡ status.queued →
+    codes "{\"bindings\":" ++ (compact_text (json_of_number bindings)
+    ++ (codes ",\"connections\":" ++ (compact_text (json_of_number connections)
+    ++ (codes ",\"group\":" ++ (compact_text (json_of_number group)
+    ++ (codes ",\"joins\":" ++ (compact_text (json_of_number joins)
     ++ (codes ",\"lost\":" ++ (compact_text (json_of_number status.lost)
     ++ (codes ",\"mismatched\":" ++ (compact_text (json_of_number status.mismatched)
     ++ (codes ",\"objects\":" ++ (compact_text (json_of_number objects)
     ++ (codes ",\"publications\":" ++ (compact_text (json_of_number publications)
-    ++ (codes ",\"queued\":" ++ (compact_text (json_of_number queued) ++ 125 ∷ [])))))))))))))
+    ++ (codes ",\"queued\":" ++ (compact_text (json_of_number queued) ++ 125 ∷ [])))))))))))))))))
     ≡ compact_text (json_of_status status)
-unfolding serde_json_on_literals digits
-status_text status connections joins objects publications queued e f g h i = rw (e, f, g, h, i) refl
+unfolding serde_json_on_literals
+status_text status bindings connections group joins objects publications queued e1 e2 e3 e4 e5 e6 e7 = rw (e1, e2, e3, e4, e5, e6, e7) refl

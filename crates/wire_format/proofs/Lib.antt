@@ -1,5 +1,4 @@
 pub mod CommandLemmas
-pub mod HeldLemmas
 pub mod Plain
 pub mod LineTexts
 pub mod CountTexts

@@ -3,6 +3,7 @@ use Rattle.std.proofs.Common.{◌≡◌, ℕ, true, List, [], ◌∷◌, ◌++�
 use Rattle.std.specs.List.{list_all}
 use Rattle.refusals.specs.declared.code.Code.{Code}
 use Rattle.refusals.specs.Codes.{code_text}
+use Rattle.binding_values.specs.declared.property.BindingError.{BindingError}
 use Rattle.serde_json.specs.Data.{string}
 use Rattle.serde_json.specs.Written.{compact_text}
 use Rattle.serde_json.proofs.OnLiterals.{serde_json_on_literals}
@@ -11,10 +12,14 @@ use Rattle.thread_model.specs.declared.line.Answer.{Answer}
 use Rattle.thread_model.specs.declared.line.Line.TheVariants as a_line
 use Rattle.thread_model.specs.declared.line.Line.TheVariants.{Reply, Error}
 use Rattle.variant_value.specs.Values.{json_of}
-use Rattle.wire_format.specs.Text.{array_of, is_plain_byte, is_session_text, json_of_answer, json_of_number, text_of_line}
+use Rattle.wire_format.specs.Text.{array_of, error_name, is_plain_byte, is_session_text, json_of_answer, json_of_number, text_of_line}
 use Rattle.wire_format.proofs.Plain.{code_is_plain, session_is_plain, text_of_plain}
 
--- three texts put behind another, one after another
+-- two texts put behind another, one after another
+pub two_behind : (a b c x y : List ℕ) → b ≡ a ++ x → c ≡ b ++ y → c ≡ a ++ (x ++ y)
+two_behind a b c x y e f = rw (f, e) (append_assoc a x y)
+
+-- three of them
 pub three_behind : (a b c d x y z : List ℕ) → b ≡ a ++ x → c ≡ b ++ y → d ≡ c ++ z → d ≡ a ++ (x ++ (y ++ z))
 three_behind a b c d x y z e f g = rw (g, f, e) (simp append_assoc)
 
@@ -48,17 +53,35 @@ call_line call session =
 warning_ended : (a b c d e f : List ℕ) → (a ++ (b ++ (c ++ (d ++ (e ++ (f ++ 125 ∷ [])))))) ++ 10 ∷ [] ≡ (a ++ (b ++ c)) ++ (d ++ (e ++ (f ++ codes "}\n")))
 warning_ended a b c d e f = simp append_assoc
 
--- what stands in a warning's line before its session
+-- what stands in a warning's line from its session on
+abbrev pub warned : List ℕ → List ℕ → List ℕ
+warned session word = compact_text (string session) ++ (codes ",\"warning\":" ++ (compact_text (string word) ++ codes "}\n"))
+
+-- and before it
 abbrev pub warning_opening : Option ℕ → List ℕ
 warning_opening None = codes "{\"session\":"
 warning_opening (Some n) = codes "{\"object\":" ++ (compact_text (json_of_number n) ++ codes ",\"session\":")
 
 pub warning_line : (code : Code) (object : Option ℕ) (session : List ℕ) → text_of_line session (a_line.Warning code object)
-    ≡ warning_opening object ++ (compact_text (string session) ++ (codes ",\"warning\":" ++ (compact_text (string (code_text code)) ++ codes "}\n")))
+    ≡ warning_opening object ++ warned session (code_text code)
 unfolding text_of_line serde_json_on_literals
 warning_line code None session = with_end (codes "{\"session\":") (compact_text (string session)) (codes ",\"warning\":") (compact_text (string (code_text code)))
 warning_line code (Some n) session =
     warning_ended (codes "{\"object\":") (compact_text (json_of_number n)) (codes ",\"session\":") (compact_text (string session)) (codes ",\"warning\":") (compact_text (string (code_text code)))
+
+binding_ended : (a b c d e f g h : List ℕ) → (a ++ (b ++ (c ++ (d ++ (e ++ (f ++ (g ++ (h ++ 125 ∷ [])))))))) ++ 10 ∷ [] ≡ (a ++ (b ++ (c ++ (d ++ e)))) ++ (f ++ (g ++ (h ++ codes "}\n")))
+binding_ended a b c d e f g h = simp append_assoc
+
+-- what stands before it, where a property is warned of
+abbrev pub binding_opening : ℕ → List ℕ → List ℕ
+binding_opening n property = codes "{\"object\":" ++ (compact_text (json_of_number n) ++ (codes ",\"property\":" ++ (compact_text (string property) ++ codes ",\"session\":")))
+
+pub binding_warning_line : (n : ℕ) (property : List ℕ) (error : BindingError) (session : List ℕ) → text_of_line session (a_line.BindingWarning n property error)
+    ≡ binding_opening n property ++ warned session (error_name error)
+unfolding text_of_line serde_json_on_literals
+binding_warning_line n property error session =
+    binding_ended (codes "{\"object\":") (compact_text (json_of_number n)) (codes ",\"property\":") (compact_text (string property))
+    (codes ",\"session\":") (compact_text (string session)) (codes ",\"warning\":") (compact_text (string (error_name error)))
 
 -- a text in which JSON escapes nothing, with the text around it, which brings its quotes
 pub text_between : (before s after : List ℕ) → list_all is_plain_byte s ≡ true → (before ++ 34 ∷ []) ++ (s ++ (34 ∷ after)) ≡ before ++ (compact_text (string s) ++ after)

@@ -11,7 +11,9 @@ use Rattle.plain_types.specs.Names.{is_name_start, is_name_byte, is_name}
 use Rattle.refusals.specs.declared.code.Code.{Code}
 use Rattle.refusals.specs.declared.code.Code.TheVariants.{UnreadableLine, NotACommand, NoSuchClass, NoSuchObject, NoSuchMethod, BadSignature, DoesNotFit, ConnectedAlready, UniqueFunctor, NoSuchFunctor, NoSuchProperty, Cycle, Dying, Limit, NameTaken, OwnSession, NoGroup, NotBindable, NumbersUsedUp, SessionFailed, OutOfMemory, BadValue, TurnsUsedUp}
 use Rattle.refusals.specs.Codes.{code_text}
-use Rattle.wire_format.specs.Text.{is_plain_byte, is_session_text}
+use Rattle.binding_values.specs.declared.property.BindingError.{BindingError}
+use Rattle.binding_values.specs.declared.property.BindingError.TheVariants.{BindingLoop, EvaluationError}
+use Rattle.wire_format.specs.Text.{error_name, is_plain_byte, is_session_text}
 
 -- what a plain byte is not
 record Plain (x : ℕ) : Type 0 where
@@ -99,7 +101,12 @@ code_is_plain OutOfMemory = refl
 code_is_plain BadValue = refl
 code_is_plain TurnsUsedUp = refl
 
--- so are names
+-- so are the names of errors
+pub error_is_plain : (error : BindingError) → list_all is_plain_byte (error_name error) ≡ true
+error_is_plain BindingLoop = refl
+error_is_plain EvaluationError = refl
+
+-- and all other names
 name_byte_is_plain : (x : ℕ) → is_name_byte x ≡ true → is_plain_byte x ≡ true
 name_byte_is_plain x h = grind (arith, nat_tests)
 

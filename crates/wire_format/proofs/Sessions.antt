@@ -10,7 +10,7 @@ use Rattle.wire_format.specs.declared.fault.LineFault.{LineFault}
 use Rattle.wire_format.specs.declared.line.TheConstants.{LINE_BYTES}
 use Rattle.json_reading.specs.Fields.{◌>>=◌, when, text_at, name_at}
 use Rattle.wire_format.specs.Command.{given_by, command_in, command_by, json_of_line, json_in, command_of, not_a_command, unreadable}
-use Rattle.wire_format.specs.Commands.{asked_of}
+use Rattle.wire_commands.specs.Commands.{asked_of}
 use Rattle.wire_format.specs.Text.{blamed, is_session_text}
 
 -- what a line's answer says of the session that it names

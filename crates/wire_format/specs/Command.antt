@@ -13,7 +13,7 @@ use Rattle.wire_format.specs.declared.fault.ReadError.{ReadError}
 use Rattle.wire_format.specs.declared.fault.ReadError.TheVariants.{Fault, Memory}
 use Rattle.wire_format.specs.declared.line.TheConstants.{LINE_BYTES}
 use Rattle.json_reading.specs.Fields.{name_at}
-use Rattle.wire_format.specs.Commands.{asked_of}
+use Rattle.wire_commands.specs.Commands.{asked_of}
 
 -- the JSON that a line is
 abbrev pub json_of_line : List ℕ → Option Data

@@ -1,13 +1,3 @@
-pub mod Keys
-pub mod Held
-pub mod Form
-pub mod Trees
-pub mod Properties
-pub mod Classes
-pub mod Signals
-pub mod Events
-pub mod Sharing
-pub mod Commands
 pub mod Command
 pub mod Input
 pub mod Text

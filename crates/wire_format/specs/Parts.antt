@@ -4,7 +4,7 @@ use Rattle.std.specs.List.{list_all}
 use Rattle.thread_model.specs.declared.line.Answer.{Answer}
 use Rattle.thread_model.specs.declared.line.Answer.TheVariants as answer
 use Rattle.thread_model.specs.declared.line.Line.{Line}
-use Rattle.thread_model.specs.declared.line.Line.TheVariants.{Reply, Error, Call, Warning}
+use Rattle.thread_model.specs.declared.line.Line.TheVariants.{Reply, Error, Call, Warning, BindingWarning}
 use Rattle.variant_value.specs.declared.value.Value.{Value}
 use Rattle.variant_value.specs.declared.value.Value.TheVariants.{Text}
 use Rattle.wire_format.specs.declared.parts.Parts.{Parts}
@@ -24,6 +24,7 @@ is_plain_answer (answer.Number n) = true
 is_plain_answer (answer.Found found) = true
 is_plain_answer (answer.Numbers ns) = false
 is_plain_answer (answer.Truth truth) = true
+is_plain_answer (answer.BindingError error) = true
 is_plain_answer (answer.Value value) = is_plain_value value
 is_plain_answer (answer.Names names) = false
 is_plain_answer (answer.Meta meta) = false
@@ -36,3 +37,4 @@ has_parts (Reply answer) = is_plain_answer answer
 has_parts (Error code) = true
 has_parts (Call call) = false
 has_parts (Warning code object) = false
+has_parts (BindingWarning named property error) = false

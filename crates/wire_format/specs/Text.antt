@@ -1,16 +1,18 @@
 -- What is written for a line that a session is told.
-use Rattle.std.specs.Prelude.{◌==◌, ◌&&◌, ◌||◌, ℕ, Bool, not, List, [], ◌∷◌, ◌++◌, bytes_eq, codes, nat_le, unwrap_or, Option, Some, None, map}
+use Rattle.std.specs.Prelude.{◌==◌, ◌&&◌, ◌||◌, ℕ, Bool, not, List, [], ◌∷◌, ◌++◌, bytes_eq, codes, nat_le, unwrap_or, Option, Some, None, map, option_map}
 use Rattle.serde_json.specs.Data.{Data, Members, null, boolean, number, string, array, object, unsigned, no_members, member}
 use Rattle.serde_json.specs.View.{items_of}
 use Rattle.serde_json.specs.Written.{compact_text}
 use Rattle.plain_types.specs.Names.{is_name}
 use Rattle.refusals.specs.Codes.{code_text}
+use Rattle.binding_values.specs.declared.property.BindingError.{BindingError}
+use Rattle.binding_values.specs.declared.property.BindingError.TheVariants.{BindingLoop, EvaluationError}
 use Rattle.thread_model.specs.declared.line.Answer.{Answer}
-use Rattle.thread_model.specs.declared.line.Answer.TheVariants.{Number, Found, Numbers, Truth, Value, Names, Meta, Spun, Status as Counted}
+use Rattle.thread_model.specs.declared.line.Answer.TheVariants.{Number, Found, Numbers, Truth, BindingError as StoodFor, Value, Names, Meta, Spun, Status as Counted}
 use Rattle.thread_model.specs.declared.line.Spin.{Spin}
 use Rattle.thread_model.specs.declared.line.Status.{Status}
 use Rattle.thread_model.specs.declared.line.Line.{Line}
-use Rattle.thread_model.specs.declared.line.Line.TheVariants.{Reply, Error, Call, Warning}
+use Rattle.thread_model.specs.declared.line.Line.TheVariants.{Reply, Error, Call, Warning, BindingWarning}
 use Rattle.thread_model.specs.declared.meta.MetaObject.{MetaObject}
 use Rattle.variant_value.specs.Values.{json_of}
 use Rattle.wire_format.specs.declared.fault.LineFault.{LineFault}
@@ -33,6 +35,11 @@ abbrev pub json_of_found : Option ℕ → Data
 json_of_found None = null
 json_of_found (Some n) = json_of_number n
 
+-- the name of the error that a bound property stands for
+abbrev pub error_name : BindingError → List ℕ
+error_name BindingLoop = codes "BindingLoop"
+error_name EvaluationError = codes "EvaluationError"
+
 -- what there is in a class, in JSON, its keys in byte order
 abbrev pub json_of_meta : MetaObject → Data
 json_of_meta meta =
@@ -51,12 +58,12 @@ json_of_spin spin =
     member (codes "lost") (json_of_number spin.lost) (
     member (codes "mismatched") (json_of_number spin.mismatched) no_members))))
 
--- how much there is in a session, in JSON; of bindings and groups there are none yet
+-- how much there is in a session, in JSON
 abbrev pub json_of_status : Status → Data
 json_of_status status =
-    object (member (codes "bindings") (json_of_number 0) (
+    object (member (codes "bindings") (json_of_number status.bindings) (
     member (codes "connections") (json_of_number status.connections) (
-    member (codes "group") (json_of_number 0) (
+    member (codes "group") (json_of_number status.group) (
     member (codes "joins") (json_of_number status.joins) (
     member (codes "lost") (json_of_number status.lost) (
     member (codes "mismatched") (json_of_number status.mismatched) (
@@ -70,6 +77,7 @@ json_of_answer (Number n) = json_of_number n
 json_of_answer (Found found) = json_of_found found
 json_of_answer (Numbers ns) = array_of json_of_number ns
 json_of_answer (Truth truth) = boolean truth
+json_of_answer (StoodFor error) = json_of_name (option_map error_name error)
 json_of_answer (Value value) = json_of value
 json_of_answer (Names names) = array_of string names
 json_of_answer (Meta meta) = json_of_meta meta
@@ -95,6 +103,10 @@ said_in_json session (Call call) =
     member (codes "object") (json_of_number call.object) (
     member (codes "sender") (json_of_number call.sender) (in_session session no_members)))))
 said_in_json session (Warning code named) = object (about named (in_session session (member (codes "warning") (string (code_text code)) no_members)))
+said_in_json session (BindingWarning named property error) =
+    object (member (codes "object") (json_of_number named) (
+    member (codes "property") (string property) (
+    in_session session (member (codes "warning") (string (error_name error)) no_members))))
 
 -- the text of a line, with its line feed
 unfoldable pub text_of_line : List ℕ → Line → List ℕ

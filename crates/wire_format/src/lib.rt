@@ -3,20 +3,11 @@
 
 ghost use Rattle.wire_format.specs.Output.{LeavingOutLines, LeavingOutStrangers};
 
-mod classes;
-mod commands;
-mod events;
 mod fault;
-mod held;
-mod keys;
 mod line;
 mod parts;
-mod properties;
 mod reading;
-mod sharing;
 mod shown;
-mod signals;
-mod trees;
 mod writing;
 
 pub use fault::{LineFault, ReadError};

@@ -59,7 +59,7 @@ pub fn line_parts<'a>(session: &'a str, line: &'a Line, digits: &'a mut Digits) 
             }),
             _ => None,
         },
-        Line::Call(_) | Line::Warning { .. } => None,
+        Line::Call(_) | Line::Warning { .. } | Line::BindingWarning { .. } => None,
     }
 }
 

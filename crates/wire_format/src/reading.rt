@@ -8,7 +8,6 @@ ghost use Rattle.json_reading.specs.Members.{members_in};
 ghost use Rattle.thread_model.specs.Asked.{asked, tag};
 ghost use Rattle.wire_format.specs.Command.{Gives, command_by, command_in, command_of, json_in, not_a_command, unreadable};
 
-use crate::commands::command_in;
 use crate::fault::{LineFault, ReadError};
 use crate::line::LINE_BYTES;
 use json::Scratch;
@@ -18,6 +17,7 @@ use refusals::Code;
 use serde_json::Value;
 use std::alloc::{AllocError, Global};
 use thread_model::{Command, Tagged};
+use wire_commands::command_in;
 
 /// The command that the line is. A line that is too long, is no UTF-8 or is no JSON is
 /// `UnreadableLine` for no session; any other line that is no command is `NotACommand` for the

@@ -1,12 +1,13 @@
 //! What an answer is written as.
-ghost use Rattle.std.specs.Prelude.{◌≡◌};
+ghost use Rattle.std.specs.Prelude.{◌≡◌, IsTrue, option_map};
 ghost use Rattle.serde_json.specs.Data.{boolean};
 ghost use Rattle.serde_json.specs.Written.{compact_text};
 ghost use Rattle.variant_value.specs.Values.{json_of};
 ghost use Rattle.wire_format.specs.Parts.{is_plain_answer, is_plain_value};
 ghost use Rattle.wire_format.specs.Shown.{is_plain_shown, text_of_shown};
-ghost use Rattle.wire_format.specs.Text.{json_of_answer, json_of_found};
+ghost use Rattle.wire_format.specs.Text.{error_name, json_of_answer, json_of_found, json_of_name};
 
+use binding_values::BindingError;
 use itoa::Buffer as Digits;
 use plain_types::Text;
 use thread_model::{Answer, MetaObject, Spin, Status};
@@ -36,6 +37,7 @@ pub(crate) fn shown_as<'a>(answer: &'a Answer, digits: &'a mut Digits) -> Shown<
         Answer::Found(found) => Shown::Word(found_word(*found, digits)),
         Answer::Numbers(numbers) => Shown::Numbers(numbers.as_slice()),
         Answer::Truth(truth) => Shown::Word(truth_word(*truth)),
+        Answer::BindingError(error) => shown_error(*error),
         Answer::Value(value) => shown_value(value, digits),
         Answer::Names(names) => Shown::Names(names.as_slice()),
         Answer::Meta(meta) => Shown::Meta(meta.get()),
@@ -72,5 +74,27 @@ fn found_word<'a>(found: Option<u32>, digits: &'a mut Digits) -> &'a str
     match found {
         Some(number) => digits.format(number),
         None => "null",
+    }
+}
+
+/// The name of an error, or `null` where there is none.
+#[tactic(auto, using(crate::proofs::Plain::error_is_plain))]
+fn shown_error<'a>(error: Option<BindingError>) -> Shown<'a>
+    ensures text { text_of_shown result ≡ compact_text (json_of_name (option_map error_name error)) }
+    ensures plain { IsTrue (is_plain_shown result) }
+{
+    match error {
+        Some(error) => Shown::Text(error_name(error)),
+        None => Shown::Word("null"),
+    }
+}
+
+/// The name under which clients are told of an error.
+pub(crate) fn error_name(error: BindingError) -> &'static str
+    ensures { result.now ≡ error_name error }
+{
+    match error {
+        BindingError::BindingLoop => "BindingLoop",
+        BindingError::EvaluationError => "EvaluationError",
     }
 }

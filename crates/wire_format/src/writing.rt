@@ -5,9 +5,10 @@ ghost use Rattle.serde_json.specs.Data.{string};
 ghost use Rattle.serde_json.specs.Written.{compact_text};
 ghost use Rattle.variant_value.specs.Values.{json_of};
 ghost use Rattle.wire_format.specs.Shown.{text_of_shown};
-ghost use Rattle.wire_format.specs.Text.{array_of, json_of_meta, json_of_name, json_of_number, json_of_spin, json_of_status, text_of_line, is_plain_byte};
+ghost use Rattle.wire_format.specs.Text.{array_of, error_name, json_of_meta, json_of_name, json_of_number, json_of_spin, json_of_status, text_of_line, is_plain_byte};
 
-use crate::shown::{Shown, shown_as, shown_value};
+use crate::shown::{Shown, error_name, shown_as, shown_value};
+use binding_values::BindingError;
 use itoa::Buffer as Digits;
 use json::Writer;
 use plain_types::Text;
@@ -62,6 +63,11 @@ fn push_line(
         Line::Error(code) => push_error(alloc, buffer, session, *code),
         Line::Call(call) => push_call(alloc, buffer, session, call),
         Line::Warning { code, object } => push_warning(alloc, buffer, session, *code, *object),
+        Line::BindingWarning {
+            object,
+            property,
+            error,
+        } => push_binding_warning(alloc, buffer, session, *object, property.as_str(), *error),
     }
 }
 
@@ -163,10 +169,44 @@ fn push_warning(
         }
         None => buffer.push_str("{\"session\":")?,
     }
+    push_warned(alloc, buffer, session, code.text())?;
+    Ok(())
+}
+
+fn push_binding_warning(
+    alloc: Global,
+    buffer: &mut String,
+    session: &str,
+    object: u32,
+    property: &str,
+    error: BindingError,
+) -> Result<(), AllocError>
+    ensures { OnOk result (string_bytes buffer.new
+        ≡ string_bytes buffer.old ++ text_of_line session.now (Line.BindingWarning object property.now error)) }
+{
+    buffer.push_str("{\"object\":")?;
+    push_number(buffer, object)?;
+    buffer.push_str(",\"property\":")?;
+    push_text(alloc, buffer, property)?;
+    buffer.push_str(",\"session\":")?;
+    push_warned(alloc, buffer, session, error_name(error))?;
+    Ok(())
+}
+
+/// Appends the session of a warning, what it warns of as its last member, and the line's end.
+fn push_warned(
+    alloc: Global,
+    buffer: &mut String,
+    session: &str,
+    word: &str,
+) -> Result<(), AllocError>
+    ensures { OnOk result (string_bytes buffer.new ≡ string_bytes buffer.old
+        ++ (compact_text (string session.now) ++ (codes ",\"warning\":" ++ (compact_text (string word.now) ++ codes "}\n")))) }
+{
     push_text(alloc, buffer, session)?;
-    buffer.push_str(",\"warning\":\"")?;
-    buffer.push_str(code.text())?;
-    buffer.push_str("\"}\n")?;
+    buffer.push_str(",\"warning\":")?;
+    push_text(alloc, buffer, word)?;
+    buffer.push_str("}\n")?;
     Ok(())
 }
 
@@ -236,15 +276,15 @@ fn push_spin(buffer: &mut String, spin: &Spin) -> Result<(), AllocError>
     Ok(())
 }
 
-/// Appends how much there is in a session. The number of bindings and that of the group are 0, since
-/// there are none yet.
+/// Appends how much there is in a session.
 fn push_status(buffer: &mut String, status: &Status) -> Result<(), AllocError>
     ensures { OnOk result (string_bytes buffer.new
         ≡ string_bytes buffer.old ++ compact_text (json_of_status status.now)) }
 {
-    let connections = "{\"bindings\":0,\"connections\":";
-    push_count(buffer, connections, u64::from(status.connections))?;
-    push_count(buffer, ",\"group\":0,\"joins\":", u64::from(status.joins))?;
+    push_count(buffer, "{\"bindings\":", u64::from(status.bindings))?;
+    push_count(buffer, ",\"connections\":", u64::from(status.connections))?;
+    push_count(buffer, ",\"group\":", u64::from(status.group))?;
+    push_count(buffer, ",\"joins\":", u64::from(status.joins))?;
     push_count(buffer, ",\"lost\":", status.lost)?;
     push_count(buffer, ",\"mismatched\":", status.mismatched)?;
     push_count(buffer, ",\"objects\":", u64::from(status.objects))?;

@@ -1,4 +1,4 @@
-use Rattle.std.proofs.Common.{◌≡◌, ◌≤◌, ◌+◌, ◌*◌, ◌∷◌, [], ℕ, find, is_some, take, true, false, Ok, List, Option, Some, ◌++◌, refl, sym, ap, subst, ◌∙◌, arith, drop}
+use Rattle.std.proofs.Common.{◌≡◌, ◌≤◌, ◌+◌, ◌*◌, ◌∷◌, [], ℕ, find, is_some, take, true, false, Ok, List, Some, ◌++◌, refl, sym, ap, subst, ◌∙◌, arith, drop}
 use Rattle.connection_list.specs.Rows.{is_next}
 use Rattle.term_core.specs.Act.{Act, acts_of, count, counts, effect, when}
 use Rattle.term_core.specs.Steps.{act_at}
@@ -12,27 +12,27 @@ use Rattle.thread_model.specs.Arriving.{posts_of}
 use Rattle.thread_model.specs.Items.{Cut, Delete, Emit, Gone}
 use Rattle.thread_model.specs.Run.{run}
 use Rattle.thread_model.specs.Targets.{truth_evaluated}
-use Rattle.thread_model.proofs.DeletionLemmas as rule
 use Rattle.thread_model.proofs.LivingLemmas.{living_rows}
 use Rattle.thread_model.proofs.RemainingLemmas.{remaining}
 use Rattle.thread_model.proofs.NextCallLemmas.{calls_to, emission_end}
 use Rattle.thread_model.specs.State.{State}
 use Rattle.connection_list.specs.Rows.{IsSound}
 use Rattle.std.specs.List.{list_any}
-use Rattle.thread_model.proofs.RunLemmas.{at_end, by_change}
+use Rattle.thread_model.proofs.RunLemmas.{at_end, by_change, by_step}
 use Rattle.session_tables.specs.Tables.{state_at}
 use Rattle.session_effects.specs.declared.effects.Emission.{Emission}
-use Rattle.session_effects.specs.declared.writing.Notice.{Notice}
+use Rattle.session_effects.specs.declared.announcing.News.{News}
 use Rattle.session_effects.specs.Actions.{act_of}
 use Rattle.session_effects.specs.Setup.{settings_of}
 use Rattle.session_effects.specs.Writing.{items_of, notice_args}
 use Rattle.nested_calls.specs.Telling.{doing_at}
 use Rattle.session_effects.proofs.ActionLemmas.{keeps_same, keeps_twice, keeps_with, placed_kept}
 use Rattle.nested_calls.proofs.AgendaLemmas.{acts_end, acts_go_on, call_absent, call_functor, call_queued, call_signal, call_slot, call_spent, effect_done, effect_refused, effect_warned, emission_absent, emission_begins, emission_deep, emission_goes_on, emission_held_back, emission_unheard, failed_done, found_stands, held_done, is_held, is_let_through, keeps_posted, last_stays, left_at, left_falls, left_shot, left_stepped, longest_of, next_smaller, posting_is, posts_none, rank_falls, round_falls, taken, test_warned, told_is, warn_done}
-use Rattle.nested_calls.proofs.DoesLemmas.{OnOk-map, does_after, does_by, does_none, does_wanting, far_changed, far_end, far_item, far_next, far_none, far_wanting, here, item_wanting, next_none, next_wanting, placed_reached}
+use Rattle.nested_calls.proofs.DoesLemmas.{OnOk-map, does_after, does_by, does_none, does_wanting, far_end, far_item, far_last, far_next, far_none, far_stopped, far_wanting, here, item_wanting, next_none, next_wanting, placed_reached}
 use Rattle.thread_model.specs.Agenda.{lives, lives_below}
-use Rattle.nested_calls.proofs.DeletionLemmas.{cut_first, cut_last, cut_next, delete_begins, delete_none, gone_is, kin_none, kin_some, kins_from, left_marked, left_severed}
-use Rattle.nested_calls.proofs.FrontLemmas.{part_front, told_front}
+use Rattle.nested_calls.proofs.DeletionLemmas.{cut_first, cut_last, cut_next, delete_begins, delete_loose, delete_none, gone_told, kin_none, kin_some, kins_from, left_marked, left_severed}
+use Rattle.nested_calls.proofs.NewsLemmas.{told_from, told_last, told_next, warn_of_done}
+use Rattle.nested_calls.proofs.FrontLemmas.{front_same, part_front, told_front}
 use Rattle.nested_calls.proofs.FunctorLemmas.{answered_does, answered_short, callee_front, functor_absent, functor_queued, functor_run, functor_short, queued_is}
 use Rattle.nested_calls.proofs.+agenda.Goals as goal
 
@@ -136,19 +136,19 @@ pub agenda::call-emit-requires : goal.agenda::call-emit-requires
 agenda::call-emit-requires t g c = λ κs outlives.
     let place = c.args.actor.now.caller.place in
     let less = left_shot place c.args.connection.now c.args.tables.now c.shoot.new.self c.args.telling.now c.requires.placed c.shoot.ensures in
-    ((let falls = round_falls c.args.actor.now.caller c.args.tables.now c.shoot.new.self c.args.telling.now (taken c.args.actor.now.caller c.args.connection.now c.args.args.now c.args.depth c.args.tables.now c.shoot.new.self c.args.telling.now) 2 3 (omega (arith, less)) (omega arith) in grind (arith, falls)), (outlives, (placed_kept _ _ _ (keeps_with _ _ _ _ c.requires.placed c.shoot.ensures) c.requires.placed, omega arith)))
+    ((let falls = round_falls c.args.actor.now.caller c.args.tables.now c.shoot.new.self c.args.telling.now (taken c.args.actor.now.caller c.args.connection.now c.args.args.now c.args.depth c.args.tables.now c.shoot.new.self c.args.telling.now) 0 1 (omega (arith, less)) (omega arith) in grind (arith, falls)), (outlives, (placed_kept _ _ _ (keeps_with _ _ _ _ c.requires.placed c.shoot.ensures) c.requires.placed, omega arith)))
 
 pub agenda::call-call_functor-requires : goal.agenda::call-call_functor-requires
 agenda::call-call_functor-requires t g c = λ κs outlives.
     let place = c.args.actor.now.caller.place in
     let less = left_shot place c.args.connection.now c.args.tables.now c.shoot.new.self c.args.telling.now c.requires.placed c.shoot.ensures in
-    ((let falls = round_falls c.args.actor.now.caller c.args.tables.now c.shoot.new.self c.args.telling.now (taken c.args.actor.now.caller c.args.connection.now c.args.args.now c.args.depth c.args.tables.now c.shoot.new.self c.args.telling.now) 2 (2 * longest_of c.args.actor.now.caller + 8) (omega (arith, less)) (omega arith) in grind (arith, falls)), (outlives, (placed_kept _ _ _ (keeps_with _ _ _ _ c.requires.placed c.shoot.ensures) c.requires.placed, (omega arith, c.in-Functor.is))))
+    ((let falls = round_falls c.args.actor.now.caller c.args.tables.now c.shoot.new.self c.args.telling.now (taken c.args.actor.now.caller c.args.connection.now c.args.args.now c.args.depth c.args.tables.now c.shoot.new.self c.args.telling.now) 0 (2 * longest_of c.args.actor.now.caller + 8) (omega (arith, less)) (omega arith) in grind (arith, falls)), (outlives, (placed_kept _ _ _ (keeps_with _ _ _ _ c.requires.placed c.shoot.ensures) c.requires.placed, (omega arith, c.in-Functor.is))))
 
 pub agenda::call-run_slot-requires : goal.agenda::call-run_slot-requires
 agenda::call-run_slot-requires t g c = λ κs outlives.
     let place = c.args.actor.now.caller.place in
     let less = left_shot place c.args.connection.now c.args.tables.now c.shoot.new.self c.args.telling.now c.requires.placed c.shoot.ensures in
-    ((let falls = round_falls c.args.actor.now.caller c.args.tables.now c.shoot.new.self c.args.telling.now (taken c.args.actor.now.caller c.args.connection.now c.args.args.now c.args.depth c.args.tables.now c.shoot.new.self c.args.telling.now) 2 71 (omega (arith, less)) (omega arith) in grind (arith, falls)), (outlives, (placed_kept _ _ _ (keeps_with _ _ _ _ c.requires.placed c.shoot.ensures) c.requires.placed, (omega arith, c.in-Some.ensures.sound))))
+    ((let falls = round_falls c.args.actor.now.caller c.args.tables.now c.shoot.new.self c.args.telling.now (taken c.args.actor.now.caller c.args.connection.now c.args.args.now c.args.depth c.args.tables.now c.shoot.new.self c.args.telling.now) 0 71 (omega (arith, less)) (omega arith) in grind (arith, falls)), (outlives, (placed_kept _ _ _ (keeps_with _ _ _ _ c.requires.placed c.shoot.ensures) c.requires.placed, (omega arith, c.in-Some.ensures.sound))))
 
 pub agenda::call-returns-then-is_queued : goal.agenda::call-returns-then-is_queued
 agenda::call-returns-then-is_queued t g c =
@@ -251,7 +251,7 @@ agenda::effect-returns-in-Err-set t g c =
     let old = c.args.tables.now in
     let before = c.args.telling.now in
     rw c.in-Set.is (does_none caller _ old before c.set.new.tables c.warn_of-in-Err-set.new.self c.warn_of-in-Err-set.result c.in-Err-set.ensures.keeps c.warn_of-in-Err-set.ensures.failing (OnOk-map c.warn_of-in-Err-set.result
-    (λ warns earlier. effect_refused {T = Option Notice} caller slot (e.Set c.in-Set.of c.in-Set.property c.in-Set.value) old (items_of settings (state_at c.set.new.tables caller.place) slot.depth) c.set.new.tables before c.warn_of-in-Err-set.new.self earlier c.in-Err-set.fault c.in-Err-set.ensures.tries c.in-Err-set.ensures.refused warns)
+    (λ warns earlier. effect_refused {T = News} caller slot (e.Set c.in-Set.of c.in-Set.property c.in-Set.value) old (items_of settings (state_at c.set.new.tables caller.place) slot.depth) c.set.new.tables before c.warn_of-in-Err-set.new.self earlier c.in-Err-set.fault c.in-Err-set.ensures.tries c.in-Err-set.ensures.refused warns)
     c.warn_of-in-Err-set.ensures.told))
 
 pub agenda::effect-returns-in-Ok-change : goal.agenda::effect-returns-in-Ok-change
@@ -334,7 +334,7 @@ pub agenda::emit-call-requires : goal.agenda::emit-call-requires
 agenda::emit-call-requires t g c = λ κs outlives.
     let place = c.args.actor.now.caller.place in
     let left = c.calls.invariant.left in
-    ((let falls = rank_falls c.args.actor.now.caller c.args.tables.now c.calls.tables c.args.telling.now c.calls.telling 3 2 left (omega arith) in grind (arith, falls)), (outlives, (c.calls.invariant.placed, (omega arith, found_stands _ _ c.in-Some-next_connection.connection c.next_connection.ensures.sound.rising (sym c.in-Some-next_connection.ensures.next)))))
+    ((let falls = rank_falls c.args.actor.now.caller c.args.tables.now c.calls.tables c.args.telling.now c.calls.telling 1 0 left (omega arith) in grind (arith, falls)), (outlives, (c.calls.invariant.placed, (omega arith, found_stands _ _ c.in-Some-next_connection.connection c.next_connection.ensures.sound.rising (sym c.in-Some-next_connection.ensures.next)))))
 
 pub agenda::emit-returns-in_err-call : goal.agenda::emit-returns-in_err-call
 agenda::emit-returns-in_err-call t g c =
@@ -375,25 +375,102 @@ agenda::emit-returns t g c =
     far_end caller _ c.args.tables.now c.args.telling.now c.requires.placed _ c.calls.tables c.calls.telling _ c.calls.invariant.so
     (λ posts done e. sym e ∙ emission_end (settings_of caller.setup.now) c.args.target c.args.signal c.args.args.now c.args.depth c.last_connection-up_to.result c.calls.after (doing_at caller.place c.calls.tables c.calls.telling posts) (sym c.in_default-next_connection.ensures.next))
 
-pub agenda::notify-returns-in_default : goal.agenda::notify-returns-in_default
-agenda::notify-returns-in_default t g c =
+pub news::notify-returns-in-Nothing : goal.news::notify-returns-in-Nothing
+news::notify-returns-in-Nothing t g c =
     let caller = c.args.actor.now.caller in
     let old = c.args.tables.now in
     let before = c.args.telling.now in
-    rw c.in_default.is (does_none caller _ old before old before _ (keeps_same old old caller.place refl) refl (λ earlier. at_end (settings_of caller.setup.now) (doing_at caller.place old before earlier)))
+    rw c.in-Nothing.is (does_none caller _ old before old before _ (keeps_same old old caller.place refl) refl (λ earlier. at_end (settings_of caller.setup.now) (doing_at caller.place old before earlier)))
 
-pub agenda::notify-returns-then-not-is_sent : goal.agenda::notify-returns-then-not-is_sent
-agenda::notify-returns-then-not-is_sent t g c =
+pub news::notify-returns-in-One : goal.news::notify-returns-in-One
+news::notify-returns-in-One t g c = rw c.in-One.is c.notify_of.ensures
+
+pub news::notify-returns-in-Several : goal.news::notify-returns-in-Several
+news::notify-returns-in-Several t g c = rw c.in-Several.is c.tell.ensures
+
+pub news::announce-returns-in_err-name-in-Warning : goal.news::announce-returns-in_err-name-in-Warning
+news::announce-returns-in_err-name-in-Warning t g c =
+    let caller = c.args.actor.now.caller in
+    let old = c.args.tables.now in
+    does_wanting caller _ old c.args.telling.now old c.args.telling.now _ c.from_residual.ensures.0 (keeps_same old old caller.place refl) refl
+
+pub news::announce-returns-in_ok-name-in-Warning : goal.news::announce-returns-in_ok-name-in-Warning
+news::announce-returns-in_ok-name-in-Warning t g c =
+    let caller = c.args.actor.now.caller in
+    let old = c.args.tables.now in
+    let before = c.args.telling.now in
+    let after = c.warn_of_property.new.self in
+    rw c.in-Warning.is (does_none caller _ old before old after c.warn_of_property.result (keeps_same old old caller.place refl) c.warn_of_property.ensures.failing (OnOk-map c.warn_of_property.result
+    (λ e earlier. warn_of_done (settings_of caller.setup.now) caller.place old before after earlier c.in-Warning.at c.in-Warning.error _ c.in_ok-name-in-Warning.ensures e) c.warn_of_property.ensures.told))
+
+pub news::notify_of-returns-then-not-is_sent : goal.news::notify_of-returns-then-not-is_sent
+news::notify_of-returns-then-not-is_sent t g c =
     let caller = c.args.actor.now.caller in
     let settings = settings_of caller.setup.now in
     let old = c.args.tables.now in
     let before = c.args.telling.now in
     let state = state_at old caller.place in
-    let notice = c.in-Some.notice in
+    let notice = c.args.notice in
     let unheard : is_some (find (is_next notice.object notice.signal 0 state.connections.last_number) state.connections.rows) ≡ false = grind arith in
     let unpublished : list_any (publishes notice.object notice.signal) state.desk.publications ≡ false = grind arith in
-    rw c.in-Some.is (does_none caller _ old before old before _ (keeps_same old old caller.place refl) refl
-    (λ earlier. emission_unheard settings notice.object notice.signal (notice_args settings state notice) c.args.depth (doing_at caller.place old before earlier) (omega arith) c.is_sent.ensures.sound (posts_none settings.classes state notice.object notice.signal (notice_args settings state notice) unpublished) unheard))
+    does_none caller _ old before old before _ (keeps_same old old caller.place refl) refl
+    (λ earlier. emission_unheard settings notice.object notice.signal (notice_args settings state notice) c.args.depth (doing_at caller.place old before earlier) (omega arith) c.is_sent.ensures.sound (posts_none settings.classes state notice.object notice.signal (notice_args settings state notice) unpublished) unheard)
+
+pub news::tell-told-init : goal.news::tell-told-init
+news::tell-told-init t g c =
+    let caller = c.args.actor.now.caller in
+    let settings = settings_of caller.setup.now in
+    let old = c.args.tables.now in
+    let before = c.args.telling.now in
+    record {
+      so = far_none caller _ old before c.requires.placed _ old before (keeps_same old old caller.place refl) refl
+          (λ earlier. ap (λ told. run settings (told_from settings c.args.depth told) (doing_at caller.place old before earlier)) c.as_slice-announcement-items.ensures
+          ∙ ap (λ items. run settings items (doing_at caller.place old before earlier)) (c.in_ok-told.ensures c.args.depth));
+      placed = c.requires.placed;
+      left = omega arith;
+    }
+
+pub news::tell-announce-requires : goal.news::tell-announce-requires
+news::tell-announce-requires t g c = λ κs outlives.
+    let left = c.told.invariant.left in
+    ((let falls = rank_falls c.args.actor.now.caller c.args.tables.now c.told.tables c.args.telling.now c.told.telling 3 2 left (omega arith) in grind (arith, falls)), (outlives, (c.told.invariant.placed, c.requires.depth)))
+
+pub news::tell-returns-in_err-announce : goal.news::tell-returns-in_err-announce
+news::tell-returns-in_err-announce t g c =
+    let caller = c.args.actor.now.caller in
+    let settings = settings_of caller.setup.now in
+    far_wanting caller _ c.args.tables.now c.args.telling.now c.requires.placed _ c.told.tables c.told.telling c.told.invariant.so _ c.announce.new.tables c.announce.new.telling _ _ c.from_residual-in_err-announce.ensures.0 c.in_err-announce.ensures
+    (λ posts. part_front settings _ _ _ (told_next settings c.args.depth c.told.announcement-index c.as_slice-announcement-items.result.now c.announcement-item.result _ (doing_at caller.place c.told.tables c.told.telling posts) _ (omega arith) c.announcement-item.is refl refl))
+
+pub news::tell-told-preserved : goal.news::tell-told-preserved
+news::tell-told-preserved t g c =
+    let caller = c.args.actor.now.caller in
+    let settings = settings_of caller.setup.now in
+    let place = caller.place in
+    let now = c.told.tables in
+    let between = c.told.telling in
+    let new = c.announce.new.tables in
+    let after = c.announce.new.telling in
+    let less : left_at place new after ≤ left_at place now between = left_falls settings _ place now new between after [] _ (c.in_ok-announce.ensures.runs []) in
+    record {
+      so = far_next caller _ c.args.tables.now c.args.telling.now c.requires.placed _ now between c.told.invariant.so _ new after _
+          (here caller (told_from settings c.args.depth (drop (c.told.announcement-index + 1) c.as_slice-announcement-items.result.now)) new after) c.in_ok-announce.ensures
+          (λ posts more done. told_next settings c.args.depth c.told.announcement-index c.as_slice-announcement-items.result.now c.announcement-item.result done (doing_at place now between posts) (doing_at place new after more) (omega arith) c.announcement-item.is);
+      placed = placed_reached caller now new _ _ _ c.announce.ensures.reaches c.told.invariant.placed;
+      left = omega (arith, less, c.told.invariant.left);
+    }
+
+pub news::tell-returns : goal.news::tell-returns
+news::tell-returns t g c =
+    let caller = c.args.actor.now.caller in
+    far_end caller _ c.args.tables.now c.args.telling.now c.requires.placed _ c.told.tables c.told.telling _ c.told.invariant.so
+    (λ posts done. told_last (settings_of caller.setup.now) c.args.depth c.told.announcement-index c.as_slice-announcement-items.result.now done (doing_at caller.place c.told.tables c.told.telling posts) (omega arith))
+
+pub news::tell-returns-in_err-told : goal.news::tell-returns-in_err-told
+news::tell-returns-in_err-told t g c =
+    let caller = c.args.actor.now.caller in
+    let old = c.args.tables.now in
+    does_wanting caller _ old c.args.telling.now old c.args.telling.now _ c.from_residual.ensures.0 (keeps_same old old caller.place refl) refl
 
 pub agenda::call_functor-returns-in_default : goal.agenda::call_functor-returns-in_default
 agenda::call_functor-returns-in_default t g c =
@@ -513,7 +590,7 @@ deletion::delete-emit-requires t g c = λ κs outlives.
     let place = c.args.actor.now.caller.place in
     let living : lives (doing_at place c.args.tables.now c.args.telling.now []) c.args.target ≡ true = grind arith in
     let less = left_marked place c.args.target c.args.tables.now c.mark_dying.new.self c.args.telling.now [] c.requires.placed living c.mark_dying.ensures in
-    ((let falls = round_falls c.args.actor.now.caller c.args.tables.now c.mark_dying.new.self c.args.telling.now c.args.telling.now 4 3 (omega (arith, less)) (omega arith) in grind (arith, falls)), (outlives, (placed_kept _ _ _ (keeps_with _ _ _ _ c.requires.placed c.mark_dying.ensures) c.requires.placed, c.requires.depth)))
+    ((let falls = round_falls c.args.actor.now.caller c.args.tables.now c.mark_dying.new.self c.args.telling.now c.args.telling.now 4 1 (omega (arith, less)) (omega arith) in grind (arith, falls)), (outlives, (placed_kept _ _ _ (keeps_with _ _ _ _ c.requires.placed c.mark_dying.ensures) c.requires.placed, c.requires.depth)))
 
 pub deletion::delete-returns-in_err-emit : goal.deletion::delete-returns-in_err-emit
 deletion::delete-returns-in_err-emit t g c =
@@ -553,21 +630,48 @@ deletion::delete-remove-requires t g c =
     placed_reached caller c.emit.new.tables c.cut.new.tables _ _ _ c.cut.ensures.reaches
     (placed_reached caller c.mark_dying.new.self c.emit.new.tables _ _ _ c.emit.ensures.reaches (placed_kept _ _ _ (keeps_with _ _ _ _ c.requires.placed c.mark_dying.ensures) c.requires.placed))
 
+pub deletion::delete-returns-in_err-changes : goal.deletion::delete-returns-in_err-changes
+deletion::delete-returns-in_err-changes t g c =
+    let caller = c.args.actor.now.caller in
+    let cut = c.cut.new.tables in
+    let between = c.cut.new.telling in
+    let so = delete_loose caller c.args.target c.args.depth c.args.tables.now c.mark_dying.new.self c.emit.new.tables cut c.args.telling.now c.emit.new.telling between _ _ c.requires.placed (grind arith) c.mark_dying.ensures c.in_ok-emit.ensures c.in_ok-cut.ensures in
+    far_stopped caller _ c.args.tables.now c.args.telling.now c.requires.placed _ cut c.remove.new.self between _ c.from_residual-in_err-changes.ensures.0 so (record { only = c.remove.ensures.only; failed = c.remove.ensures.failed }) front_same
+
+pub deletion::delete-tell-requires : goal.deletion::delete-tell-requires
+deletion::delete-tell-requires t g c = λ κs outlives.
+    let caller = c.args.actor.now.caller in
+    let settings = settings_of caller.setup.now in
+    let place = caller.place in
+    let target = c.args.target in
+    let old = c.args.tables.now in
+    let before = c.args.telling.now in
+    let dead = c.mark_dying.new.self in
+    let sent = c.emit.new.tables in
+    let cut = c.cut.new.tables in
+    let between = c.cut.new.telling in
+    let living : lives (doing_at place old before []) target ≡ true = grind arith in
+    let marked = left_marked place target old dead before [] c.requires.placed living c.mark_dying.ensures in
+    let says = left_falls settings _ place dead sent before c.emit.new.telling [] _ (c.in_ok-emit.ensures.runs []) in
+    let cuts = left_falls settings _ place sent cut c.emit.new.telling between [] _ (c.in_ok-cut.ensures.runs []) in
+    let still = placed_reached caller sent cut _ _ _ c.cut.ensures.reaches (placed_reached caller dead sent _ _ _ c.emit.ensures.reaches (placed_kept _ _ _ (keeps_with _ _ _ _ c.requires.placed c.mark_dying.ensures) c.requires.placed)) in
+    let goes = left_stepped settings (Gone target c.args.depth) _ place cut c.remove.new.self between [] (gone_told place target cut c.remove.new.self between [] still settings c.args.depth _ c.in_ok-changes.ensures.told c.in_ok-changes.ensures.ok) in
+    ((let falls = round_falls caller old c.remove.new.self before between 4 3 (omega (arith, marked, says, cuts, goes)) (omega arith) in grind (arith, falls)), (outlives, (placed_kept _ _ _ (record { only = c.remove.ensures.only; failed = c.remove.ensures.failed }) still, c.requires.depth)))
+
 pub deletion::delete-returns : goal.deletion::delete-returns
 deletion::delete-returns t g c =
     let caller = c.args.actor.now.caller in
     let settings = settings_of caller.setup.now in
-    let old = c.args.tables.now in
-    let before = c.args.telling.now in
-    let dead = c.mark_dying.new.self in
-    let living : lives (doing_at caller.place old before []) c.args.target ≡ true = grind arith in
-    let begun = delete_begins caller c.args.target c.args.depth old dead before c.requires.placed living c.mark_dying.ensures in
-    let sent = far_item caller _ old before c.requires.placed (Emit c.args.target DESTROYED [] c.args.depth) _ dead c.emit.new.tables before c.emit.new.telling _ begun c.in_ok-emit.ensures in
-    let loose = far_item caller _ old before c.requires.placed (Cut c.args.target c.args.depth) _ c.emit.new.tables c.cut.new.tables c.emit.new.telling c.cut.new.telling _ sent c.in_ok-cut.ensures in
-    let placed = placed_reached caller old c.cut.new.tables _ _ _ loose.reaches c.requires.placed in
-    far_changed caller _ old before c.requires.placed _ c.cut.new.tables c.remove.new.self c.cut.new.telling _ loose (keeps_with _ _ _ _ placed c.remove.ensures)
-    (λ posts. by_change settings (Gone c.args.target c.args.depth) (doing_at caller.place c.cut.new.tables c.cut.new.telling posts) _ (rule.gone_now settings c.args.target c.args.depth (doing_at caller.place c.cut.new.tables c.cut.new.telling posts))
-    ∙ sym (gone_is caller.place c.args.target c.cut.new.tables c.remove.new.self c.cut.new.telling posts placed c.remove.ensures))
+    let cut = c.cut.new.tables in
+    let between = c.cut.new.telling in
+    let gone = c.remove.new.self in
+    let so = delete_loose caller c.args.target c.args.depth c.args.tables.now c.mark_dying.new.self c.emit.new.tables cut c.args.telling.now c.emit.new.telling between _ _ c.requires.placed (grind arith) c.mark_dying.ensures c.in_ok-emit.ensures c.in_ok-cut.ensures in
+    let placed = placed_reached caller c.args.tables.now cut _ _ _ so.reaches c.requires.placed in
+    far_last caller _ c.args.tables.now c.args.telling.now c.requires.placed _ cut between so (here caller (Gone c.args.target c.args.depth ∷ []) cut between) c.tell.new.tables c.tell.new.telling c.tell.result
+    (does_after caller _ cut between _ gone c.tell.new.tables between c.tell.new.telling c.tell.result placed (record { only = c.remove.ensures.only; failed = c.remove.ensures.failed }) refl
+    (λ earlier done does. by_step settings (Gone c.args.target c.args.depth) (doing_at caller.place cut between earlier) _ (gone_told caller.place c.args.target cut gone between earlier placed settings c.args.depth _ c.in_ok-changes.ensures.told c.in_ok-changes.ensures.ok) ∙ does)
+    c.tell.ensures)
+    (λ posts done does. does)
 
 pub deletion::kin-returns-then-not-lives_below : goal.deletion::kin-returns-then-not-lives_below
 deletion::kin-returns-then-not-lives_below t g c =
@@ -647,8 +751,8 @@ agenda::acts-actions-init t g c =
       left = omega arith;
     }
 
-pub agenda::notify-returns-in_err-args : goal.agenda::notify-returns-in_err-args
-agenda::notify-returns-in_err-args t g c =
+pub news::notify_of-returns-in_err-args : goal.news::notify_of-returns-in_err-args
+news::notify_of-returns-in_err-args t g c =
     let caller = c.args.actor.now.caller in
     let old = c.args.tables.now in
     does_wanting caller _ old c.args.telling.now old c.args.telling.now _ c.from_residual.ensures.0 (keeps_same old old caller.place refl) refl

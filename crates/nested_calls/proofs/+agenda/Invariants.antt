@@ -6,19 +6,41 @@ use Rattle.thread_model.proofs.NextCallLemmas.{calls_to}
 use Rattle.thread_model.proofs.RemainingLemmas.{remaining}
 use Rattle.session_tables.specs.Tables.{IsPlaced, state_at}
 use Rattle.session_effects.specs.Setup.{settings_of}
+use Rattle.session_effects.specs.Writing.{told_items}
 use Rattle.nested_calls.proofs.AgendaLemmas.{left_at, left_to_do, longest_of}
 use Rattle.nested_calls.proofs.DeletionLemmas.{kins_from}
 use Rattle.nested_calls.proofs.DoesLemmas.{SoFar, here}
+use Rattle.nested_calls.proofs.NewsLemmas.{told_from}
 use Rattle.nested_calls.proofs.+agenda.Given as goal
 
 abbrev pub decreases-agenda::call : goal.decreases-agenda::call
-decreases-agenda::call g l = left_to_do l.actor.now.caller l.tables.now l.telling.now 2
+decreases-agenda::call g l = left_to_do l.actor.now.caller l.tables.now l.telling.now 0
 
 abbrev pub decreases-agenda::emit : goal.decreases-agenda::emit
-decreases-agenda::emit g l = left_to_do l.actor.now.caller l.tables.now l.telling.now 3
+decreases-agenda::emit g l = left_to_do l.actor.now.caller l.tables.now l.telling.now 1
 
-abbrev pub decreases-agenda::notify : goal.decreases-agenda::notify
-decreases-agenda::notify g l = left_to_do l.actor.now.caller l.tables.now l.telling.now 4
+abbrev pub decreases-news::announce : goal.decreases-news::announce
+decreases-news::announce g l = left_to_do l.actor.now.caller l.tables.now l.telling.now 2
+
+abbrev pub decreases-news::tell : goal.decreases-news::tell
+decreases-news::tell g l = left_to_do l.actor.now.caller l.tables.now l.telling.now 3
+
+abbrev pub decreases-news::notify_of : goal.decreases-news::notify_of
+decreases-news::notify_of g l = left_to_do l.actor.now.caller l.tables.now l.telling.now 2
+
+abbrev pub decreases-news::notify : goal.decreases-news::notify
+decreases-news::notify g l = left_to_do l.actor.now.caller l.tables.now l.telling.now 4
+
+-- so far the announcements before this one were told
+abbrev pub invariant-news::tell-told : goal.invariant-news::tell-told
+invariant-news::tell-told g l = record {
+  so : SoFar l.actor.caller
+      (here l.actor.caller (told_items (settings_of l.actor.caller.setup.now) (state_at l.fn.tables l.actor.caller.place) l.depth l.fn.changes) l.fn.tables l.fn.telling)
+      (here l.actor.caller (told_from (settings_of l.actor.caller.setup.now) l.depth (drop l.announcement-index l.announcement-items)) l.tables l.telling)
+      l.fn.tables l.tables l.fn.telling l.telling;
+  placed : IsPlaced l.tables l.actor.caller.place;
+  left : left_at l.actor.caller.place l.tables l.telling ≤ left_at l.actor.caller.place l.fn.tables l.fn.telling;
+}
 
 abbrev pub decreases-agenda::effect : goal.decreases-agenda::effect
 decreases-agenda::effect g l = left_to_do l.actor.now.caller l.tables.now l.telling.now 5

@@ -1,7 +1,6 @@
-use Rattle.std.proofs.Common.{refl, arith}
+use Rattle.std.proofs.Common.{refl}
 use Rattle.thread_model.specs.Writing.{Removed}
-use Rattle.std.proofs.lemmas.Grind.{common_steps}
-use Rattle.session_effects.proofs.WritingLemmas.{refused_as, set_keeps, writes_dynamic, writes_silently}
+use Rattle.session_effects.proofs.WritingLemmas.{refused_as, set_keeps, writes_dynamic, writes_removed}
 use Rattle.session_effects.proofs.writing.write_dynamic.Goals as goal
 
 pub returns-in-Invalid-clause-writes : goal.returns-in-Invalid-clause-writes
@@ -9,7 +8,7 @@ returns-in-Invalid-clause-writes c =
     rw c.in-Invalid.is (
       Removed c.args.name.now,
       refl,
-      writes_silently c.args.caller.now c.args.object c.args.tables.now c.remove_dynamic.new.self c.requires.placed (Removed c.args.name.now) refl (rw c.as_str.ensures at c.remove_dynamic.ensures),
+      writes_removed c.args.caller.now c.args.object c.args.tables.now c.remove_dynamic.new.self c.requires.placed c.args.name.now (rw c.as_str.ensures at c.remove_dynamic.ensures),
     )
 
 pub returns : goal.returns
@@ -21,9 +20,3 @@ returns c =
       refused = refused_as _ c.set_dynamic.result c.set_dynamic.ensures.err;
       keeps = set_keeps c.args.caller.now.place c.args.tables.now c.set_dynamic.new.self _ c.set_dynamic.result c.requires.placed c.set_dynamic.ensures.ok c.set_dynamic.ensures.err;
     }
-
-pub returns-in-Invalid-clause-keeps : goal.returns-in-Invalid-clause-keeps
-returns-in-Invalid-clause-keeps c = grind (arith, common_steps)
-
-pub returns-in_err-name : goal.returns-in_err-name
-returns-in_err-name c = grind (arith, common_steps)

@@ -1,14 +1,17 @@
-use Rattle.std.proofs.Common.{[], None, Ok, true, false, refl, sym, ap, ◌∙◌}
+use Rattle.std.proofs.Common.{Ok, true, false, refl, sym, ap, ◌∙◌}
 use Rattle.std.specs.Result.{result_err}
 use Rattle.serde_json.specs.View.{view}
+use Rattle.thread_model.specs.Doing.{in_state}
 use Rattle.thread_model.specs.Methods.{◌>>=◌}
 use Rattle.thread_model.specs.Writing.{Declared, Nothing, dynamic_writing}
 use Rattle.thread_model.proofs.PropertyLemmas.{refusal_set}
+use Rattle.thread_model.proofs.WritingLemmas.{nothing_written}
 use Rattle.session_tables.specs.Tables.{state_at}
+use Rattle.session_effects.specs.declared.announcing.News.TheVariants as news
+use Rattle.session_effects.specs.Setup.{settings_of}
 use Rattle.session_effects.proofs.ActionLemmas.{keeps_same}
-use Rattle.session_effects.proofs.WritingLemmas.{place_is}
-use Rattle.session_engine.proofs.CommandsLemmas.{at_first_reaches, found_fault, or_first, or_second, quietly, starved_last, stopped}
-use Rattle.session_engine.proofs.PropertiesLemmas.{asked_dynamic, asked_nothing, asked_value, dynamic_undeclared, performs_written, set_passed, set_runs, tells_none, written_fault, written_reaches}
+use Rattle.session_engine.proofs.CommandsLemmas.{found_fault, or_first, or_second, quietly, starved, stopped}
+use Rattle.session_engine.proofs.PropertiesLemmas.{asked_dynamic, asked_nothing, asked_value, dynamic_undeclared, performs_written, place_is, starved_written, tells_none, written_fault}
 use Rattle.session_engine.proofs.properties.set.Goals as goal
 
 pub returns-in_err-class : goal.returns-in_err-class
@@ -25,7 +28,7 @@ returns-in_err-value g c =
 pub returns-in_err-write_dynamic : goal.returns-in_err-write_dynamic
 returns-in_err-write_dynamic g c =
     let state = state_at c.args.tables.now c.args.actor.now.caller.place in
-    quietly _ _ _ _ _ _ _ c.requires.fresh (written_fault {U = Unit {0}} c.args.actor.now.caller _ c.args.tables.now c.write_dynamic.new.tables _ c.args.object _ (λ done. None) c.in_err-write_dynamic.field-0.0 _ c.from_residual-in_err-write_dynamic.ensures.1
+    quietly _ _ _ _ _ _ _ c.requires.fresh (written_fault {U = Unit {0}} c.args.actor.now.caller _ c.args.tables.now c.write_dynamic.new.tables _ c.args.object _ (λ done. news.Nothing) c.in_err-write_dynamic.field-0.0 _ c.from_residual-in_err-write_dynamic.ensures.1
     (refusal_set _ _ _ _ _ _ ∙ or_second _ _ c.in_ok-class.ensures.refusal
     ∙ ap result_err (asked_dynamic state c.args.object c.args.property.now (view c.args.value.now) (rw c.as_str.ensures at c.in_default.ensures) ∙ ap (λ found. found >>= dynamic_writing state c.args.object c.args.property.now) c.in_ok-value.ensures.exact))
     c.in_err-write_dynamic.ensures.writes c.in_err-write_dynamic.ensures.refused c.in_err-write_dynamic.ensures.keeps.only)
@@ -34,20 +37,21 @@ pub returns-in_default : goal.returns-in_default
 returns-in_default g c =
     let state = state_at c.args.tables.now c.args.actor.now.caller.place in
     let writes = c.in_ok-write_dynamic.ensures.writes in
-    performs_written c.args.actor.now.caller c.args.object c.args.property.now (view c.args.value.now) c.args.tables.now c.write_dynamic.new.tables c.write_dynamic.new.tables c.args.telling.now c.args.telling.now tt writes.0 false None
+    performs_written c.args.actor.now.caller c.args.object c.args.property.now (view c.args.value.now) c.args.tables.now c.write_dynamic.new.tables c.write_dynamic.new.tables c.args.telling.now c.args.telling.now writes.0 false news.Nothing
     (dynamic_undeclared state c.args.object c.args.property.now c.in_ok-value.value writes.0 writes.1)
     c.in_ok-class.ensures.refusal c.requires.fresh
     (asked_dynamic state c.args.object c.args.property.now (view c.args.value.now) (rw c.as_str.ensures at c.in_default.ensures) ∙ ap (λ found. found >>= dynamic_writing state c.args.object c.args.property.now) c.in_ok-value.ensures.exact ∙ writes.1)
-    writes.2 c.requires.placed c.in_ok-write_dynamic.ensures.keeps (tells_none c.args.actor.now.caller c.write_dynamic.new.tables c.args.telling.now)
+    writes.2 c.requires.placed c.in_ok-write_dynamic.ensures.keeps tt (tells_none c.args.actor.now.caller c.write_dynamic.new.tables c.args.telling.now)
 
 -- null leaves a declared property as it is
 pub returns-then-is_null : goal.returns-then-is_null
 returns-then-is_null g c =
-    let state = state_at c.args.tables.now c.args.actor.now.caller.place in
-    performs_written c.args.actor.now.caller c.args.object c.args.property.now (view c.args.value.now) c.args.tables.now c.args.tables.now c.args.tables.now c.args.telling.now c.args.telling.now tt Nothing false None refl
+    let caller = c.args.actor.now.caller in
+    let state = state_at c.args.tables.now caller.place in
+    performs_written caller c.args.object c.args.property.now (view c.args.value.now) c.args.tables.now c.args.tables.now c.args.tables.now c.args.telling.now c.args.telling.now Nothing false news.Nothing refl
     c.in_ok-class.ensures.refusal c.requires.fresh
     (asked_nothing state c.args.object c.args.property.now (view c.args.value.now) _ (place_is (c.in-Some.number, c.in-Some.kind) _ (rw c.as_str.ensures at c.in-Some.ensures)) (sym c.if-is_null.ensures))
-    (λ depth doing. refl) c.requires.placed (keeps_same _ _ _ refl) (tells_none c.args.actor.now.caller c.args.tables.now c.args.telling.now)
+    (λ depth doing. nothing_written (settings_of caller.setup.now) (in_state doing state) c.args.object depth) c.requires.placed (keeps_same _ _ _ refl) tt (tells_none caller c.args.tables.now c.args.telling.now)
 
 -- a declared property: what is no value of its kind is refused
 pub returns-in_err-value-2 : goal.returns-in_err-value-2
@@ -58,30 +62,29 @@ returns-in_err-value-2 g c =
     ∙ ap result_err (asked_value state c.args.object c.args.property.now (view c.args.value.now) _ (place_is (c.in-Some.number, c.in-Some.kind) _ (rw c.as_str.ensures at c.in-Some.ensures)) (sym c.if-is_null.ensures)))
     (λ code. refl) c.in_err-value-2.ensures.exact)
 
+-- what it tells of may want memory that is not there
+pub returns-in_err-news : goal.returns-in_err-news
+returns-in_err-news g c = quietly _ _ _ _ _ _ _ c.requires.fresh (starved _ _ _ _ _ _ c.from_residual-in_err-news.ensures.1 c.write_declared.ensures.keeps.only)
+
 pub returns-in_err-notify : goal.returns-in_err-notify
 returns-in_err-notify g c =
     let caller = c.args.actor.now.caller in
     let state = state_at c.args.tables.now caller.place in
-    let middle = c.write_declared-told.new.tables in
-    let does = c.in_err-notify.ensures in
-    let asked =
-    asked_value state c.args.object c.args.property.now (view c.args.value.now) _ (place_is (c.in-Some.number, c.in-Some.kind) _ (rw c.as_str.ensures at c.in-Some.ensures)) (sym c.if-is_null.ensures)
-    ∙ ap (λ found. found >>= λ value. Ok (Declared c.in-Some.number value)) c.in_ok-value-2.ensures.exact in
-    starved_last caller _ c.args.tables.now c.notify.new.tables c.notify.new.telling does.posts _ _ _ _ c.from_residual-in_err-notify.ensures.1
-    (set_passed caller c.args.object c.args.property.now (view c.args.value.now) c.args.tables.now c.notify.new.tables (Declared c.in-Some.number c.in_ok-value-2.value) c.in_ok-class.ensures.refusal asked)
-    (set_runs caller c.args.object c.args.property.now (view c.args.value.now) c.args.tables.now middle c.notify.new.tables c.args.telling.now (Declared c.in-Some.number c.in_ok-value-2.value) true c.write_declared-told.result refl c.requires.fresh asked
-    c.write_declared-told.ensures.writes)
-    (does.front [])
-    (at_first_reaches caller c.args.tables.now c.notify.new.tables c.args.telling.now c.notify.new.telling does.posts c.requires.fresh
-    (written_reaches caller c.args.tables.now middle c.notify.new.tables c.args.telling.now.failing c.notify.new.telling.failing does.posts c.requires.placed c.write_declared-told.ensures.keeps does.reaches))
+    starved_written caller c.args.object c.args.property.now (view c.args.value.now) c.args.tables.now c.write_declared.new.tables c.notify.new.tables c.args.telling.now c.notify.new.telling
+    (Declared c.in-Some.number c.in_ok-value-2.value) true c.in_ok-news.news refl
+    c.in_ok-class.ensures.refusal c.requires.fresh
+    (asked_value state c.args.object c.args.property.now (view c.args.value.now) _ (place_is (c.in-Some.number, c.in-Some.kind) _ (rw c.as_str.ensures at c.in-Some.ensures)) (sym c.if-is_null.ensures)
+    ∙ ap (λ found. found >>= λ value. Ok (Declared c.in-Some.number value)) c.in_ok-value-2.ensures.exact)
+    c.in_ok-news.ensures.writes c.requires.placed c.write_declared.ensures.keeps _ _ _ c.from_residual-in_err-notify.ensures.1 c.in_err-notify.ensures
 
 -- and a value is written, and told of where it is another one
 pub returns : goal.returns
 returns g c =
-    let state = state_at c.args.tables.now c.args.actor.now.caller.place in
-    performs_written c.args.actor.now.caller c.args.object c.args.property.now (view c.args.value.now) c.args.tables.now c.write_declared-told.new.tables c.notify.new.tables c.args.telling.now c.notify.new.telling _
-    (Declared c.in-Some.number c.in_ok-value-2.value) true c.write_declared-told.result refl
+    let caller = c.args.actor.now.caller in
+    let state = state_at c.args.tables.now caller.place in
+    performs_written caller c.args.object c.args.property.now (view c.args.value.now) c.args.tables.now c.write_declared.new.tables c.notify.new.tables c.args.telling.now c.notify.new.telling
+    (Declared c.in-Some.number c.in_ok-value-2.value) true c.in_ok-news.news refl
     c.in_ok-class.ensures.refusal c.requires.fresh
     (asked_value state c.args.object c.args.property.now (view c.args.value.now) _ (place_is (c.in-Some.number, c.in-Some.kind) _ (rw c.as_str.ensures at c.in-Some.ensures)) (sym c.if-is_null.ensures)
     ∙ ap (λ found. found >>= λ value. Ok (Declared c.in-Some.number value)) c.in_ok-value-2.ensures.exact)
-    c.write_declared-told.ensures.writes c.requires.placed c.write_declared-told.ensures.keeps c.in_ok-notify.ensures
+    c.in_ok-news.ensures.writes c.requires.placed c.write_declared.ensures.keeps _ c.in_ok-notify.ensures

@@ -1,7 +1,11 @@
-use Rattle.std.proofs.Common.{[], sym, refl, ◌∙◌}
-use Rattle.thread_model.proofs.TreeLemmas.{refusal_delete}
-use Rattle.session_engine.proofs.CommandsLemmas.{at_first_reaches, quietly, starved_last, stopped}
-use Rattle.session_engine.proofs.TreesLemmas.{delete_runs, performs_deleted}
+use Rattle.std.proofs.Common.{[], ◌∷◌, true, sym, refl, ◌∙◌}
+use Rattle.thread_model.specs.declared.line.Answer.TheVariants as a
+use Rattle.thread_model.specs.Asked as asked
+use Rattle.thread_model.specs.Items.{Delete}
+use Rattle.thread_model.proofs.TreeLemmas.{performs_delete, refusal_delete}
+use Rattle.session_effects.proofs.ActionLemmas.{keeps_same}
+use Rattle.session_engine.proofs.CommandsLemmas.{quietly, stopped}
+use Rattle.session_engine.proofs.ToldLemmas.{comes, performs_told, starved_told}
 use Rattle.session_engine.proofs.trees.delete_object.Goals as goal
 
 pub returns-in_err-check_object : goal.returns-in_err-check_object
@@ -10,10 +14,15 @@ returns-in_err-check_object g c = quietly _ _ _ _ _ _ _ c.requires.fresh (stoppe
 pub returns-in_err-delete : goal.returns-in_err-delete
 returns-in_err-delete g c =
     let caller = c.args.actor.now.caller in
-    let does = c.in_err-delete.ensures in
-    starved_last caller _ c.args.tables.now c.delete.new.tables c.delete.new.telling does.posts _ _ _ _ c.from_residual-in_err-delete.ensures.1 (refusal_delete _ _ _ _ ∙ sym c.in_ok-check_object.ensures)
-    (delete_runs caller c.args.object c.args.tables.now c.delete.new.tables c.args.telling.now c.requires.fresh) (does.front [])
-    (at_first_reaches caller c.args.tables.now c.delete.new.tables c.args.telling.now c.delete.new.telling does.posts c.requires.fresh does.reaches)
+    let old = c.args.tables.now in
+    let items = Delete c.args.object 0 ∷ [] in
+    starved_told caller (asked.Delete c.args.object) old old c.delete.new.tables c.args.telling.now c.delete.new.telling items (comes caller old old items) (a.Truth true) c.requires.placed c.requires.fresh
+    (refusal_delete _ _ _ _ ∙ sym c.in_ok-check_object.ensures) (performs_delete _ _ _ _) refl (keeps_same _ _ _ refl) _ _ _ c.from_residual-in_err-delete.ensures.1 c.in_err-delete.ensures
 
 pub returns : goal.returns
-returns g c = performs_deleted c.args.actor.now.caller c.args.object c.args.tables.now c.delete.new.tables c.args.telling.now c.delete.new.telling _ (refusal_delete _ _ _ _ ∙ sym c.in_ok-check_object.ensures) c.requires.fresh c.in_ok-delete.ensures
+returns g c =
+    let caller = c.args.actor.now.caller in
+    let old = c.args.tables.now in
+    let items = Delete c.args.object 0 ∷ [] in
+    performs_told caller (asked.Delete c.args.object) old old c.delete.new.tables c.args.telling.now c.delete.new.telling items (comes caller old old items) (a.Truth true) c.requires.placed c.requires.fresh
+    (refusal_delete _ _ _ _ ∙ sym c.in_ok-check_object.ensures) (performs_delete _ _ _ _) refl (keeps_same _ _ _ refl) _ c.in_ok-delete.ensures

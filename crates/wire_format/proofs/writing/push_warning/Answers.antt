@@ -1,15 +1,7 @@
-use Rattle.std.proofs.Common.{◌≡◌, ℕ, List, Option, ◌++◌, ◌∙◌, codes, string_bytes, sym, ap, append_assoc}
-use Rattle.refusals.specs.Codes.{code_text}
-use Rattle.serde_json.specs.Data.{string}
-use Rattle.serde_json.specs.Written.{compact_text}
-use Rattle.wire_format.proofs.LineTexts.{text_between, three_behind, warning_line, warning_opening}
-use Rattle.wire_format.proofs.Plain.{code_is_plain}
+use Rattle.std.proofs.Common.{◌≡◌, ℕ, Option, ◌++◌, ◌∙◌, codes, string_bytes, sym, ap}
+use Rattle.wire_format.proofs.LineTexts.{three_behind, two_behind, warned, warning_line, warning_opening}
 use Rattle.wire_format.proofs.writing.push_warning.Goals as goal
 use Rattle.wire_format.proofs.writing.push_warning.Goals.{in-Some+in_ok-push_str-in-Some+in_ok-push_number-in-Some+in_ok-push_str-in-Some-2, in-None+in_ok-push_str-in-None}
-
--- five texts put behind another, one after another
-five_behind : (a b c d e f v w x y z : List ℕ) → b ≡ a ++ v → c ≡ b ++ w → d ≡ c ++ x → e ≡ d ++ y → f ≡ e ++ z → f ≡ a ++ (v ++ (w ++ (x ++ (y ++ z))))
-five_behind a b c d e f v w x y z h i j k l = rw (l, k, j, i, h) (simp append_assoc)
 
 pub returns : goal.returns
 returns c =
@@ -23,7 +15,6 @@ returns c =
       | in-None+in_ok-push_str-in-None w ↦
           ap string_bytes w.buffer-is ∙ w.in_ok-push_str-in-None.ensures.bytes ∙ ap opening (sym w.in-None.is)
     ] in
-    let told = c.in_ok-push_str-2.ensures.bytes ∙ ap (λ text. string_bytes c.push_str-2.new.self ++ text) c.text.ensures in
-    five_behind _ _ _ _ _ _ _ _ _ _ _ opened c.in_ok-push_text.ensures c.in_ok-push_str.ensures.bytes told c.in_ok-push_str-3.ensures.bytes
-    ∙ ap (λ text. string_bytes c.args.buffer.now ++ (warning_opening c.args.object ++ (compact_text (string c.args.session.now) ++ text))) (text_between (codes ",\"warning\":") (code_text c.args.code) (codes "}\n") (code_is_plain c.args.code))
+    let told = c.in_ok-push_warned.ensures ∙ ap (λ word. string_bytes c.match-object.buffer ++ warned c.args.session.now word) c.text.ensures in
+    two_behind _ _ _ _ _ opened told
     ∙ ap (λ line. string_bytes c.args.buffer.now ++ line) (sym (warning_line c.args.code c.args.object c.args.session.now))

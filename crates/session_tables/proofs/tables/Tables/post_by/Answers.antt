@@ -14,7 +14,7 @@ joiners-smaller c =
     let first : IsFirstJoiner c.joiners.self.desks c.args.sending.now.from.now c.joiners.least c.in-Some.at = c.in-Some.ensures in
     let there = first.is_place in
     let up = first.from_least in
-    let desks = (c.joiners.invariant.reaches.shape.even c.requires.placed.6).desks in
+    let desks = (c.joiners.invariant.reaches.shape.even c.requires.placed.7).desks in
     let places = c.reach-failing.ensures.reaches.shape.places in
     let less : length c.reach-failing.new.self.failed.places - (c.in-Some.at + 1) < length c.joiners.self.failed.places - c.joiners.least = omega (arith, there, up, desks, places) in
     less
@@ -35,7 +35,7 @@ joiners-preserved c =
     let first : IsFirstJoiner now.desks from least at = c.in-Some.ensures in
     let there = first.is_place in
     let up = first.from_least in
-    let desks = (c.joiners.invariant.reaches.shape.even c.requires.placed.6).desks in
+    let desks = (c.joiners.invariant.reaches.shape.even c.requires.placed.7).desks in
     let places = c.reach-failing.ensures.reaches.shape.places in
     record {
       reaches = reaches_next classes from place posts at old now new c.args.failing c.joiners.failing c.reach-failing.result c.requires.placed

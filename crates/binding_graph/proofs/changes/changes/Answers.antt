@@ -1,0 +1,7 @@
+use Rattle.std.proofs.Common.{arith}
+use Rattle.std.proofs.lemmas.Grind.{common_steps}
+use Rattle.std.proofs.lemmas.List.Elements.{filter_map-append}
+use Rattle.binding_graph.proofs.changes.changes.Goals as goal
+
+pub returns : goal.returns
+returns c = grind (arith, common_steps, filter_map-append)

@@ -1,0 +1,16 @@
+use Rattle.std.proofs.Common.{◌≡◌, ◌++◌, ◌-◌, drop, filter_map, length}
+use Rattle.property_store.specs.Table.{store_at}
+use Rattle.binding_graph.specs.Graph.{shown_now}
+use Rattle.binding_values.specs.Kept.{IsClosed, IsRight, kept_of}
+use Rattle.binding_values.specs.Stored.{numbered, scene_of}
+use Rattle.binding_graph.proofs.showing.show_object.Given as goal
+
+abbrev pub invariant-loop-number : goal.invariant-loop-number
+invariant-loop-number l = record {
+  right : IsRight (scene_of (store_at l.stores l.place) l.bindings) (kept_of l.done);
+  closed : IsClosed (scene_of (store_at l.stores l.place) l.bindings) (kept_of l.done);
+  rows : l.rows.items ++ filter_map (shown_now (store_at l.stores l.place) l.bindings) (numbered l.object l.number (drop l.number l.fields)) ≡ l.initial.rows.items ++ filter_map (shown_now (store_at l.stores l.place) l.bindings) (numbered l.object 0 l.fields);
+}
+
+abbrev pub decreases-loop-number : goal.decreases-loop-number
+decreases-loop-number l = length l.fields - l.number

@@ -1,0 +1,15 @@
+-- What contracts see of the bindings of all places.
+use Rattle.std.specs.Prelude.{ℕ, slice_index_or}
+use Rattle.places.specs.Table.{Table, with_place}
+use Rattle.binding_graph.specs.Graph.{Graph, no_graph}
+
+pub record Graphs : Type 0 where
+  pub graphs : Table Graph
+
+-- the graph of a place
+abbrev pub graph_at : Table Graph → ℕ → Graph
+graph_at graphs place = slice_index_or graphs.places place no_graph
+
+-- with another graph at a place, and all else as before
+abbrev pub with_graph : Table Graph → ℕ → Graph → Table Graph
+with_graph graphs place graph = with_place graphs place graph

@@ -1,0 +1,240 @@
+//! The bindings of all places.
+#![tactic(auto, unfolding(crate::specs::Step::InStep))]
+
+ghost use Rattle.std.specs.Prelude.{◌≡◌, ◌+◌, ◌≤◌, [], IfOk, IsTrue, OnErr, OnOk, length};
+ghost use Rattle.std.specs.Result.{result_err};
+ghost use Rattle.places.specs.Table.{IsPlace, opened};
+ghost use Rattle.refusals.specs.Answers.{RefusedBy};
+ghost use Rattle.term_core.specs.Forms.{is_within_limits};
+ghost use Rattle.property_store.specs.Table.{Shelves, store_at, with_store};
+ghost use Rattle.variant_value.specs.Values.{IsShort};
+ghost use Rattle.binding_graph.specs.Graph.{IsSound, begin_refusal, begun, bind_refusal, bound, end_refusal, ended, is_bound, no_graph, settled_changes, settled_graph, taken, unbound, value_in, without_object};
+ghost use Rattle.binding_graph.specs.Step.{InStep};
+ghost use Rattle.binding_values.specs.Stored.{is_bindable};
+ghost use Rattle.binding_graph.specs.Table.{graph_at, with_graph};
+
+use crate::change::Change;
+use crate::lazy_graph::LazyGraph;
+use binding_values::{BindingError, Property};
+use places::Places;
+use plain_types::Items;
+use property_store::Stores;
+use refusals::{Code, Fault};
+use std::alloc::{AllocError, Global};
+use std::marker::Model;
+use term_core::Expr;
+use variant_value::Value;
+
+/// For each place the bindings of its properties, and its groups. A place is opened by `ready` and then
+/// `open`, and is never closed. What properties are and store, stands in a table of its own, which most
+/// calls are given.
+#[derive(Drop)]
+pub struct Bindings {
+    graphs: Places<LazyGraph>,
+    alloc: Global,
+}
+
+impl Model for Bindings {
+    ghost use Rattle.binding_graph.specs.Table.{Graphs};
+    ghost use Rattle.binding_graph.specs.Coded.{coded_graphs};
+
+    ghost Value = { Graphs };
+
+    ghost coded = { coded_graphs };
+
+    ghost view = { λ bindings. record { graphs = bindings.graphs } };
+}
+
+impl Bindings {
+    /// A table with no place, which takes no memory yet.
+    pub fn new(alloc: Global) -> Bindings
+        ensures places { result.graphs.places ≡ [] }
+        ensures step { (stores : Shelves) → stores.table.places ≡ [] → InStep stores result }
+    {
+        Bindings {
+            graphs: Places::new(alloc),
+            alloc,
+        }
+    }
+
+    /// Makes room for one more place at least.
+    pub fn ready(&mut self) -> Result<(), AllocError>
+        ensures places { self.new.graphs.places ≡ self.old.graphs.places }
+        ensures room { OnOk result (1 ≤ self.new.graphs.room) }
+        ensures kept { self.old.graphs.room ≤ self.new.graphs.room }
+        ensures full { OnErr result (self.old.graphs.room ≡ 0) }
+        ensures err { OnErr result (self.new ≡ self.old) }
+        ensures step { (stores : Shelves) → InStep stores self.old → InStep stores self.new }
+    {
+        self.graphs.ready()
+    }
+
+    /// Opens the next place, where nothing is bound and no group is open, and returns its number.
+    pub fn open(&mut self) -> usize
+        requires { 1 ≤ self.old.graphs.room }
+        ensures place { result ≡ length self.old.graphs.places }
+        ensures opened { self.new.graphs ≡ opened self.old.graphs no_graph }
+        ensures step { (stores : Shelves) → InStep stores self.old → InStep stores self.new }
+    {
+        self.graphs.open(LazyGraph::new())
+    }
+
+    /// Forgets all bindings and groups of a place, and what its properties showed.
+    pub fn clear(&mut self, place: usize)
+        requires { IsPlace self.old.graphs place }
+        ensures cleared { self.new.graphs ≡ with_graph self.old.graphs place no_graph }
+        ensures step { (stores : Shelves) → InStep stores self.old → InStep stores self.new }
+    {
+        *self.graphs.get_mut(place) = LazyGraph::new();
+    }
+
+    /// How many properties are bound; what is true of every graph is told with it.
+    pub fn count(&self, place: usize) -> usize
+        requires { IsPlace self.now.graphs place }
+        ensures count { result ≡ length (graph_at self.now.graphs place).bindings }
+        ensures sound { IsSound (graph_at self.now.graphs place) }
+    {
+        self.graphs.get(place).count()
+    }
+
+    /// How many groups are open, each within the one before.
+    pub fn depth(&self, place: usize) -> u32
+        requires { IsPlace self.now.graphs place }
+        ensures { result ≡ (graph_at self.now.graphs place).depth }
+    {
+        self.graphs.get(place).depth()
+    }
+
+    pub fn is_bound(&self, place: usize, at: Property) -> bool
+        requires { IsPlace self.now.graphs place }
+        ensures { result ≡ is_bound (graph_at self.now.graphs place).bindings at }
+    {
+        self.graphs.get(place).is_bound(at)
+    }
+
+    /// Binds a property to an expression, whatever it was bound to. More than `BINDINGS` are `Limit`.
+    pub fn bind(
+        &mut self,
+        place: usize,
+        stores: &Stores,
+        at: Property,
+        expr: Expr,
+    ) -> Result<(), Fault>
+        requires places { IsPlace self.old.graphs place × IsPlace stores.now.table place }
+        requires step { InStep stores.now self.old }
+        requires bindable { IsTrue (is_bindable (store_at stores.now place) at) }
+        requires limited { IsTrue (is_within_limits expr) }
+        ensures refused { RefusedBy (bind_refusal (graph_at self.old.graphs place) at) result }
+        ensures ok { OnOk result (self.new.graphs ≡ with_graph self.old.graphs place (bound (graph_at self.old.graphs place) at expr)) }
+        ensures err { OnErr result (self.new.graphs ≡ self.old.graphs) }
+        ensures step { InStep stores.now self.new }
+    {
+        self.graphs.get_mut(place).bind(self.alloc, at, expr)
+    }
+
+    /// Stores the value that a bound property has, takes its binding away, and returns whether it was bound.
+    /// In error it is the default of its kind; in a group it is what the property shows there.
+    pub fn take(
+        &mut self,
+        place: usize,
+        stores: &mut Stores,
+        at: Property,
+    ) -> Result<bool, AllocError>
+        requires places { IsPlace self.old.graphs place × IsPlace stores.old.table place }
+        requires step { InStep stores.old self.old }
+        ensures bound { IfOk result (λ taken. taken ≡ is_bound (graph_at self.old.graphs place).bindings at) }
+        ensures stored { OnOk result (stores.new ≡ with_store stores.old place (taken (store_at stores.old place) (graph_at self.old.graphs place) at)) }
+        ensures graph { OnOk result (self.new.graphs ≡ with_graph self.old.graphs place (unbound (graph_at self.old.graphs place) at)) }
+        ensures stores { OnErr result (stores.new ≡ stores.old) }
+        ensures err { OnErr result (self.new.graphs ≡ self.old.graphs) }
+        ensures step { InStep stores.new self.new }
+    {
+        if !self.is_bound(place, at) {
+            return Ok(false);
+        }
+        let (value, _) = self.value(place, stores, at)?;
+        let _ = stores.write(place, at.object, at.number, value);
+        self.graphs.get_mut(place).unbind(at);
+        Ok(true)
+    }
+
+    /// The value of a property, and the error for which it is the default of its kind; `Invalid` where it is
+    /// not there.
+    pub fn value(
+        &self,
+        place: usize,
+        stores: &Stores,
+        at: Property,
+    ) -> Result<(Value, Option<BindingError>), AllocError>
+        requires places { IsPlace self.now.graphs place × IsPlace stores.now.table place }
+        requires step { InStep stores.now self.now }
+        ensures value { IfOk result (λ found. found ≡ value_in (store_at stores.now place) (graph_at self.now.graphs place) at) }
+        ensures short { IfOk result (λ found. IsShort found.0) }
+    {
+        let graph = self.graphs.get(place);
+        let _ = (stores.count(place), graph.count());
+        graph.value(self.alloc, stores, place, at)
+    }
+
+    /// Tells what has changed since the last such call, at first since nothing was there: the properties with
+    /// an error that is new or another one, then those with another value. In a group it tells nothing; the
+    /// first call after the outermost one starts from what was shown when that began. A place with neither
+    /// bindings nor a group need not be settled. Then it is cleared, and before a property is bound again it
+    /// is settled once, and what that tells is dropped.
+    pub fn settle(
+        &mut self,
+        place: usize,
+        stores: &mut Stores,
+        written: Option<Property>,
+    ) -> Result<Items<Change>, AllocError>
+        requires places { IsPlace self.old.graphs place × IsPlace stores.old.table place }
+        requires step { InStep stores.old self.old }
+        ensures told { IfOk result (λ told. told ≡ settled_changes (store_at stores.old place) (graph_at self.old.graphs place) written) }
+        ensures ok { OnOk result (self.new.graphs ≡ with_graph self.old.graphs place (settled_graph (store_at stores.old place) (graph_at self.old.graphs place))) }
+        ensures stores { stores.new ≡ stores.old }
+        ensures err { OnErr result (self.new.graphs ≡ self.old.graphs) }
+        ensures step { InStep stores.new self.new }
+    {
+        self.graphs
+            .get_mut(place)
+            .settle(self.alloc, stores, place, written)
+    }
+
+    /// Opens a group within those that are open, and returns how many there are now. More than `GROUPS` are
+    /// `Limit`.
+    pub fn begin(&mut self, place: usize, stores: &mut Stores) -> Result<u32, Fault>
+        requires places { IsPlace self.old.graphs place × IsPlace stores.old.table place }
+        requires step { InStep stores.old self.old }
+        ensures refused { RefusedBy (begin_refusal (graph_at self.old.graphs place)) result }
+        ensures depth { IfOk result (λ depth. depth ≡ (graph_at self.old.graphs place).depth + 1) }
+        ensures ok { OnOk result (self.new.graphs ≡ with_graph self.old.graphs place (begun (store_at stores.old place) (graph_at self.old.graphs place))) }
+        ensures stores { stores.new ≡ stores.old }
+        ensures err { OnErr result (self.new.graphs ≡ self.old.graphs) }
+        ensures step { InStep stores.new self.new }
+    {
+        self.graphs.get_mut(place).begin(self.alloc, stores, place)
+    }
+
+    /// Ends the group that was opened last, and returns how many are left; where none is open it is
+    /// `NoGroup`. It tells nothing, and takes no memory.
+    pub fn end(&mut self, place: usize, stores: &Stores) -> Result<u32, Code>
+        requires place { IsPlace self.old.graphs place }
+        requires step { InStep stores.now self.old }
+        ensures refused { result_err result ≡ end_refusal (graph_at self.old.graphs place) }
+        ensures depth { IfOk result (λ depth. depth ≡ (ended (graph_at self.old.graphs place)).depth) }
+        ensures ok { OnOk result (self.new.graphs ≡ with_graph self.old.graphs place (ended (graph_at self.old.graphs place))) }
+        ensures err { OnErr result (self.new.graphs ≡ self.old.graphs) }
+        ensures step { InStep stores.now self.new }
+    {
+        self.graphs.get_mut(place).end()
+    }
+
+    /// Takes away the bindings of an object. This takes no memory.
+    pub fn drop_object(&mut self, place: usize, object: u32)
+        requires { IsPlace self.old.graphs place }
+        ensures dropped { self.new.graphs ≡ with_graph self.old.graphs place (without_object object (graph_at self.old.graphs place)) }
+        ensures step { (stores : Shelves) → InStep stores self.old → InStep stores self.new }
+    {
+        self.graphs.get_mut(place).drop_object(object);
+    }
+}

@@ -1,0 +1,138 @@
+//! What has changed between two showings.
+ghost use Rattle.std.specs.Prelude.{◌≡◌, ◌++◌, IfOk, OnOk, filter, filter_map};
+ghost use Rattle.variant_value.specs.Values.{is_same};
+ghost use Rattle.binding_graph.specs.Graph.{before, changes, has_turn, is_same_error, notice, warning};
+
+use crate::change::{Change, Told};
+use crate::showing::Showing;
+use crate::shown::Shown;
+use binding_values::{BindingError, Property, is_property};
+use plain_types::Items;
+use property_store::default_of;
+use std::alloc::{AllocError, Global};
+
+fn is_same_error(a: BindingError, b: BindingError) -> bool
+    ensures { result ≡ is_same_error a b }
+{
+    match a {
+        BindingError::BindingLoop => matches!(b, BindingError::BindingLoop),
+        BindingError::EvaluationError => matches!(b, BindingError::EvaluationError),
+    }
+}
+
+/// The error that a property showed before.
+fn error_before(last: &Showing, shown: &Shown) -> Option<BindingError>
+    ensures { result ≡ (before last.now shown.now).error }
+{
+    match last.at(shown.at) {
+        Some(then) => then.error,
+        None => None,
+    }
+}
+
+/// Whether a property showed this value before.
+fn is_value_before(alloc: Global, last: &Showing, shown: &Shown) -> bool
+    ensures { result ≡ is_same (before last.now shown.now).value shown.now.value }
+{
+    match last.at(shown.at) {
+        Some(then) => then.value.is_same(&shown.value),
+        None => default_of(alloc, shown.kind).is_same(&shown.value),
+    }
+}
+
+/// The warning of a property whose error is new or another one.
+fn warning(last: &Showing, shown: &Shown) -> Option<Change>
+    ensures { result ≡ warning last.now shown.now }
+{
+    let error = shown.error?;
+    if let Some(then) = error_before(last, shown) {
+        if is_same_error(error, then) {
+            return None;
+        }
+    }
+    Some(Change {
+        at: shown.at,
+        told: Told::Error(error),
+    })
+}
+
+/// The notification of a property whose value is another one.
+fn notice(alloc: Global, last: &Showing, shown: &Shown) -> Result<Option<Change>, AllocError>
+    ensures { IfOk result (λ change. change ≡ notice last.now shown.now) }
+{
+    if is_value_before(alloc, last, shown) {
+        return Ok(None);
+    }
+    Ok(Some(Change {
+        at: shown.at,
+        told: Told::Value(shown.value.copy(alloc)?),
+    }))
+}
+
+/// Whether it is the turn of a property: of the written one first, of the others then.
+fn has_turn(written: Option<Property>, first: bool, shown: &Shown) -> bool
+    ensures { result ≡ has_turn written first shown.now }
+{
+    match written {
+        None => !first,
+        Some(written) => is_property(written, shown.at) == first,
+    }
+}
+
+/// Puts the warnings of those whose turn it is behind what is told already.
+fn warn(
+    last: &Showing,
+    now: &Showing,
+    written: Option<Property>,
+    first: bool,
+    told: &mut Vec<Change>,
+) -> Result<(), AllocError>
+    ensures { OnOk result (told.new.items ≡ told.old.items ++ filter_map (warning last.now) (filter (has_turn written first) now.now)) }
+{
+    for shown in now.rows() {
+        if has_turn(written, first, shown) {
+            if let Some(change) = warning(last, shown) {
+                told.push(change)?;
+            }
+        }
+    }
+    Ok(())
+}
+
+/// Puts their notifications behind it.
+fn notify(
+    alloc: Global,
+    last: &Showing,
+    now: &Showing,
+    written: Option<Property>,
+    first: bool,
+    told: &mut Vec<Change>,
+) -> Result<(), AllocError>
+    ensures { OnOk result (told.new.items ≡ told.old.items ++ filter_map (notice last.now) (filter (has_turn written first) now.now)) }
+{
+    for shown in now.rows() {
+        if has_turn(written, first, shown) {
+            if let Some(change) = notice(alloc, last, shown)? {
+                told.push(change)?;
+            }
+        }
+    }
+    Ok(())
+}
+
+/// What has changed: first all warnings, then all notifications, of the written property first.
+pub(crate) fn changes(
+    alloc: Global,
+    last: &Showing,
+    now: &Showing,
+    written: Option<Property>,
+) -> Result<Items<Change>, AllocError>
+    ensures { IfOk result (λ told. told ≡ changes last.now now.now written) }
+{
+    let mut told = Vec::new(alloc);
+    warn(last, now, written, true, &mut told)?;
+    warn(last, now, written, false, &mut told)?;
+    notify(alloc, last, now, written, true, &mut told)?;
+    notify(alloc, last, now, written, false, &mut told)?;
+    Ok(Items::from_vec(told))
+}

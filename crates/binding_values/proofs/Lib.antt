@@ -1,0 +1,12 @@
+pub mod MapLemmas
+pub mod FuelLemmas
+pub mod ValueLemmas
+pub mod ChainLemmas
+pub mod KeptLemmas
+pub mod RunLemmas
+pub mod LoopLemmas
+pub mod StackLemmas
+pub mod SortedLemmas
+pub mod BoundLemmas
+pub mod StoredLemmas
+pub mod MemoryLemmas

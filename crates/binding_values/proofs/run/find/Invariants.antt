@@ -1,0 +1,16 @@
+use Rattle.std.proofs.Common.{◌≡◌}
+use Rattle.property_store.specs.Table.{store_at}
+use Rattle.binding_values.specs.Kept.{IsWithin, kept_of}
+use Rattle.binding_values.specs.Run.{IsRunning, bottom, work}
+use Rattle.binding_values.specs.Stored.{scene_of}
+use Rattle.binding_values.proofs.run.find.Given as goal
+
+abbrev pub invariant-steps : goal.invariant-steps
+invariant-steps l = record {
+  running : IsRunning (scene_of (store_at l.stores l.place) l.bindings) l.done l.below.items l.top;
+  within : IsWithin (kept_of l.initial.done) (kept_of l.done);
+  start : bottom l.below.items l.top ≡ l.fn.start;
+}
+
+abbrev pub decreases-steps : goal.decreases-steps
+decreases-steps l = work (scene_of (store_at l.stores l.place) l.bindings) l.done l.below.items l.top

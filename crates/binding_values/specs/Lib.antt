@@ -1,0 +1,11 @@
+pub mod Scene
+pub mod Kept
+pub mod Laws
+pub mod Run
+pub mod Stored
+pub mod Looking
+pub mod Sorted
+pub mod Order
+pub mod Listed
+pub mod Binds
+pub mod Coded

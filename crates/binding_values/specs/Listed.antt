@@ -1,0 +1,23 @@
+-- An entry for a property.
+use Rattle.std.specs.Prelude.{◌≡◌, ◌<◌, ◌⊎◌, ℕ, false, List, Some, find, length, slice_index_or}
+use Rattle.std.specs.List.{insert}
+use Rattle.binding_values.specs.declared.memory.Entry.{Entry}
+use Rattle.binding_values.specs.declared.property.Property.{Property}
+use Rattle.binding_values.specs.Scene.{is_property}
+use Rattle.binding_values.specs.Sorted.{IsCountBefore}
+
+-- it was put in where it belongs
+pub record IsEntered (old new : List Entry) (at : Property) (row : ℕ) : Type 0 where
+  pub place : ℕ
+  pub count : IsCountBefore (λ entry. entry.at) old at place
+  pub absent : (default : Entry) → place < length old → is_property at (slice_index_or old place default).at ≡ false
+  pub entered : new ≡ insert old place (record { at = at; row = row })
+
+-- or there was one
+pub record HasStood (old new : List Entry) (at : Property) : Type 0 where
+  pub entry : Entry
+  pub found : find (λ entry. is_property at entry.at) old ≡ Some entry
+  pub same : new ≡ old
+
+abbrev pub IsListed : List Entry → List Entry → Property → ℕ → Type 0
+IsListed old new at row = HasStood old new at ⊎ IsEntered old new at row

@@ -1,0 +1,28 @@
+-- What an evaluation knows.
+use Rattle.std.specs.Prelude.{Result, Ok, Err}
+use Rattle.places.specs.Table.{IsPlace}
+use Rattle.property_store.specs.Table.{store_at}
+use Rattle.variant_value.specs.declared.value.Value.{Value}
+use Rattle.term_evaluation.specs.declared.halt.Halt.{Halt}
+use Rattle.term_evaluation.specs.declared.halt.Halt.TheVariants.{Refused, Own, Memory}
+use Rattle.binding_values.specs.declared.known.Known.{Known}
+use Rattle.binding_values.specs.declared.property.Property.{Property}
+use Rattle.binding_values.specs.Kept.{kept_of, known}
+use Rattle.binding_values.specs.Scene.{Outcome, Scene}
+use Rattle.binding_values.specs.Stored.{scene_of}
+
+abbrev pub IsReady : Known → Type 0
+IsReady knows = IsPlace knows.stores.now.table knows.place
+
+abbrev pub scene_in : Known → Scene
+scene_in knows = scene_of (store_at knows.stores.now knows.place) knows.bindings.now
+
+abbrev pub values_in : Known → Property → Outcome
+values_in knows = known (scene_in knows) (kept_of knows.done.now)
+
+-- where memory was not wanted
+abbrev pub IfEnds : {O : Type 0} → Result Value (Halt O) → Type 0 → Type 0
+IfEnds (Ok value) P = P
+IfEnds (Err (Refused code)) P = P
+IfEnds (Err (Own fault)) P = P
+IfEnds (Err Memory) P = Unit {0}

@@ -1,0 +1,26 @@
+//! Bindings.
+ghost use Rattle.std.specs.Prelude.{◌≡◌};
+
+use crate::property::Property;
+use crate::sorted::Placed;
+use term_core::Expr;
+
+/// A property, and the expression that it is bound to.
+pub struct Binding {
+    pub at: Property,
+    pub expr: Expr,
+}
+
+impl Drop for Binding {
+    fn drop(self) {
+        let Binding { at: _, expr: _ } = self;
+    }
+}
+
+impl Placed for Binding {
+    ghost at = { λ binding. binding.at };
+
+    fn at(&self) -> Property {
+        self.at
+    }
+}

@@ -1,0 +1,90 @@
+//! The bindings of a place.
+ghost use Rattle.std.specs.Prelude.{◌≡◌, ◌<◌, ◌==◌, ◌⊎◌, [], IsSome, IsTrue, OnErr, OnOk, filter, length, not};
+ghost use Rattle.std.specs.Option.{option_map};
+ghost use Rattle.term_core.specs.Forms.{is_within_limits};
+ghost use Rattle.binding_values.specs.Binds.{AreBindings, with_binding};
+ghost use Rattle.binding_values.specs.Scene.{is_property, term_at};
+
+use crate::binding::Binding;
+use crate::property::{Property, is_property};
+use crate::sorted::{count_before, is_at, row_at};
+use std::alloc::{AllocError, Global};
+use std::marker::Model;
+use term_core::Expr;
+
+/// The bindings of a place, by rising object and number.
+#[derive(Drop)]
+pub struct Bound {
+    rows: Vec<Binding>,
+}
+
+impl Model for Bound {
+    ghost use Rattle.std.specs.Prelude.{List};
+    ghost use Rattle.binding_values.specs.declared.binding.Binding.{Binding};
+    ghost use Rattle.binding_values.specs.Coded.{coded_bindings};
+
+    ghost Value = { List Binding };
+
+    ghost coded = { coded_bindings };
+
+    ghost use Rattle.binding_values.specs.Binds.{AreBindings};
+
+    ghost view = { λ bound. bound.rows.items };
+
+    ghost invariant = { λ bound. AreBindings bound.rows.items };
+}
+
+impl Bound {
+    pub fn new(alloc: Global) -> Bound
+        ensures { result ≡ [] }
+    {
+        Bound {
+            rows: Vec::new(alloc),
+        }
+    }
+
+    pub fn len(&self) -> usize
+        ensures len { result ≡ length self.now }
+        ensures sound { AreBindings self.now }
+    {
+        self.rows.len()
+    }
+
+    /// The expression that a property is bound to.
+    pub fn expr_at(&self, at: Property) -> Option<&Expr>
+        ensures { option_map (λ expr. expr.now) result ≡ term_at self.now at }
+    {
+        let row = row_at(self.rows.as_slice(), at)?;
+        Some(&row.expr)
+    }
+
+    /// Binds a property, whatever it was bound to.
+    pub fn put(&mut self, binding: Binding) -> Result<(), AllocError>
+        requires room { IsSome (term_at self.old binding.at) ⊎ (length self.old < 1024) }
+        requires limited { IsTrue (is_within_limits binding.expr) }
+        ensures ok { OnOk result (self.new ≡ with_binding binding self.old) }
+        ensures err { OnErr result (self.new ≡ self.old) }
+    {
+        let place = count_before(self.rows.as_slice(), binding.at);
+        if is_at(self.rows.as_slice(), place, binding.at) {
+            self.rows[place] = binding;
+            return Ok(());
+        }
+        self.rows.insert(place, binding)?;
+        Ok(())
+    }
+
+    /// Binds a property no longer.
+    pub fn remove(&mut self, at: Property)
+        ensures { self.new ≡ filter (λ binding. not (is_property at binding.at)) self.old }
+    {
+        self.rows.retain(|binding| !is_property(at, binding.at));
+    }
+
+    /// Binds no property of an object any longer.
+    pub fn remove_object(&mut self, object: u32)
+        ensures { self.new ≡ filter (λ binding. not (binding.at.object == object)) self.old }
+    {
+        self.rows.retain(|binding| binding.at.object != object);
+    }
+}

@@ -1,0 +1,135 @@
+//! What an evaluation knows.
+ghost use Rattle.std.specs.Prelude.{◌≡◌, ◌&&◌, bytes_eq, position};
+ghost use Rattle.std.specs.Option.{option_map};
+ghost use Rattle.places.specs.Table.{IsPlace};
+ghost use Rattle.property_store.specs.Table.{store_at};
+ghost use Rattle.term_evaluation.specs.Outcomes.{Ends};
+ghost use Rattle.binding_values.specs.Looking.{IsReady, scene_in, values_in};
+ghost use Rattle.binding_values.specs.Scene.{passed_on, term_at};
+ghost use Rattle.binding_values.specs.Stored.{bindable_number, cell_in, is_bindable, named_in, scene_of};
+
+use crate::bound::Bound;
+use crate::memory::Memory;
+use crate::property::{BindingError, Property, is_property};
+use plain_types::Text;
+use property_store::{Field, Stores};
+use signature_core::Kind;
+use std::alloc::Global;
+use term_core::{Expr, Target};
+use term_evaluation::Halt;
+use variant_value::Value;
+
+/// The stored values of a place, its bindings, and what is kept of them.
+#[derive(Clone, Copy)]
+pub(crate) struct Known<'a> {
+    pub(crate) stores: &'a Stores,
+    pub(crate) place: usize,
+    pub(crate) bindings: &'a Bound,
+    pub(crate) done: &'a Memory,
+}
+
+/// The expression that a property is bound to which is there.
+pub(crate) fn expr_at<'a>(
+    stores: &Stores,
+    place: usize,
+    bindings: &'a Bound,
+    at: Property,
+) -> Option<&'a Expr>
+    requires { IsPlace stores.now.table place }
+    ensures { option_map (λ expr. expr.now) result ≡ term_at (scene_of (store_at stores.now place) bindings.now).bindings at }
+{
+    let expr = bindings.expr_at(at)?;
+    if cell_at(stores, place, at).is_none() {
+        return None;
+    }
+    Some(expr)
+}
+
+/// The kind and the value of a declared property.
+pub fn cell_at<'a>(stores: &'a Stores, place: usize, at: Property) -> Option<(Kind, &'a Value)>
+    requires { IsPlace stores.now.table place }
+    ensures { option_map (λ cell. record { kind = cell.0; value = cell.1.now }) result ≡ cell_in (store_at stores.now place) at }
+{
+    let field = stores.fields(place, at.object)?.get(at.number)?;
+    let value = stores.value(place, at.object, at.number)?;
+    Some((field.kind, value))
+}
+
+/// Whether a property is there, and may be bound.
+pub fn is_bindable(stores: &Stores, place: usize, at: Property) -> bool
+    requires { IsPlace stores.now.table place }
+    ensures { result ≡ is_bindable (store_at stores.now place) at }
+{
+    let fields = stores.fields(place, at.object).unwrap_or(&[]);
+    match fields.get(at.number) {
+        Some(field) => field.bindable,
+        None => false,
+    }
+}
+
+/// The number of the property of a name that may be bound; where there is none, the first that is not there.
+fn bindable_number(fields: &[Field], name: &Text) -> usize
+    ensures { result ≡ bindable_number name.now fields.now }
+{
+    match bindable_at(fields, name) {
+        Some(number) => number,
+        None => fields.len(),
+    }
+}
+
+fn bindable_at(fields: &[Field], name: &Text) -> Option<usize>
+    ensures { result ≡ position (λ field. field.bindable && bytes_eq field.name name.now) fields.now }
+{
+    fields.iter().position(|field| field.bindable && field.name.as_str() == name.as_str())
+}
+
+/// The property that a name stands for.
+pub(crate) fn named(
+    stores: &Stores,
+    place: usize,
+    object: u32,
+    target: &Target,
+    name: &Text,
+) -> Option<Property>
+    requires { IsPlace stores.now.table place }
+    ensures { result ≡ named_in (store_at stores.now place) object target.now name.now }
+{
+    let object = match target {
+        Target::Itself => object,
+        Target::Object(number) => *number,
+        Target::Sender | Target::Child(_) => return None,
+    };
+    let fields = stores.fields(place, object).unwrap_or(&[]);
+    let number = bindable_number(fields, name);
+    Some(Property { object, number })
+}
+
+impl<'a> Known<'a> {
+    /// What reading a property answers: what is kept of it, or what is stored where it is unbound.
+    pub(crate) fn read(&self, alloc: Global, at: Property) -> Result<Value, Halt<BindingError>>
+        requires { IsReady self.now }
+        ensures { Ends result (passed_on (values_in self.now at)) }
+    {
+        if let Some(kept) = self.done.at(at) {
+            return match &kept.outcome {
+                Ok(value) => Ok(value.copy(alloc)?),
+                Err(error) => Err(Halt::Own(*error)),
+            };
+        }
+        if self.expr_at(at).is_some() {
+            return Err(Halt::Own(BindingError::BindingLoop));
+        }
+        match cell_at(self.stores, self.place, at) {
+            Some((_, value)) => Ok(value.copy(alloc)?),
+            None => Err(Halt::Own(BindingError::EvaluationError)),
+        }
+    }
+
+    /// The expression that a property is bound to which is there.
+    pub(crate) fn expr_at(&self, at: Property) -> Option<&Expr>
+        requires { IsReady self.now }
+        ensures { option_map (λ expr. expr.now) result ≡ term_at (scene_in self.now).bindings at }
+    {
+        expr_at(self.stores, self.place, self.bindings, at)
+    }
+}

@@ -1,0 +1,62 @@
+//! Rows of properties, by rising object and number.
+ghost use Rattle.std.specs.Prelude.{◌≡◌, false, find, slice_get};
+ghost use Rattle.std.specs.Option.{option_map, option_map_or};
+ghost use Rattle.binding_values.specs.Scene.{is_property};
+ghost use Rattle.binding_values.specs.Sorted.{IsCountBefore, IsRising};
+
+use crate::property::{Property, is_before, is_property};
+
+/// A row that is about a property.
+pub trait Placed {
+    ghost use Rattle.binding_values.specs.declared.property.Property.{Property};
+
+    ghost at: { Self → Property };
+
+    fn at(&self) -> Property
+        ensures { result ≡ at self.now };
+}
+
+/// How many rows stand before those of a property.
+pub(crate) fn count_before<T: Placed>(rows: &[T], at: Property) -> usize
+    requires { IsRising T.at rows.now }
+    ensures { IsCountBefore T.at rows.now at result }
+{
+    let mut low = 0;
+    let mut high = rows.len();
+    while low < high {
+        let middle = low + (high - low) / 2;
+        if is_before(rows[middle].at(), at) {
+            low = middle + 1;
+        } else {
+            high = middle;
+        }
+    }
+    low
+}
+
+/// Whether the row of a property stands at a place.
+pub(crate) fn is_at<T: Placed>(rows: &[T], place: usize, at: Property) -> bool
+    ensures { result ≡ option_map_or (λ row. is_property at (T.at row)) (slice_get rows.now place) false }
+{
+    match rows.get(place) {
+        Some(row) => is_property(at, row.at()),
+        None => false,
+    }
+}
+
+/// The row of a property.
+pub fn row_at<T: Placed>(rows: &[T], at: Property) -> Option<&T>
+    requires { IsRising T.at rows.now }
+    ensures { option_map (λ row. row.now) result ≡ find (λ row. is_property at (T.at row)) rows.now }
+{
+    let place = count_before(rows, at);
+    if place == rows.len() {
+        return None;
+    }
+    let row = &rows[place];
+    if is_property(at, row.at()) {
+        Some(row)
+    } else {
+        None
+    }
+}

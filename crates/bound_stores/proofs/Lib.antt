@@ -1,0 +1,10 @@
+pub mod AloneLemmas
+pub mod CellLemmas
+pub mod InvariantLemmas
+pub mod NamedLemmas
+pub mod PlaceLemmas
+pub mod ReadingLemmas
+pub mod SeenLemmas
+pub mod SettledLemmas
+pub mod ShowingLemmas
+pub mod WrittenLemmas

@@ -1,0 +1,165 @@
+//! What is stored at a place, shown there and bound.
+ghost use Rattle.std.specs.Prelude.{◌≡◌, ◌≤◌, IfOk, IfSome, IsFalse, length, option_and_then};
+ghost use Rattle.std.specs.Option.{option_map, option_map_or};
+ghost use Rattle.places.specs.Table.{IsPlace};
+ghost use Rattle.variant_value.specs.declared.value.Value.TheVariants.{Invalid};
+ghost use Rattle.variant_value.specs.Values.{IsShort};
+ghost use Rattle.property_store.specs.Store.{declared_in, dynamic_names, properties_of};
+ghost use Rattle.binding_graph.specs.Graph.{is_bound, value_in};
+ghost use Rattle.binding_values.specs.Stored.{cell_in, is_bindable};
+ghost use Rattle.thread_model.specs.State.{is_text};
+ghost use Rattle.bound_stores.specs.Bound.{bound_at, stored_at};
+ghost use Rattle.bound_stores.specs.Reading.{bound_named, named_in};
+
+use crate::bound_stores::BoundStores;
+use binding_values::{BindingError, Property};
+use plain_types::{Items, Text};
+use property_store::Stores;
+use signature_core::Kind;
+use std::alloc::AllocError;
+use variant_value::Value;
+
+impl BoundStores {
+    /// The number and the kind of the declared property of this name.
+    pub fn declared(&self, place: usize, object: u32, name: &str) -> Option<(usize, Kind)>
+        requires { IsPlace self.now.shelves.table place }
+        ensures { result ≡ option_and_then (λ of. declared_in name.now of.fields) (properties_of (stored_at self.now place) object) }
+    {
+        self.stores.declared(place, object, name)
+    }
+
+    /// Copies of the names of an object's dynamic properties, that first set first.
+    pub fn dynamic_names(&self, place: usize, object: u32) -> Result<Items<Text>, AllocError>
+        requires { IsPlace self.now.shelves.table place }
+        ensures { IfOk result (λ names. names ≡ dynamic_names (stored_at self.now place) object) }
+    {
+        self.stores.dynamic_names(place, object)
+    }
+
+    /// How many properties are bound.
+    pub fn count(&self, place: usize) -> usize
+        requires { IsPlace self.now.graphs place }
+        ensures count { result ≡ length (bound_at self.now place).bindings }
+        ensures few { result ≤ 1024 }
+    {
+        self.bindings.count(place)
+    }
+
+    /// How many groups are open, each within the one before.
+    pub fn depth(&self, place: usize) -> u32
+        requires { IsPlace self.now.graphs place }
+        ensures { result ≡ (bound_at self.now place).depth }
+    {
+        self.bindings.depth(place)
+    }
+
+    /// Whether a property is bound.
+    pub fn is_bound(&self, place: usize, at: Property) -> bool
+        requires { IsPlace self.now.graphs place }
+        ensures { result ≡ is_bound (bound_at self.now place).bindings at }
+    {
+        self.bindings.is_bound(place, at)
+    }
+
+    /// Whether a declared property may be bound, and be read in a binding.
+    pub fn is_bindable(&self, place: usize, at: Property) -> bool
+        requires { IsPlace self.now.shelves.table place }
+        ensures { result ≡ is_bindable (stored_at self.now place) at }
+    {
+        binding_values::is_bindable(&self.stores, place, at)
+    }
+
+    /// What a declared property shows, and the error for which it is the default of its kind; `Invalid`
+    /// where it is not there.
+    pub fn shown(
+        &self,
+        place: usize,
+        at: Property,
+    ) -> Result<(Value, Option<BindingError>), AllocError>
+        requires place { IsPlace self.now.shelves.table place }
+        requires graph { IsPlace self.now.graphs place }
+        ensures shown { IfOk result (λ shown. shown ≡ value_in (stored_at self.now place) (bound_at self.now place) at) }
+        ensures short { IfOk result (λ shown. IsShort shown.0) }
+    {
+        if self.is_bound(place, at) {
+            return self.bindings.value(place, &self.stores, at);
+        }
+        match self.stored(place, at) {
+            Some(value) => Ok((value.copy(self.alloc)?, None)),
+            None => Ok((Value::Invalid, None)),
+        }
+    }
+
+    /// A copy of the value of the property of this name: of a declared one what it shows, of a dynamic one
+    /// what it was set to.
+    pub fn named(&self, place: usize, object: u32, name: &str) -> Result<Option<Value>, AllocError>
+        requires place { IsPlace self.now.shelves.table place }
+        requires graph { IsPlace self.now.graphs place }
+        ensures { IfOk result (λ value. value ≡ named_in (stored_at self.now place) (bound_at self.now place) object name.now) }
+    {
+        if let Some(at) = self.bound_named(place, object, name) {
+            let (value, _) = self.bindings.value(place, &self.stores, at)?;
+            return Ok(Some(value));
+        }
+        let _ = self.stores.count(place);
+        match self.stores.value_named(place, object, name) {
+            Some(value) => Ok(Some(value.copy(self.alloc)?)),
+            None => Ok(None),
+        }
+    }
+
+    /// The declared property of this name, where it is bound.
+    fn bound_named(&self, place: usize, object: u32, name: &str) -> Option<Property>
+        requires place { IsPlace self.now.shelves.table place }
+        requires graph { IsPlace self.now.graphs place }
+        ensures { result ≡ bound_named (stored_at self.now place) (bound_at self.now place) object name.now }
+    {
+        if self.count(place) == 0 {
+            return None;
+        }
+        let (number, _) = self.declared(place, object, name)?;
+        let at = Property { object, number };
+        if self.is_bound(place, at) {
+            Some(at)
+        } else {
+            None
+        }
+    }
+
+    /// Whether a declared property shows this text.
+    pub fn shows_text(&self, place: usize, at: Property, wanted: &str) -> Result<bool, AllocError>
+        requires place { IsPlace self.now.shelves.table place }
+        requires graph { IsPlace self.now.graphs place }
+        ensures { IfOk result (λ is. is ≡ is_text wanted.now (value_in (stored_at self.now place) (bound_at self.now place) at).0) }
+    {
+        if self.is_bound(place, at) {
+            let (value, _) = self.shown(place, at)?;
+            return Ok(is_text(&value, wanted));
+        }
+        match self.stored(place, at) {
+            Some(value) => Ok(is_text(value, wanted)),
+            None => Ok(false),
+        }
+    }
+
+    /// What a declared property shows that is not bound: its value.
+    fn stored(&self, place: usize, at: Property) -> Option<&Value>
+        requires place { IsPlace self.now.shelves.table place }
+        requires unbound { IsFalse (is_bound (bound_at self.now place).bindings at) }
+        ensures value { (option_map_or (λ value. value.now) result Invalid, None) ≡ value_in (stored_at self.now place) (bound_at self.now place) at }
+        ensures short { IfSome result (λ value. IsShort value.now) }
+    {
+        let _ = self.stores.count(place);
+        self.stores.value(place, at.object, at.number)
+    }
+}
+
+/// Whether a value is this text.
+fn is_text(value: &Value, wanted: &str) -> bool
+    ensures { result ≡ is_text wanted.now value.now }
+{
+    match value {
+        Value::Text(text) => text.as_str() == wanted,
+        _ => false,
+    }
+}

@@ -1,0 +1,221 @@
+//! How a place is changed, and what is told of that.
+ghost use Rattle.std.specs.Prelude.{◌≡◌, [], IfOk, IfSome, IsTrue, Some, None, OnErr, OnOk, if◌then◌else◌};
+ghost use Rattle.std.specs.Result.{result_err};
+ghost use Rattle.places.specs.Table.{ChangesAt, IsPlace};
+ghost use Rattle.refusals.specs.Answers.{RefusedBy};
+ghost use Rattle.term_core.specs.Forms.{is_within_limits};
+ghost use Rattle.property_store.specs.Store.{fitting, without, written};
+ghost use Rattle.variant_value.specs.Values.{IsShort};
+ghost use Rattle.property_store.specs.Table.{store_at, with_store};
+ghost use Rattle.binding_graph.specs.Graph.{all_shown, bind_refusal, bound, changes, end_refusal, ended, is_open, no_graph, settled_changes, settled_graph, taken, unbound, without_object};
+ghost use Rattle.binding_graph.specs.Step.{InStep};
+ghost use Rattle.binding_values.specs.Stored.{is_bindable};
+ghost use Rattle.binding_graph.specs.Table.{graph_at, with_graph};
+ghost use Rattle.bound_stores.specs.Settled.{IsSettled, settled_in};
+
+use binding_graph::{BINDINGS, Bindings, Change, steps};
+use binding_values::Property;
+use plain_types::Items;
+use property_store::Stores;
+use refusals::{Code, Fault};
+use std::alloc::AllocError;
+use term_core::Expr;
+use variant_value::Value;
+
+/// Settles a place, and keeps nothing where nothing is bound and no group is open.
+pub(crate) fn settle(
+    stores: &mut Stores,
+    bindings: &mut Bindings,
+    place: usize,
+    written: Option<Property>,
+) -> Result<Items<Change>, AllocError>
+    requires store { IsPlace stores.old.table place }
+    requires graph { IsPlace bindings.old.graphs place }
+    requires step { InStep stores.old bindings.old }
+    ensures told { IfOk result (λ told. told ≡ settled_changes (store_at stores.old place) (graph_at bindings.old.graphs place) written) }
+    ensures ok { OnOk result (bindings.new.graphs ≡ with_graph bindings.old.graphs place (settled_in (store_at stores.old place) (graph_at bindings.old.graphs place))) }
+    ensures stores { stores.new ≡ stores.old }
+    ensures err { OnErr result (bindings.new.graphs ≡ bindings.old.graphs) }
+    ensures step { InStep stores.new bindings.new }
+{
+    let told = bindings.settle(place, stores, written)?;
+    if bindings.count(place) == 0 && bindings.depth(place) == 0 {
+        bindings.clear(place);
+    }
+    Ok(told)
+}
+
+/// Keeps what properties show, where nothing is bound.
+pub(crate) fn note(
+    stores: &mut Stores,
+    bindings: &mut Bindings,
+    place: usize,
+) -> Result<(), AllocError>
+    requires store { IsPlace stores.old.table place }
+    requires graph { IsPlace bindings.old.graphs place }
+    requires step { InStep stores.old bindings.old }
+    requires settled { IsSettled (store_at stores.old place) (graph_at bindings.old.graphs place) }
+    ensures ok { OnOk result (bindings.new.graphs ≡ with_graph bindings.old.graphs place (settled_graph (store_at stores.old place) (graph_at bindings.old.graphs place))) }
+    ensures stores { stores.new ≡ stores.old }
+    ensures err { OnErr result (bindings.new.graphs ≡ bindings.old.graphs) }
+    ensures step { InStep stores.new bindings.new }
+{
+    if bindings.count(place) == 0 {
+        bindings.settle(place, stores, None)?;
+    }
+    Ok(())
+}
+
+/// Refuses one binding more where there are too many.
+fn may_bind(bindings: &Bindings, place: usize, at: Property) -> Result<(), Code>
+    requires { IsPlace bindings.now.graphs place }
+    ensures { result_err result ≡ bind_refusal (graph_at bindings.now.graphs place) at }
+{
+    if !bindings.is_bound(place, at) && bindings.count(place) >= BINDINGS {
+        return Err(Code::Limit);
+    }
+    Ok(())
+}
+
+/// Binds a property to an expression, whatever it was bound to, and tells what has changed by it.
+pub(crate) fn bind(
+    stores: &mut Stores,
+    bindings: &mut Bindings,
+    place: usize,
+    at: Property,
+    expr: Expr,
+) -> Result<Items<Change>, Fault>
+    requires store { IsPlace stores.old.table place }
+    requires graph { IsPlace bindings.old.graphs place }
+    requires step { InStep stores.old bindings.old }
+    requires settled { IsSettled (store_at stores.old place) (graph_at bindings.old.graphs place) }
+    requires bindable { IsTrue (is_bindable (store_at stores.old place) at) }
+    requires limited { IsTrue (is_within_limits expr) }
+    ensures refused { RefusedBy (bind_refusal (graph_at bindings.old.graphs place) at) result }
+    ensures unchanged { IfSome (bind_refusal (graph_at bindings.old.graphs place) at) (λ code. bindings.new.graphs ≡ bindings.old.graphs) }
+    ensures told { IfOk result (λ told. told ≡ (if is_open (graph_at bindings.old.graphs place) then []
+        else changes (all_shown (store_at stores.old place) (graph_at bindings.old.graphs place).bindings)
+        (all_shown (store_at stores.old place) (bound (graph_at bindings.old.graphs place) at expr).bindings) (Some at))) }
+    ensures ok { OnOk result (bindings.new.graphs ≡ with_graph bindings.old.graphs place (settled_in (store_at stores.old place) (bound (graph_at bindings.old.graphs place) at expr))) }
+    ensures stores { stores.new ≡ stores.old }
+    ensures only { ChangesAt no_graph place bindings.old.graphs bindings.new.graphs }
+    ensures step { InStep stores.new bindings.new }
+{
+    may_bind(bindings, place, at)?;
+    note(stores, bindings, place)?;
+    bindings.bind(place, stores, at, expr)?;
+    Ok(settle(stores, bindings, place, Some(at))?)
+}
+
+/// Binds a property no longer, which keeps the value that it shows, and tells what has changed by it.
+pub(crate) fn unbind(
+    stores: &mut Stores,
+    bindings: &mut Bindings,
+    place: usize,
+    at: Property,
+) -> Result<Items<Change>, AllocError>
+    requires store { IsPlace stores.old.table place }
+    requires graph { IsPlace bindings.old.graphs place }
+    requires step { InStep stores.old bindings.old }
+    requires settled { IsSettled (store_at stores.old place) (graph_at bindings.old.graphs place) }
+    ensures told { IfOk result (λ told. told ≡ (if is_open (graph_at bindings.old.graphs place) then []
+        else changes (all_shown (store_at stores.old place) (graph_at bindings.old.graphs place).bindings)
+        (all_shown (taken (store_at stores.old place) (graph_at bindings.old.graphs place) at) (unbound (graph_at bindings.old.graphs place) at).bindings) (Some at))) }
+    ensures ok { OnOk result (bindings.new.graphs ≡ with_graph bindings.old.graphs place
+        (settled_in (taken (store_at stores.old place) (graph_at bindings.old.graphs place) at) (unbound (graph_at bindings.old.graphs place) at))) }
+    ensures stores { OnOk result (stores.new ≡ with_store stores.old place (taken (store_at stores.old place) (graph_at bindings.old.graphs place) at)) }
+    ensures layouts { stores.new.layouts ≡ stores.old.layouts }
+    ensures only { ChangesAt no_graph place bindings.old.graphs bindings.new.graphs }
+    ensures rest { ChangesAt [] place stores.old.table stores.new.table }
+    ensures step { InStep stores.new bindings.new }
+{
+    note(stores, bindings, place)?;
+    bindings.take(place, stores, at)?;
+    settle(stores, bindings, place, Some(at))
+}
+
+/// Gives a declared property a value of its kind, which is bound no longer then, and tells what has changed
+/// by it.
+pub(crate) fn write(
+    stores: &mut Stores,
+    bindings: &mut Bindings,
+    place: usize,
+    at: Property,
+    value: Value,
+) -> Result<Items<Change>, AllocError>
+    requires store { IsPlace stores.old.table place }
+    requires graph { IsPlace bindings.old.graphs place }
+    requires step { InStep stores.old bindings.old }
+    requires settled { IsSettled (store_at stores.old place) (graph_at bindings.old.graphs place) }
+    requires fits { fitting (store_at stores.old place) at.object at.number value ≡ Some value }
+    requires short { IsShort value }
+    ensures told { IfOk result (λ told. told ≡ (if is_open (graph_at bindings.old.graphs place) then []
+        else changes (all_shown (store_at stores.old place) (graph_at bindings.old.graphs place).bindings)
+        (all_shown (written (store_at stores.old place) at.object at.number value) (unbound (graph_at bindings.old.graphs place) at).bindings) (Some at))) }
+    ensures ok { OnOk result (bindings.new.graphs ≡ with_graph bindings.old.graphs place
+        (settled_in (written (store_at stores.old place) at.object at.number value) (unbound (graph_at bindings.old.graphs place) at))) }
+    ensures stores { OnOk result (stores.new ≡ with_store stores.old place (written (store_at stores.old place) at.object at.number value)) }
+    ensures layouts { stores.new.layouts ≡ stores.old.layouts }
+    ensures only { ChangesAt no_graph place bindings.old.graphs bindings.new.graphs }
+    ensures rest { ChangesAt [] place stores.old.table stores.new.table }
+    ensures step { InStep stores.new bindings.new }
+{
+    steps();
+    note(stores, bindings, place)?;
+    bindings.take(place, stores, at)?;
+    let _ = stores.write(place, at.object, at.number, value);
+    settle(stores, bindings, place, Some(at))
+}
+
+/// Takes an object out with its bindings, and tells what has changed by it.
+pub(crate) fn remove(
+    stores: &mut Stores,
+    bindings: &mut Bindings,
+    place: usize,
+    object: u32,
+) -> Result<Items<Change>, AllocError>
+    requires store { IsPlace stores.old.table place }
+    requires graph { IsPlace bindings.old.graphs place }
+    requires step { InStep stores.old bindings.old }
+    requires settled { IsSettled (store_at stores.old place) (graph_at bindings.old.graphs place) }
+    ensures told { IfOk result (λ told. told ≡ (if is_open (graph_at bindings.old.graphs place) then []
+        else changes (all_shown (store_at stores.old place) (graph_at bindings.old.graphs place).bindings)
+        (all_shown (without object (store_at stores.old place)) (without_object object (graph_at bindings.old.graphs place)).bindings) None)) }
+    ensures ok { OnOk result (bindings.new.graphs ≡ with_graph bindings.old.graphs place
+        (settled_in (without object (store_at stores.old place)) (without_object object (graph_at bindings.old.graphs place)))) }
+    ensures stores { OnOk result (stores.new ≡ with_store stores.old place (without object (store_at stores.old place))) }
+    ensures layouts { stores.new.layouts ≡ stores.old.layouts }
+    ensures only { ChangesAt no_graph place bindings.old.graphs bindings.new.graphs }
+    ensures rest { ChangesAt [] place stores.old.table stores.new.table }
+    ensures step { InStep stores.new bindings.new }
+{
+    steps();
+    note(stores, bindings, place)?;
+    bindings.drop_object(place, object);
+    stores.drop_object(place, object);
+    settle(stores, bindings, place, None)
+}
+
+/// Ends the group that was opened last, and tells, where it was the outermost, what has changed since that
+/// began; with it how many are left.
+pub(crate) fn end(
+    stores: &mut Stores,
+    bindings: &mut Bindings,
+    place: usize,
+) -> Result<(u32, Items<Change>), Fault>
+    requires store { IsPlace stores.old.table place }
+    requires graph { IsPlace bindings.old.graphs place }
+    requires step { InStep stores.old bindings.old }
+    ensures refused { RefusedBy (end_refusal (graph_at bindings.old.graphs place)) result }
+    ensures unchanged { IfSome (end_refusal (graph_at bindings.old.graphs place)) (λ code. bindings.new.graphs ≡ bindings.old.graphs) }
+    ensures depth { IfOk result (λ left. left.0 ≡ (ended (graph_at bindings.old.graphs place)).depth) }
+    ensures told { IfOk result (λ told. told.1 ≡ settled_changes (store_at stores.old place) (ended (graph_at bindings.old.graphs place)) None) }
+    ensures ok { OnOk result (bindings.new.graphs ≡ with_graph bindings.old.graphs place (settled_in (store_at stores.old place) (ended (graph_at bindings.old.graphs place)))) }
+    ensures stores { stores.new ≡ stores.old }
+    ensures only { ChangesAt no_graph place bindings.old.graphs bindings.new.graphs }
+    ensures step { InStep stores.new bindings.new }
+{
+    let left = bindings.end(place, stores)?;
+    let told = settle(stores, bindings, place, None)?;
+    Ok((left, told))
+}

@@ -1,0 +1,198 @@
+//! What is told of changes: warnings, and the signals of properties.
+ghost use Rattle.std.specs.Prelude.{◌≡◌, IfOk, map, option_and_then, option_map, slice_get, ℕ};
+ghost use Rattle.std.specs.Option.{option_copied};
+ghost use Rattle.class_table.specs.Lookup.{properties};
+ghost use Rattle.binding_graph.specs.declared.change.Told.TheVariants as t;
+ghost use Rattle.thread_model.specs.Showing.{property_at, told_as};
+ghost use Rattle.thread_model.specs.State.{State, shown};
+ghost use Rattle.bound_stores.specs.Changed.{changes_in};
+ghost use Rattle.session_tables.specs.Classes.{HasClass};
+ghost use Rattle.session_tables.specs.Tables.{IsPlaced, state_at};
+ghost use Rattle.session_effects.specs.Setup.{settings_of};
+ghost use Rattle.session_effects.specs.Writing.{announced, items_of, name_of, notice_args, told_items};
+
+use crate::caller::Caller;
+use crate::effects::Emission;
+use crate::methods::kinds_at;
+use binding_graph::{Change, Told};
+use binding_values::{BindingError, Property as At};
+use class_table::Property;
+use plain_types::{Items, Text};
+use session_tables::{Changed, Tables};
+use std::alloc::AllocError;
+use variant_value::{Args, Value};
+
+/// What there is to tell of a write.
+#[derive(Drop)]
+pub enum News {
+    Nothing,
+    /// The value of one property alone is another one, and there is a signal that tells of it.
+    One(Notice),
+    /// All of these, in order.
+    Several(Items<Change>),
+}
+
+/// A signal that is to be sent since it tells that a declared property has another value (NOTIFY). What
+/// it is sent with is read of the property when it is sent, before anything else is done.
+#[derive(Clone, Copy)]
+pub struct Notice {
+    pub object: u32,
+    /// The number of the property among those that the object's class declares.
+    pub property: usize,
+    /// The index of the signal.
+    pub signal: u32,
+}
+
+/// One of the things that are told of several changes, as they were when all was changed: what is called by
+/// one may write what another one tells of.
+#[derive(Drop)]
+pub enum Announcement {
+    /// A bound property stands for an error, which is new or another one.
+    Warning(At, BindingError),
+    /// A property has another value, and there is a signal that tells of it.
+    Signal(Emission),
+}
+
+/// What there is to tell of a write to a property that the class of its object declares.
+pub(crate) fn news_of(
+    caller: &Caller,
+    object: u32,
+    class: u32,
+    number: usize,
+    changed: Changed,
+) -> News
+    ensures { (state : State) → HasClass state object class → (depth : ℕ)
+        → items_of (settings_of caller.now.setup.now) state depth result
+        ≡ told_items (settings_of caller.now.setup.now) state depth
+        (changes_in (record { object = object; number = number }) (shown state object number).0 changed) }
+{
+    match changed {
+        Changed::Nothing => News::Nothing,
+        Changed::Written => match notice_of(caller, object, class, number) {
+            Some(notice) => News::One(notice),
+            None => News::Nothing,
+        },
+        Changed::Several(changes) => News::Several(changes),
+    }
+}
+
+/// The signal of an object that tells that a declared property has changed, where its class names one.
+fn notice_of(caller: &Caller, object: u32, class: u32, number: usize) -> Option<Notice>
+    ensures { result ≡ option_map (λ signal. record { object = object; property = number; signal = signal })
+        (option_and_then (λ property. property.notify) (slice_get (properties (settings_of caller.now.setup.now).classes class) number)) }
+{
+    let signal = property_row(caller, class, number)?.notify?;
+    Some(Notice {
+        object,
+        property: number,
+        signal,
+    })
+}
+
+/// The property of this number that a class declares.
+fn property_row<'a>(caller: &Caller<'a>, class: u32, number: usize) -> Option<&'a Property>
+    ensures { option_copied result ≡ slice_get (properties (settings_of caller.now.setup.now).classes class) number }
+{
+    let classes = &caller.setup.classes;
+    let Ok(short) = u32::try_from(number) else {
+        // The count is for the proof, which then knows that no class has so many.
+        let _count = classes.property_count(class);
+        return None;
+    };
+    classes.property_row(class, short)
+}
+
+/// The declared property of an object.
+fn property_at<'a>(caller: &Caller<'a>, tables: &Tables, at: At) -> Option<&'a Property>
+    requires { IsPlaced tables.now caller.now.place }
+    ensures { option_copied result ≡ property_at (settings_of caller.now.setup.now) (state_at tables.now caller.now.place) at.object at.number }
+{
+    let class = tables.class_of(caller.place, at.object)?;
+    property_row(caller, class, at.number)
+}
+
+/// What a notice is sent with: the value that its property shows, where the signal takes one.
+pub fn told_args(caller: &Caller, tables: &Tables, notice: Notice) -> Result<Args, AllocError>
+    requires { IsPlaced tables.now caller.now.place }
+    ensures { IfOk result (λ args. args ≡ notice_args (settings_of caller.now.setup.now) (state_at tables.now caller.now.place) notice) }
+{
+    if kinds_at(caller, tables, notice.object, notice.signal).is_empty() {
+        return Ok(Args::from_vec(Vec::new(caller.setup.alloc)));
+    }
+    let (value, _) = tables.shown(caller.place, notice.object, notice.property)?;
+    Ok(Args::one(value))
+}
+
+/// What is told of changes.
+pub fn announcements(
+    caller: &Caller,
+    tables: &Tables,
+    changes: Items<Change>,
+) -> Result<Items<Announcement>, AllocError>
+    requires { IsPlaced tables.now caller.now.place }
+    ensures { IfOk result (λ told. (depth : ℕ) → map (announced depth) told
+        ≡ told_items (settings_of caller.now.setup.now) (state_at tables.now caller.now.place) depth changes) }
+{
+    let mut told = Items::new(caller.setup.alloc);
+    for change in changes.as_slice() {
+        if let Some(announcement) = announcement_of(caller, tables, change)? {
+            told.push(announcement)?;
+        }
+    }
+    Ok(told)
+}
+
+/// What is told of a change, where it is told.
+fn announcement_of(
+    caller: &Caller,
+    tables: &Tables,
+    change: &Change,
+) -> Result<Option<Announcement>, AllocError>
+    requires { IsPlaced tables.now caller.now.place }
+    ensures { IfOk result (λ told. (depth : ℕ) → option_map (announced depth) told
+        ≡ told_as (settings_of caller.now.setup.now) (state_at tables.now caller.now.place) depth change.now.at change.now.told) }
+{
+    match &change.told {
+        Told::Error(error) => Ok(Some(Announcement::Warning(change.at, *error))),
+        Told::Value(value) => notification(caller, tables, change.at, value),
+    }
+}
+
+/// The signal that tells that a property has this value now, where there is one.
+fn notification(
+    caller: &Caller,
+    tables: &Tables,
+    at: At,
+    value: &Value,
+) -> Result<Option<Announcement>, AllocError>
+    requires { IsPlaced tables.now caller.now.place }
+    ensures { IfOk result (λ told. (depth : ℕ) → option_map (announced depth) told
+        ≡ told_as (settings_of caller.now.setup.now) (state_at tables.now caller.now.place) depth at (t.Value value.now)) }
+{
+    let Some(property) = property_at(caller, tables, at) else {
+        return Ok(None);
+    };
+    let Some(signal) = property.notify else {
+        return Ok(None);
+    };
+    let mut args = Items::new(caller.setup.alloc);
+    if !kinds_at(caller, tables, at.object, signal).is_empty() {
+        args.push(value.copy(caller.setup.alloc)?)?;
+    }
+    Ok(Some(Announcement::Signal(Emission {
+        object: at.object,
+        signal,
+        args,
+    })))
+}
+
+/// The name of a declared property of an object; an empty one where the object or the property is not there.
+pub fn property_name(caller: &Caller, tables: &Tables, at: At) -> Result<Text, AllocError>
+    requires { IsPlaced tables.now caller.now.place }
+    ensures { IfOk result (λ name. name ≡ name_of (settings_of caller.now.setup.now) (state_at tables.now caller.now.place) at) }
+{
+    match property_at(caller, tables, at) {
+        Some(property) => property.name.copy(caller.setup.alloc),
+        None => Ok(Text::from_string(String::new(caller.setup.alloc))),
+    }
+}

@@ -1,0 +1,45 @@
+use Rattle.std.proofs.Common.{Some, refl, ap, sym, ◌∙◌}
+use Rattle.std.specs.Result.{result_err}
+use Rattle.thread_model.specs.declared.line.Answer.TheVariants as a
+use Rattle.thread_model.specs.Asked.{Unbind}
+use Rattle.thread_model.specs.Effects.{does_next}
+use Rattle.thread_model.proofs.BindLemmas.{refusal_unbind, unbind_done}
+use Rattle.session_tables.specs.Tables.{state_at}
+use Rattle.session_tables.proofs.TablesLemmas.{state_with}
+use Rattle.session_effects.specs.Setup.{settings_of}
+use Rattle.session_effects.specs.Writing.{told_items}
+use Rattle.session_engine.proofs.BindingsLemmas.{comes_found}
+use Rattle.session_engine.proofs.CommandsLemmas.{quietly, starved, stopped}
+use Rattle.session_engine.proofs.ToldLemmas.{performs_told, starved_told}
+use Rattle.session_engine.proofs.bindings.unbind.Goals as goal
+
+pub returns-in_err-at : goal.returns-in_err-at
+returns-in_err-at g c = quietly _ _ _ _ _ _ _ c.requires.fresh (stopped _ _ _ _ _ c.in_err-at.field-0.0 _ c.from_residual.ensures.1
+    (refusal_unbind _ _ _ _ _ ∙ ap result_err (sym (rw c.as_str.ensures at c.in_err-at.ensures))) refl)
+
+pub returns-in_err-changes : goal.returns-in_err-changes
+returns-in_err-changes g c = quietly _ _ _ _ _ _ _ c.requires.fresh (starved _ _ _ _ _ _ c.from_residual-in_err-changes.ensures.1 c.unbind.ensures.only)
+
+pub returns-in_err-tell : goal.returns-in_err-tell
+returns-in_err-tell g c =
+    let caller = c.args.actor.now.caller in
+    let old = c.args.tables.now in
+    let middle = c.unbind.new.self in
+    let found = sym (rw c.as_str.ensures at c.in_ok-at.ensures) in
+    starved_told caller (Unbind c.args.object c.args.property.now) old middle c.tell.new.tables c.args.telling.now c.tell.new.telling
+    (told_items (settings_of caller.setup.now) (state_at middle caller.place) 0 c.in_ok-changes.changes) _ _ c.requires.placed c.requires.fresh
+    (refusal_unbind _ _ _ _ _ ∙ ap result_err found) (unbind_done _ _ _ _ _ _ found)
+    (comes_found caller old middle _ (Some c.in_ok-at.at) c.in_ok-changes.changes (state_with _ _ _ _ c.requires.placed c.in_ok-changes.ensures.ok) c.in_ok-changes.ensures.told)
+    (record { only = c.unbind.ensures.only; failed = c.unbind.ensures.failed }) _ _ _ c.from_residual-in_err-tell.ensures.1 c.in_err-tell.ensures
+
+pub returns : goal.returns
+returns g c =
+    let caller = c.args.actor.now.caller in
+    let old = c.args.tables.now in
+    let middle = c.unbind.new.self in
+    let found = sym (rw c.as_str.ensures at c.in_ok-at.ensures) in
+    performs_told caller (Unbind c.args.object c.args.property.now) old middle c.tell.new.tables c.args.telling.now c.tell.new.telling
+    (told_items (settings_of caller.setup.now) (state_at middle caller.place) 0 c.in_ok-changes.changes) _ (a.Truth c.is_bound-was_bound.result) c.requires.placed c.requires.fresh
+    (refusal_unbind _ _ _ _ _ ∙ ap result_err found) (unbind_done _ _ _ _ _ _ found ∙ ap (does_next (settings_of caller.setup.now) _) (ap a.Truth (sym c.is_bound-was_bound.ensures)))
+    (comes_found caller old middle _ (Some c.in_ok-at.at) c.in_ok-changes.changes (state_with _ _ _ _ c.requires.placed c.in_ok-changes.ensures.ok) c.in_ok-changes.ensures.told)
+    (record { only = c.unbind.ensures.only; failed = c.unbind.ensures.failed }) _ c.in_ok-tell.ensures

@@ -1,0 +1,136 @@
+//! The commands for bindings and groups.
+ghost use Rattle.std.specs.Prelude.{◌≡◌, ◌∷◌, [], Ok, false};
+ghost use Rattle.std.specs.Result.{result_err};
+ghost use Rattle.refusals.specs.Answers.{Answers};
+ghost use Rattle.serde_json.specs.View.{view};
+ghost use Rattle.term_evaluation.specs.Reading.{reads_of};
+ghost use Rattle.thread_model.specs.Asked as model;
+ghost use Rattle.thread_model.specs.Asked.{Begin, Bind, End, Unbind};
+ghost use Rattle.thread_model.specs.Binding.{reads_refusal};
+ghost use Rattle.thread_model.specs.Deeds.{behind};
+ghost use Rattle.session_tables.specs.Tables.{IsPlaced, state_at};
+ghost use Rattle.session_engine.specs.Commands.{Performs, reply_after, reply_lines};
+ghost use Rattle.nested_calls.specs.Telling.{fresh_telling};
+
+use nested_calls::{Actor, Answering, Telling, tell};
+use plain_types::Text;
+use refusals::{Code, Fault};
+use session_effects::Caller;
+use session_tables::Tables;
+use std::alloc::Global;
+use term_core::{Expr, Target};
+use term_evaluation::{Read, reads_of};
+use thread_model::Answer;
+
+/// Binds a property of an object to an expression, and tells of what has changed by it.
+pub fn bind<F: Answering>(
+    actor: &Actor<F>,
+    tables: &mut Tables,
+    telling: &mut Telling,
+    object: u32,
+    property: &Text,
+    to: &serde_json::Value,
+) -> Result<Answer, Fault>
+    requires placed { IsPlaced tables.old actor.now.caller.place }
+    requires fresh { telling.old ≡ fresh_telling actor.now.caller.setup.now.turns }
+    ensures { Performs actor.now.caller (Bind object property.now (view to.now)) tables.old tables.new telling.new.failing (reply_after telling.new.lines) result }
+{
+    let (alloc, place) = (actor.caller.setup.alloc, actor.caller.place);
+    let at = tables.bindable_property(place, object, property.as_str())?;
+    let expr = Expr::from_json(alloc, to)?;
+    check_reads(alloc, tables, place, object, &expr)?;
+    let changes = tables.bind(place, at, expr)?;
+    tell(actor, tables, telling, changes, 0)?;
+    Ok(Answer::Truth(true))
+}
+
+/// Refuses an expression that reads what a binding may not read: the first such refusal, in preorder.
+fn check_reads(
+    alloc: Global,
+    tables: &Tables,
+    place: usize,
+    object: u32,
+    expr: &Expr,
+) -> Result<(), Fault>
+    requires { IsPlaced tables.now place }
+    ensures { Answers result (behind (reads_refusal (state_at tables.now place) object (reads_of expr.now)) (Ok tt)) }
+{
+    let reads = reads_of(alloc, expr)?;
+    'reads: for read in reads.as_slice() {
+        check_read(tables, place, object, read)?;
+    }
+    Ok(())
+}
+
+/// Refuses to read what a binding may not read.
+fn check_read(tables: &Tables, place: usize, object: u32, read: &Read) -> Result<(), Code>
+    requires { IsPlaced tables.now place }
+    ensures { result_err result ≡ reads_refusal (state_at tables.now place) object (read.now ∷ []) }
+{
+    let of = match &read.target {
+        Target::Itself => object,
+        Target::Object(number) => *number,
+        Target::Sender | Target::Child(_) => return Err(Code::NoSuchObject),
+    };
+    tables.bindable_property(place, of, read.name.as_str())?;
+    Ok(())
+}
+
+/// Binds a property no longer, which keeps the value that it shows, and replies whether it was bound.
+pub fn unbind<F: Answering>(
+    actor: &Actor<F>,
+    tables: &mut Tables,
+    telling: &mut Telling,
+    object: u32,
+    property: &Text,
+) -> Result<Answer, Fault>
+    requires placed { IsPlaced tables.old actor.now.caller.place }
+    requires fresh { telling.old ≡ fresh_telling actor.now.caller.setup.now.turns }
+    ensures { Performs actor.now.caller (Unbind object property.now) tables.old tables.new telling.new.failing (reply_after telling.new.lines) result }
+{
+    let place = actor.caller.place;
+    let at = tables.asked_property(place, object, property.as_str())?;
+    let was_bound = tables.is_bound(place, at);
+    let changes = tables.unbind(place, at)?;
+    tell(actor, tables, telling, changes, 0)?;
+    Ok(Answer::Truth(was_bound))
+}
+
+/// The error that a bound property stands for, where it does.
+pub fn binding_error(
+    caller: &Caller,
+    tables: &Tables,
+    object: u32,
+    property: &Text,
+) -> Result<Answer, Fault>
+    requires { IsPlaced tables.now caller.now.place }
+    ensures { Performs caller.now (model.BindingError object property.now) tables.now tables.now false reply_lines result }
+{
+    let at = tables.asked_property(caller.place, object, property.as_str())?;
+    let (_, error) = tables.shown(caller.place, at.object, at.number)?;
+    Ok(Answer::BindingError(error))
+}
+
+/// Begins a group, within which changes are not told, and replies how many are open then.
+pub fn begin(caller: &Caller, tables: &mut Tables) -> Result<Answer, Fault>
+    requires { IsPlaced tables.old caller.now.place }
+    ensures { Performs caller.now Begin tables.old tables.new false reply_lines result }
+{
+    Ok(Answer::Number(tables.begin(caller.place)?))
+}
+
+/// Ends the group that was begun last, and replies how many are left. With the outermost one all that has
+/// changed since it began is told.
+pub fn end<F: Answering>(
+    actor: &Actor<F>,
+    tables: &mut Tables,
+    telling: &mut Telling,
+) -> Result<Answer, Fault>
+    requires placed { IsPlaced tables.old actor.now.caller.place }
+    requires fresh { telling.old ≡ fresh_telling actor.now.caller.setup.now.turns }
+    ensures { Performs actor.now.caller End tables.old tables.new telling.new.failing (reply_after telling.new.lines) result }
+{
+    let (left, changes) = tables.end(actor.caller.place)?;
+    tell(actor, tables, telling, changes, 0)?;
+    Ok(Answer::Number(left))
+}

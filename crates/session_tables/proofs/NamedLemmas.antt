@@ -1,0 +1,71 @@
+-- A write to the property of a name.
+use Rattle.std.proofs.Common.{◌≡◌, ◌∙◌, ℕ, List, Some, None, refl, sym, ap, subst}
+use Rattle.places.proofs.TableLemmas as column
+use Rattle.signature_core.specs.declared.kind.Kind.{Kind}
+use Rattle.variant_value.specs.declared.value.Value.{Value}
+use Rattle.variant_value.specs.Values.{converted}
+use Rattle.property_store.specs.Named.{declared_at}
+use Rattle.property_store.specs.Store.{Store, with_value}
+use Rattle.property_store.specs.Store as store
+use Rattle.property_store.proofs.ListLemmas.{mapped, unmapped}
+use Rattle.connection_list.specs.Rows.{no_rows}
+use Rattle.event_queue.specs.Queue.{empty_queue}
+use Rattle.object_tree.specs.Forest.{empty_forest}
+use Rattle.publish_board.specs.Desk.{no_desk}
+use Rattle.binding_graph.specs.Graph.{Graph, unbound}
+use Rattle.bound_stores.specs.declared.changed.Changed.{Changed}
+use Rattle.bound_stores.specs.Bound.{BoundShelves, bound_at, stored_at, with_bound}
+use Rattle.bound_stores.specs.Named as bound
+use Rattle.thread_model.specs.Writing.{Place, declared}
+use Rattle.session_tables.specs.declared.tables.Tables.{Tables}
+use Rattle.session_tables.specs.Named.{DoesNotFit, Tells, WritesDeclared}
+use Rattle.session_tables.specs.Tables.{state_at, with_state}
+use Rattle.session_tables.proofs.PropertyLemmas.{declared_pair, pair_of}
+use Rattle.session_tables.proofs.TablesLemmas.{columns}
+
+-- where the stores alone have changed
+abbrev pub with_stores : Tables → BoundShelves → Tables
+with_stores tables stores = record tables { stores = stores }
+
+pub state_with_stores : (tables : Tables) (place : ℕ) (store : Store) (graph : Graph) → with_stores tables (with_bound tables.stores place store graph) ≡ with_state tables place (record (state_at tables place) { store = store; graph = graph })
+state_with_stores tables place store graph = sym (columns (with_stores tables (with_bound tables.stores place store graph)) (with_state tables place (record (state_at tables place) { store = store; graph = graph }))
+    (column.with_same empty_forest tables.forests place) refl (column.with_same no_rows tables.connections place) (column.with_same empty_queue tables.queues place) (column.with_same no_desk tables.desks place) refl)
+
+module _ (place object : ℕ) (name : List ℕ) (value : Value) (old : Tables) where
+  -- the property of a name, as a state sees it
+  record IsDeclared (number : ℕ) (kind : Kind) : Type 0 where
+    of : Place
+    is : declared (state_at old place) object name ≡ Some of
+    number_is : of.number ≡ number
+    kind_is : of.kind ≡ kind
+
+  declared_as : (number : ℕ) (kind : Kind) → declared_at (stored_at old.stores place) object name ≡ Some (number, kind) → IsDeclared number kind
+  declared_as number kind is =
+      let found = mapped pair_of (declared (state_at old place) object name) (number, kind) (sym (declared_pair (state_at old place) object name) ∙ is) in
+      record { of = found.x; is = found.is; number_is = ap (λ (pair : ℕ × Kind). pair.0) found.gives; kind_is = ap (λ (pair : ℕ × Kind). pair.1) found.gives }
+
+  pub undeclared : declared_at (stored_at old.stores place) object name ≡ None → declared (state_at old place) object name ≡ None
+  undeclared is = unmapped pair_of (declared (state_at old place) object name) (sym (declared_pair (state_at old place) object name) ∙ is)
+
+  -- what was written is written to the state
+  pub writes_declared : (new : BoundShelves) (number : ℕ) (changed : Changed) → bound.WritesDeclared place object name value old.stores number changed new → WritesDeclared place object name value old number changed (with_stores old new)
+  writes_declared new number changed its =
+      let there = declared_as number its.kind its.named in
+      let at_of : BoundShelves = bound.with_written old.stores place (record { object = object; number = there.of.number }) its.fit in
+      let is : new ≡ at_of = its.is ∙ ap (λ number. bound.with_written old.stores place (record { object = object; number = number }) its.fit) (sym there.number_is) in
+      record {
+        of = there.of;
+        written = its.fit;
+        named = there.is;
+        number = sym there.number_is;
+        fits = ap (λ kind. converted kind value) there.kind_is ∙ its.fits;
+        new = ap (with_stores old) is
+            ∙ state_with_stores old place (store.changed (with_value there.of.number its.fit) object (stored_at old.stores place)) (unbound (bound_at old.stores place) (record { object = object; number = there.of.number }));
+        told = subst (λ number. Tells (record { object = object; number = number }) (state_at old place) (state_at (with_stores old new) place) changed) (sym there.number_is) its.told;
+      }
+
+  -- and what does not fit does not
+  pub does_not_fit : bound.DoesNotFit place object name value old.stores → DoesNotFit place object name value old
+  does_not_fit its =
+      let there = declared_as its.number its.kind its.named in
+      record { of = there.of; named = there.is; misfit = ap (λ kind. converted kind value) there.kind_is ∙ its.misfit }

@@ -1,0 +1,46 @@
+-- What a write to the property of a name comes to.
+use Rattle.std.specs.Prelude.{◌≡◌, ℕ, List, Some, None, Result, Ok, Err}
+use Rattle.refusals.specs.declared.code.Code.TheVariants.{BadValue}
+use Rattle.refusals.specs.declared.fault.Fault.{Fault}
+use Rattle.refusals.specs.declared.fault.Fault.TheVariants.{Refused, Memory}
+use Rattle.variant_value.specs.declared.value.Value.{Value}
+use Rattle.variant_value.specs.Values.{converted}
+use Rattle.binding_values.specs.declared.property.Property.{Property as At}
+use Rattle.bound_stores.specs.declared.changed.Changed.{Changed}
+use Rattle.bound_stores.specs.Changed.{changes_in}
+use Rattle.thread_model.specs.Showing.{changes}
+use Rattle.thread_model.specs.State.{State, shown}
+use Rattle.thread_model.specs.Writing as writing
+use Rattle.thread_model.specs.Writing.{declared, with_writing}
+use Rattle.session_tables.specs.declared.named.NamedWrite.{NamedWrite}
+use Rattle.session_tables.specs.declared.named.NamedWrite.TheVariants.{Declared, Undeclared}
+use Rattle.session_tables.specs.declared.tables.Tables.{Tables}
+use Rattle.session_tables.specs.Tables.{state_at, with_state}
+
+-- these are the changes from one state to another, where this property was written
+abbrev pub Tells : At → State → State → Changed → Type 0
+Tells at old new changed = changes_in at (shown new at.object at.number).0 changed ≡ changes old new (Some at)
+
+module _ (place object : ℕ) (name : List ℕ) (value : Value) (old : Tables) where
+  -- a declared property of this name was given the value as one of its kind
+  pub record WritesDeclared (found : ℕ) (changed : Changed) (after : Tables) : Type 0 where
+    pub of : writing.Place
+    pub written : Value
+    pub named : declared (state_at old place) object name ≡ Some of
+    pub number : found ≡ of.number
+    pub fits : converted of.kind value ≡ Some written
+    pub new : after ≡ with_state old place (with_writing (state_at old place) object (writing.Declared of.number written))
+    pub told : Tells (record { object = object; number = of.number }) (state_at old place) (state_at after place) changed
+
+  -- there is one of this name, whose kind the value does not fit
+  pub record DoesNotFit : Type 0 where
+    pub of : writing.Place
+    pub named : declared (state_at old place) object name ≡ Some of
+    pub misfit : converted of.kind value ≡ None
+
+  -- a value was written to the property of a name, or there is none, or it does not fit, or memory was wanted
+  abbrev pub WritesNamed : Result NamedWrite Fault → Tables → Type 0
+  WritesNamed (Ok (Declared number changed)) new = WritesDeclared number changed new
+  WritesNamed (Ok (Undeclared rest)) new = (rest ≡ value) × (declared (state_at old place) object name ≡ None) × (new ≡ old)
+  WritesNamed (Err (Refused code)) new = (code ≡ BadValue) × DoesNotFit × (new ≡ old)
+  WritesNamed (Err Memory) new = Unit {0}

@@ -1,0 +1,382 @@
+//! What bindings and groups of two places show and tell, call by call.
+#![tactic(auto, unfolding(binding_graph::specs::Step::InStep))]
+
+ghost use Rattle.std.specs.Prelude.{◌≡◌, ◌<◌, [], OnOk, length};
+
+use binding_graph::{Bindings, Change, Told};
+use binding_values::{BindingError, Property, is_bindable};
+use plain_types::{Items, Text};
+use property_store::{Field, Stores};
+use refusals::{Code, Fault};
+use signature_core::Kind;
+use std::alloc::{AllocError, Global};
+use std::test::Fail;
+use term_core::Expr;
+use variant_value::Value;
+
+/// What is asked of an object's property.
+#[derive(Clone, Copy)]
+enum Asked {
+    /// Whether it is a change.
+    Write(u32, usize, i32),
+    /// 0, or the number of the code.
+    Bind(u32, usize, &'static str),
+    /// Whether it was bound.
+    Take(u32, usize),
+    /// The value, and behind it 0, or 1 for a loop and 2 for another error.
+    ValueOf(u32, usize),
+    /// The property that was written, of object 0 none. For each change four digits: 1 for an error and 2 for
+    /// a value, the object, the number of the property, and the error as above or the value.
+    Settle(u32, usize),
+    /// The depth, or the number of the code behind 100.
+    Begin,
+    End,
+    DropObject(u32),
+    Clear,
+    Count,
+    Depth,
+}
+
+use Asked::*;
+
+/// Two places, with objects 1 and 2 and with object 1, of a class that declares `x`, `y`, `n`, which cannot be bound,
+/// and the text `t`.
+#[derive(Drop)]
+struct Bench {
+    stores: Stores,
+    bindings: Bindings,
+    alloc: Global,
+    ghost stores_two: { length stores.table.places ≡ 2 },
+    ghost bindings_two: { length bindings.graphs.places ≡ 2 },
+}
+
+fn layouts(alloc: Global) -> Result<Items<Items<Field>>, AllocError> {
+    let mut fields = Items::new(alloc);
+    let rows = [
+        ("x", Kind::Int),
+        ("y", Kind::Int),
+        ("n", Kind::Int),
+        ("t", Kind::Text),
+    ];
+    for (name, kind) in rows {
+        fields.push(Field {
+            name: Text::from_str(alloc, name)?,
+            kind,
+            bindable: name != "n",
+        })?;
+    }
+    let mut layouts = Items::new(alloc);
+    layouts.push(fields)?;
+    Ok(layouts)
+}
+
+/// Opens two places in both tables, with their objects.
+fn open_places(stores: &mut Stores, bindings: &mut Bindings) -> Result<(), AllocError>
+    requires stores { stores.old.table.places ≡ [] }
+    requires bindings { bindings.old.graphs.places ≡ [] }
+    ensures stores { OnOk result (length stores.new.table.places ≡ 2) }
+    ensures bindings { OnOk result (length bindings.new.graphs.places ≡ 2) }
+{
+    stores.ready()?;
+    stores.open();
+    stores.add_object(0, 1, 0)?;
+    stores.add_object(0, 2, 0)?;
+    stores.ready()?;
+    stores.open();
+    stores.add_object(1, 1, 0)?;
+    bindings.ready()?;
+    bindings.open();
+    bindings.ready()?;
+    bindings.open();
+    Ok(())
+}
+
+impl Bench {
+    fn new(alloc: Global) -> Result<Bench, AllocError> {
+        let mut stores = Stores::new(alloc, layouts(alloc)?);
+        let mut bindings = Bindings::new(alloc);
+        open_places(&mut stores, &mut bindings)?;
+        Ok(Bench {
+            stores,
+            bindings,
+            alloc,
+        })
+    }
+
+    /// Whether all of this is answered so.
+    fn answers(&mut self, cases: &[Case]) -> Result<bool, AllocError> {
+        for (place, asked, wanted) in cases {
+            if self.ask(*place, *asked)? != *wanted {
+                return Ok(false);
+            }
+        }
+        Ok(true)
+    }
+
+    fn ask(&mut self, place: usize, asked: Asked) -> Result<u64, AllocError> {
+        let place = place.min(1);
+        match asked {
+            Write(object, number, value) => {
+                let change = self.stores.write(place, object, number, Value::Int(value));
+                Ok(change.unwrap_or(false) as u64)
+            }
+            Bind(object, number, text) => self.bind(place, Property { object, number }, text),
+            Take(object, number) => self.take(place, Property { object, number }),
+            ValueOf(object, number) => self.value(place, Property { object, number }),
+            Settle(object, number) => self.settle(place, Property { object, number }),
+            Begin => self.begin(place),
+            End => Ok(self.end(place)),
+            DropObject(object) => Ok(self.drop_object(place, object)),
+            Clear => Ok(self.clear(place)),
+            Count => Ok(self.bindings.count(place) as u64),
+            Depth => Ok(self.bindings.depth(place) as u64),
+        }
+    }
+
+    fn bind(&mut self, place: usize, at: Property, text: &str) -> Result<u64, AllocError>
+        requires stores { place < length self.old.stores.table.places }
+        requires bindings { place < length self.old.bindings.graphs.places }
+    {
+        let Ok(json) = serde_json::Value::from_str(self.alloc, text) else {
+            return Err(AllocError);
+        };
+        let expr = match Expr::from_json(self.alloc, &json) {
+            Ok(expr) => expr,
+            Err(fault) => return number_of(fault),
+        };
+        if !is_bindable(&self.stores, place, at) {
+            return Ok(18);
+        }
+        match self.bindings.bind(place, &self.stores, at, expr) {
+            Ok(()) => Ok(0),
+            Err(fault) => number_of(fault),
+        }
+    }
+
+    fn take(&mut self, place: usize, at: Property) -> Result<u64, AllocError>
+        requires stores { place < length self.old.stores.table.places }
+        requires bindings { place < length self.old.bindings.graphs.places }
+    {
+        Ok(self.bindings.take(place, &mut self.stores, at)? as u64)
+    }
+
+    fn value(&self, place: usize, at: Property) -> Result<u64, AllocError>
+        requires stores { place < length self.now.stores.table.places }
+        requires bindings { place < length self.now.bindings.graphs.places }
+    {
+        let (value, error) = self.bindings.value(place, &self.stores, at)?;
+        let error = match error {
+            Some(error) => digit_of(error),
+            None => 0,
+        };
+        Ok(digit_behind(told(&value), error))
+    }
+
+    fn settle(&mut self, place: usize, written: Property) -> Result<u64, AllocError>
+        requires stores { place < length self.old.stores.table.places }
+        requires bindings { place < length self.old.bindings.graphs.places }
+    {
+        let written = match written.object {
+            0 => None,
+            _ => Some(written),
+        };
+        let changes = self.bindings.settle(place, &mut self.stores, written)?;
+        let mut digits = 0;
+        for change in changes.as_slice() {
+            digits = behind(digits, change);
+        }
+        Ok(digits)
+    }
+
+    fn begin(&mut self, place: usize) -> Result<u64, AllocError>
+        requires stores { place < length self.old.stores.table.places }
+        requires bindings { place < length self.old.bindings.graphs.places }
+    {
+        match self.bindings.begin(place, &mut self.stores) {
+            Ok(depth) => Ok(depth as u64),
+            Err(fault) => number_of(fault),
+        }
+    }
+
+    fn end(&mut self, place: usize) -> u64
+        requires { place < length self.old.bindings.graphs.places }
+    {
+        match self.bindings.end(place, &self.stores) {
+            Ok(depth) => depth as u64,
+            Err(_) => 117,
+        }
+    }
+
+    fn drop_object(&mut self, place: usize, object: u32) -> u64
+        requires stores { place < length self.old.stores.table.places }
+        requires bindings { place < length self.old.bindings.graphs.places }
+    {
+        self.stores.drop_object(place, object);
+        self.bindings.drop_object(place, object);
+        self.bindings.count(place) as u64
+    }
+
+    fn clear(&mut self, place: usize) -> u64
+        requires { place < length self.old.bindings.graphs.places }
+    {
+        self.bindings.clear(place);
+        self.bindings.count(place) as u64
+    }
+}
+
+fn digit_behind(digits: u64, digit: u64) -> u64 {
+    digits.wrapping_mul(10).wrapping_add(digit)
+}
+
+/// A change behind others.
+fn behind(digits: u64, change: &Change) -> u64 {
+    let (kind, digit) = match &change.told {
+        Told::Error(error) => (1, digit_of(*error)),
+        Told::Value(value) => (2, told(value)),
+    };
+    let at = change.at;
+    let digits = digit_behind(digit_behind(digits, kind), at.object as u64);
+    digit_behind(digit_behind(digits, at.number as u64), digit)
+}
+
+fn digit_of(error: BindingError) -> u64 {
+    match error {
+        BindingError::BindingLoop => 1,
+        BindingError::EvaluationError => 2,
+    }
+}
+
+/// The whole number that a value is, without its sign, or the length of a text.
+fn told(value: &Value) -> u64 {
+    match value {
+        Value::Int(number) => number.unsigned_abs() as u64,
+        Value::Text(text) => text.len() as u64,
+        _ => 0,
+    }
+}
+
+fn number_of(fault: Fault) -> Result<u64, AllocError> {
+    match fault {
+        Fault::Refused(Code::Limit) => Ok(114),
+        Fault::Refused(_) => Ok(122),
+        Fault::Memory => Err(AllocError),
+    }
+}
+
+/// A place, what is asked of it, and what is answered.
+type Case = (usize, Asked, u64);
+
+const SUM: &str = r#"{"+":[{"prop":"y"},{"const":1}]}"#;
+
+const OTHERS: &str = r#"{"+":[{"prop":"x","of":1},{"prop":"x","of":2}]}"#;
+
+const X: &str = r#"{"prop":"x"}"#;
+
+const CHOICE: &str =
+    r#"{"if":[{"<":[{"prop":"y","of":2},{"const":5}]},{"prop":"y","of":2},{"prop":"x"}]}"#;
+
+const AS_BOUND: &[Case] = &[
+    (0, Settle(0, 0), 0),
+    (0, Bind(1, 0, SUM), 0),
+    (0, Bind(1, 2, SUM), 18),
+    (0, Bind(3, 0, SUM), 18),
+    (0, Count, 1),
+    (1, Count, 0),
+    (0, ValueOf(1, 0), 10),
+    (0, Settle(1, 0), 2101),
+    (0, Settle(1, 0), 0),
+    // What was written is told first, then what follows from it, by numbers.
+    (0, Write(1, 1, 4), 1),
+    (0, Settle(1, 1), 2114_2105),
+    (0, Bind(2, 1, OTHERS), 0),
+    (0, ValueOf(2, 1), 50),
+    (0, Settle(2, 1), 2215),
+    // Two that read each other are loops, and so is what reads one of them.
+    (0, Write(1, 1, 0), 1),
+    (0, Settle(1, 1), 2110_2101_2211),
+    (0, Bind(1, 1, X), 0),
+    (0, ValueOf(1, 0), 1),
+    (0, ValueOf(2, 1), 1),
+    (0, Settle(1, 1), 1111_1101_1211_2100_2210),
+    // The error stays, and is not told again.
+    (0, Write(2, 0, 3), 1),
+    (0, Settle(2, 0), 2203),
+    // A loop that is not read is none.
+    (0, Bind(1, 1, CHOICE), 0),
+    (0, Take(2, 1), 1),
+    (0, Write(2, 1, 4), 1),
+    (0, ValueOf(1, 1), 40),
+    (0, ValueOf(1, 0), 50),
+    (0, Write(2, 1, 6), 1),
+    (0, ValueOf(1, 1), 1),
+    (0, Write(2, 1, 2), 1),
+    // A property that may not be read, and a text in place of a number, are errors of their own.
+    (0, Bind(1, 0, r#"{"prop":"n"}"#), 0),
+    (0, ValueOf(1, 0), 2),
+    (0, Bind(1, 0, r#"{"const":"a"}"#), 0),
+    (0, ValueOf(1, 0), 2),
+    (
+        0,
+        Bind(1, 3, r#"{"cat":[{"const":"ab"},{"const":"c"}]}"#),
+        0,
+    ),
+    (0, ValueOf(1, 3), 30),
+    (0, ValueOf(3, 0), 0),
+    // What is taken keeps its value.
+    (0, Take(1, 1), 1),
+    (0, Take(1, 1), 0),
+    (0, Write(2, 1, 9), 1),
+    (0, ValueOf(1, 1), 20),
+    (0, DropObject(1), 0),
+    (0, ValueOf(1, 3), 0),
+    (0, Settle(0, 0), 2219),
+    (0, Clear, 0),
+];
+
+const IN_GROUPS: &[Case] = &[
+    (0, End, 117),
+    (0, Bind(1, 0, SUM), 0),
+    (0, Settle(1, 0), 2101),
+    (0, Begin, 1),
+    (0, Write(1, 1, 4), 1),
+    (0, Settle(1, 1), 0),
+    (0, ValueOf(1, 1), 40),
+    (0, ValueOf(1, 0), 10),
+    (0, Begin, 2),
+    (0, Write(1, 1, 6), 1),
+    (0, End, 1),
+    (0, Settle(0, 0), 0),
+    (0, ValueOf(1, 0), 10),
+    (0, Depth, 1),
+    (1, Depth, 0),
+    (0, Bind(2, 0, X), 0),
+    (0, Bind(2, 1, SUM), 0),
+    (0, ValueOf(2, 0), 0),
+    (0, End, 0),
+    // By numbers alone: both loops first.
+    (0, Settle(0, 0), 1201_1211_2107_2116),
+    // In a group a bound property keeps what it reads there.
+    (0, Begin, 1),
+    (0, Write(1, 1, 8), 1),
+    (0, Take(1, 0), 1),
+    (0, ValueOf(1, 0), 70),
+    (0, Clear, 0),
+    (0, Depth, 0),
+];
+
+fn ask(alloc: Global, cases: &[Case]) -> Result<bool, AllocError> {
+    let mut bench = Bench::new(alloc)?;
+    bench.answers(cases)
+}
+
+#[test]
+fn bound_properties_show_what_they_are_bound_to(rt: HostRuntime) -> Result<(), Fail> {
+    assert!(rt; ask(rt.alloc(), AS_BOUND)?);
+    Ok(())
+}
+
+#[test]
+fn groups_tell_at_their_end(rt: HostRuntime) -> Result<(), Fail> {
+    assert!(rt; ask(rt.alloc(), IN_GROUPS)?);
+    Ok(())
+}

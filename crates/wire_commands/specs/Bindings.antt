@@ -1,0 +1,58 @@
+-- The commands of bindings and groups.
+use Rattle.std.specs.Prelude.{List, [], ◌∷◌, Option, Some, None, codes}
+use Rattle.json_reading.specs.Fields.{◌>>=◌}
+use Rattle.thread_model.specs.Asked.{Asked, Begin, Bind, BindingError, End, Unbind}
+use Rattle.wire_commands.specs.declared.keys.Holds.TheVariants.{Name, Number, Any}
+use Rattle.wire_commands.specs.Form.{Form}
+use Rattle.wire_commands.specs.Held.{Held, json_of, number_of, text_of}
+use Rattle.wire_commands.specs.Keys.{needed}
+
+-- `bind` binds a property to an expression, which may be any JSON
+abbrev pub bind_of : List Held → Option Asked
+bind_of (target ∷ property ∷ to ∷ []) = do
+  number ← number_of target
+  name ← text_of property
+  json ← json_of to
+  Some (Bind number name json)
+bind_of held = None
+
+abbrev pub bind : Form
+bind = record { word = codes "bind"; keys = needed (codes "object") Number ∷ needed (codes "property") Name ∷ needed (codes "to") Any ∷ []; asks = bind_of }
+
+-- `unbind` binds a property no longer
+abbrev pub unbind_of : List Held → Option Asked
+unbind_of (target ∷ property ∷ []) = do
+  number ← number_of target
+  name ← text_of property
+  Some (Unbind number name)
+unbind_of held = None
+
+abbrev pub unbind : Form
+unbind = record { word = codes "unbind"; keys = needed (codes "object") Number ∷ needed (codes "property") Name ∷ []; asks = unbind_of }
+
+-- `bindingError` tells the error that a property stands for
+abbrev pub binding_error_of : List Held → Option Asked
+binding_error_of (target ∷ property ∷ []) = do
+  number ← number_of target
+  name ← text_of property
+  Some (BindingError number name)
+binding_error_of held = None
+
+abbrev pub binding_error : Form
+binding_error = record { word = codes "bindingError"; keys = needed (codes "object") Number ∷ needed (codes "property") Name ∷ []; asks = binding_error_of }
+
+-- `begin` begins a group
+abbrev pub begin_of : List Held → Option Asked
+begin_of [] = Some Begin
+begin_of held = None
+
+abbrev pub begin : Form
+begin = record { word = codes "begin"; keys = []; asks = begin_of }
+
+-- `end` ends a group
+abbrev pub end_of : List Held → Option Asked
+end_of [] = Some End
+end_of held = None
+
+abbrev pub end : Form
+end = record { word = codes "end"; keys = []; asks = end_of }

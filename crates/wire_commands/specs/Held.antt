@@ -1,0 +1,119 @@
+-- What a line holds at the keys of its command.
+use Rattle.std.specs.Prelude.{◌-◌, ◌^◌, ◌&&◌, ◌||◌, ℕ, Bool, false, List, [], ◌∷◌, codes, bytes_eq, map, nat_le, if◌then◌else◌, Option, Some, None, option_and_then, option_map, is_some}
+use Rattle.std.specs.List.{list_any}
+use Rattle.std.specs.Option.{option_map_or}
+use Rattle.plain_types.specs.Names.{is_name}
+use Rattle.serde_json.specs.Data.{Data}
+use Rattle.serde_json.specs.Find.{get, as_array, as_bool, as_null, as_object, as_str, as_number, as_u64}
+use Rattle.connection_types.specs.declared.connection_type.ConnectionType.{ConnectionType}
+use Rattle.connection_types.specs.declared.connection_type.ConnectionType.TheVariants.{Auto, Direct, Queued}
+use Rattle.json_reading.specs.Fields.{◌>>=◌, when, all_keys, elements_of}
+use Rattle.json_reading.specs.Members.{data_of}
+use Rattle.wire_commands.specs.declared.held.Held.{Held as HeldInCode}
+use Rattle.wire_commands.specs.declared.held.Held.TheVariants as code
+use Rattle.wire_commands.specs.declared.keys.Holds.{Holds}
+use Rattle.wire_commands.specs.declared.keys.Holds.TheVariants as h
+use Rattle.wire_commands.specs.Keys.{Key, needed, optional, key_word}
+
+-- what a key holds
+pub data Held : Type 0 where
+  absent : Held
+  none : Held
+  number : ℕ → Held
+  text : List ℕ → Held
+  truth : Bool → Held
+  mode : ConnectionType → Held
+  list : List Data → Held
+  any : Data → Held
+
+abbrev pub held_seen : HeldInCode → Held
+held_seen code.Absent = absent
+held_seen code.Null = none
+held_seen (code.Number n) = number n
+held_seen (code.Text t) = text t.now
+held_seen (code.Truth t) = truth t
+held_seen (code.Mode m) = mode m
+held_seen (code.List field) = list (elements_of (data_of field.now))
+held_seen (code.Any field) = any (data_of field.now)
+
+-- the number that is held, if one is
+abbrev pub number_of : Held → Option ℕ
+number_of (number n) = Some n
+number_of held = None
+
+-- the text that is held, if one is
+abbrev pub text_of : Held → Option (List ℕ)
+text_of (text t) = Some t
+text_of held = None
+
+-- the truth that is held, false where none is
+abbrev pub truth_of : Held → Bool
+truth_of (truth t) = t
+truth_of held = false
+
+-- how calls are made, `auto` where nothing is held
+abbrev pub mode_of : Held → ConnectionType
+mode_of (mode m) = m
+mode_of held = Auto
+
+-- the elements of the array that is held, if one is
+abbrev pub list_of : Held → Option (List Data)
+list_of (list elements) = Some elements
+list_of held = None
+
+-- the JSON that is held, if any is
+abbrev pub json_of : Held → Option Data
+json_of (any json) = Some json
+json_of held = None
+
+-- the number of an object or of a connection that a value is
+abbrev pub number_in : Data → Option ℕ
+number_in json = do
+  figure ← as_number json
+  n ← as_u64 figure
+  when (nat_le 1 n && nat_le n (2 ^ 32 - 1)) n
+
+-- how calls are made, by its name
+abbrev pub mode_named : List ℕ → Option ConnectionType
+mode_named name =
+    if bytes_eq name (codes "auto") then Some Auto
+    else (if bytes_eq name (codes "direct") then Some Direct
+    else (if bytes_eq name (codes "queued") then Some Queued else None))
+
+-- a value, as a key holds it
+abbrev pub reads : Holds → Data → Option Held
+reads h.Name json = do
+  name ← as_str json
+  when (is_name name) (text name)
+reads h.Text json = option_map text (as_str json)
+reads h.Number json = option_map number (number_in json)
+reads h.NumberOrNull json = if is_some (as_null json) then Some none else option_map number (number_in json)
+reads h.Truth json = option_map truth (as_bool json)
+reads h.Mode json = option_map mode (option_and_then mode_named (as_str json))
+reads h.List json = when (is_some (as_array json)) (list (elements_of json))
+reads h.Any json = Some (any json)
+
+-- what JSON holds at a key
+abbrev pub held_at : Data → Key → Option Held
+held_at json (needed word holds) = option_and_then (reads holds) (get word json)
+held_at json (optional word holds) = option_map_or (reads holds) (get word json) (Some absent)
+
+-- at each of these keys
+abbrev pub all_held : Data → List Key → Option (List Held)
+all_held json [] = Some []
+all_held json (key ∷ keys) = do
+  first ← held_at json key
+  rest ← all_held json keys
+  Some (first ∷ rest)
+
+-- is a key one of these, or one that every command has
+abbrev pub is_known : List (List ℕ) → List ℕ → Bool
+is_known keys key = bytes_eq key (codes "do") || bytes_eq key (codes "session") || list_any (bytes_eq key) keys
+
+-- is JSON an object with no keys but these and those that every command has
+unfoldable pub has_only : List (List ℕ) → Data → Bool
+has_only keys json = option_map_or (all_keys (is_known keys)) (as_object json) false
+
+-- what JSON holds at these keys, where it has no others
+abbrev pub held_by : Data → List Key → Option (List Held)
+held_by json keys = if has_only (map key_word keys) json then all_held json keys else None

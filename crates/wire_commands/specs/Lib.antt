@@ -1,0 +1,11 @@
+pub mod Keys
+pub mod Held
+pub mod Form
+pub mod Trees
+pub mod Properties
+pub mod Bindings
+pub mod Classes
+pub mod Signals
+pub mod Events
+pub mod Sharing
+pub mod Commands

@@ -1,0 +1,56 @@
+-- The commands of signals and slots.
+use Rattle.std.specs.Prelude.{List, [], ◌∷◌, Option, Some, None, codes}
+use Rattle.json_reading.specs.Fields.{◌>>=◌}
+use Rattle.thread_model.specs.Asked.{Asked, Connect, ConnectFunctor, DisconnectOne, Disconnect, Invoke}
+use Rattle.wire_commands.specs.declared.keys.Holds.TheVariants.{Name, Number, Text, Truth, Mode, List as AList}
+use Rattle.wire_commands.specs.Form.{Form}
+use Rattle.wire_commands.specs.Held.{Held, absent, number, number_of, text_of, truth_of, mode_of, list_of}
+use Rattle.wire_commands.specs.Keys.{needed, optional}
+
+-- `connect` connects a signal of the sender to a method of the receiver
+abbrev pub connect_of : List Held → Option Asked
+connect_of (sender ∷ signal ∷ receiver ∷ method ∷ calls ∷ unique ∷ single ∷ []) = do
+  from ← number_of sender
+  sent ← text_of signal
+  to ← number_of receiver
+  called ← text_of method
+  Some (Connect from sent to called (mode_of calls) (truth_of unique) (truth_of single))
+connect_of held = None
+
+abbrev pub connect : Form
+connect = record { word = codes "connect"; keys = needed (codes "sender") Number ∷ needed (codes "signal") Text ∷ needed (codes "receiver") Number ∷ needed (codes "method") Text ∷ optional (codes "type") Mode ∷ optional (codes "unique") Truth ∷ optional (codes "single") Truth ∷ []; asks = connect_of }
+
+-- `connectFunctor` connects a signal of the sender to a functor, for a context object
+abbrev pub connect_functor_of : List Held → Option Asked
+connect_functor_of (sender ∷ signal ∷ context ∷ functor ∷ calls ∷ unique ∷ single ∷ []) = do
+  from ← number_of sender
+  sent ← text_of signal
+  to ← number_of context
+  called ← text_of functor
+  Some (ConnectFunctor from sent to called (mode_of calls) (truth_of unique) (truth_of single))
+connect_functor_of held = None
+
+abbrev pub connect_functor : Form
+connect_functor = record { word = codes "connectFunctor"; keys = needed (codes "sender") Number ∷ needed (codes "signal") Text ∷ needed (codes "context") Number ∷ needed (codes "functor") Name ∷ optional (codes "type") Mode ∷ optional (codes "unique") Truth ∷ optional (codes "single") Truth ∷ []; asks = connect_functor_of }
+
+-- `disconnect` breaks a connection by its number alone, or those of a sender that match; a method is named only beside a receiver
+abbrev pub disconnect_of : List Held → Option Asked
+disconnect_of (number connection ∷ absent ∷ absent ∷ absent ∷ absent ∷ []) = Some (DisconnectOne connection)
+disconnect_of (absent ∷ number sender ∷ signal ∷ absent ∷ absent ∷ []) = Some (Disconnect sender (text_of signal) None None)
+disconnect_of (absent ∷ number sender ∷ signal ∷ number receiver ∷ method ∷ []) = Some (Disconnect sender (text_of signal) (Some receiver) (text_of method))
+disconnect_of held = None
+
+abbrev pub disconnect : Form
+disconnect = record { word = codes "disconnect"; keys = optional (codes "connection") Number ∷ optional (codes "sender") Number ∷ optional (codes "signal") Text ∷ optional (codes "receiver") Number ∷ optional (codes "method") Text ∷ []; asks = disconnect_of }
+
+-- `invoke` calls a slot of an object, or sends a signal of it, at once or later
+abbrev pub invoke_of : List Held → Option Asked
+invoke_of (target ∷ method ∷ args ∷ calls ∷ []) = do
+  to ← number_of target
+  called ← text_of method
+  given ← list_of args
+  Some (Invoke to called given (mode_of calls))
+invoke_of held = None
+
+abbrev pub invoke : Form
+invoke = record { word = codes "invoke"; keys = needed (codes "object") Number ∷ needed (codes "method") Text ∷ needed (codes "args") AList ∷ optional (codes "type") Mode ∷ []; asks = invoke_of }

@@ -1,0 +1,199 @@
+//! What a line holds at the keys of its command.
+ghost use Rattle.std.specs.Prelude.{◌≡◌, ◌≤◌, IfOk, None, Some, bytes_eq, if◌then◌else◌, length, map, option_map, take};
+ghost use Rattle.std.specs.List.{list_all, list_any};
+ghost use Rattle.serde_json.specs.Data.{object};
+ghost use Rattle.serde_json.specs.View.{view};
+ghost use Rattle.json_reading.specs.Members.{data_of, members_in};
+ghost use Rattle.wire_commands.specs.Keys.{Key, key_seen, key_word};
+ghost use Rattle.wire_commands.specs.Held.{held_at, held_by, held_seen, has_only, is_known, json_of, list_of, mode_named, mode_of, number_in, number_of, reads, text_of, truth_of};
+
+use crate::keys::{Holds, Key};
+use connection_types::ConnectionType;
+use json_reading::{Field, Member, value_at};
+use plain_types::{Items, Text, is_name};
+use serde_json::Value;
+use std::alloc::{AllocError, Global};
+
+/// What a key holds.
+#[derive(Clone, Copy, Default)]
+pub enum Held<'m, 'a> {
+    #[default]
+    Absent,
+    Null,
+    Number(u32),
+    Text(&'a str),
+    Truth(bool),
+    Mode(ConnectionType),
+    /// The value is an array.
+    List(&'m Field<'a>),
+    Any(&'m Field<'a>),
+}
+
+impl Held<'_, '_> {
+    /// The number, where one is held.
+    pub(crate) fn number(&self) -> Option<u32>
+        ensures { result ≡ number_of (held_seen self.now) }
+    {
+        match self {
+            Held::Number(number) => Some(*number),
+            _ => None,
+        }
+    }
+
+    /// A copy of the text, where one is held.
+    pub(crate) fn text(&self, alloc: Global) -> Result<Option<Text>, AllocError>
+        ensures { IfOk result (λ text. text ≡ text_of (held_seen self.now)) }
+    {
+        match self {
+            Held::Text(text) => Ok(Some(Text::from_str(alloc, text)?)),
+            _ => Ok(None),
+        }
+    }
+
+    /// The truth that is held, false where none is.
+    pub(crate) fn truth(&self) -> bool
+        ensures { result ≡ truth_of (held_seen self.now) }
+    {
+        match self {
+            Held::Truth(truth) => *truth,
+            _ => false,
+        }
+    }
+
+    /// How calls are made, `auto` where nothing is held.
+    pub(crate) fn mode(&self) -> ConnectionType
+        ensures { result ≡ mode_of (held_seen self.now) }
+    {
+        match self {
+            Held::Mode(mode) => *mode,
+            _ => ConnectionType::Auto,
+        }
+    }
+
+    /// Copies of the elements of the array, where one is held.
+    pub(crate) fn list(&self, alloc: Global) -> Result<Option<Items<Value>>, AllocError>
+        ensures { IfOk result (λ list. option_map (map view) list ≡ list_of (held_seen self.now)) }
+    {
+        match self {
+            Held::List(field) => Ok(Some(field.to_items(alloc)?)),
+            _ => Ok(None),
+        }
+    }
+
+    /// A copy of the JSON, where some is held.
+    pub(crate) fn json(&self, alloc: Global) -> Result<Option<Value>, AllocError>
+        ensures { IfOk result (λ json. option_map view json ≡ json_of (held_seen self.now)) }
+    {
+        match self {
+            Held::Any(field) => Ok(Some(field.to_json(alloc)?)),
+            _ => Ok(None),
+        }
+    }
+}
+
+/// Puts what the members hold at each of the keys into the front of the room. Answers whether each
+/// is held as it must be, and there are no further keys.
+pub(crate) fn held_by<'m, 'a>(
+    members: &'m [Member<'a>],
+    keys: &[Key],
+    room: &mut [Held<'m, 'a>],
+) -> bool
+    requires { length keys.now ≤ length room.old }
+    ensures held { (if result then Some (map held_seen (take (length keys.now) room.new)) else None)
+        ≡ held_by (object (members_in members.now)) (map key_seen keys.now) }
+    ensures room { length room.new ≡ length room.old }
+{
+    if !has_only(members, keys) {
+        return false;
+    }
+    for (place, key) in keys.iter().enumerate() {
+        let Some(held) = held_at(members, key) else {
+            return false;
+        };
+        room[place] = held;
+    }
+    true
+}
+
+/// What the members hold at a key. None, where it is not held as it must be.
+fn held_at<'m, 'a>(members: &'m [Member<'a>], key: &Key) -> Option<Held<'m, 'a>>
+    ensures { option_map held_seen result
+        ≡ held_at (object (members_in members.now)) (key_seen key.now) }
+{
+    match key {
+        Key::Needed(word, holds) => read(*holds, value_at(members, word)?),
+        Key::Optional(word, holds) => match value_at(members, word) {
+            Some(field) => read(*holds, field),
+            None => Some(Held::Absent),
+        },
+    }
+}
+
+/// The value, as a key holds it.
+fn read<'m, 'a>(holds: Holds, field: &'m Field<'a>) -> Option<Held<'m, 'a>>
+    ensures { option_map held_seen result ≡ reads holds (data_of field.now) }
+{
+    match holds {
+        Holds::Name => field.as_text().filter(|text| is_name(text)).map(Held::Text),
+        Holds::Text => field.as_text().map(Held::Text),
+        Holds::Number => Some(Held::Number(number_in(field)?)),
+        Holds::NumberOrNull if field.is_null() => Some(Held::Null),
+        Holds::NumberOrNull => Some(Held::Number(number_in(field)?)),
+        Holds::Truth => Some(Held::Truth(field.as_truth()?)),
+        Holds::Mode => Some(Held::Mode(mode_named(field.as_text()?)?)),
+        Holds::List if field.is_list() => Some(Held::List(field)),
+        Holds::List => None,
+        Holds::Any => Some(Held::Any(field)),
+    }
+}
+
+/// How calls are made, by its name.
+fn mode_named(name: &str) -> Option<ConnectionType>
+    ensures { result ≡ mode_named name.now }
+{
+    match name {
+        "auto" => Some(ConnectionType::Auto),
+        "direct" => Some(ConnectionType::Direct),
+        "queued" => Some(ConnectionType::Queued),
+        _ => None,
+    }
+}
+
+/// The number of an object or of a connection that the value is.
+fn number_in(field: &Field<'_>) -> Option<u32>
+    ensures { result ≡ number_in (data_of field.now) }
+{
+    match field.as_number()? {
+        0 => None,
+        number => u32::try_from(number).ok(),
+    }
+}
+
+/// Whether there are no keys but these and those that every command has.
+#[tactic(auto, using(crate::proofs::HeldLemmas::only_known))]
+fn has_only(members: &[Member<'_>], keys: &[Key]) -> bool
+    ensures { result ≡ has_only (map key_word (map key_seen keys.now)) (object (members_in members.now)) }
+{
+    all_are_known(members, keys)
+}
+
+fn all_are_known(members: &[Member<'_>], keys: &[Key]) -> bool
+    ensures { result ≡ list_all
+        (λ member. is_known (map key_word (map key_seen keys.now)) member.key.now)
+        members.now }
+{
+    members.iter().all(|member| is_known(member.key, keys))
+}
+
+#[tactic(auto, using(crate::proofs::HeldLemmas::any_word))]
+fn is_known(word: &str, keys: &[Key]) -> bool
+    ensures { result ≡ is_known (map key_word (map key_seen keys.now)) word.now }
+{
+    word == "do" || word == "session" || is_among(word, keys)
+}
+
+fn is_among(word: &str, keys: &[Key]) -> bool
+    ensures { result ≡ list_any (λ key. bytes_eq word.now (key_word (key_seen key))) keys.now }
+{
+    keys.iter().any(|key| word == key.word())
+}

@@ -1,0 +1,46 @@
+//! Keys of commands, and what they hold.
+
+/// The most keys that a command has, beside those that every command has.
+pub(crate) const MOST_KEYS: usize = 7;
+
+/// What a key holds.
+#[derive(Clone, Copy)]
+pub enum Holds {
+    /// A name, as that of a class, of a property, of a functor, of a session or of what it publishes.
+    Name,
+    /// Any text.
+    Text,
+    /// The number of an object or of a connection.
+    Number,
+    /// The number of an object, or null for none.
+    NumberOrNull,
+    /// True or false.
+    Truth,
+    /// How calls are made: `auto`, `direct` or `queued`.
+    Mode,
+    /// An array of any JSON.
+    List,
+    /// Any JSON.
+    Any,
+}
+
+/// A key of a command, which may be optional.
+#[derive(Clone, Copy)]
+pub enum Key {
+    Needed(&'static str, Holds),
+    Optional(&'static str, Holds),
+}
+
+impl Key {
+    ghost use Rattle.std.specs.Prelude.{◌≡◌};
+    ghost use Rattle.wire_commands.specs.Keys.{key_seen, key_word};
+
+    pub(crate) fn word(&self) -> &'static str
+        ensures { result.now ≡ key_word (key_seen self.now) }
+    {
+        match self {
+            Key::Needed(word, _) => word,
+            Key::Optional(word, _) => word,
+        }
+    }
+}
