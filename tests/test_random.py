@@ -11,7 +11,8 @@ from functools import cache, partial
 from pathlib import Path
 from tempfile import TemporaryDirectory
 
-from .generators import chance, mixed, sessions, signals, trees
+from .generators import bindings, chance, mixed, sessions, signals, trees
+from .plain.bindings import BINDING_LOOP, EVALUATION_ERROR
 from .plain.classes import Classes
 from .plain.lines import answer, server_with
 from .plain.session import Session
@@ -36,6 +37,14 @@ class Tried:
     shown: Counter = field(default_factory=Counter)
 
 
+def all_shown(tried):
+    """What some cases had to show together, also where that is nothing."""
+    shown = Counter()
+    for it in tried:
+        shown.update(it.shown)
+    return shown
+
+
 def row_with_classes(name, commands, wanted, declared, room, turns=None, seconds=SECONDS):
     """A row of commands with a class file of its own, which is put into the room."""
     path = Path(room, "classes.json")
@@ -51,12 +60,14 @@ class Lines(ProgramCases):
         """200,000 lines are answered alike, byte for byte."""
         lines, server = chance.lines_of(chance.Chance(SEED)), server_with(turns=chance.TURNS)
         wanted = b"".join(answer(server, line) for line in lines)
-        replies, calls, functors = (wanted.count(word) for word in (b'{"reply":', b'"call":', b'"call":"clamp"'))
+        words = (b'{"reply":', b'"call":', b'"call":"clamp"', b'"warning":"BindingLoop"')
+        replies, calls, functors, loops = map(wanted.count, words)
         self.assertGreaterEqual(replies, chance.LINES // 10, "there are too few replies")
         self.assertGreaterEqual(calls, chance.LINES // 200, "there are too few calls")
         self.assertGreaterEqual(functors, chance.LINES // 40_000, "there are too few calls of functors")
+        self.assertGreaterEqual(loops, chance.LINES // 40_000, "there are too few loops of bindings")
         self.check_rows([Row(f"lines by chance, {SEED}", b"\n".join(lines), wanted, words=("--turns", str(chance.TURNS)))])
-        self.tell(f"lines: {len(lines):,}, replies: {replies:,}, calls: {calls:,}, of functors: {functors:,}")
+        self.tell(f"lines: {len(lines):,}, replies: {replies:,}, calls: {calls:,}, of functors: {functors:,}, loops: {loops:,}")
 
 
 def told_by_plain(commands, classes):
@@ -79,7 +90,7 @@ class Trees(ProgramCases):
         self.check_each(trees.sessions(), partial(tree_fault, self.program), workers=ProcessPoolExecutor)
 
 
-def shown_by(commands, answers):
+def shown_by_signals(commands, answers):
     """What a session has to show: calls, of them those of functors and those that tell of what a command had set, and
     events that were taken."""
     lines = [line for told in answers for line in told]
@@ -91,30 +102,55 @@ def shown_by(commands, answers):
     })
 
 
-def try_signals(program, seed):
-    """Tries a session with signals."""
-    made = signals.Chance(seed)
+def shown_by_bindings(commands, answers):
+    """What a session with bindings has to show: calls and errors that bindings and ends of groups tell of, errors that come
+    of what is set, deleted and called, and errors that are asked for."""
+    told = defaultdict(list)
+    for command, lines in zip(commands, answers):
+        told[command["do"]] += lines
+    errors = {word: signals.errors_in(told[word]) for word in ("bind", "set", "delete", "invoke", "spin", "end")}
+    asked = Counter(line.get("reply") for line in told["bindingError"])
+    return Counter({
+        "bindings": sum(line.get("reply") is True for line in told["bind"]),
+        "groups": sum("reply" in line for line in told["begin"]),
+        **{f"calls by {word}": signals.calls_in(told[word]) for word in ("bind", "end")},
+        **{f"errors by {word}": number for word, number in errors.items()},
+        **{f"asked for {error}": asked[error] for error in (BINDING_LOOP, EVALUATION_ERROR)},
+    })
+
+
+def try_session(kind, shown_by, program, seed):
+    """Tries a session that is made by a kind of chance."""
+    made = kind(seed)
     declared, turns = list(made.classes()), made.choice(signals.TURNS)
     commands, answers = signals.life_of(made, Server(Classes(declared), turns))
-    with TemporaryDirectory(prefix="metad-signals-") as room:
+    with TemporaryDirectory(prefix="metad-session-") as room:
         wanted = [line for told in answers for line in told]
         row = row_with_classes(f"by chance, {seed}", commands, wanted, declared, room, turns)
         fault = row.fault(row.run(program))
     return Tried(fault and f"{fault}\nits class file: {text_of({'classes': declared})}", shown_by(commands, answers))
 
 
-class Signals(ProgramCases):
-    """Sessions with signals, slots, functors, events and properties."""
+class OneSession(ProgramCases):
+    """Sessions with classes, bodies and commands by chance, each with few turns."""
+
+    def check_sessions(self, number, kind, shown_by, needed=None):
+        """Tries so many sessions, which together have to show all that is needed, where they are not cases by name."""
+        cases = ((f"by chance, {seed}", seed) for seed in range(int(SEED), int(SEED) + number))
+        tried = self.check_each(cases, partial(try_session, kind, shown_by, self.program), lambda it: it.fault, ProcessPoolExecutor)
+        shown = all_shown(tried)
+        self.tell(", ".join(f"{what}: {number:,}" for what, number in shown.items()))
+        lacking = [what for what in needed or shown if not shown[what]]
+        self.assertEqual([] if CASE else lacking, [], "no session shows this")
 
     def test_signals(self):
-        """Sessions with classes, bodies and commands by chance, each with few turns."""
-        seeds = range(int(SEED), int(SEED) + signals.SESSIONS)
-        cases = ((f"by chance, {seed}", seed) for seed in seeds)
-        tried = self.check_each(cases, partial(try_signals, self.program), lambda it: it.fault, ProcessPoolExecutor)
-        shown = sum((it.shown for it in tried), Counter())
-        self.tell(", ".join(f"{what}: {number:,}" for what, number in shown.items()))
-        lacking = [what for what in ("calls of functors", "events", "calls that tell of changes") if not shown[what]]
-        self.assertEqual([] if CASE else lacking, [], "no session shows this")
+        """Signals, slots, functors, events and properties."""
+        needed = ("calls of functors", "events", "calls that tell of changes")
+        self.check_sessions(signals.SESSIONS, signals.Chance, shown_by_signals, needed)
+
+    def test_bindings(self):
+        """Bindings and groups beside them."""
+        self.check_sessions(bindings.SESSIONS, bindings.Chance, shown_by_bindings)
 
 
 def by_session(lines):
@@ -215,7 +251,7 @@ class Mixed(ProgramCases):
         seeds = range(int(SEED), int(SEED) + mixed.RUNS // mixed.RUNS_AT_ONCE)
         cases = ((f"by chance, {seed}", seed) for seed in seeds)
         tried = self.check_each(cases, partial(try_mixed, self.program), lambda it: it.fault, ProcessPoolExecutor)
-        shown = sum((it.shown for it in tried), Counter())
+        shown = all_shown(tried)
         self.tell(", ".join(f"{what}: {number:,}" for what, number in shown.items()))
         self.assertEqual([] if CASE else [what for what, number in shown.items() if not number], [], "no run shows this")
 

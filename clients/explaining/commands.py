@@ -6,8 +6,9 @@ from dataclasses import dataclass, field
 from typing import Callable
 
 from . import replies as said
+from .expressions import objects_of
 from .held import are, has, is_any, is_list, is_number, is_text, is_true, is_truth, is_whole, json_object, or_null
-from .words import misfit
+from .words import ERRORS, misfit
 
 
 @dataclass(frozen=True)
@@ -64,6 +65,19 @@ PROPERTY_FORMS = {
     })],
     "get": [Form(said.said_of_get, is_any, ONE_PROPERTY)],
     "dynamicNames": [Form(said.said_of_dynamic_names, are(is_text), ONE_OBJECT)],
+}
+NO_PROPERTY = {"E11": "the class of object {object} declares no property {property}"}
+BINDING_FORMS = {
+    "bind": [Form(said.said_of_bind, is_true, {**ONE_PROPERTY, "to": is_any}, {}, {
+        "E11": "the class of object {object} declares no property {property}, or one that the expression reads is not declared",
+        "E14": "the expression is too large or has too long a text, or the session has as many bindings as it may",
+        "E18": "the property {property} of object {object}, or one that the expression reads, is not bindable",
+        "E22": "this is no expression of a binding",
+    })],
+    "unbind": [Form(said.said_of_unbind, is_truth, ONE_PROPERTY, {}, NO_PROPERTY)],
+    "bindingError": [Form(said.said_of_binding_error, or_null(lambda reply: reply in ERRORS), ONE_PROPERTY, {}, NO_PROPERTY)],
+    "begin": [Form(said.said_of_begin, is_number, {}, {}, {"E14": "as many groups are open as may be"})],
+    "end": [Form(said.said_of_end, is_whole)],
 }
 WAYS = {"type": is_text, "unique": is_truth, "single": is_truth}
 NO_MORE_CONNECTIONS = {
@@ -139,6 +153,7 @@ LISTENING_FORMS = {
 FORMS = {
     **OBJECT_FORMS,
     **PROPERTY_FORMS,
+    **BINDING_FORMS,
     **CONNECTION_FORMS,
     **LISTENING_FORMS,
     "spin": [Form(said.said_of_spin, IS_SPIN)],
@@ -172,10 +187,14 @@ class Command:
         fitting = [form for form in FORMS[self.word] if form.is_of(self.asked)]
         return fitting[0] if fitting else misfit()
 
-    def objects(self) -> list[int]:
-        """The numbers of the objects that it names, each once."""
+    def own_objects(self) -> list[int]:
+        """The numbers of the objects that it names, each once, but for those that an expression reads."""
         named = [self.asked.get(key) for key in ("object", "parent", "sender", "receiver", "context")]
         return sorted(set(filter(is_number, named)))
+
+    def objects(self) -> list[int]:
+        """The numbers of all objects that it names, each once."""
+        return sorted({*self.own_objects(), *objects_of(self.asked.get("to"))})
 
 
 def commands_in(file):

@@ -5,7 +5,7 @@ from __future__ import annotations
 from . import drawing
 from .commands import FORMS, Command
 from .held import is_text
-from .lines import NO_SESSION, Call, Error, Line
+from .lines import NO_SESSION, Call, Error, Line, Warned
 from .objects import ROOT, Objects
 from .replies import OBJECT_NAME
 from .words import LINE_CODES, plain
@@ -25,7 +25,7 @@ class Knowledge:
         """A call or a warning of the command that is being done."""
         if isinstance(line, Call):
             self.calls.append(line)
-        elif line.object:
+        elif isinstance(line, Warned) and line.object:
             self.warned.add(line.object)
 
     def settle(self, session: Objects) -> bool:
@@ -71,12 +71,14 @@ def refuse(session: Objects, command: Command, code: str):
     elif code == "E04" and len(set(named)) == 1 and named[0] in session.all():
         session.remove(named[0])
     elif code not in (*LINE_CODES, "E04") and command.word in FORMS:
-        session.stand(named)
+        session.stand(command.own_objects())
 
 
 def do(session: Objects, command: Command, reply, was_shaken: bool):
     """What a command did that was not refused."""
     word, asked, target = command.word, command.asked, command.asked.get("object", ROOT)
+    if asked.get("property") == OBJECT_NAME:
+        tie(session, word, target, reply)
     if word == "delete":
         session.delete(target)
     elif word == "spin":
@@ -88,6 +90,14 @@ def do(session: Objects, command: Command, reply, was_shaken: bool):
     else:
         session.stand(command.objects())
         tell(session, word, asked, target, reply)
+
+
+def tie(session: Objects, word: str, target: int, reply):
+    """What a command did to the binding of an object's name."""
+    if word == "bind":
+        session.bind(target)
+    elif word == "unbind" or word == "set" and reply:
+        session.unbind(target)
 
 
 def tell(session: Objects, word: str, asked: dict, target: int, reply):
@@ -104,4 +114,5 @@ def tell(session: Objects, word: str, asked: dict, target: int, reply):
         session.count(reply["objects"], reply["queued"])
     elif word in ("set", "get") and asked["property"] == OBJECT_NAME:
         name = reply if word == "get" else asked["value"]
-        session.names.update({target: name} if is_text(name) else {})
+        if is_text(name):
+            session.name(target, name)

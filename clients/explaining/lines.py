@@ -7,7 +7,7 @@ from dataclasses import dataclass
 from . import replies
 from .commands import IS_META, IS_SPIN, IS_STATUS, Command
 from .held import has, is_any, is_list, is_number, is_text, is_whole, json_object
-from .words import LINE_CODES, Misfit, arguments, coded, listed, misfit, plain, shown
+from .words import LINE_CODES, Misfit, arguments, coded, in_error, listed, misfit, plain, shown
 
 NO_SESSION = "-"  # what a line names where its command names no session
 NO_TURNS = "E23"  # the one warning that names no object
@@ -107,12 +107,25 @@ class Warned(Line):
         return refused
 
 
+@dataclass(frozen=True)
+class InError(Line):
+    """A warning of a bound property that is in an error, which is new or another one."""
+
+    object: int
+    property: str
+    warning: str
+
+    def said(self) -> str:
+        return f"{plain(self.property)} of object {self.object} is in error, {in_error(self.warning)}"
+
+
 LINES = [
     (Reply, {"reply": is_any, "session": is_text}),
     (Error, {"error": is_text, "session": is_text}),
     (Call, {"args": is_list, "call": is_text, "object": is_number, "sender": is_whole, "session": is_text}),
     (Warned, {"object": is_number, "session": is_text, "warning": lambda code: is_text(code) and code != NO_TURNS}),
     (Warned, {"session": is_text, "warning": lambda code: code == NO_TURNS}),
+    (InError, {"object": is_number, "property": is_text, "session": is_text, "warning": is_text}),
 ]
 
 

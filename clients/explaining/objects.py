@@ -17,6 +17,7 @@ class Objects:
     def __init__(self):
         self.classes: dict[int, str] = {}
         self.names: dict[int, str] = {}
+        self.bound: set[int] = set()  # those whose names are bound, so that they change with other properties
         self.parents: dict[int, int] = {}
         self.below: dict[int, list[int]] = {ROOT: []}
         self.whole = {ROOT}
@@ -26,6 +27,21 @@ class Objects:
         self.may_wait = False  # whether deletions of any others may wait
         self.failed = False
         self.has_earlier = False  # whether there were objects before the transcript began
+
+    # ---- their names ----
+
+    def name(self, number, name):
+        """An object has this name, which stays where it is not bound."""
+        if number not in self.bound:
+            self.names[number] = name
+
+    def bind(self, number):
+        """The name of an object is bound. No slot binds one."""
+        self.bound.add(number)
+        self.names.pop(number, None)
+
+    def unbind(self, number):
+        self.bound.discard(number)
 
     # ---- where they stand ----
 

@@ -22,7 +22,8 @@ whose change a slot is told of, it is not known where the objects stand, nor whe
 later replies tell it. Only `deleteLater()`, which every object has, is known to do nothing before the
 next `spin`. So the tree of a session whose slots were called is whole again after a `children` for the
 roots and one for each object.
-Objects are drawn in the order of `children`, each with its class and its name where these are known.
+Objects are drawn in the order of `children`, each with its class and its name where these are known. A name
+that is bound is not, as it changes with other properties.
 A `?` behind an object says that it may be gone, a `...` that there may be more below it.
 
 Exit status: 0 at the end of the input, 1 where something cannot be read or written, or the commands

@@ -1,6 +1,7 @@
 """What the replies to commands mean: each function is given what a command asked and what it was replied."""
 
-from .words import arguments, counted, listed, misfit, plain, shown
+from .expressions import spelled
+from .words import arguments, counted, in_error, listed, misfit, plain, shown
 
 OBJECT_NAME = "objectName"  # the property that every class declares
 
@@ -46,7 +47,7 @@ def said_of_find(asked, reply):
 
 def said_of_set(asked, reply):
     """True says that the class declares the property, false that it does not or that nothing was to be written."""
-    name, value = f"{plain(asked['property'])} of object {asked['object']}", asked["value"]
+    name, value = property_of(asked), asked["value"]
     if value is None:
         return misfit() if reply else said_of_null(asked["property"], name)
     if reply:
@@ -63,7 +64,7 @@ def said_of_null(declared, name):
 def said_of_get(asked, reply):
     if reply is None:
         return f"object {asked['object']} has no property {plain(asked['property'])}"
-    return f"{plain(asked['property'])} of object {asked['object']} is {shown(reply)}"
+    return f"{property_of(asked)} is {shown(reply)}"
 
 
 def said_of_dynamic_names(asked, reply):
@@ -71,6 +72,38 @@ def said_of_dynamic_names(asked, reply):
     if len(reply) > 1:
         return f"the dynamic properties of {target} are {names}, that first set first"
     return f"{target} has the dynamic property {names}" if reply else f"{target} has no dynamic property"
+
+
+# ---- bindings and groups ----
+
+
+def property_of(asked):
+    return f"{plain(asked['property'])} of object {asked['object']}"
+
+
+def said_of_bind(asked, reply):
+    return f"{property_of(asked)} is bound to: {spelled(asked['to'])}"
+
+
+def said_of_unbind(asked, reply):
+    now = "is not bound any more, and keeps the value that it had" if reply else "was not bound"
+    return f"{property_of(asked)} {now}"
+
+
+def said_of_binding_error(asked, reply):
+    return f"{property_of(asked)} is in {'no error' if reply is None else f'error, {in_error(reply)}'}"
+
+
+def said_of_begin(asked, reply):
+    return f"{groups(reply)}; no change of a property is told before the outermost ends"
+
+
+def said_of_end(asked, reply):
+    return f"{groups(reply)}; {'what has changed is not told yet' if reply else 'what has changed within was told'}"
+
+
+def groups(number):
+    return f"{counted(number, 'group')} {'are' if number > 1 else 'is'} open now"
 
 
 # ---- signals, slots and events ----

@@ -19,11 +19,17 @@ CODES = {
     "E14": "a limit is met",
     "E15": "the session publishes something else under this name",
     "E16": "a session cannot join itself",
+    "E17": "no group is open",
+    "E18": "the property may not be bound, nor be read by a binding",
     "E19": "the numbers are used up",
     "E20": "the session has failed for want of memory, and answers nothing else before its reset",
     "E21": "there was no memory for it; all that the session held is gone",
     "E22": "a value is of a wrong kind or form",
     "E23": "the turns are used up",
+}
+ERRORS = {
+    "BindingLoop": "its value depends on itself, or on another one that does",
+    "EvaluationError": "its binding has no value of its type, since what it reads is gone, does not fit or is in such an error",
 }
 LINE_CODES = ("E01", "E02", "E20", "E21")  # which say nothing of the objects that a command names
 
@@ -61,6 +67,11 @@ def arguments(values: list) -> str:
     if not values:
         return "no arguments"
     return f"{'arguments' if len(values) > 1 else 'argument'} {listed(map(shown, values))}"
+
+
+def in_error(error: str) -> str:
+    """An error of a property with what it means."""
+    return f"{plain(error)}: {ERRORS.get(error, 'an error that is not known here')}"
 
 
 def coded(code: str, meaning: str | None = None) -> str:

@@ -62,6 +62,8 @@ MEANINGS = {
     "E14": "a limit",
     "E15": "the name is taken",
     "E16": "the own session",
+    "E17": "no group",
+    "E18": "not bindable",
     "E19": "numbers used up",
     "E20": "the session has failed",
     "E21": "want of memory",
@@ -70,10 +72,16 @@ MEANINGS = {
 }
 """What the codes of refusals and warnings mean."""
 
+BINDING_ERRORS = {
+    "BindingLoop": "the value of the property depends on itself",
+    "EvaluationError": "the binding of the property has no value",
+}
+"""What the errors of properties mean, of which warnings tell."""
+
 
 def meaning_of(code: str) -> str:
-    """What a code means; a code that is not known here has the meaning `unknown`."""
-    return MEANINGS.get(code, "unknown")
+    """What a code, or an error of a property, means; one that is not known here has the meaning `unknown`."""
+    return {**MEANINGS, **BINDING_ERRORS}.get(code, "unknown")
 
 
 class MetadError(Exception):
@@ -130,18 +138,20 @@ class Call:
 
 @dataclass(frozen=True)
 class Warned:
-    """An action was refused, a signal was nested too deep, or the turns are used up."""
+    """An action was refused, a signal was nested too deep, the turns are used up, or a bound property is in error."""
 
     code: str
-    """The code of the warning, as `E04`."""
+    """The code of the warning, as `E04`, or the error of the property, as `BindingLoop`."""
     object: Optional[int]
     """The number of the object; None for `E23`."""
+    property_name: Optional[str]
+    """The name of the property that is in error; None where the warning has a code."""
     line: Dict[str, Value]
     """The whole line, with keys that have no field here."""
 
     @property
     def meaning(self) -> str:
-        """What the code means."""
+        """What the code or the error means."""
         return meaning_of(self.code)
 
 
@@ -284,6 +294,26 @@ class Session:
         """The names of an object's dynamic properties, that first set first."""
         return cast(List[str], self.command("dynamicNames", object=object))
 
+    def bind(self, object: int, property: str, to: Value) -> bool:
+        """Binds a property to an expression, which is given as JSON."""
+        return cast(bool, self.command("bind", object=object, property=property, to=to))
+
+    def unbind(self, object: int, property: str) -> bool:
+        """Leaves a bound property the value that it has; says whether it was bound."""
+        return cast(bool, self.command("unbind", object=object, property=property))
+
+    def binding_error(self, object: int, property: str) -> Optional[str]:
+        """The error of a property, `BindingLoop` or `EvaluationError`; None where it is in none."""
+        return cast(Optional[str], self.command("bindingError", object=object, property=property))
+
+    def begin(self) -> int:
+        """Begins a group, in which no change of a property is told; returns how many are open now."""
+        return cast(int, self.command("begin"))
+
+    def end(self) -> int:
+        """Ends a group, and with the outermost one tells of what has changed; returns how many are open now."""
+        return cast(int, self.command("end"))
+
     def connect(
         self,
         sender: int,
@@ -389,7 +419,7 @@ class Session:
         if "call" in line and self.on_call is not None:
             self.on_call(Call(line["object"], line["call"], line["args"], line["sender"]))
         if "warning" in line and self.on_warning is not None:
-            self.on_warning(Warned(line["warning"], line.get("object"), line))
+            self.on_warning(Warned(line["warning"], line.get("object"), line.get("property"), line))
 
 
 class Server:

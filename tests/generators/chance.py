@@ -8,6 +8,7 @@ objects that they name.
 """
 
 import random
+import re
 
 from tests.support.lines import LINE_BYTES
 
@@ -25,6 +26,7 @@ WORDS = (
     *("connectFunctor", "connectFunctor", "connectFunctor", "connect\\u0046unctor"),
     *("set", "set", "get", "dynamicNames", "dynamicNam\\u0065s"),
     *("spin", "spin", "deleteLater", "block", "status", "sp\\u0069n", "delete\\u004cater"),
+    *(*("bind",) * 5, "b\\u0069nd", "unbind", "bindingError", "unb\\u0069nd", "binding\\u0045rror", "begin", "b\\u0065gin", "end", "end", "\\u0065nd"),
     *("publish", "publ\\u0069sh", *("join",) * 6, "jo\\u0069n", "unpublish", "leave", "l\\u0065ave", "invoke", "invoke", "invoke"),
 )
 SELDOM = ("reset", "r\\u0065set")
@@ -32,13 +34,23 @@ KEYS = (
     *("do", "session", "object", "property", "value", "class", "parent", "name", "x", "d\\u006f", "obj\\u0065ct", "Do", ""),
     *("sender", "signal", "receiver", "method", "type", "unique", "single", "connection", "args", "on"),
     *("context", "functor", "s\\u0065nder", "typ\\u0065", "\\u006fn", "f\\u0075nctor"),
-    *("from", "types", "fr\\u006fm", "typ\\u0065s"),
+    *("from", "types", "fr\\u006fm", "typ\\u0065s", "to", "t\\u006f", "of"),
 )
 SIGNALS = (*("ping()",) * 16, *("xChanged(int)",) * 4, "p\\u0069ng()", "ping\\u0028void\\u0029", " ping(\\t)", "destroyed()", "objectNameChanged(QString)", "note()", "ping")
 PROPERTIES = (
     *("objectName",) * 4, *("x", "tag") * 3, *("y", "flag", "big", "obj\\u0065ctName", "t\\u0061g", "\\u0078", "X", "_"),
     *("n" * 64, "n" * 65, "", "a b", "1a", "x ", "ä", "\\u0000"),
 )
+FORMS = (
+    *('{"prop":"NAME"}', '{"prop":"NAME","of":OBJECT}', '{"of":OBJECT,"pr\\u006fp":"NAME"}', '{"+":[{"prop":"NAME","of":OBJECT},{"const":NUMBER}]}') * 3,
+    *('{"if":[{"prop":"flag"},{"prop":"NAME"},{"prop":"z","of":OBJECT}]}', '{"\\u0069f":[{"<":[{"prop":"y"},{"const":NUMBER}]},{"const":1},{"prop":"NAME"}]}') * 2,
+    *('{"cat":[{"prop":"objectName","of":OBJECT},{"const":"!"}]}', '{"c\\u0061t":[{"const":"n"},{"prop":"objectName"}]}', '{"const":"n"}') * 2,
+    *('{"const":NUMBER}', '{"c\\u006fnst":NUMBER}', '{"-":[{"const":NUMBER},{"prop":"NAME"}]}', '{"=":[{"prop":"NAME"},{"const":NUMBER}]}'),
+    *('{"prop":"NAME","of":"s\\u0065lf"}', '{"prop":"NAME","of":"sender"}', '{"prop":"NAME","of":{"child":"lamp"}}', '{"prop":"NAME","prop":"y"}'),
+    *('{"arg":0}', '{"prop":"y","to":1}', '{"+":[{"const":NUMBER}]}'),
+)
+HOLE = re.compile("NAME|NUMBER|OBJECT")
+BOUND = (*("x", "y", "z") * 4, *("objectName",) * 8, "flag", "obj\\u0065ctName", "\\u0078", "big", "tag", "nothing", "a b")
 SLOTS = (
     *(*("note()", "late()", "swap()", "again()") * 4, "kill()", "rescue()", "drop()", "deleteLater()", "ping()"),
     *("setX(int)", "setX(int)", "seen(int)"),
@@ -175,8 +187,22 @@ class Chance(random.Random):
         ends = self.join_ends()
         return [*ends, ("types", f"[{','.join(self.types(ends[-1][1]))}]")]
 
+    def binding(self):
+        """An expression, most times one that a binding may have."""
+        if self.is_so(0.1):
+            return self.value()
+        makes = {"NAME": lambda: self.choice(BOUND), "NUMBER": self.number, "OBJECT": self.old_object}
+        return HOLE.sub(lambda hole: makes[hole[0]](), self.choice(FORMS))
+
+    def bound_property(self):
+        return [("object", self.old_object()), ("property", f'"{self.choice(BOUND)}"')]
+
     def members_of(self, word):
         """The members of a command in form, but for its word and its session."""
+        if word in ("bind", "b\\u0069nd"):
+            return [*self.bound_property(), ("to", self.binding())]
+        if word in ("unbind", "unb\\u0069nd", "bindingError", "binding\\u0045rror"):
+            return self.bound_property()
         if word == "set":
             name = self.property_name()
             value = self.number() if name == '"x"' and self.is_so(0.7) else self.value()

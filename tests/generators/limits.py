@@ -1,5 +1,5 @@
-"""Sessions at the limits of signals, slots, events, properties, publications and joins. What has to be written is worked
-out from the rules."""
+"""Sessions at the limits of signals, slots, events, properties, bindings, publications and joins. What has to be written is
+worked out from the rules."""
 
 from tests.support.lines import lines_of
 from tests.support.program import Row
@@ -8,13 +8,15 @@ CONNECTIONS = 16_384
 EVENTS = 16_384
 PUBLICATIONS = 1_024
 JOINS = 1_024
+BINDINGS = 1_024
+GROUPS = 1_000
 TURNS = 10_000
 LEVELS = 64
 TEXT_BYTES = 4_096
 DYNAMIC_PROPERTIES = 64
 E07, E08, E09, E10, E14 = ({"error": code} for code in ("E07", "E08", "E09", "E10", "E14"))
-E05, E15, E16, E22 = ({"error": code} for code in ("E05", "E15", "E16", "E22"))
-SPIN, STATUS, CHILDREN, RESET = ({"do": word} for word in ("spin", "status", "children", "reset"))
+E04, E05, E15, E16, E17, E22 = ({"error": code} for code in ("E04", "E05", "E15", "E16", "E17", "E22"))
+SPIN, STATUS, CHILDREN, RESET, BEGIN, END = ({"do": word} for word in ("spin", "status", "children", "reset", "begin", "end"))
 
 
 def row_of(name, steps, *words):
@@ -36,6 +38,11 @@ def reply(value):
 
 def warning(code, number=None):
     return {"warning": code} if number is None else {"object": number, "warning": code}
+
+
+def errors(error, numbers, name="x"):
+    """Warnings of an error of this property of some objects."""
+    return [{"object": number, "property": name, "warning": error} for number in numbers]
 
 
 def call(method, number, sender, *args):
@@ -64,6 +71,18 @@ def set_to(number, name, value):
 
 def get(number, name):
     return {"do": "get", "object": number, "property": name}
+
+
+def bind(number, name, form):
+    return {"do": "bind", "object": number, "property": name, "to": form}
+
+
+def unbind(number, name):
+    return {"do": "unbind", "object": number, "property": name}
+
+
+def error_of(number, name):
+    return {"do": "bindingError", "object": number, "property": name}
 
 
 def publish(number, signal, name):
@@ -119,9 +138,9 @@ SLOTS |= {"drop()": DROP, "dropDeep()": behind_choices(DROP, 31), "dropFirst()":
 CLASS = {
     "name": "A",
     "super": "QObject",
-    "signals": ["down()", "told(QString,int)", "xChanged(int)"],
+    "signals": ["down()", "told(QString,int)", "xChanged(int)", "yChanged(int)"],
     "slots": [{"sig": slot, "body": body} for slot, body in SLOTS.items()],
-    "properties": [{"name": "x", "type": "int", "notify": "xChanged(int)"}],
+    "properties": [{"name": it, "type": "int", "notify": f"{it}Changed(int)", "bindable": True} for it in "xy"],
 }
 
 
@@ -233,6 +252,105 @@ def values():
         yield from ((get(1, name), reply(longest)) for name in names)
         yield {"do": "dynamicNames", "object": 1}, reply(names)
     yield delete(1), reply(True)
+
+
+def groups():
+    """As many groups within one another as there may be."""
+    yield new(), reply(1)
+    yield connect(1, "xChanged(int)", 1, "note()"), reply(1)
+    yield from ((BEGIN, reply(depth)) for depth in range(1, GROUPS + 1))
+    yield BEGIN, E14
+    yield set_to(1, "x", 5), reply(True)
+    yield STATUS, counted(connections=1, group=GROUPS, objects=1)
+    yield from ((END, reply(depth)) for depth in range(GROUPS - 1, 0, -1))
+    yield END, call("note()", 1, 1), reply(0)
+    yield END, E17
+
+
+def bindings():
+    """As many bindings as there may be, two of each object."""
+    count = BINDINGS // 2
+    yield from ((new(), reply(number)) for number in range(1, count + 2))
+    for number in range(1, count + 1):
+        yield bind(number, "objectName", {"const": "n"}), reply(True)
+        yield bind(number, "x", {"const": number}), reply(True)
+    yield bind(count + 1, "x", {"const": 1}), E14
+    yield bind(count + 1, "x", {"prop": "x", "of": count + 2}), E04
+    yield bind(1, "x", {"prop": "x", "of": count}), reply(True)
+    yield get(1, "x"), reply(count)
+    yield STATUS, counted(bindings=BINDINGS, objects=count + 1)
+    yield unbind(count, "x"), reply(True)
+    yield bind(count + 1, "x", {"prop": "x", "of": 1}), reply(True)
+    yield get(count + 1, "x"), reply(count)
+    yield bind(count + 1, "y", {"const": 1}), E14
+    yield delete(1), *errors("EvaluationError", [count + 1]), reply(True)
+    yield STATUS, counted(bindings=BINDINGS - 2, objects=count)
+    yield bind(count + 1, "y", {"const": 1}), reply(True)
+    yield bind(count, "x", {"const": 1}), reply(True)
+    yield bind(count, "y", {"const": 1}), E14
+    yield RESET, reply(True)
+    yield new(), reply(1)
+    yield bind(1, "x", {"const": 1}), reply(True)
+
+
+def noted_objects(count):
+    """Objects whose changes are noted."""
+    yield from ((new(), reply(number)) for number in range(1, count + 1))
+    yield from ((connect(number, "xChanged(int)", number, "note()"), reply(number)) for number in range(1, count + 1))
+
+
+def notes(numbers):
+    return [call("note()", number, number) for number in numbers]
+
+
+def bound_chain(count):
+    """Objects of which each adds one to what the one before it shows."""
+    numbers, middle = range(1, count + 1), count // 2
+    yield from noted_objects(count)
+    yield BEGIN, reply(1)
+    yield from ((bind(it, "x", {"+": [{"prop": "x", "of": it - 1}, {"const": 1}]}), reply(True)) for it in numbers[1:])
+    yield END, *notes(numbers[1:]), reply(0)
+    yield get(count, "x"), reply(count - 1)
+    yield set_to(1, "x", 7), *notes(numbers), reply(True)
+    yield get(count, "x"), reply(count + 6)
+    yield set_to(1, "x", 2**31 - count), *notes(numbers), reply(True)
+    overflow = 2**31 - count + 1
+    yield set_to(1, "x", overflow), *errors("EvaluationError", [count]), *notes(numbers), reply(True)
+    yield delete(middle), *errors("EvaluationError", numbers[middle:-1]), *notes(numbers[middle:-1]), reply(True)
+    yield error_of(count, "x"), reply("EvaluationError")
+    yield STATUS, counted(bindings=count - 2, connections=count - 1, objects=count - 1)
+
+
+def bound_ring(count):
+    """Objects in a ring, of which each shows what the next one does."""
+    numbers, middle = range(1, count + 1), count // 2
+    others = [it for it in numbers if it != middle]
+    yield from noted_objects(count)
+    yield BEGIN, reply(1)
+    yield from ((bind(number, "x", {"prop": "x", "of": number % count + 1}), reply(True)) for number in numbers)
+    yield error_of(middle, "x"), reply(None)
+    yield END, *errors("BindingLoop", numbers), reply(0)
+    yield get(count, "x"), reply(0)
+    yield set_to(middle, "x", 7), *notes([middle, *others]), reply(True)
+    yield error_of(1, "x"), reply(None)
+    yield get(middle + 1, "x"), reply(7)
+    again = bind(middle, "x", {"prop": "x", "of": middle + 1})
+    yield again, *errors("BindingLoop", [middle, *others]), *notes([middle, *others]), reply(True)
+    yield delete(middle), *errors("EvaluationError", others), reply(True)
+
+
+def bound_readers(count):
+    """Objects that all show what the first one does."""
+    numbers = range(1, count + 1)
+    yield from noted_objects(count)
+    yield BEGIN, reply(1)
+    yield from ((bind(number, "x", {"prop": "x", "of": 1}), reply(True)) for number in numbers[1:])
+    yield END, reply(0)
+    yield set_to(1, "x", 7), *notes(numbers), reply(True)
+    yield bind(1, "x", {"prop": "x", "of": count}), *errors("BindingLoop", numbers), *notes(numbers), reply(True)
+    yield bind(1, "x", {"const": True}), *errors("EvaluationError", numbers), reply(True)
+    yield delete(1), reply(True)
+    yield error_of(count, "x"), reply("EvaluationError")
 
 
 def publications():
@@ -355,6 +473,17 @@ def ring(count):
     yield set_to(LEVELS + 2, "x", 7), *calls(LEVELS + 2, 7), warning("E14", 2 * LEVELS + 2), reply(True)
 
 
+def ring_of_bindings(count):
+    """A ring of objects, each of which sets its property to what the bound one of the object before it shows."""
+    yield from ((new(), reply(number)) for number in range(1, count + 1))
+    yield from ((bind(number, "y", {"prop": "x"}), reply(True)) for number in range(1, count + 1))
+    yield from ((connect(number, "yChanged(int)", number % count + 1, "keep(int)"), reply(number)) for number in range(1, count + 1))
+    calls = [call("keep(int)", number + 1, number, 7) for number in range(1, LEVELS + 1)]
+    yield set_to(1, "x", 7), *calls, *[warning("E14", LEVELS + 1)] * 2, reply(True)
+    yield get(LEVELS + 1, "y"), reply(7)
+    yield get(LEVELS + 2, "y"), reply(0)
+
+
 def falls(slot, signal="down()", start=None, args_of=lambda level: ()):
     """A ring of trees, each as deep as may be: the signal of a root calls the next root's slot, which sends on and deletes."""
     roots = [LEVELS * at + 1 for at in range(LEVELS)]
@@ -451,6 +580,11 @@ def wide_rows():
     yield row_of(f"calls that meet {EVENTS} events", lost_calls(), "--turns", str(EVENTS - 1))
     yield row_of(f"{DYNAMIC_PROPERTIES} dynamic properties of {TEXT_BYTES} bytes", values())
     yield row_of("a ring of objects that tell of their changes", ring(LEVELS * LEVELS))
+    yield row_of(f"{GROUPS} groups", groups())
+    yield row_of(f"{BINDINGS} bindings", bindings())
+    yield row_of(f"a chain of {BINDINGS} bindings", bound_chain(BINDINGS + 1))
+    yield row_of(f"a ring of {BINDINGS} bindings", bound_ring(BINDINGS))
+    yield row_of(f"{BINDINGS} bindings over one property", bound_readers(BINDINGS))
     yield row_of(f"{PUBLICATIONS} publications", publications())
     yield row_of(f"{JOINS} joins", joins(), "--turns", str(EVENTS))
     yield row_of(f"posts that meet {EVENTS} events", lost_posts())
@@ -464,6 +598,7 @@ def deep_rows():
     yield row_of("trees deleted in nested changes", changes("sink(int)"))
     yield row_of("trees deleted in nested changes behind choices", changes("sinkDeep(int)"))
     yield row_of("functors in a chain", chain_of_functors(LEVELS * LEVELS))
+    yield row_of("a ring of objects that tell of changes of bound properties", ring_of_bindings(LEVELS + 2))
     yield row_of("objects whose ends delete the next one", chain("drop()"))
     yield row_of("objects whose ends delete the next one behind choices", chain("dropDeep()"))
     yield row_of("trees whose ends delete the next one", ends("drop()", False))

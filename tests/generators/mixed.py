@@ -1,7 +1,7 @@
 """Runs by chance of a few sessions that listen to each other, and what of a run decides what one of its sessions is told.
 
 The sessions of a run publish signals of their objects, join each other, mostly by what another one publishes, and
-leave and are reset now and then; else they do what sessions of `signals` do. So what one of them posts reaches others
+leave and are reset now and then; else they do what sessions of `bindings` do. So what one of them posts reaches others
 whose slots post on. Several runs share a server and take turns by chance: their sessions never name each other.
 """
 
@@ -10,7 +10,7 @@ from string import ascii_lowercase
 
 from tests.plain.world import Server
 
-from . import signals
+from . import bindings, signals
 
 RUNS = 500
 RUNS_AT_ONCE = 10
@@ -23,7 +23,7 @@ STRANGE_TYPES = (["no"], ["int", "double"], ["int"] * 11, ["Int"])
 LISTENING = {"publish": 8, "join": 10, "unpublish": 1, "leave": 2, "reset": 0.3, "block": 2, "spin": 14, "invoke": 20}
 
 
-class Chance(signals.Chance):
+class Chance(bindings.Chance):
     """Commands by chance of sessions that listen to each other."""
 
     def command_among(self, server, name, sources):

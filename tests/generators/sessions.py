@@ -11,14 +11,14 @@ CLASSES = [
         "super": "QObject",
         "signals": ["rang(int)"],
         "slots": [{"sig": "tell()", "body": []}, {"sig": "fall()", "body": [{"delete": "self"}]}],
-        "properties": [{"name": "pitch", "type": "int", "notify": "rang(int)"}],
+        "properties": [{"name": "pitch", "type": "int", "notify": "rang(int)", "bindable": True}],
     },
     {
         "name": "Ear",
         "super": "QObject",
         "signals": ["noted(int)"],
         "slots": [{"sig": "hear(int)", "body": [{"set": "heard", "to": {"arg": 0}}, {"set": "last", "to": {"arg": 0}}]}],
-        "properties": [{"name": "heard", "type": "int", "notify": "noted(int)"}],
+        "properties": [{"name": "heard", "type": "int", "notify": "noted(int)", "bindable": True}],
     },
 ]
 
@@ -47,6 +47,24 @@ def end_to_listen(chance, session):
         *[{"do": "status"}] * 5,
         {"do": "reset"},
     ))
+
+
+def bind_some(chance, ears):
+    """Some ears are bound to the bell and to each other, and the bell is rung once more, within a group."""
+    one, *others = chance.sample(ears, 5)
+
+    def bind(number, form):
+        return {"do": "bind", "object": number, "property": "heard", "to": form}
+
+    yield bind(one, {"+": [{"prop": "pitch", "of": 1}, {"const": one}]})
+    yield from (bind(it, {"if": [{"<": [{"prop": "pitch", "of": 1}, {"const": 500}]}, {"prop": "heard", "of": one}, {"const": it}]}) for it in others)
+    yield {"do": "begin"}
+    yield {"do": "set", "object": 1, "property": "pitch", "value": chance.randrange(1_000)}
+    yield bind(chance.choice(others), {"prop": "heard", "of": chance.choice(others)})
+    yield {"do": "unbind", "object": chance.choice(others), "property": "heard"}
+    yield {"do": "end"}
+    yield from ({"do": "bindingError", "object": it, "property": "heard"} for it in others)
+    yield {"do": "status"}
 
 
 def life_of(session, listens=False):
@@ -85,6 +103,7 @@ def life_of(session, listens=False):
     yield from ({"do": "connect", "sender": ear, "signal": "noted(int)", "receiver": 1, "method": "tell()"} for ear in chance.sample(ears, 5))
     yield ring()
     yield {"do": "spin"}
+    yield from bind_some(chance, ears)
     for ear in chance.sample(ears, 5):
         yield {"do": "setParent", "object": ear, "parent": chance.choice((None, 1))}
         yield {"do": chance.choice(("delete", "deleteLater")), "object": ear}

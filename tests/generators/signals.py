@@ -275,6 +275,11 @@ def events_in(lines):
     return sum(reply["events"] for reply in replies if isinstance(reply, dict) and "events" in reply)
 
 
+def errors_in(lines):
+    """How many warnings are those of a property's error."""
+    return sum("warning" in line and "property" in line for line in lines)
+
+
 def changes_in(commands, answers):
     """How many calls told of what a command had set."""
     return sum(calls_in(answer) for command, answer in zip(commands, answers) if command["do"] == "set")

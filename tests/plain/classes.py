@@ -2,7 +2,7 @@
 
 from dataclasses import dataclass, field
 
-from .values import normal, signature_of
+from .values import default_of, normal, signature_of
 
 DESTROYED = 0  # the index of this signal in every class
 
@@ -52,15 +52,17 @@ class Property:
     name: str
     kind: str
     notify: str | None = None
+    is_bindable: bool = False
 
     @property
     def default(self):
-        return {"bool": False, "QString": ""}.get(self.kind, 0)
+        return default_of(self.kind)
 
 
 def property_of(declared):
     """A property as a class file has it."""
-    return Property(declared["name"], declared["type"], normal(declared["notify"]) if "notify" in declared else None)
+    notify = normal(declared["notify"]) if "notify" in declared else None
+    return Property(declared["name"], declared["type"], notify, declared.get("bindable", False))
 
 
 class Classes:
@@ -69,7 +71,7 @@ class Classes:
     def __init__(self, declared=()):
         self.above = {"QObject": None}
         later = [{"deleteLater": "self"}]
-        self.own_properties = {"QObject": [Property("objectName", "QString", "objectNameChanged(QString)")]}
+        self.own_properties = {"QObject": [Property("objectName", "QString", "objectNameChanged(QString)", True)]}
         self.own_methods = {
             "QObject": [
                 method_of("destroyed()", True),

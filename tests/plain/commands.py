@@ -1,5 +1,6 @@
 """What the commands of a session do and reply; a refused one raises `Refused`."""
 
+from .bindings import At
 from .classes import FUNCTORS, Event, Join
 from .values import KINDS, PARAMETERS, Refused, is_long, is_of_kind, refuse
 
@@ -26,6 +27,31 @@ def set_property(session, command):
 
 def get_property(session, command):
     return session.read(session.known(command["object"]), command["property"])
+
+
+def bind(session, command):
+    session.run(session.bind(command["object"], command["property"], command["to"]))
+    return True
+
+
+def unbind(session, command):
+    """Binds a property no longer, and answers whether it was bound."""
+    at = At(command["object"], command["property"])
+    session.known_property(*at)
+    is_bound = at in session.bindings
+    session.run(session.unbind(at))
+    return is_bound
+
+
+def binding_error(session, command):
+    at = At(command["object"], command["property"])
+    session.known_property(*at)
+    return session.shown(at).error
+
+
+def end_group(session, command):
+    session.run(session.end_group())
+    return session.groups
 
 
 def dynamic_names(session, command):
@@ -119,9 +145,9 @@ def spin(session, command):
 
 
 def status(session, command):
-    rows = {"connections": session.connections, "joins": session.joins, "objects": session.rows, "publications": session.publications}
-    counts = {"lost": session.lost, "mismatched": session.mismatched, "queued": len(session.queue)}
-    return {**dict.fromkeys(("bindings", "group"), 0), **{key: len(value) for key, value in rows.items()}, **counts}
+    rows = ("bindings", "connections", "joins", "publications")
+    held = {key: len(getattr(session, key)) for key in rows} | {"objects": len(session.rows), "queued": len(session.queue)}
+    return held | {"group": session.groups, "lost": session.lost, "mismatched": session.mismatched}
 
 
 def describe(session, command):
@@ -138,6 +164,11 @@ COMMANDS = {
     "set": set_property,
     "get": get_property,
     "dynamicNames": dynamic_names,
+    "bind": bind,
+    "unbind": unbind,
+    "bindingError": binding_error,
+    "begin": lambda session, command: session.begin_group(),
+    "end": end_group,
     "connect": connect,
     "connectFunctor": connect_functor,
     "disconnect": disconnect,

@@ -17,12 +17,11 @@ from tests.support.program import ROWS
 
 from .classes import Classes
 from .session import TURNS
-from .values import NAME, NUMBERS, is_number
+from .values import NUMBERS, is_known_by, is_name, is_text
 from .world import Server
 
 DEPTH = 127
 DIGITS = 20  # of a whole number of 64 bits, with its sign
-NUMBER = 2**32 - 1
 TYPES = ("auto", "direct", "queued")
 NOBODY = "-"
 DEMONSTRATION = ROWS / "class_file_of_the_demonstration_classes" / "classes.json"
@@ -71,19 +70,6 @@ def json_of(line):
 # The form of commands.
 
 
-def is_text(value):
-    return isinstance(value, str)
-
-
-def is_name(value):
-    return is_text(value) and re.fullmatch(NAME, value) is not None
-
-
-def is_known_by(value):
-    """Whether an object or a connection may have this number."""
-    return is_number(value) and 1 <= value <= NUMBER
-
-
 def is_truth(value):
     return isinstance(value, bool)
 
@@ -100,7 +86,7 @@ HOLDS = {
     "type": lambda value: value in TYPES,
     "args": lambda value: isinstance(value, list),
     "types": are_texts,
-    "value": lambda value: True,
+    **dict.fromkeys(("value", "to"), lambda value: True),
 }
 
 

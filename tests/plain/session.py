@@ -3,8 +3,10 @@
 Nothing here is quick, and nothing is kept beside the rows: whatever is asked is looked for by going through them.
 """
 
+from .bindings import At, Binding, Scene, Shown
 from .classes import DESTROYED, FUNCTORS, Classes, Connection, Event, Frame, Post, Publication, Row
-from .values import Refused, computed, is_long, is_of_kind, is_value, normal, refuse
+from .expressions import binding_of, evaluated, reads_of
+from .values import Refused, is_long, is_of_kind, is_value, normal, refuse
 
 OBJECTS = 4_096
 DEPTH = 64
@@ -12,6 +14,8 @@ CONNECTIONS = 16_384
 EVENTS = 16_384
 PUBLICATIONS = 1_024
 JOINS = 1_024
+BINDINGS = 1_024
+GROUPS = 1_000
 NESTED_SIGNALS = 64
 DYNAMIC_PROPERTIES = 64
 TURNS = 10_000
@@ -30,6 +34,7 @@ class Session:
     def reset(self):
         """Puts it back to how it is before its first command."""
         self.rows, self.connections, self.queue, self.publications, self.joins = [], [], [], [], []
+        self.bindings, self.groups, self.start = {}, 0, None
         self.last_number = self.last_stamp = self.last_connection = self.lost = self.mismatched = 0
         self.failed = False
         return True
@@ -119,9 +124,13 @@ class Session:
         """The declared property of this name, or None."""
         return next((it for it in self.classes.properties(row.class_name) if it.name == name), None)
 
+    def known_property(self, number, name):
+        """The declared property of this name of an object that is there."""
+        return self.declared(self.known(number), name) or refuse("E11")
+
     def read(self, row, name):
         """The value of a property, declared or dynamic, or None."""
-        return row.values.get(name, row.dynamic.get(name))
+        return self.shown(At(row.number, name)).value if name in row.values else row.dynamic.get(name)
 
     def write(self, row, name, value, depth):
         """Writes a property, null as `set` does, and answers what is sent of it at this depth."""
@@ -137,17 +146,10 @@ class Session:
             refuse("E22")
         if is_long(value):
             refuse("E14")
-        before = row.values[declared.name]
+        before, at = self.scene(), At(row.number, declared.name)
         row.values[declared.name] = value
-        return [] if value == before else self.notification(row, declared, depth)
-
-    def notification(self, row, declared, depth):
-        """The signal that tells of a property's change, where it has one, with as much of the value as it takes."""
-        if declared.notify is None:
-            return []
-        signal = self.signal(row.number, declared.notify)
-        kinds = self.methods(row.number)[signal].kinds
-        return [("emit", row.number, signal, [row.values[declared.name]] if kinds else [], depth)]
+        self.bindings.pop(at, None)
+        return self.told_since(before, depth, at)
 
     def write_dynamic(self, row, name, value):
         if value is None:
@@ -158,6 +160,83 @@ class Session:
         if is_long(value) or name not in row.dynamic and len(row.dynamic) >= DYNAMIC_PROPERTIES:
             refuse("E14")
         row.dynamic[name] = value
+
+    # Bindings and groups.
+
+    def scene(self):
+        """All that properties show comes of now."""
+        return Scene({row.number: dict(row.values) for row in self.rows}, dict(self.bindings))
+
+    def shown_in(self, scene, at):
+        """What a property shows in a scene: its default where it was not there."""
+        if scene.has(at):
+            return scene.shown(at)
+        return Shown(self.known_property(*at).default)
+
+    def shown(self, at):
+        """What a property shows; a bound one in a group what it showed when the outermost began."""
+        if at not in self.bindings:
+            return Shown(self.row(at.number).values[at.name])
+        return self.shown_in(self.start if self.groups else self.scene(), at)
+
+    def told_since(self, before, depth, written=None):
+        """What tells at this depth of all that shows another error or value than in a scene before: first the errors, then
+        the values, the written property first. In a group nothing does."""
+        if self.groups:
+            return []
+        after = self.scene()
+        order = sorted(after.properties(), key=lambda at: at != written)
+        changed = [(at, self.shown_in(before, at), after.shown(at)) for at in order]
+        errors = [("warn", now.error, *at) for at, was, now in changed if now.error not in (None, was.error)]
+        values = [self.notification(at, now.value, depth) for at, was, now in changed if now.value != was.value]
+        return errors + [item for items in values for item in items]
+
+    def notification(self, at, value, depth):
+        """The signal that tells of a property's new value, where it has one, with as much of it as the signal takes."""
+        notify = self.known_property(*at).notify
+        if notify is None:
+            return []
+        signal = self.signal(at.number, notify)
+        kinds = self.methods(at.number)[signal].kinds
+        return [("emit", at.number, signal, [value] if kinds else [], depth)]
+
+    def bindable(self, number, name):
+        """A declared property that may be bound, and be read by a binding."""
+        declared = self.known_property(number, name)
+        return declared if declared.is_bindable else refuse("E18")
+
+    def bind(self, number, name, json):
+        """Binds a property to the expression that a piece of JSON is, and answers what tells of it."""
+        declared, at, form = self.bindable(number, name), At(number, name), binding_of(json)
+        for target, read in reads_of(form):
+            self.bindable(number if target == "self" else target, read)
+        if at not in self.bindings and len(self.bindings) >= BINDINGS:
+            refuse("E14")
+        before = self.scene()
+        self.bindings[at] = Binding(form, declared.kind)
+        return self.told_since(before, 0, at)
+
+    def unbind(self, at):
+        """Leaves a bound property the value that it shows, and answers what tells of it."""
+        before = self.scene()
+        self.row(at.number).values[at.name] = self.shown(at).value
+        self.bindings.pop(at, None)
+        return self.told_since(before, 0, at)
+
+    def begin_group(self):
+        if self.groups >= GROUPS:
+            refuse("E14")
+        if not self.groups:
+            self.start = self.scene()
+        self.groups += 1
+        return self.groups
+
+    def end_group(self):
+        """Ends a group, and answers what tells of all that has changed since the outermost one began."""
+        if not self.groups:
+            refuse("E17")
+        self.groups -= 1
+        return self.told_since(self.start, 0)
 
     # Methods and connections.
 
@@ -290,20 +369,13 @@ class Session:
         return target
 
     def value(self, frame, form):
-        """The value of an expression."""
-        if "const" in form:
-            return form["const"]
-        if "arg" in form:
-            return frame.args[form["arg"]]
-        if "prop" in form:
-            value = self.read(self.known(self.target(frame, form.get("of", "self"))), form["prop"])
-            return refuse("E11") if value is None else value
-        [(operator, parts)] = form.items()
-        if operator == "if":
-            test = self.value(frame, parts[0])
-            return self.value(frame, parts[1 if test else 2]) if isinstance(test, bool) else refuse("E22")
-        a, b = (self.value(frame, part) for part in parts)
-        return computed(operator, a, b)
+        """The value of an expression of a body."""
+        return evaluated(form, frame.args, lambda target, name: self.value_read(frame, target, name))
+
+    def value_read(self, frame, target, name):
+        """The value of a property that a body reads."""
+        value = self.read(self.known(self.target(frame, target)), name)
+        return refuse("E11") if value is None else value
 
     # The agenda.
 
@@ -315,8 +387,12 @@ class Session:
         """Does an item of the agenda, and answers what is to be done first now."""
         return getattr(self, f"do_{kind}")(*item) or []
 
-    def warn(self, code, number=None):
-        self.lines.append({"warning": code} if number is None else {"object": number, "warning": code})
+    def warn(self, code, number=None, name=None):
+        """Warns by a code, or by the error of a bound property, of an object where one is named."""
+        named = {"object": number, "property": name}
+        self.lines.append({"warning": code, **{key: it for key, it in named.items() if it is not None}})
+
+    do_warn = warn
 
     def takes_turn(self):
         """Whether a turn is left; it is taken then."""
@@ -376,7 +452,7 @@ class Session:
         if row is None or row.dying:
             return None
         row.dying = True
-        return [("emit", number, DESTROYED, [], depth), ("cut", number, depth), ("gone", number)]
+        return [("emit", number, DESTROYED, [], depth), ("cut", number, depth), ("gone", number, depth)]
 
     def do_cut(self, number, depth):
         self.disconnect(lambda row: number in (row.sender, row.receiver))
@@ -389,10 +465,13 @@ class Session:
         row = self.row(number)
         return [("delete", number, depth)] if row and not row.dying and row.parent == parent else None
 
-    def do_gone(self, number):
+    def do_gone(self, number, depth):
+        before = self.scene()
         self.rows.remove(self.row(number))
+        self.bindings = {at: it for at, it in self.bindings.items() if at.number != number}
         for child in self.children(number):
             child.parent = None
+        return self.told_since(before, depth)
 
     def do_spin(self):
         if not self.queue or not self.takes_turn():

@@ -1,4 +1,4 @@
-"""The kinds of values, signatures over them, and what is computed of values."""
+"""The kinds of values, names and numbers, and signatures over kinds."""
 
 import re
 
@@ -19,6 +19,7 @@ SPACE = r"[ \t\n\r]"
 PARAMETER = re.compile(rf"{TYPE}|const{SPACE}+{TYPE}(?:{SPACE}*&)?|{TYPE}{SPACE}+const(?:{SPACE}*&)?", re.ASCII)
 SIGNATURE = re.compile(rf"{SPACE}*({NAME}){SPACE}*\(([^()]*)\){SPACE}*", re.ASCII)
 PARAMETERS = 10
+NUMBER = 2**32 - 1  # the last one that an object or a connection may have
 
 
 class Refused(Exception):
@@ -29,8 +30,21 @@ def refuse(code):
     raise Refused(code)
 
 
+def is_text(value):
+    return isinstance(value, str)
+
+
+def is_name(value):
+    return is_text(value) and re.fullmatch(NAME, value) is not None
+
+
 def is_number(value):
     return isinstance(value, int) and not isinstance(value, bool)
+
+
+def is_known_by(value):
+    """Whether an object or a connection may have this number."""
+    return is_number(value) and 1 <= value <= NUMBER
 
 
 def is_of_kind(value, kind):
@@ -39,13 +53,18 @@ def is_of_kind(value, kind):
     return isinstance(value, bool if kind == "bool" else str)
 
 
+def default_of(kind):
+    """The value of a kind that stands where no other does."""
+    return {"bool": False, "QString": ""}.get(kind, 0)
+
+
 def is_value(value):
     """Whether a value is of any kind, which is inferred from it."""
     return is_of_kind(value, "bool") or is_of_kind(value, "QString") or is_number(value) and NUMBERS[0] <= value <= NUMBERS[1]
 
 
 def is_long(value):
-    return isinstance(value, str) and len(value.encode()) > TEXT_BYTES
+    return is_text(value) and len(value.encode()) > TEXT_BYTES
 
 
 def signature_of(text):
@@ -64,20 +83,3 @@ def normal(text):
     """A signature in its normal form."""
     name, kinds = signature_of(text)
     return f"{name}({','.join(kinds)})"
-
-
-def computed(operator, a, b):
-    """What an operator makes of two values."""
-    numbers = is_number(a) and is_number(b)
-    texts = isinstance(a, str) and isinstance(b, str)
-    truths = isinstance(a, bool) and isinstance(b, bool)
-    if operator == "=" and (numbers or texts or truths):
-        return a == b
-    if operator == "<" and numbers:
-        return a < b
-    if operator in "+-" and numbers:
-        made = a + b if operator == "+" else a - b
-        return made if NUMBERS[0] <= made <= NUMBERS[1] else refuse("E22")
-    if operator == "cat" and texts:
-        return refuse("E14") if is_long(a + b) else a + b
-    return refuse("E22")

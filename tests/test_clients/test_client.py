@@ -61,6 +61,7 @@ class Talk:
         def note_warning(warned):
             self.test.assertEqual(warned.object, warned.line.get("object"), "the object of a warning")
             self.test.assertEqual(warned.code, warned.line["warning"], "the code of a warning")
+            self.test.assertEqual(warned.property_name, warned.line.get("property"), "the property of a warning")
             self.told.append(warned.line)
 
         return server.session(name, note_call, note_warning)
@@ -193,6 +194,12 @@ class Client(ClientCases):
             self.assertEqual(called, metad.Call(receiver, "kill()", [], sender), "what was called")
             self.assertEqual((warned.code, warned.meaning, warned.object), (*NO_OBJECT, receiver), "what was warned of")
             self.assertEqual(children, [receiver], "what a callback asked for")
+
+            session.bind(receiver, "objectName", {"prop": "objectName"})
+            warned = heard[-1][0]
+            self.assertEqual((warned.code, warned.object, warned.property_name), ("BindingLoop", receiver, "objectName"), "an error")
+            self.assertEqual(warned.meaning, metad.BINDING_ERRORS["BindingLoop"], "what it means")
+            self.assertEqual(session.binding_error(receiver, "objectName"), "BindingLoop", "the error of the property")
 
             def fail(_call):
                 raise KeyError("a fault of the callback")

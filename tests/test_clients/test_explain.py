@@ -158,7 +158,7 @@ def untrue(known, session):
         if [it for it in known.below.get(number, []) if it in rows] != children:
             return f"below {number} are {children}"
     named = known.names.keys() & rows.keys()
-    wrong = [number for number in named if rows[number].values["objectName"] != known.names[number]]
+    wrong = [number for number in named if session.read(rows[number], "objectName") != known.names[number]]
     return f"{wrong} have other names" if wrong else None
 
 

@@ -1,0 +1,43 @@
+"""Expressions of bindings, in words."""
+
+from .held import is_list, is_number, is_text
+from .words import misfit, plain, shown
+
+OPERATORS = {"+": "+", "-": "-", "<": "<", "=": "=", "cat": "followed by"}
+
+
+def objects_of(form) -> set:
+    """The numbers of the objects that an expression reads, whatever else it is."""
+    if is_list(form):
+        return set().union(*map(objects_of, form))
+    if not isinstance(form, dict):
+        return set()
+    own = {form["of"]} if "prop" in form and is_number(form.get("of")) else set()
+    return own.union(*(objects_of(form[key]) for key in (*OPERATORS, "if") if key in form))
+
+
+def spelled(form) -> str:
+    """An expression as one would say it."""
+    if not isinstance(form, dict):
+        return misfit()
+    if is_text(form.get("prop")):
+        return plain(form["prop"]) + (f" of object {form['of']}" if is_number(form.get("of")) else "")
+    if "const" in form:
+        return shown(form["const"])
+    if "if" in form:
+        test, held, failed = map(part, operands(form["if"], 3))
+        return f"if {test} then {held} else {failed}"
+    for key, word in OPERATORS.items():
+        if key in form:
+            return f" {word} ".join(map(part, operands(form[key], 2)))
+    return misfit()
+
+
+def operands(forms, count):
+    return forms if is_list(forms) and len(forms) == count else misfit()
+
+
+def part(form) -> str:
+    """An expression within another one, in brackets where it is made of others."""
+    said = spelled(form)
+    return said if form.keys() & {"prop", "const"} else f"({said})"
