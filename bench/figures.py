@@ -20,6 +20,7 @@ CONNECTIONS = 16_384  # as many as a session may have; it may have as many event
 OTHER_CONNECTIONS = 15_000
 FEW = 16
 EARS = 1_000
+BINDINGS = 1_000
 RINGS = 20
 TREES = 2
 METAS = 300
@@ -144,6 +145,13 @@ def told(name, kind, slot):
     return Figure(name, "call", RINGS, lambda times: inputs.cells(kind, slot, EARS, times * RINGS), EARS)
 
 
+def followed(bindings):
+    """The figure of a property that is set, which so many others follow in a chain."""
+    rounds = max(1, LINES // bindings)
+    name = f"a binding, in a chain of {bindings:,}"
+    return Figure(name, "evaluation", rounds, lambda times: inputs.chain(bindings, times * rounds), bindings)
+
+
 def unheard(sessions):
     """The figure of a property that is set, published, and joined by none of so many sessions."""
     name = f"set of an int that is published, beside {so_many(sessions, 'sessions')}"
@@ -221,6 +229,7 @@ FIGURES = [
     TOLD,
     TOLD_SETS,
     Ratio("a call by NOTIFY: from a slot that does nothing to one that sets", TOLD_SETS, TOLD, 1.5),
+    *grown("a binding", followed, 2 * FEW, BINDINGS, "in a chain"),
     SENT_AND_SPUN,
     *grown("an event", POSTED, FEW, CONNECTIONS, "at once", 1.2),
     *grown("set of what is published", unheard, FEW, MANY_SESSIONS, "sessions", 1.02),

@@ -4,19 +4,23 @@ They are the same in every run. Each makes what has to be there, and then does w
 """
 
 from lines import (
+    begin,
     called,
     child,
     children,
     connect,
     delete,
     disconnect,
+    end,
     find_none,
+    follow,
     join,
     look_around,
     meta,
     new,
     publish,
     read,
+    read_x,
     ring,
     set_x,
     spin,
@@ -198,6 +202,23 @@ def set_beside(standing, times):
     """A Cell that is set so many times beside so many others, without anybody to tell."""
     yield from numbered("a", 1, ["Cell"] * (standing + 1))
     yield from (set_x("a", value) for value in range(1, times + 1))
+
+
+# Bindings.
+
+
+def chain(length, times):
+    """A Link that is set so many times, and so many others of which each is bound to be one more than the one before.
+
+    They are bound in a group, so that the chain is not evaluated for each of them.
+    """
+    last = length + 1
+    yield from numbered("a", 1, ["Link"] * last)
+    yield begin("a")
+    yield from (follow("a", number, number - 1) for number in range(2, last + 1))
+    yield end("a")
+    yield from (set_x("a", value) for value in range(1, times + 1))
+    yield read_x("a", last, times + length)
 
 
 # Publications and joins.

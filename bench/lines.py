@@ -14,6 +14,14 @@ CELL = {
     "properties": [{"name": "x", "type": "int", "notify": "xChanged(int)"}],
 }
 
+LINK = {
+    "name": "Link",
+    "super": "QObject",
+    "signals": ["xChanged(int)"],
+    "slots": [],
+    "properties": [{"name": "x", "type": "int", "notify": "xChanged(int)", "bindable": True}],
+}
+
 METHODS = 256  # as many as a class may have
 METHODS_OF_QOBJECT = ["destroyed()", "objectNameChanged(QString)", "deleteLater()"]
 
@@ -61,7 +69,7 @@ def class_file(classes):
 
 def usual_classes():
     """The class file of all inputs but those that are class files themselves."""
-    return class_file(ENCODE(it) for it in (BELL, EAR, CELL, PANEL))
+    return class_file(ENCODE(it) for it in (BELL, EAR, CELL, LINK, PANEL))
 
 
 def lamps(count):
@@ -110,8 +118,28 @@ def read(session, value):
 
 
 def set_x(session, value, calls=""):
-    """A Cell is set, which makes these calls."""
+    """The first object, a Cell or a Link, is set, which makes these calls."""
     return command(session, "set", object=1, property="x", value=value), calls + reply(session, True)
+
+
+def follow(session, number, other):
+    """A Link is bound to be one more than another one."""
+    to = {"+": [{"prop": "x", "of": other}, {"const": 1}]}
+    return command(session, "bind", object=number, property="x", to=to), reply(session, True)
+
+
+def begin(session):
+    """The outermost group begins."""
+    return command(session, "begin"), reply(session, 1)
+
+
+def end(session):
+    """It ends, and nobody hears of what has changed."""
+    return command(session, "end"), reply(session, 0)
+
+
+def read_x(session, number, value):
+    return command(session, "get", object=number, property="x"), reply(session, value)
 
 
 def write_list(session, number):
