@@ -3,8 +3,8 @@
 
 For each crate: its lines of code (contracts among them, without comments and blank lines), the lines of
 its definitions, how many lines of proof there are for one of code, its public functions, its edits and
-its longest contract. It fails at a contract that ensures more than 8 clauses, a crate of more than 1,500 or a file
-of more than 800 lines of code, more than two edits for each public function, and more than 240 edits in
+its longest contract. It fails at a contract of more than 8 clauses, a crate of more than 1,500 or a file
+of more than 800 lines of code, more than two edits for each public function, and more than 220 edits in
 all. An edit that begins with a line `wrong body: WORDS` is counted in all, and not with its crate's.
 Usage: budget.py REPOSITORY
 """
@@ -15,15 +15,20 @@ from dataclasses import dataclass
 from pathlib import Path
 
 MOST_CLAUSES = 8
+# Calls over two tables side by side, which say of each what they require and leave: none may grow, and none join them.
+LONGER = {
+    "bound_stores": {"begin": 9, "bind": 13, "end": 11, "remove": 11, "unbind": 11, "write": 13},
+    "session_tables": {"bind": 9},
+}
 MOST_IN_CRATE = 1_500
 MOST_IN_FILE = 800
 MOST_FOR_FUNCTION = 2
-MOST_EDITS = 240
+MOST_EDITS = 220
 
 EXPORT = re.compile(r"^pub use ([^;]+);", re.MULTILINE)
 BLOCK = re.compile(r"^(?:pub )?(?:unsafe )?(?P<kind>impl|trait)\b(?P<head>[^{]*)\{")
 FUNCTION = re.compile(r"^(?P<indent> *)(?P<open>pub(?:\([^)]*\))? )?(?:const )?(?:unsafe )?fn (?P<name>\w+)")
-CLAUSE = re.compile(r"^ +ensures\*?(?: |$)")
+CLAUSE = re.compile(r"^ +(?:requires|ensures)\*?(?: |$)")
 WRONG_BODY = re.compile(r"^wrong body: \S", re.MULTILINE)
 
 
@@ -38,7 +43,7 @@ def lines_in(folder, ending):
 
 @dataclass
 class Function:
-    """A function of a source: the type or trait that it belongs to, and how many clauses it ensures."""
+    """A function of a source: the type or trait that it belongs to, and how many clauses it has."""
 
     owner: str | None
     name: str
@@ -107,8 +112,9 @@ class Crate:
         if self.longest_file > MOST_IN_FILE:
             yield f"a file of {self.longest_file:,} lines of code; at most {MOST_IN_FILE:,}"
         for function in self.functions:
-            if function.clauses > MOST_CLAUSES:
-                yield f"{function.name} ensures {function.clauses} clauses; at most {MOST_CLAUSES}"
+            most = LONGER.get(self.name, {}).get(function.name, MOST_CLAUSES)
+            if function.clauses > most:
+                yield f"{function.name} has {function.clauses} clauses; at most {most}"
         if self.edits > MOST_FOR_FUNCTION * self.public:
             yield f"{self.edits} edits for {self.public} public functions; at most {MOST_FOR_FUNCTION} for each"
 
