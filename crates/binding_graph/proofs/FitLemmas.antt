@@ -19,10 +19,11 @@ use Rattle.property_store.proofs.ListLemmas.{found}
 use Rattle.binding_values.specs.declared.binding.Binding.{Binding}
 use Rattle.binding_values.specs.declared.property.BindingError.{BindingError}
 use Rattle.binding_values.specs.declared.property.BindingError.TheVariants.{EvaluationError}
-use Rattle.binding_values.specs.declared.property.Property.{Property}
+use Rattle.property_store.specs.declared.property.Property.{Property}
 use Rattle.binding_graph.specs.declared.shown.Shown.{Shown}
 use Rattle.binding_graph.specs.Graph.{shown_as, shown_now}
-use Rattle.binding_values.specs.Scene.{Cell, Outcome, among, choose, evaluated, is_property, passed_on, plain, reader, reading, settled, term_at}
+use Rattle.binding_values.specs.Scene.{Cell, Outcome, choose, evaluated, passed_on, plain, reader, reading, settled, term_at}
+use Rattle.property_store.specs.Property.{among, is_property}
 use Rattle.binding_values.specs.Stored.{cell_in, cell_of, is_there, outcome_in, scene_of}
 use Rattle.binding_values.proofs.FuelLemmas.{by_unmet, plain_rule}
 

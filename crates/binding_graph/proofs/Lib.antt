@@ -1,5 +1,12 @@
 pub mod PlaceLemmas
 pub mod FitLemmas
 pub mod ShownLemmas
+pub mod FoundLemmas
 pub mod StepLemmas
 pub mod ToldLemmas
+pub mod WovenLemmas
+pub mod TouchedLemmas
+pub mod RowLemmas
+pub mod DrainLemmas
+pub mod KnownLemmas
+pub mod SettlingLemmas

@@ -14,12 +14,13 @@ use Rattle.property_store.proofs.KindLemmas.{default_short}
 use Rattle.property_store.proofs.ListLemmas.{found}
 use Rattle.binding_values.specs.declared.binding.Binding.{Binding}
 use Rattle.binding_values.specs.declared.property.BindingError.{BindingError}
-use Rattle.binding_values.specs.declared.property.Property.{Property}
+use Rattle.property_store.specs.declared.property.Property.{Property}
 use Rattle.binding_graph.specs.declared.shown.Shown.{Shown}
 use Rattle.binding_graph.specs.Graph.{AreShown, Graph, all_shown, fresh, is_bound, is_open, shown_at, shown_in, shown_now, value_in}
 use Rattle.binding_values.specs.Binds.{AreBindings}
 use Rattle.binding_graph.specs.Graph as graph
-use Rattle.binding_values.specs.Scene.{Cell, is_property}
+use Rattle.binding_values.specs.Scene.{Cell}
+use Rattle.property_store.specs.Property.{is_property}
 use Rattle.binding_values.specs.Sorted.{is_before}
 use Rattle.binding_values.specs.Stored.{cell_in, numbered, properties_in, properties_of_object}
 use Rattle.binding_graph.proofs.FitLemmas.{shown_now_fits}

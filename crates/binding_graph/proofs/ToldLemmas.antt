@@ -9,7 +9,7 @@ use Rattle.property_store.specs.Store as store
 use Rattle.binding_graph.specs.declared.change.Change.{Change}
 use Rattle.binding_graph.specs.declared.change.Told.TheVariants as told
 use Rattle.binding_values.specs.declared.property.BindingError.{BindingError}
-use Rattle.binding_values.specs.declared.property.Property.{Property}
+use Rattle.property_store.specs.declared.property.Property.{Property}
 use Rattle.binding_graph.specs.declared.shown.Shown.{Shown}
 use Rattle.binding_graph.specs.Fitting.{IsFitting}
 use Rattle.binding_graph.specs.Graph.{Graph, all_shown, before, changes, has_turn, in_turn, is_open, is_same_error, notice, settled_changes, settled_graph, shown_as, shown_now, warning}

@@ -1,13 +1,19 @@
 -- How the logic stores graphs.
-use Rattle.std.specs.Prelude.{ℕ, List, refl}
-use Rattle.std.specs.Coded.{Coded, code_by, coded×, coded_list, coded_ℕ}
+use Rattle.std.specs.Prelude.{ℕ, Bool, List, refl}
+use Rattle.std.specs.Coded.{Coded, code_by, coded×, coded_bool, coded_list, coded_ℕ}
 use Rattle.places.specs.Table.{Table, table_code}
+use Rattle.property_store.specs.contracts.property.Property as property
+use Rattle.property_store.specs.declared.property.Property.{Property}
+use Rattle.property_store.specs.Marks.{Marks}
 use Rattle.binding_values.specs.declared.binding.Binding.{Binding}
+use Rattle.binding_values.specs.declared.kept.Done.{Done}
 use Rattle.binding_graph.specs.declared.shown.Shown.{Shown}
 use Rattle.binding_graph.specs.contracts.shown.Shown as shown
-use Rattle.binding_values.specs.Coded.{coded_bindings}
+use Rattle.binding_values.specs.Coded.{coded_bindings, coded_memory}
+use Rattle.binding_graph.specs.Cache.{Cache}
 use Rattle.binding_graph.specs.Graph.{Graph}
 use Rattle.binding_graph.specs.Table.{Graphs}
+use Rattle.binding_graph.specs.Woven.{Woven}
 
 abbrev pub coded_showing : Coded (List Shown)
 coded_showing = coded_list shown.the_row.coded
@@ -16,5 +22,15 @@ abbrev pub coded_graph : Coded Graph
 coded_graph =
     code_by (List Binding × (List Shown × ℕ)) (coded× coded_bindings (coded× coded_showing coded_ℕ)) (λ g. (g.bindings, (g.last, g.depth))) (λ p. record { bindings = p.0; last = p.1.0; depth = p.1.1 }) (λ _. refl)
 
+abbrev pub coded_marks : Coded Marks
+coded_marks = code_by (Bool × List Property) (coded× coded_bool (coded_list property.the_row.coded)) (λ m. (m.all, m.each)) (λ p. record { all = p.0; each = p.1 }) (λ _. refl)
+
+abbrev pub coded_cache : Coded Cache
+coded_cache =
+    code_by (List Done × (Marks × ℕ)) (coded× coded_memory (coded× coded_marks coded_ℕ)) (λ c. (c.kept, (c.pending, c.evaluations))) (λ p. record { kept = p.0; pending = p.1.0; evaluations = p.1.1 }) (λ _. refl)
+
+abbrev pub coded_woven : Coded Woven
+coded_woven = code_by (Graph × Cache) (coded× coded_graph coded_cache) (λ w. (w.graph, w.cache)) (λ p. record { graph = p.0; cache = p.1 }) (λ _. refl)
+
 abbrev pub coded_graphs : Coded Graphs
-coded_graphs = code_by (Table Graph) (table_code coded_graph) (λ g. g.graphs) (λ graphs. record { graphs = graphs }) (λ _. refl)
+coded_graphs = code_by (Table Graph × List Cache) (coded× (table_code coded_graph) (coded_list coded_cache)) (λ g. (g.graphs, g.caches)) (λ p. record { graphs = p.0; caches = p.1 }) (λ _. refl)

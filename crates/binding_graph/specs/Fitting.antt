@@ -5,7 +5,7 @@ use Rattle.property_store.specs.Store.{Store}
 use Rattle.property_store.specs.Store as store
 use Rattle.binding_graph.specs.declared.change.Told.{Told}
 use Rattle.binding_graph.specs.declared.change.Told.TheVariants.{Error, Value}
-use Rattle.binding_values.specs.declared.property.Property.{Property}
+use Rattle.property_store.specs.declared.property.Property.{Property}
 use Rattle.binding_graph.specs.Graph.{Graph, settled_changes, settled_graph, value_in}
 use Rattle.binding_graph.specs.Graph as graph
 use Rattle.binding_values.specs.Stored.{cell_in}

@@ -12,11 +12,12 @@ use Rattle.property_store.specs.Store.{Store, default_of, written}
 use Rattle.binding_values.specs.declared.binding.Binding.{Binding}
 use Rattle.binding_graph.specs.declared.change.Change.{Change}
 use Rattle.binding_graph.specs.declared.change.Told.TheVariants as told
-use Rattle.binding_values.specs.declared.property.Property.{Property}
+use Rattle.property_store.specs.declared.property.Property.{Property}
 use Rattle.binding_values.specs.declared.property.BindingError.{BindingError}
 use Rattle.binding_values.specs.declared.property.BindingError.TheVariants.{BindingLoop, EvaluationError}
 use Rattle.binding_graph.specs.declared.shown.Shown.{Shown}
-use Rattle.binding_values.specs.Scene.{Outcome, is_property, term_at}
+use Rattle.binding_values.specs.Scene.{Outcome, term_at}
+use Rattle.property_store.specs.Property.{is_property}
 use Rattle.binding_values.specs.Binds.{AreBindings, with_binding}
 use Rattle.binding_values.specs.Sorted.{IsRising}
 use Rattle.binding_values.specs.Stored.{cell_in, outcome_in, properties_in}

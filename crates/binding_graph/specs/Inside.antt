@@ -3,9 +3,9 @@ use Rattle.std.specs.Prelude.{Option, Some, None}
 use Rattle.std.specs.declared.alloc.Global.{Global}
 use Rattle.std.specs.declared.boxed.Box.{Box}
 use Rattle.binding_graph.specs.declared.graph.Web.{Web}
-use Rattle.binding_graph.specs.Graph.{Graph, no_graph}
+use Rattle.binding_graph.specs.Woven.{Woven, no_woven}
 
 -- the graph that was made, or else none
-abbrev pub graph_of : Option (Box Web Global) → Graph
-graph_of None = no_graph
-graph_of (Some web) = web.value
+abbrev pub woven_of : Option (Box Web Global) → Woven
+woven_of None = no_woven
+woven_of (Some web) = web.value

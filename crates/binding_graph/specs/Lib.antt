@@ -1,6 +1,10 @@
 pub mod Graph
+pub mod Cache
 pub mod Table
+pub mod Woven
 pub mod Coded
 pub mod Step
 pub mod Fitting
+pub mod Drained
 pub mod Inside
+pub mod Rows

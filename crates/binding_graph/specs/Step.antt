@@ -1,41 +1,55 @@
 -- When stores and bindings are in step.
-use Rattle.std.specs.Prelude.{◌≡◌, ℕ, List, []}
-use Rattle.places.specs.Table.{opened}
+use Rattle.std.specs.Prelude.{◌≡◌, ◌++◌, ℕ, List, [], ◌∷◌, None, if◌then◌else◌, is_some}
+use Rattle.places.specs.Table.{IsPlace, opened}
 use Rattle.variant_value.specs.declared.value.Value.{Value}
-use Rattle.property_store.specs.Store.{Store, added, changed, with_dynamic, without, without_dynamic, written}
-use Rattle.property_store.specs.Table.{Shelves, fields_of, store_at, with_store}
-use Rattle.binding_graph.specs.Table.{Graphs}
+use Rattle.property_store.specs.Marks.{AreMarked, HasMarks, all_marks, is_new, is_written, is_written_named, marks_at, no_marks}
+use Rattle.property_store.specs.Named.{written_named}
+use Rattle.property_store.specs.Store.{Store, added, changed, properties_of, with_dynamic, without, without_dynamic, written}
+use Rattle.property_store.specs.Table.{Stock, fields_of, store_at, with_store}
+use Rattle.binding_graph.specs.Cache.{IsInStep, cache_at}
+use Rattle.binding_graph.specs.Table.{Graphs, graph_at}
 
--- what the bindings keep of the stores' values is right for these stores. Nothing is kept so far
-unfoldable pub InStep : Shelves → Graphs → Type 0
-InStep stores bindings = Unit {0}
+-- what the bindings keep of the stores' values is right for these stores, but for what a written property reaches
+unfoldable pub InStep : Stock → Graphs → Type 0
+InStep stores bindings = (place : ℕ) → IsInStep (store_at stores.shelves place) (marks_at stores.marks place) (graph_at bindings.graphs place) (cache_at bindings.caches place)
 
 -- so it stays with every change of a store
-abbrev pub StaysInStep : (Shelves → ℕ → Store) → Type 0
-StaysInStep after = (stores : Shelves) (bindings : Graphs) (place : ℕ) → InStep stores bindings → InStep (with_store stores place (after stores place)) bindings
+abbrev pub StaysInStep : Stock → Stock → Type 0
+StaysInStep old new = (bindings : Graphs) → InStep old bindings → InStep new bindings
+
+-- one place has another store
+abbrev pub HasStore : ℕ → Store → Stock → Stock → Type 0
+HasStore place store old new = new.shelves ≡ with_store old.shelves place store
 
 abbrev pub WriteStaysInStep : Type 0
-WriteStaysInStep = (object number : ℕ) (value : Value) → StaysInStep (λ stores place. written (store_at stores place) object number value)
+WriteStaysInStep = (old new : Stock) (place object number : ℕ) (value : Value) → IsPlace old.shelves.table place → HasStore place (written (store_at old.shelves place) object number value) old new
+    → AreMarked place (is_written (store_at old.shelves place) object number value) old.marks new.marks → StaysInStep old new
+
+abbrev pub NamedWriteStaysInStep : Type 0
+NamedWriteStaysInStep = (old new : Stock) (place object : ℕ) (name : List ℕ) (value : Value) → IsPlace old.shelves.table place → HasStore place (written_named (store_at old.shelves place) object name value) old new
+    → AreMarked place (is_written_named (store_at old.shelves place) object name value) old.marks new.marks → StaysInStep old new
 
 abbrev pub AdditionStaysInStep : Type 0
-AdditionStaysInStep = (object class : ℕ) → StaysInStep (λ stores place. added (store_at stores place) object (fields_of stores class))
+AdditionStaysInStep = (old new : Stock) (place object class : ℕ) → properties_of (store_at old.shelves place) object ≡ None → IsPlace old.shelves.table place → HasStore place (added (store_at old.shelves place) object (fields_of old.shelves class)) old new
+    → AreMarked place (is_new object (fields_of old.shelves class)) old.marks new.marks → StaysInStep old new
 
 abbrev pub DynamicStaysInStep : Type 0
-DynamicStaysInStep = (object : ℕ) (name : List ℕ) (value : Value) → StaysInStep (λ stores place. changed (with_dynamic name value) object (store_at stores place))
+DynamicStaysInStep = (old new : Stock) (place object : ℕ) (name : List ℕ) (value : Value) → IsPlace old.shelves.table place → HasStore place (changed (with_dynamic name value) object (store_at old.shelves place)) old new → new.marks ≡ old.marks → StaysInStep old new
 
 abbrev pub NoDynamicStaysInStep : Type 0
-NoDynamicStaysInStep = (object : ℕ) (name : List ℕ) → StaysInStep (λ stores place. changed (without_dynamic name) object (store_at stores place))
+NoDynamicStaysInStep = (old new : Stock) (place object : ℕ) (name : List ℕ) → IsPlace old.shelves.table place → HasStore place (changed (without_dynamic name) object (store_at old.shelves place)) old new → new.marks ≡ old.marks → StaysInStep old new
 
 abbrev pub RemovalStaysInStep : Type 0
-RemovalStaysInStep = (object : ℕ) → StaysInStep (λ stores place. without object (store_at stores place))
+RemovalStaysInStep = (old new : Stock) (place object : ℕ) → IsPlace old.shelves.table place → HasStore place (without object (store_at old.shelves place)) old new
+    → HasMarks place (if is_some (properties_of (store_at old.shelves place) object) then all_marks else marks_at old.marks place) old.marks new.marks → StaysInStep old new
 
 abbrev pub ClearingStaysInStep : Type 0
-ClearingStaysInStep = StaysInStep (λ stores place. [])
+ClearingStaysInStep = (old new : Stock) (place : ℕ) → IsPlace old.shelves.table place → HasStore place [] old new → HasMarks place all_marks old.marks new.marks → StaysInStep old new
 
 -- and with one more place
 abbrev pub OpeningStaysInStep : Type 0
-OpeningStaysInStep = (stores other : Shelves) (bindings : Graphs) → InStep stores bindings → other.layouts ≡ stores.layouts → other.table ≡ opened stores.table [] → InStep other bindings
+OpeningStaysInStep = (old new : Stock) → new.shelves.layouts ≡ old.shelves.layouts → new.shelves.table ≡ opened old.shelves.table [] → new.marks ≡ old.marks ++ no_marks ∷ [] → StaysInStep old new
 
 -- or with room for one
 abbrev pub RoomStaysInStep : Type 0
-RoomStaysInStep = (stores other : Shelves) (bindings : Graphs) → InStep stores bindings → other.layouts ≡ stores.layouts → other.table.places ≡ stores.table.places → InStep other bindings
+RoomStaysInStep = (old new : Stock) → new.shelves.layouts ≡ old.shelves.layouts → new.shelves.table.places ≡ old.shelves.table.places → new.marks ≡ old.marks → StaysInStep old new

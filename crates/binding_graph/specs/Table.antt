@@ -1,10 +1,13 @@
 -- What contracts see of the bindings of all places.
-use Rattle.std.specs.Prelude.{ℕ, slice_index_or}
+use Rattle.std.specs.Prelude.{ℕ, List, slice_index_or}
 use Rattle.places.specs.Table.{Table, with_place}
+use Rattle.binding_graph.specs.Cache.{Cache}
 use Rattle.binding_graph.specs.Graph.{Graph, no_graph}
 
 pub record Graphs : Type 0 where
   pub graphs : Table Graph
+  -- what is kept of each place, which no value comes of
+  pub caches : List Cache
 
 -- the graph of a place
 abbrev pub graph_at : Table Graph → ℕ → Graph

@@ -6,8 +6,9 @@ ghost use Rattle.std.specs.Result.{result_err};
 ghost use Rattle.places.specs.Table.{IsPlace, opened};
 ghost use Rattle.refusals.specs.Answers.{RefusedBy};
 ghost use Rattle.term_core.specs.Forms.{is_within_limits};
-ghost use Rattle.property_store.specs.Table.{Shelves, store_at, with_store};
+ghost use Rattle.property_store.specs.Table.{Stock, store_at, with_store};
 ghost use Rattle.variant_value.specs.Values.{IsShort};
+ghost use Rattle.binding_graph.specs.Cache.{cache_at};
 ghost use Rattle.binding_graph.specs.Graph.{IsSound, begin_refusal, begun, bind_refusal, bound, end_refusal, ended, is_bound, no_graph, settled_changes, settled_graph, taken, unbound, value_in, without_object};
 ghost use Rattle.binding_graph.specs.Step.{InStep};
 ghost use Rattle.binding_values.specs.Stored.{is_bindable};
@@ -15,10 +16,10 @@ ghost use Rattle.binding_graph.specs.Table.{graph_at, with_graph};
 
 use crate::change::Change;
 use crate::lazy_graph::LazyGraph;
-use binding_values::{BindingError, Property};
+use binding_values::BindingError;
 use places::Places;
 use plain_types::Items;
-use property_store::Stores;
+use property_store::{Property, Stores};
 use refusals::{Code, Fault};
 use std::alloc::{AllocError, Global};
 use std::marker::Model;
@@ -42,14 +43,16 @@ impl Model for Bindings {
 
     ghost coded = { coded_graphs };
 
-    ghost view = { λ bindings. record { graphs = bindings.graphs } };
+    ghost use Rattle.binding_graph.specs.Woven.{unwoven};
+
+    ghost view = { λ bindings. unwoven bindings.graphs };
 }
 
 impl Bindings {
     /// A table with no place, which takes no memory yet.
     pub fn new(alloc: Global) -> Bindings
         ensures places { result.graphs.places ≡ [] }
-        ensures step { (stores : Shelves) → stores.table.places ≡ [] → InStep stores result }
+        ensures step { (stores : Stock) → stores.shelves.table.places ≡ [] → InStep stores result }
     {
         Bindings {
             graphs: Places::new(alloc),
@@ -64,7 +67,7 @@ impl Bindings {
         ensures kept { self.old.graphs.room ≤ self.new.graphs.room }
         ensures full { OnErr result (self.old.graphs.room ≡ 0) }
         ensures err { OnErr result (self.new ≡ self.old) }
-        ensures step { (stores : Shelves) → InStep stores self.old → InStep stores self.new }
+        ensures step { (stores : Stock) → InStep stores self.old → InStep stores self.new }
     {
         self.graphs.ready()
     }
@@ -74,7 +77,7 @@ impl Bindings {
         requires { 1 ≤ self.old.graphs.room }
         ensures place { result ≡ length self.old.graphs.places }
         ensures opened { self.new.graphs ≡ opened self.old.graphs no_graph }
-        ensures step { (stores : Shelves) → InStep stores self.old → InStep stores self.new }
+        ensures step { (stores : Stock) → InStep stores self.old → InStep stores self.new }
     {
         self.graphs.open(LazyGraph::new())
     }
@@ -83,7 +86,7 @@ impl Bindings {
     pub fn clear(&mut self, place: usize)
         requires { IsPlace self.old.graphs place }
         ensures cleared { self.new.graphs ≡ with_graph self.old.graphs place no_graph }
-        ensures step { (stores : Shelves) → InStep stores self.old → InStep stores self.new }
+        ensures step { (stores : Stock) → InStep stores self.old → InStep stores self.new }
     {
         *self.graphs.get_mut(place) = LazyGraph::new();
     }
@@ -105,6 +108,14 @@ impl Bindings {
         self.graphs.get(place).depth()
     }
 
+    /// How many evaluations of bound properties settlings have made since the place was opened or cleared. It stops at 2^64 - 1.
+    pub fn evaluations(&self, place: usize) -> u64
+        requires { IsPlace self.now.graphs place }
+        ensures { result ≡ (cache_at self.now.caches place).evaluations }
+    {
+        self.graphs.get(place).evaluations()
+    }
+
     pub fn is_bound(&self, place: usize, at: Property) -> bool
         requires { IsPlace self.now.graphs place }
         ensures { result ≡ is_bound (graph_at self.now.graphs place).bindings at }
@@ -120,9 +131,9 @@ impl Bindings {
         at: Property,
         expr: Expr,
     ) -> Result<(), Fault>
-        requires places { IsPlace self.old.graphs place × IsPlace stores.now.table place }
+        requires places { IsPlace self.old.graphs place × IsPlace stores.now.shelves.table place }
         requires step { InStep stores.now self.old }
-        requires bindable { IsTrue (is_bindable (store_at stores.now place) at) }
+        requires bindable { IsTrue (is_bindable (store_at stores.now.shelves place) at) }
         requires limited { IsTrue (is_within_limits expr) }
         ensures refused { RefusedBy (bind_refusal (graph_at self.old.graphs place) at) result }
         ensures ok { OnOk result (self.new.graphs ≡ with_graph self.old.graphs place (bound (graph_at self.old.graphs place) at expr)) }
@@ -140,10 +151,10 @@ impl Bindings {
         stores: &mut Stores,
         at: Property,
     ) -> Result<bool, AllocError>
-        requires places { IsPlace self.old.graphs place × IsPlace stores.old.table place }
+        requires places { IsPlace self.old.graphs place × IsPlace stores.old.shelves.table place }
         requires step { InStep stores.old self.old }
         ensures bound { IfOk result (λ taken. taken ≡ is_bound (graph_at self.old.graphs place).bindings at) }
-        ensures stored { OnOk result (stores.new ≡ with_store stores.old place (taken (store_at stores.old place) (graph_at self.old.graphs place) at)) }
+        ensures stored { OnOk result (stores.new.shelves ≡ with_store stores.old.shelves place (taken (store_at stores.old.shelves place) (graph_at self.old.graphs place) at)) }
         ensures graph { OnOk result (self.new.graphs ≡ with_graph self.old.graphs place (unbound (graph_at self.old.graphs place) at)) }
         ensures stores { OnErr result (stores.new ≡ stores.old) }
         ensures err { OnErr result (self.new.graphs ≡ self.old.graphs) }
@@ -166,9 +177,9 @@ impl Bindings {
         stores: &Stores,
         at: Property,
     ) -> Result<(Value, Option<BindingError>), AllocError>
-        requires places { IsPlace self.now.graphs place × IsPlace stores.now.table place }
+        requires places { IsPlace self.now.graphs place × IsPlace stores.now.shelves.table place }
         requires step { InStep stores.now self.now }
-        ensures value { IfOk result (λ found. found ≡ value_in (store_at stores.now place) (graph_at self.now.graphs place) at) }
+        ensures value { IfOk result (λ found. found ≡ value_in (store_at stores.now.shelves place) (graph_at self.now.graphs place) at) }
         ensures short { IfOk result (λ found. IsShort found.0) }
     {
         let graph = self.graphs.get(place);
@@ -180,18 +191,18 @@ impl Bindings {
     /// an error that is new or another one, then those with another value. In a group it tells nothing; the
     /// first call after the outermost one starts from what was shown when that began. A place with neither
     /// bindings nor a group need not be settled. Then it is cleared, and before a property is bound again it
-    /// is settled once, and what that tells is dropped.
+    /// is settled once, and what that tells is dropped. Only bindings that a change reaches are evaluated.
     pub fn settle(
         &mut self,
         place: usize,
         stores: &mut Stores,
         written: Option<Property>,
     ) -> Result<Items<Change>, AllocError>
-        requires places { IsPlace self.old.graphs place × IsPlace stores.old.table place }
+        requires places { IsPlace self.old.graphs place × IsPlace stores.old.shelves.table place }
         requires step { InStep stores.old self.old }
-        ensures told { IfOk result (λ told. told ≡ settled_changes (store_at stores.old place) (graph_at self.old.graphs place) written) }
-        ensures ok { OnOk result (self.new.graphs ≡ with_graph self.old.graphs place (settled_graph (store_at stores.old place) (graph_at self.old.graphs place))) }
-        ensures stores { stores.new ≡ stores.old }
+        ensures told { IfOk result (λ told. told ≡ settled_changes (store_at stores.old.shelves place) (graph_at self.old.graphs place) written) }
+        ensures ok { OnOk result (self.new.graphs ≡ with_graph self.old.graphs place (settled_graph (store_at stores.old.shelves place) (graph_at self.old.graphs place))) }
+        ensures stores { stores.new.shelves ≡ stores.old.shelves }
         ensures err { OnErr result (self.new.graphs ≡ self.old.graphs) }
         ensures step { InStep stores.new self.new }
     {
@@ -203,12 +214,12 @@ impl Bindings {
     /// Opens a group within those that are open, and returns how many there are now. More than `GROUPS` are
     /// `Limit`.
     pub fn begin(&mut self, place: usize, stores: &mut Stores) -> Result<u32, Fault>
-        requires places { IsPlace self.old.graphs place × IsPlace stores.old.table place }
+        requires places { IsPlace self.old.graphs place × IsPlace stores.old.shelves.table place }
         requires step { InStep stores.old self.old }
         ensures refused { RefusedBy (begin_refusal (graph_at self.old.graphs place)) result }
         ensures depth { IfOk result (λ depth. depth ≡ (graph_at self.old.graphs place).depth + 1) }
-        ensures ok { OnOk result (self.new.graphs ≡ with_graph self.old.graphs place (begun (store_at stores.old place) (graph_at self.old.graphs place))) }
-        ensures stores { stores.new ≡ stores.old }
+        ensures ok { OnOk result (self.new.graphs ≡ with_graph self.old.graphs place (begun (store_at stores.old.shelves place) (graph_at self.old.graphs place))) }
+        ensures stores { stores.new.shelves ≡ stores.old.shelves }
         ensures err { OnErr result (self.new.graphs ≡ self.old.graphs) }
         ensures step { InStep stores.new self.new }
     {
@@ -233,7 +244,7 @@ impl Bindings {
     pub fn drop_object(&mut self, place: usize, object: u32)
         requires { IsPlace self.old.graphs place }
         ensures dropped { self.new.graphs ≡ with_graph self.old.graphs place (without_object object (graph_at self.old.graphs place)) }
-        ensures step { (stores : Shelves) → InStep stores self.old → InStep stores self.new }
+        ensures step { (stores : Stock) → InStep stores self.old → InStep stores self.new }
     {
         self.graphs.get_mut(place).drop_object(object);
     }

@@ -1,5 +1,6 @@
 //! Changes.
-use binding_values::{BindingError, Property};
+use binding_values::BindingError;
+use property_store::Property;
 use variant_value::Value;
 
 /// What a settling tells of a property.

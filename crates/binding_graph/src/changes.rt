@@ -6,9 +6,9 @@ ghost use Rattle.binding_graph.specs.Graph.{before, changes, has_turn, is_same_e
 use crate::change::{Change, Told};
 use crate::showing::Showing;
 use crate::shown::Shown;
-use binding_values::{BindingError, Property, is_property};
+use binding_values::BindingError;
 use plain_types::Items;
-use property_store::default_of;
+use property_store::{Property, default_of, is_property};
 use std::alloc::{AllocError, Global};
 
 fn is_same_error(a: BindingError, b: BindingError) -> bool

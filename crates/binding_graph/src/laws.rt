@@ -1,7 +1,7 @@
 //! What holds of what properties show, and of stores and bindings that are in step. There is nothing to run
 //! in these functions: their clauses are theorems.
 ghost use Rattle.binding_graph.specs.Fitting.{ChangesFit, SettlingIsSound, ValuesAreShort};
-ghost use Rattle.binding_graph.specs.Step.{AdditionStaysInStep, ClearingStaysInStep, DynamicStaysInStep, NoDynamicStaysInStep, OpeningStaysInStep, RemovalStaysInStep, RoomStaysInStep, WriteStaysInStep};
+ghost use Rattle.binding_graph.specs.Step.{AdditionStaysInStep, ClearingStaysInStep, DynamicStaysInStep, NamedWriteStaysInStep, NoDynamicStaysInStep, OpeningStaysInStep, RemovalStaysInStep, RoomStaysInStep, WriteStaysInStep};
 
 /// Over a sound store and a sound graph the value of each property is short, and each value that a settling
 /// tells is one of the property's kind; the graph after it is sound.
@@ -14,11 +14,16 @@ pub fn fitting()
 /// Stores and bindings that are in step stay so with every change of a store.
 pub fn steps()
     ensures write { WriteStaysInStep }
+    ensures write_named { NamedWriteStaysInStep }
     ensures add { AdditionStaysInStep }
     ensures set_dynamic { DynamicStaysInStep }
     ensures remove_dynamic { NoDynamicStaysInStep }
     ensures drop { RemovalStaysInStep }
     ensures clear { ClearingStaysInStep }
+{}
+
+/// So they do with one more place, or with room for one.
+pub fn openings()
     ensures opening { OpeningStaysInStep }
     ensures ready { RoomStaysInStep }
 {}

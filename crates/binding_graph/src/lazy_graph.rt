@@ -5,14 +5,16 @@ ghost use Rattle.places.specs.Table.{IsPlace};
 ghost use Rattle.refusals.specs.Answers.{RefusedBy};
 ghost use Rattle.term_core.specs.Forms.{is_within_limits};
 ghost use Rattle.property_store.specs.Table.{store_at};
-ghost use Rattle.binding_graph.specs.Graph.{IsSound, begin_refusal, begun, bind_refusal, bound, end_refusal, ended, is_bound, no_graph, settled_changes, settled_graph, unbound, value_in, without_object};
-ghost use Rattle.binding_graph.specs.Inside.{graph_of};
+ghost use Rattle.binding_graph.specs.Graph.{IsSound, begin_refusal, begun, bind_refusal, bound, end_refusal, ended, is_bound, settled_changes, settled_graph, unbound, value_in, without_object};
+ghost use Rattle.binding_graph.specs.Inside.{woven_of};
+ghost use Rattle.binding_graph.specs.Drained.{IsDrained};
+ghost use Rattle.binding_graph.specs.Woven.{IsAt, StaysAt, no_woven};
 
 use crate::change::Change;
 use crate::graph::Web;
-use binding_values::{BindingError, Property};
+use binding_values::BindingError;
 use plain_types::Items;
-use property_store::Stores;
+use property_store::{Property, Stores};
 use refusals::{Code, Fault};
 use std::alloc::{AllocError, Global};
 use std::marker::Model;
@@ -32,28 +34,28 @@ pub(crate) struct LazyGraph {
 }
 
 impl Model for LazyGraph {
-    ghost use Rattle.binding_graph.specs.Graph.{Graph};
-    ghost use Rattle.binding_graph.specs.Coded.{coded_graph};
+    ghost use Rattle.binding_graph.specs.Coded.{coded_woven};
+    ghost use Rattle.binding_graph.specs.Woven.{Woven};
 
-    ghost Value = { Graph };
+    ghost Value = { Woven };
 
-    ghost coded = { coded_graph };
+    ghost coded = { coded_woven };
 
-    ghost use Rattle.binding_graph.specs.Inside.{graph_of};
+    ghost use Rattle.binding_graph.specs.Inside.{woven_of};
 
-    ghost view = { λ graph. graph_of graph.made };
+    ghost view = { λ graph. woven_of graph.made };
 }
 
 impl LazyGraph {
     pub(crate) fn new() -> LazyGraph
-        ensures { result ≡ no_graph }
+        ensures { result ≡ no_woven }
     {
         LazyGraph { made: None }
     }
 
     pub(crate) fn count(&self) -> usize
-        ensures count { result ≡ length self.now.bindings }
-        ensures sound { IsSound self.now }
+        ensures count { result ≡ length self.now.graph.bindings }
+        ensures sound { IsSound self.now.graph }
     {
         match &self.made {
             Some(web) => web.count(),
@@ -62,7 +64,7 @@ impl LazyGraph {
     }
 
     pub(crate) fn depth(&self) -> u32
-        ensures { result ≡ self.now.depth }
+        ensures { result ≡ self.now.graph.depth }
     {
         match &self.made {
             Some(web) => web.depth(),
@@ -70,8 +72,17 @@ impl LazyGraph {
         }
     }
 
+    pub(crate) fn evaluations(&self) -> u64
+        ensures { result ≡ self.now.cache.evaluations }
+    {
+        match &self.made {
+            Some(web) => web.evaluations(),
+            None => 0,
+        }
+    }
+
     pub(crate) fn is_bound(&self, at: Property) -> bool
-        ensures { result ≡ is_bound self.now.bindings at }
+        ensures { result ≡ is_bound self.now.graph.bindings at }
     {
         match &self.made {
             Some(web) => web.is_bound(at),
@@ -80,7 +91,7 @@ impl LazyGraph {
     }
 
     fn may_bind(&self, at: Property) -> Result<(), Code>
-        ensures { result_err result ≡ bind_refusal self.now at }
+        ensures { result_err result ≡ bind_refusal self.now.graph at }
     {
         if !self.is_bound(at) && self.count() >= BINDINGS {
             return Err(Code::Limit);
@@ -90,9 +101,10 @@ impl LazyGraph {
 
     pub(crate) fn bind(&mut self, alloc: Global, at: Property, expr: Expr) -> Result<(), Fault>
         requires { IsTrue (is_within_limits expr) }
-        ensures refused { RefusedBy (bind_refusal self.old at) result }
-        ensures ok { OnOk result (self.new ≡ bound self.old at expr) }
-        ensures err { OnErr result (self.new ≡ self.old) }
+        ensures refused { RefusedBy (bind_refusal self.old.graph at) result }
+        ensures ok { OnOk result (self.new.graph ≡ bound self.old.graph at expr) }
+        ensures err { OnErr result (self.new.graph ≡ self.old.graph) }
+        ensures step { StaysAt self.old self.new }
     {
         self.may_bind(at)?;
         make(&mut self.made, alloc)?;
@@ -105,7 +117,8 @@ impl LazyGraph {
 
     /// Binds a property no longer.
     pub(crate) fn unbind(&mut self, at: Property)
-        ensures { self.new ≡ unbound self.old at }
+        ensures graph { self.new.graph ≡ unbound self.old.graph at }
+        ensures step { StaysAt self.old self.new }
     {
         let Some(web) = &mut self.made else {
             return;
@@ -115,7 +128,8 @@ impl LazyGraph {
 
     /// Binds no property of an object any longer.
     pub(crate) fn drop_object(&mut self, object: u32)
-        ensures { self.new ≡ without_object object self.old }
+        ensures graph { self.new.graph ≡ without_object object self.old.graph }
+        ensures step { StaysAt self.old self.new }
     {
         let Some(web) = &mut self.made else {
             return;
@@ -130,8 +144,9 @@ impl LazyGraph {
         place: usize,
         at: Property,
     ) -> Result<(Value, Option<BindingError>), AllocError>
-        requires { IsPlace stores.now.table place }
-        ensures { IfOk result (λ found. found ≡ value_in (store_at stores.now place) self.now at) }
+        requires ready { IsPlace stores.now.shelves.table place }
+        requires step { IsAt stores.now place self.now }
+        ensures { IfOk result (λ found. found ≡ value_in (store_at stores.now.shelves place) self.now.graph at) }
     {
         match &self.made {
             Some(web) => web.value(alloc, stores, place, at),
@@ -142,14 +157,17 @@ impl LazyGraph {
     pub(crate) fn settle(
         &mut self,
         alloc: Global,
-        stores: &Stores,
+        stores: &mut Stores,
         place: usize,
         written: Option<Property>,
     ) -> Result<Items<Change>, AllocError>
-        requires { IsPlace stores.now.table place }
-        ensures told { IfOk result (λ told. told ≡ settled_changes (store_at stores.now place) self.old written) }
-        ensures ok { OnOk result (self.new ≡ settled_graph (store_at stores.now place) self.old) }
-        ensures err { OnErr result (self.new ≡ self.old) }
+        requires ready { IsPlace stores.old.shelves.table place }
+        requires step { IsAt stores.old place self.old }
+        ensures told { IfOk result (λ told. told ≡ settled_changes (store_at stores.old.shelves place) self.old.graph written) }
+        ensures ok { OnOk result (self.new.graph ≡ settled_graph (store_at stores.old.shelves place) self.old.graph) }
+        ensures err { OnErr result (self.new.graph ≡ self.old.graph) }
+        ensures stores { IsDrained place stores.old stores.new }
+        ensures step { IsAt stores.new place self.new }
     {
         make(&mut self.made, alloc)?;
         let Some(web) = &mut self.made else {
@@ -161,14 +179,17 @@ impl LazyGraph {
     pub(crate) fn begin(
         &mut self,
         alloc: Global,
-        stores: &Stores,
+        stores: &mut Stores,
         place: usize,
     ) -> Result<u32, Fault>
-        requires { IsPlace stores.now.table place }
-        ensures refused { RefusedBy (begin_refusal self.old) result }
-        ensures depth { IfOk result (λ depth. depth ≡ self.old.depth + 1) }
-        ensures ok { OnOk result (self.new ≡ begun (store_at stores.now place) self.old) }
-        ensures err { OnErr result (self.new ≡ self.old) }
+        requires ready { IsPlace stores.old.shelves.table place }
+        requires step { IsAt stores.old place self.old }
+        ensures refused { RefusedBy (begin_refusal self.old.graph) result }
+        ensures depth { IfOk result (λ depth. depth ≡ self.old.graph.depth + 1) }
+        ensures ok { OnOk result (self.new.graph ≡ begun (store_at stores.old.shelves place) self.old.graph) }
+        ensures err { OnErr result (self.new.graph ≡ self.old.graph) }
+        ensures stores { IsDrained place stores.old stores.new }
+        ensures step { IsAt stores.new place self.new }
     {
         if self.depth() >= GROUPS {
             return Err(Fault::Refused(Code::Limit));
@@ -181,10 +202,11 @@ impl LazyGraph {
     }
 
     pub(crate) fn end(&mut self) -> Result<u32, Code>
-        ensures refused { result_err result ≡ end_refusal self.old }
-        ensures depth { IfOk result (λ depth. depth ≡ self.new.depth) }
-        ensures ok { OnOk result (self.new ≡ ended self.old) }
-        ensures err { OnErr result (self.new ≡ self.old) }
+        ensures refused { result_err result ≡ end_refusal self.old.graph }
+        ensures depth { IfOk result (λ depth. depth ≡ self.new.graph.depth) }
+        ensures ok { OnOk result (self.new.graph ≡ ended self.old.graph) }
+        ensures err { OnErr result (self.new.graph ≡ self.old.graph) }
+        ensures step { StaysAt self.old self.new }
     {
         match &mut self.made {
             Some(web) => web.end(),
@@ -195,7 +217,7 @@ impl LazyGraph {
 
 /// Makes a graph where there is none.
 fn make(made: &mut Option<Box<Web>>, alloc: Global) -> Result<(), AllocError>
-    ensures same { graph_of made.new ≡ graph_of made.old }
+    ensures same { woven_of made.new ≡ woven_of made.old }
     ensures made { OnOk result (IsSome made.new) }
 {
     if made.is_none() {

@@ -1,20 +1,16 @@
-//! What all properties of a place show.
-ghost use Rattle.std.specs.Prelude.{◌≡◌, ◌<◌, ◌++◌, [], ◌∷◌, IfOk, OnOk, filter_map, length, slice_index_or};
+//! What properties of a place show.
+ghost use Rattle.std.specs.Prelude.{◌≡◌, ◌<◌, ◌≤◌, ◌+◌, [], IsOk, OnErr, OnOk, vec_len};
+ghost use Rattle.std.specs.Vec.{vec_capacity};
 ghost use Rattle.std.specs.Option.{option_map};
-ghost use Rattle.places.specs.Table.{IsPlace};
-ghost use Rattle.property_store.specs.Store.{Properties};
-ghost use Rattle.property_store.specs.Table.{store_at};
-ghost use Rattle.binding_graph.specs.Graph.{AreShown, all_shown, shown_as, shown_at, shown_now};
-ghost use Rattle.binding_values.specs.Kept.{IsClosed, IsRight, kept_of};
-ghost use Rattle.binding_values.specs.Stored.{properties_of_object, scene_of};
+ghost use Rattle.variant_value.specs.Values.{IsOfKind};
+ghost use Rattle.binding_graph.specs.Rows.{AreMerged, IsPut};
+ghost use Rattle.binding_graph.specs.Graph.{AreShown, shown_at};
 
 use crate::shown::Shown;
-use binding_values::{BindingError, Bound, Memory, Property, cell_at, outcome, row_at};
-use property_store::{Stores, default_of};
-use signature_core::Kind;
+use binding_values::{count_before, is_at, row_at};
+use property_store::Property;
 use std::alloc::{AllocError, Global};
 use std::marker::Model;
-use variant_value::Value;
 
 /// What properties show, by rising object and number.
 #[derive(Drop)]
@@ -47,6 +43,14 @@ impl Showing {
         }
     }
 
+    /// Rows that stand in order.
+    pub(crate) fn from_rows(rows: Vec<Shown>) -> Showing
+        requires { AreShown rows.items }
+        ensures { result ≡ rows.items }
+    {
+        Showing { rows }
+    }
+
     pub(crate) fn rows(&self) -> &[Shown]
         ensures rows { result.now ≡ self.now }
         ensures sound { AreShown self.now }
@@ -61,139 +65,58 @@ impl Showing {
         row_at(self.rows.as_slice(), at)
     }
 
-    /// What all properties of a place show by the values and the bindings of now.
-    pub(crate) fn all(
-        alloc: Global,
-        stores: &Stores,
-        place: usize,
-        bindings: &Bound,
-    ) -> Result<Showing, AllocError>
-        requires { IsPlace stores.now.table place }
-        ensures { IfOk result (λ showing. showing ≡ all_shown (store_at stores.now place) bindings.now) }
+    /// Puts what a property shows among the others.
+    pub(crate) fn put(&mut self, row: Shown) -> Result<(), AllocError>
+        requires { IsOfKind row.kind row.value }
+        ensures { OnOk result (IsPut row self.old self.new) }
     {
-        Ok(Showing {
-            rows: show_all(alloc, stores, place, bindings)?,
-        })
+        self.rows.reserve(1)?;
+        put_reserved(&mut self.rows, row);
+        Ok(())
+    }
+
+    /// Puts what other properties show in place of what these show.
+    pub(crate) fn merge(&mut self, now: Showing) -> Result<(), AllocError>
+        ensures merged { OnOk result (AreMerged now self.old self.new) }
+        ensures sound { OnOk result (AreShown self.new) }
+        ensures err { OnErr result (self.new ≡ self.old) }
+    {
+        let Showing { rows: mut rest } = now;
+        self.rows.reserve(rest.len())?;
+        put_all(&mut self.rows, &mut rest);
+        Ok(())
     }
 }
 
-/// What a property of a kind shows.
-pub(crate) fn shown_as(
-    alloc: Global,
-    at: Property,
-    kind: Kind,
-    outcome: Result<Value, BindingError>,
-) -> Shown
-    ensures { result ≡ shown_as at kind outcome }
+/// Puts a row where it belongs, in place of that of its property; there is room.
+fn put_reserved(rows: &mut Vec<Shown>, row: Shown)
+    requires sound { AreShown rows.old.items }
+    requires fits { IsOfKind row.kind row.value }
+    requires room { vec_len rows.old < vec_capacity rows.old }
+    ensures put { IsPut row rows.old.items rows.new.items }
+    ensures sound { AreShown rows.new.items }
+    ensures len { vec_len rows.new ≤ vec_len rows.old + 1 }
+    ensures capacity { vec_capacity rows.old ≤ vec_capacity rows.new }
 {
-    match outcome {
-        Ok(value) => Shown {
-            at,
-            kind,
-            value,
-            error: None,
-        },
-        Err(error) => Shown {
-            at,
-            kind,
-            value: default_of(alloc, kind),
-            error: Some(error),
-        },
+    let place = count_before(rows.as_slice(), row.at);
+    if is_at(rows.as_slice(), place, row.at) {
+        rows[place] = row;
+        return;
+    }
+    if rows.insert(place, row).is_err() {
+        unreachable!();
     }
 }
 
-/// What a property shows by the values and the bindings of now, where it is there.
-pub(crate) fn show(
-    alloc: Global,
-    stores: &Stores,
-    place: usize,
-    bindings: &Bound,
-    done: &mut Memory,
-    at: Property,
-) -> Result<Option<Shown>, AllocError>
-    requires ready { IsPlace stores.now.table place }
-    requires right { IsRight (scene_of (store_at stores.now place) bindings.now) (kept_of done.old) }
-    requires closed { IsClosed (scene_of (store_at stores.now place) bindings.now) (kept_of done.old) }
-    ensures right { OnOk result (IsRight (scene_of (store_at stores.now place) bindings.now) (kept_of done.new)) }
-    ensures closed { OnOk result (IsClosed (scene_of (store_at stores.now place) bindings.now) (kept_of done.new)) }
-    ensures shown { IfOk result (λ shown. shown ≡ shown_now (store_at stores.now place) bindings.now at) }
+/// Puts all rows where they belong; there is room.
+fn put_all(rows: &mut Vec<Shown>, rest: &mut Vec<Shown>)
+    requires sound { AreShown rows.old.items }
+    requires fit { AreShown rest.old.items }
+    requires room { vec_len rows.old + vec_len rest.old ≤ vec_capacity rows.old }
+    ensures merged { AreMerged rest.old.items rows.old.items rows.new.items }
+    ensures sound { AreShown rows.new.items }
 {
-    let Some((kind, _)) = cell_at(stores, place, at) else {
-        return Ok(None);
-    };
-    let outcome = outcome(alloc, stores, place, bindings, done, at)?;
-    Ok(Some(shown_as(alloc, at, kind, outcome)))
-}
-
-/// Puts what a property shows behind the others, where it is there.
-fn put_shown(
-    alloc: Global,
-    stores: &Stores,
-    place: usize,
-    bindings: &Bound,
-    done: &mut Memory,
-    rows: &mut Vec<Shown>,
-    at: Property,
-) -> Result<(), AllocError>
-    requires ready { IsPlace stores.now.table place }
-    requires right { IsRight (scene_of (store_at stores.now place) bindings.now) (kept_of done.old) }
-    requires closed { IsClosed (scene_of (store_at stores.now place) bindings.now) (kept_of done.old) }
-    ensures right { OnOk result (IsRight (scene_of (store_at stores.now place) bindings.now) (kept_of done.new)) }
-    ensures closed { OnOk result (IsClosed (scene_of (store_at stores.now place) bindings.now) (kept_of done.new)) }
-    ensures rows { OnOk result (rows.new.items ≡ rows.old.items ++ filter_map (shown_now (store_at stores.now place) bindings.now) (at ∷ [])) }
-{
-    if let Some(shown) = show(alloc, stores, place, bindings, done, at)? {
-        rows.push(shown)?;
+    while let Some(row) = rest.pop() {
+        put_reserved(rows, row);
     }
-    Ok(())
-}
-
-/// Puts what the declared properties of an object show behind the others.
-fn show_object(
-    alloc: Global,
-    stores: &Stores,
-    place: usize,
-    bindings: &Bound,
-    done: &mut Memory,
-    rows: &mut Vec<Shown>,
-    position: usize,
-) -> Result<(), AllocError>
-    requires ready { IsPlace stores.now.table place }
-    requires stands { position < length (store_at stores.now place) }
-    requires right { IsRight (scene_of (store_at stores.now place) bindings.now) (kept_of done.old) }
-    requires closed { IsClosed (scene_of (store_at stores.now place) bindings.now) (kept_of done.old) }
-    ensures right { OnOk result (IsRight (scene_of (store_at stores.now place) bindings.now) (kept_of done.new)) }
-    ensures closed { OnOk result (IsClosed (scene_of (store_at stores.now place) bindings.now) (kept_of done.new)) }
-    ensures rows { OnOk result ((default : Properties) → rows.new.items ≡ rows.old.items ++ filter_map (shown_now (store_at stores.now place) bindings.now) (properties_of_object (slice_index_or (store_at stores.now place) position default))) }
-{
-    let (object, fields) = stores.object_at(place, position);
-    let mut number = 0;
-    while number < fields.len() {
-        let at = Property { object, number };
-        put_shown(alloc, stores, place, bindings, done, rows, at)?;
-        number += 1;
-    }
-    Ok(())
-}
-
-/// What all declared properties of a place show, by rising object and number.
-fn show_all(
-    alloc: Global,
-    stores: &Stores,
-    place: usize,
-    bindings: &Bound,
-) -> Result<Vec<Shown>, AllocError>
-    requires { IsPlace stores.now.table place }
-    ensures shown { IfOk result (λ rows. rows.items ≡ all_shown (store_at stores.now place) bindings.now) }
-    ensures sound { IfOk result (λ rows. AreShown rows.items) }
-{
-    let mut done = Memory::new(alloc);
-    let mut rows = Vec::new(alloc);
-    let _ = bindings.len();
-    for position in 0..stores.count(place) {
-        show_object(
-            alloc, stores, place, bindings, &mut done, &mut rows, position,
-        )?;
-    }
-    Ok(rows)
 }

@@ -1,7 +1,8 @@
 //! What properties show.
 ghost use Rattle.std.specs.Prelude.{◌≡◌, IfOk};
 
-use binding_values::{BindingError, Placed, Property};
+use binding_values::{BindingError, Placed};
+use property_store::Property;
 use signature_core::Kind;
 use std::alloc::{AllocError, Global};
 use variant_value::Value;

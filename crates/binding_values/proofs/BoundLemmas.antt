@@ -5,9 +5,10 @@ use Rattle.std.proofs.lemmas.List.Elements.{All-append, All-cons, All-filter}
 use Rattle.std.proofs.lemmas.List.Kept.{AllPairs-filter}
 use Rattle.term_core.specs.Forms.{is_within_limits}
 use Rattle.binding_values.specs.declared.binding.Binding.{Binding}
-use Rattle.binding_values.specs.declared.property.Property.{Property}
+use Rattle.property_store.specs.declared.property.Property.{Property}
 use Rattle.binding_values.specs.Binds.{AreBindings, with_binding}
-use Rattle.binding_values.specs.Scene.{is_property, term_at}
+use Rattle.binding_values.specs.Scene.{term_at}
+use Rattle.property_store.specs.Property.{is_property}
 use Rattle.binding_values.specs.Sorted.{IsCountBefore, IsRising, is_before}
 use Rattle.binding_values.proofs.SortedLemmas.{found_nowhere, with_rising}
 

@@ -5,10 +5,11 @@ use Rattle.signature_core.specs.declared.kind.Kind.{Kind}
 use Rattle.term_core.specs.Term.{Term}
 use Rattle.term_evaluation.specs.declared.reading.Read.{Read}
 use Rattle.term_evaluation.specs.Outcomes.{own}
-use Rattle.binding_values.specs.declared.property.Property.{Property}
+use Rattle.property_store.specs.declared.property.Property.{Property}
 use Rattle.binding_values.specs.declared.property.BindingError.TheVariants.{BindingLoop}
 use Rattle.term_evaluation.specs.Met.{met_by}
-use Rattle.binding_values.specs.Scene.{Cell, Outcome, Scene, among, choose, evaluated, is_property, met, passed_on, plain, reader, reading, settled, term_at}
+use Rattle.binding_values.specs.Scene.{Cell, Outcome, Scene, choose, evaluated, met, passed_on, plain, reader, reading, settled, term_at}
+use Rattle.property_store.specs.Property.{among, is_property}
 use Rattle.binding_values.specs.Laws.{IsChain, IsSubset, ReallyReads}
 use Rattle.term_evaluation.proofs.MetLemmas.{fault_met}
 use Rattle.binding_values.proofs.MapLemmas.{giver}

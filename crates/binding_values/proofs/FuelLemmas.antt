@@ -2,10 +2,11 @@
 use Rattle.std.proofs.Common.{◌≡◌, ℕ, zero, suc, ◌<◌, ◌≤◌, ◌||◌, ◌==◌, Bool, true, false, cond, List, [], ◌∷◌, Option, Some, None, Err, find, option_map, length, refl, ap, ap₂, subst, arith}
 use Rattle.std.proofs.lemmas.Bool.{and_parts, eqb-true, eq-eqb, and_from}
 use Rattle.term_core.specs.Term.{Term}
-use Rattle.binding_values.specs.declared.property.Property.{Property}
+use Rattle.property_store.specs.declared.property.Property.{Property}
 use Rattle.binding_values.specs.declared.property.BindingError.TheVariants.{BindingLoop}
 use Rattle.binding_values.specs.declared.binding.Binding.{Binding}
-use Rattle.binding_values.specs.Scene.{Cell, Outcome, Scene, among, by_rule, choose, evaluated, is_property, plain, term_at, unmet, within}
+use Rattle.binding_values.specs.Scene.{Cell, Outcome, Scene, by_rule, choose, evaluated, plain, term_at, unmet, within}
+use Rattle.property_store.specs.Property.{among, is_property}
 
 pub property_eq : (p q : Property) → is_property p q ≡ true → p ≡ q
 property_eq p q e =

@@ -8,11 +8,12 @@ use Rattle.term_core.specs.Term.{Term}
 use Rattle.term_evaluation.specs.declared.reading.Read.{Read}
 use Rattle.term_evaluation.specs.Evaluation.{eval_by}
 use Rattle.term_evaluation.specs.Outcomes.{Answer, Cause}
-use Rattle.binding_values.specs.declared.property.Property.{Property}
+use Rattle.property_store.specs.declared.property.Property.{Property}
 use Rattle.binding_values.specs.declared.property.BindingError.{BindingError}
 use Rattle.binding_values.specs.declared.property.BindingError.TheVariants.{BindingLoop, EvaluationError}
 use Rattle.term_evaluation.specs.Met.{met_by}
-use Rattle.binding_values.specs.Scene.{Cell, Outcome, Scene, among, choose, evaluated, is_property, met, passed_on, plain, reader, reading, settled, stored, term_at}
+use Rattle.binding_values.specs.Scene.{Cell, Outcome, Scene, choose, evaluated, met, passed_on, plain, reader, reading, settled, stored, term_at}
+use Rattle.property_store.specs.Property.{among, is_property}
 use Rattle.binding_values.specs.declared.kept.Kept.{Kept}
 use Rattle.binding_values.specs.Kept.{at_hand, Agrees, IsClosed, IsKept, IsRight, IsRightAt, IsSteady, IsUnbound, IsWithin, Keeping, Knows, known}
 use Rattle.binding_values.specs.Laws.{IsSubset}
@@ -103,7 +104,7 @@ unbound_unkept scene keeping right q unbound = by (keeping q) refl
 pub known_unbound : (scene : Scene) (keeping : Keeping) → IsRight scene keeping → (q : Property) → IsUnbound scene q → known scene keeping q ≡ stored scene q
 known_unbound scene keeping right q unbound = known_none scene keeping q (unbound_unkept scene keeping right q unbound) ∙ hand_unbound scene q unbound
 
-known_steady : (a b : Scene) (keeping : Keeping) → IsRight a keeping → (r : Property) → IsSteady a b keeping r → known b keeping r ≡ known a keeping r
+pub known_steady : (a b : Scene) (keeping : Keeping) → IsRight a keeping → (r : Property) → IsSteady a b keeping r → known b keeping r ≡ known a keeping r
 known_steady a b keeping right r (inl (kept, is)) = known_kept b keeping r kept is ∙ sym (known_kept a keeping r kept is)
 known_steady a b keeping right r (inr (in_a, in_b, same)) =
     (known_none b keeping r (unbound_unkept a keeping right r in_a) ∙ hand_unbound b r in_b) ∙ (sym same ∙ sym (known_unbound a keeping right r in_a))
@@ -156,7 +157,7 @@ module _ (a b : Scene) (keeping : Keeping) (right : IsRight a keeping) (agrees :
       each r (inl (k, e)) = back r k e (same_or_loop a [] one (λ z h. absurd (both_ways false refl h)) r)
       each r (inr (in_a, in_b, same)) = subst (IsSameOrLoop (plain a one r)) (sym (known_unbound a keeping right r in_a)) (same_or_loop_unbound a one r in_a)
 
-  steady_reads : (q : Property) (kept : Kept) (is : keeping q ≡ Some kept) → All (IsSteady a b keeping) (met a (known a keeping) q.object (right q kept is).term)
+  pub steady_reads : (q : Property) (kept : Kept) (is : keeping q ≡ Some kept) → All (IsSteady a b keeping) (met a (known a keeping) q.object (right q kept is).term)
   steady_reads q kept is = subst (All (IsSteady a b keeping)) (sym (right q kept is).reads) (agrees q kept is).reads
 
   same_value : (one more : List Property) → ((r : Property) → IsSteady a b keeping r → plain b more r ≡ plain a one r) → (q : Property) (kept : Kept) (is : keeping q ≡ Some kept) → eval_by [] (reader b (plain b more) q.object) (right q kept is).term ≡ eval_by [] (reader a (plain a one) q.object) (right q kept is).term
@@ -172,7 +173,7 @@ module _ (a b : Scene) (keeping : Keeping) (right : IsRight a keeping) (agrees :
       at None h = tt
       at (Some r) h = values r h
 
-  cell_there : (q : Property) (kept : Kept) (is : keeping q ≡ Some kept) → (d : Cell) × (b.cell_at q ≡ Some d) × ((right q kept is).cell.kind ≡ d.kind)
+  pub cell_there : (q : Property) (kept : Kept) (is : keeping q ≡ Some kept) → (d : Cell) × (b.cell_at q ≡ Some d) × ((right q kept is).cell.kind ≡ d.kind)
   cell_there q kept is = same_kind (b.cell_at q) (right q kept is).cell (ap (option_map (λ cell. cell.kind)) (sym (right q kept is).there) ∙ (agrees q kept is).kind)
 
   carried : (one : List Property) → Carried one
@@ -195,7 +196,7 @@ module _ (a b : Scene) (keeping : Keeping) (right : IsRight a keeping) (agrees :
           fresh : among q one ≡ false → plain b more q ≡ plain a one q
           fresh e = ⊎_elim (λ h. absurd (none_some _ _ (c.absent q h e) is)) (evaluated_same e) (cases_Bool (among q more))
 
-  knows : Knows b keeping
+  pub knows : Knows b keeping
   knows q kept is seen apart = carried [] seen (record { subset = λ z h. absurd (both_ways false refl h); absent = λ z h e. apart.absent z h; bound = λ z h e. apart.bound z h }) q kept is ∙ (right q kept is).value
 
 pub right_is_known : (scene : Scene) (keeping : Keeping) → IsRight scene keeping → IsClosed scene keeping → Knows scene keeping

@@ -10,3 +10,6 @@ pub mod SortedLemmas
 pub mod BoundLemmas
 pub mod StoredLemmas
 pub mod MemoryLemmas
+pub mod KeepingLemmas
+pub mod ReaderLemmas
+pub mod ReachedLemmas

@@ -7,10 +7,11 @@ use Rattle.term_core.specs.Term.{Term}
 use Rattle.term_evaluation.specs.declared.reading.Read.{Read}
 use Rattle.binding_values.specs.declared.kept.Done.{Done}
 use Rattle.binding_values.specs.declared.kept.Kept.{Kept}
-use Rattle.binding_values.specs.declared.property.Property.{Property}
+use Rattle.property_store.specs.declared.property.Property.{Property}
 use Rattle.binding_values.specs.declared.property.BindingError.TheVariants.{BindingLoop}
 use Rattle.term_evaluation.specs.Met.{met_by}
-use Rattle.binding_values.specs.Scene.{Scene, among, is_property, met, plain, reader, stored, term_at}
+use Rattle.binding_values.specs.Scene.{Scene, met, plain, reader, stored, term_at}
+use Rattle.property_store.specs.Property.{among, is_property}
 use Rattle.binding_values.specs.Kept.{at_hand, Apart, IsClosed, IsKept, IsRight, IsUnbound, Keeping, kept_of, known}
 use Rattle.binding_values.specs.Laws.{IsChain, ReallyReads}
 use Rattle.binding_values.specs.Run.{IsSettled, IsTried, Stacked, WaitsFor, ats}

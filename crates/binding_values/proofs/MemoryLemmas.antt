@@ -9,11 +9,11 @@ use Rattle.std.proofs.lemmas.Option.{slice_get-get_or}
 use Rattle.property_store.proofs.ListLemmas.{found}
 use Rattle.binding_values.specs.declared.kept.Done.{Done}
 use Rattle.binding_values.specs.declared.memory.Entry.{Entry}
-use Rattle.binding_values.specs.declared.property.Property.{Property}
+use Rattle.property_store.specs.declared.property.Property.{Property}
 use Rattle.binding_values.specs.Kept.{kept_of}
 use Rattle.binding_values.specs.Listed.{IsListed}
 use Rattle.binding_values.specs.Order.{IsOrdered}
-use Rattle.binding_values.specs.Scene.{is_property}
+use Rattle.property_store.specs.Property.{is_property}
 use Rattle.binding_values.specs.Sorted.{IsCountBefore, IsRising, is_before}
 use Rattle.binding_values.proofs.FuelLemmas.{property_eq}
 use Rattle.binding_values.proofs.SortedLemmas.{found_nowhere, found_there, inserted, stands_so, stands_within, with_rising}
@@ -35,12 +35,12 @@ module _ {X : Type 0} (p : X → Bool) where
       by true e rest = absurd (cc)
       by false e rest = rest e
 
-  inserted_other : (xs : List X) (k : ℕ) (y : X) → p y ≡ false → find p (insert xs k y) ≡ find p xs
+  pub inserted_other : (xs : List X) (k : ℕ) (y : X) → p y ≡ false → find p (insert xs k y) ≡ find p xs
   inserted_other xs zero y e = rw e refl
   inserted_other [] (suc k) y e = rw e refl
   inserted_other (z ∷ xs) (suc k) y e = ap (λ rest. cond (p z) (Some z) rest) (inserted_other xs k y e)
 
-  inserted_here : (xs : List X) (k : ℕ) (y : X) → p y ≡ true → find p xs ≡ None → find p (insert xs k y) ≡ Some y
+  pub inserted_here : (xs : List X) (k : ℕ) (y : X) → p y ≡ true → find p xs ≡ None → find p (insert xs k y) ≡ Some y
   inserted_here xs zero y e none = rw e refl
   inserted_here [] (suc k) y e none = rw e refl
   inserted_here (z ∷ xs) (suc k) y e none = by (p z) none (inserted_here xs k y e)
@@ -117,6 +117,10 @@ module _ (rows : List Done) (order : List Entry) (is : IsOrdered rows order) (ro
 -- what an entry names is what is kept
 pub kept_by_entry : (rows : List Done) (order : List Entry) → IsOrdered rows order → (q : Property) (entry : Entry) (o : Option Done) → Some entry ≡ find (λ (entry : Entry). is_property q entry.at) order → o ≡ slice_get rows entry.row → option_map (λ (row : Done). row.kept) o ≡ kept_of rows q
 kept_by_entry rows order is q entry o at there = ap (option_map (λ (row : Done). row.kept)) (there ∙ (ap (option_and_then (λ (entry : Entry). slice_get rows entry.row)) at ∙ is.first q))
+
+-- and where there is no entry nothing is kept
+pub none_by_entry : (rows : List Done) (order : List Entry) → IsOrdered rows order → (q : Property) → None ≡ find (λ (entry : Entry). is_property q entry.at) order → None ≡ kept_of rows q
+none_by_entry rows order is q none = ap (option_map (λ (row : Done). row.kept)) (ap (option_and_then (λ (entry : Entry). slice_get rows entry.row)) none ∙ is.first q)
 
 -- with an entry for the row that is kept
 pub ordered_more : (rows : List Done) (order new : List Entry) → IsOrdered rows order → (row : Done) → IsListed order new row.at (length rows) → IsOrdered (rows ++ row ∷ []) new

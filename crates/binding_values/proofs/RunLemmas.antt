@@ -8,10 +8,11 @@ use Rattle.term_evaluation.specs.declared.reading.Read.{Read}
 use Rattle.term_evaluation.specs.Outcomes.{own}
 use Rattle.binding_values.specs.declared.kept.Done.{Done}
 use Rattle.binding_values.specs.declared.kept.Kept.{Kept}
-use Rattle.binding_values.specs.declared.property.Property.{Property}
+use Rattle.property_store.specs.declared.property.Property.{Property}
 use Rattle.binding_values.specs.declared.property.BindingError.TheVariants.{BindingLoop}
 use Rattle.term_evaluation.specs.Met.{met_by}
-use Rattle.binding_values.specs.Scene.{Scene, among, is_property, met, passed_on, plain, reader, reading, settled, stored, term_at}
+use Rattle.binding_values.specs.Scene.{Scene, met, passed_on, plain, reader, reading, settled, stored, term_at}
+use Rattle.property_store.specs.Property.{among, is_property}
 use Rattle.binding_values.specs.Kept.{Apart, IsClosed, IsKept, IsRight, IsRightAt, IsUnbound, IsWithin, Keeping, kept_of, known}
 use Rattle.term_evaluation.specs.Met.{EachButLast}
 use Rattle.binding_values.specs.Run.{IsSettled, IsTried, Stacked, WaitsFor, ats}

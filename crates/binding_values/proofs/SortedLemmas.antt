@@ -8,8 +8,8 @@ use Rattle.std.proofs.lemmas.List.Kept.{AllPairs-cons, AllPairs-filter}
 use Rattle.std.proofs.lemmas.Bool.{both_ways, cases_Bool, cases_lt}
 use Rattle.std.proofs.lemmas.List.{get_or_default}
 use Rattle.std.proofs.lemmas.Bool.Decides.{nat_tests}
-use Rattle.binding_values.specs.declared.property.Property.{Property}
-use Rattle.binding_values.specs.Scene.{is_property}
+use Rattle.property_store.specs.declared.property.Property.{Property}
+use Rattle.property_store.specs.Property.{is_property}
 use Rattle.binding_values.specs.Sorted.{IsCountBefore, IsRising, is_before}
 use Rattle.binding_values.proofs.FuelLemmas.{property_eq}
 use Rattle.binding_values.proofs.MapLemmas.{pairs_append}
@@ -103,7 +103,7 @@ find_first p (row ∷ rows) (suc k) d lt before here =
     rw first (find_first p rows k d (omega arith) (λ j e low high. before (suc j) e (omega arith) (omega arith)) here)
 
 module _ {X : Type 0} (f : X → Property) (rows : List X) (at : Property) (count : ℕ) (is : IsCountBefore f rows at count) where
-  before_other : AllWithin (λ row. is_property at (f row) ≡ false) rows 0 count
+  pub before_other : AllWithin (λ row. is_property at (f row) ≡ false) rows 0 count
   before_other k d low high = is_property_sym at (f (get_or rows k d)) ∙ is_other (f (get_or rows k d)) at (is.before k d low high)
 
   pub found_there : (d : X) → count < length rows → is_property at (f (get_or rows count d)) ≡ true → find (λ row. is_property at (f row)) rows ≡ Some (get_or rows count d)

@@ -7,8 +7,9 @@ use Rattle.term_core.specs.Term.{Term}
 use Rattle.binding_values.specs.declared.binding.Binding.{Binding}
 use Rattle.binding_values.specs.declared.kept.Done.{Done}
 use Rattle.binding_values.specs.declared.kept.Kept.{Kept}
-use Rattle.binding_values.specs.declared.property.Property.{Property}
-use Rattle.binding_values.specs.Scene.{Scene, among, is_property, term_at, unmet}
+use Rattle.property_store.specs.declared.property.Property.{Property}
+use Rattle.binding_values.specs.Scene.{Scene, term_at, unmet}
+use Rattle.property_store.specs.Property.{among, is_property}
 use Rattle.binding_values.specs.Kept.{IsClosed, IsKept, IsRight, kept_of}
 use Rattle.binding_values.specs.Run.{IsRunning, IsSettled, IsTried, Stacked, Stepped, WaitsFor, ats, bottom, work}
 use Rattle.binding_values.proofs.FuelLemmas.{is_itself, property_eq, unmet_less}

@@ -3,8 +3,9 @@ use Rattle.std.proofs.Common.{◌≡◌, ◌∙◌, Bool, true, false, cond, Lis
 use Rattle.term_core.specs.Term.{Term}
 use Rattle.property_store.specs.Store.{Store}
 use Rattle.binding_values.specs.declared.binding.Binding.{Binding}
-use Rattle.binding_values.specs.declared.property.Property.{Property}
-use Rattle.binding_values.specs.Scene.{is_property, term_at}
+use Rattle.property_store.specs.declared.property.Property.{Property}
+use Rattle.binding_values.specs.Scene.{term_at}
+use Rattle.property_store.specs.Property.{is_property}
 use Rattle.binding_values.specs.Stored.{cell_in, is_there}
 use Rattle.binding_values.proofs.FuelLemmas.{property_eq}
 

@@ -6,11 +6,12 @@ use Rattle.term_core.specs.Term.{Term}
 use Rattle.term_evaluation.specs.declared.reading.Read.{Read}
 use Rattle.term_evaluation.specs.Evaluation.{eval_by}
 use Rattle.term_evaluation.specs.Outcomes.{Answer, Cause, own}
-use Rattle.binding_values.specs.declared.property.Property.{Property}
+use Rattle.property_store.specs.declared.property.Property.{Property}
 use Rattle.binding_values.specs.declared.property.BindingError.{BindingError}
 use Rattle.binding_values.specs.declared.property.BindingError.TheVariants.{BindingLoop}
 use Rattle.term_evaluation.specs.Met.{met_by}
-use Rattle.binding_values.specs.Scene.{Cell, Outcome, Scene, among, by_rule, choose, evaluated, is_property, met, passed_on, plain, reader, reading, settled, term_at}
+use Rattle.binding_values.specs.Scene.{Cell, Outcome, Scene, by_rule, choose, evaluated, met, passed_on, plain, reader, reading, settled, term_at}
+use Rattle.property_store.specs.Property.{among, is_property}
 use Rattle.binding_values.specs.Laws.{IsSubset}
 use Rattle.term_evaluation.proofs.MetLemmas.{Ended, Follows, follows}
 use Rattle.binding_values.proofs.MapLemmas.{each_given}

@@ -4,10 +4,11 @@ use Rattle.std.specs.Option.{option_map_or}
 use Rattle.term_core.specs.Term.{Term}
 use Rattle.binding_values.specs.declared.kept.Done.{Done}
 use Rattle.binding_values.specs.declared.kept.Kept.{Kept}
-use Rattle.binding_values.specs.declared.property.Property.{Property}
+use Rattle.property_store.specs.declared.property.Property.{Property}
 use Rattle.binding_values.specs.declared.property.BindingError.TheVariants.{BindingLoop}
 use Rattle.term_evaluation.specs.Met.{met_by}
-use Rattle.binding_values.specs.Scene.{Outcome, Scene, Cell, among, is_property, evaluated, met, plain, reader, stored, term_at}
+use Rattle.binding_values.specs.Scene.{Outcome, Scene, Cell, evaluated, met, plain, reader, stored, term_at}
+use Rattle.property_store.specs.Property.{among, is_property}
 
 -- what is kept of each property, where anything is
 abbrev pub Keeping : Type 0

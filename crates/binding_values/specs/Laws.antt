@@ -1,9 +1,10 @@
 -- What holds of the values of bound properties, and of what is kept of them.
 use Rattle.std.specs.Prelude.{◌≡◌, ◌⊎◌, true, List, [], ◌∷◌, Some, Err, Contains}
 use Rattle.term_core.specs.Term.{Term}
-use Rattle.binding_values.specs.declared.property.Property.{Property}
+use Rattle.property_store.specs.declared.property.Property.{Property}
 use Rattle.binding_values.specs.declared.property.BindingError.TheVariants.{BindingLoop}
-use Rattle.binding_values.specs.Scene.{Scene, Cell, among, by_rule, met, plain, term_at}
+use Rattle.binding_values.specs.Scene.{Scene, Cell, by_rule, met, plain, term_at}
+use Rattle.property_store.specs.Property.{among}
 
 -- the rule is the value's whole definition
 abbrev pub PlainIsByRule : Type 0

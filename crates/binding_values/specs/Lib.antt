@@ -1,5 +1,8 @@
 pub mod Scene
 pub mod Kept
+pub mod Keeping
+pub mod Readers
+pub mod Reached
 pub mod Laws
 pub mod Run
 pub mod Stored

@@ -2,8 +2,8 @@
 use Rattle.std.specs.Prelude.{◌≡◌, ◌<◌, ◌⊎◌, ℕ, false, List, Some, find, length, slice_index_or}
 use Rattle.std.specs.List.{insert}
 use Rattle.binding_values.specs.declared.memory.Entry.{Entry}
-use Rattle.binding_values.specs.declared.property.Property.{Property}
-use Rattle.binding_values.specs.Scene.{is_property}
+use Rattle.property_store.specs.declared.property.Property.{Property}
+use Rattle.property_store.specs.Property.{is_property}
 use Rattle.binding_values.specs.Sorted.{IsCountBefore}
 
 -- it was put in where it belongs

@@ -6,16 +6,16 @@ use Rattle.variant_value.specs.declared.value.Value.{Value}
 use Rattle.term_evaluation.specs.declared.halt.Halt.{Halt}
 use Rattle.term_evaluation.specs.declared.halt.Halt.TheVariants.{Refused, Own, Memory}
 use Rattle.binding_values.specs.declared.known.Known.{Known}
-use Rattle.binding_values.specs.declared.property.Property.{Property}
+use Rattle.property_store.specs.declared.property.Property.{Property}
 use Rattle.binding_values.specs.Kept.{kept_of, known}
 use Rattle.binding_values.specs.Scene.{Outcome, Scene}
 use Rattle.binding_values.specs.Stored.{scene_of}
 
 abbrev pub IsReady : Known → Type 0
-IsReady knows = IsPlace knows.stores.now.table knows.place
+IsReady knows = IsPlace knows.stores.now.shelves.table knows.place
 
 abbrev pub scene_in : Known → Scene
-scene_in knows = scene_of (store_at knows.stores.now knows.place) knows.bindings.now
+scene_in knows = scene_of (store_at knows.stores.now.shelves knows.place) knows.bindings.now
 
 abbrev pub values_in : Known → Property → Outcome
 values_in knows = known (scene_in knows) (kept_of knows.done.now)

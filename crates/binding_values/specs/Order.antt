@@ -2,8 +2,8 @@
 use Rattle.std.specs.Prelude.{◌≡◌, ◌<◌, List, All, find, length, option_and_then, slice_get}
 use Rattle.binding_values.specs.declared.kept.Done.{Done}
 use Rattle.binding_values.specs.declared.memory.Entry.{Entry}
-use Rattle.binding_values.specs.declared.property.Property.{Property}
-use Rattle.binding_values.specs.Scene.{is_property}
+use Rattle.property_store.specs.declared.property.Property.{Property}
+use Rattle.property_store.specs.Property.{is_property}
 use Rattle.binding_values.specs.Sorted.{IsRising}
 
 -- each property's entry names its first row

@@ -3,8 +3,9 @@ use Rattle.std.specs.Prelude.{◌≡◌, ◌⊎◌, ◌<◌, ◌+◌, ◌*◌, �
 use Rattle.term_core.specs.Term.{Term}
 use Rattle.binding_values.specs.declared.kept.Done.{Done}
 use Rattle.binding_values.specs.declared.kept.Kept.{Kept}
-use Rattle.binding_values.specs.declared.property.Property.{Property}
-use Rattle.binding_values.specs.Scene.{Cell, Scene, among, evaluated, met, term_at, unmet}
+use Rattle.property_store.specs.declared.property.Property.{Property}
+use Rattle.binding_values.specs.Scene.{Cell, Scene, evaluated, met, term_at, unmet}
+use Rattle.property_store.specs.Property.{among}
 use Rattle.binding_values.specs.Kept.{IsClosed, IsKept, IsRight, IsUnbound, IsWithin, Keeping, kept_of, known}
 use Rattle.binding_values.specs.Laws.{ReallyReads}
 

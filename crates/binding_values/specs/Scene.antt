@@ -1,6 +1,5 @@
 -- The value of a property.
-use Rattle.std.specs.Prelude.{ℕ, zero, suc, ◌==◌, ◌&&◌, Bool, true, false, cond, List, [], ◌∷◌, length, Option, Some, None, Result, Ok, Err, find, filter_map, option_map}
-use Rattle.std.specs.List.{list_any}
+use Rattle.std.specs.Prelude.{ℕ, zero, suc, Bool, true, false, cond, List, [], ◌∷◌, length, Option, Some, None, Result, Ok, Err, find, filter_map, option_map}
 use Rattle.std.specs.Option.{ok_or, option_map_or}
 use Rattle.refusals.specs.declared.code.Code.TheVariants.{NoSuchProperty}
 use Rattle.signature_core.specs.declared.kind.Kind.{Kind}
@@ -10,8 +9,9 @@ use Rattle.term_core.specs.declared.target.Target.{Target}
 use Rattle.term_core.specs.Term.{Term}
 use Rattle.term_evaluation.specs.Evaluation.{eval_by}
 use Rattle.term_evaluation.specs.Outcomes.{Answer, own, refused}
+use Rattle.property_store.specs.Property.{among, is_property}
 use Rattle.binding_values.specs.declared.binding.Binding.{Binding}
-use Rattle.binding_values.specs.declared.property.Property.{Property}
+use Rattle.property_store.specs.declared.property.Property.{Property}
 use Rattle.binding_values.specs.declared.property.BindingError.{BindingError}
 use Rattle.binding_values.specs.declared.property.BindingError.TheVariants.{BindingLoop, EvaluationError}
 use Rattle.term_evaluation.specs.Met.{met_by}
@@ -19,12 +19,6 @@ use Rattle.term_evaluation.specs.Met.{met_by}
 -- a value, or why there is none
 abbrev pub Outcome : Type 0
 Outcome = Result Value BindingError
-
-abbrev pub is_property : Property → Property → Bool
-is_property p q = (p.object == q.object) && (p.number == q.number)
-
-abbrev pub among : Property → List Property → Bool
-among q seen = list_any (is_property q) seen
 
 -- a declared property's kind, and the value that is stored
 pub record Cell : Type 0 where

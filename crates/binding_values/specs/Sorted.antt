@@ -1,7 +1,7 @@
 -- Rows of properties, by rising object and number.
 use Rattle.std.specs.Prelude.{◌≡◌, ◌≤◌, ◌==◌, ◌&&◌, ◌||◌, ℕ, Bool, true, false, List, length, nat_lt}
 use Rattle.std.specs.List.{AllPairs, AllWithin}
-use Rattle.binding_values.specs.declared.property.Property.{Property}
+use Rattle.property_store.specs.declared.property.Property.{Property}
 
 -- the first stands before the second
 abbrev pub is_before : Property → Property → Bool

@@ -1,8 +1,8 @@
 //! Bindings.
 ghost use Rattle.std.specs.Prelude.{◌≡◌};
 
-use crate::property::Property;
 use crate::sorted::Placed;
+use property_store::Property;
 use term_core::Expr;
 
 /// A property, and the expression that it is bound to.

@@ -3,11 +3,12 @@ ghost use Rattle.std.specs.Prelude.{◌≡◌, ◌<◌, ◌==◌, ◌⊎◌, [],
 ghost use Rattle.std.specs.Option.{option_map};
 ghost use Rattle.term_core.specs.Forms.{is_within_limits};
 ghost use Rattle.binding_values.specs.Binds.{AreBindings, with_binding};
-ghost use Rattle.binding_values.specs.Scene.{is_property, term_at};
+ghost use Rattle.binding_values.specs.Scene.{term_at};
+ghost use Rattle.property_store.specs.Property.{is_property};
 
 use crate::binding::Binding;
-use crate::property::{Property, is_property};
 use crate::sorted::{count_before, is_at, row_at};
+use property_store::{Property, is_property};
 use std::alloc::{AllocError, Global};
 use std::marker::Model;
 use term_core::Expr;
@@ -48,6 +49,13 @@ impl Bound {
         ensures sound { AreBindings self.now }
     {
         self.rows.len()
+    }
+
+    /// The bindings, in their order.
+    pub fn rows(&self) -> &[Binding]
+        ensures { result.now ≡ self.now }
+    {
+        self.rows.as_slice()
     }
 
     /// The expression that a property is bound to.

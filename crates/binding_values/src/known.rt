@@ -10,9 +10,9 @@ ghost use Rattle.binding_values.specs.Stored.{bindable_number, cell_in, is_binda
 
 use crate::bound::Bound;
 use crate::memory::Memory;
-use crate::property::{BindingError, Property, is_property};
+use crate::property::BindingError;
 use plain_types::Text;
-use property_store::{Field, Stores};
+use property_store::{Field, Property, Stores, is_property};
 use signature_core::Kind;
 use std::alloc::Global;
 use term_core::{Expr, Target};
@@ -29,14 +29,14 @@ pub(crate) struct Known<'a> {
 }
 
 /// The expression that a property is bound to which is there.
-pub(crate) fn expr_at<'a>(
+pub fn expr_at<'a>(
     stores: &Stores,
     place: usize,
     bindings: &'a Bound,
     at: Property,
 ) -> Option<&'a Expr>
-    requires { IsPlace stores.now.table place }
-    ensures { option_map (λ expr. expr.now) result ≡ term_at (scene_of (store_at stores.now place) bindings.now).bindings at }
+    requires { IsPlace stores.now.shelves.table place }
+    ensures { option_map (λ expr. expr.now) result ≡ term_at (scene_of (store_at stores.now.shelves place) bindings.now).bindings at }
 {
     let expr = bindings.expr_at(at)?;
     if cell_at(stores, place, at).is_none() {
@@ -47,8 +47,8 @@ pub(crate) fn expr_at<'a>(
 
 /// The kind and the value of a declared property.
 pub fn cell_at<'a>(stores: &'a Stores, place: usize, at: Property) -> Option<(Kind, &'a Value)>
-    requires { IsPlace stores.now.table place }
-    ensures { option_map (λ cell. record { kind = cell.0; value = cell.1.now }) result ≡ cell_in (store_at stores.now place) at }
+    requires { IsPlace stores.now.shelves.table place }
+    ensures { option_map (λ cell. record { kind = cell.0; value = cell.1.now }) result ≡ cell_in (store_at stores.now.shelves place) at }
 {
     let field = stores.fields(place, at.object)?.get(at.number)?;
     let value = stores.value(place, at.object, at.number)?;
@@ -57,8 +57,8 @@ pub fn cell_at<'a>(stores: &'a Stores, place: usize, at: Property) -> Option<(Ki
 
 /// Whether a property is there, and may be bound.
 pub fn is_bindable(stores: &Stores, place: usize, at: Property) -> bool
-    requires { IsPlace stores.now.table place }
-    ensures { result ≡ is_bindable (store_at stores.now place) at }
+    requires { IsPlace stores.now.shelves.table place }
+    ensures { result ≡ is_bindable (store_at stores.now.shelves place) at }
 {
     let fields = stores.fields(place, at.object).unwrap_or(&[]);
     match fields.get(at.number) {
@@ -91,8 +91,8 @@ pub(crate) fn named(
     target: &Target,
     name: &Text,
 ) -> Option<Property>
-    requires { IsPlace stores.now.table place }
-    ensures { result ≡ named_in (store_at stores.now place) object target.now name.now }
+    requires { IsPlace stores.now.shelves.table place }
+    ensures { result ≡ named_in (store_at stores.now.shelves place) object target.now name.now }
 {
     let object = match target {
         Target::Itself => object,

@@ -5,19 +5,24 @@
 mod binding;
 mod bound;
 mod kept;
+mod kept_index;
+mod kept_rows;
 mod known;
 mod laws;
 mod meeting;
 mod memory;
 mod property;
+mod readers;
 mod run;
 mod sorted;
 
 pub use binding::Binding;
 pub use bound::Bound;
-pub use known::{cell_at, is_bindable};
+pub use kept::{Done, Kept};
+pub use kept_index::KeptIndex;
+pub use known::{cell_at, expr_at, is_bindable};
 pub use laws::{chains, values};
 pub use memory::Memory;
-pub use property::{BindingError, Property, is_property};
-pub use run::outcome;
-pub use sorted::{Placed, row_at};
+pub use property::BindingError;
+pub use run::{find, outcome};
+pub use sorted::{Placed, count_before, is_at, row_at};

@@ -7,8 +7,9 @@ ghost use Rattle.binding_values.specs.Scene.{evaluated, met, reader};
 
 use crate::kept::Kept;
 use crate::known::{Known, named};
-use crate::property::{BindingError, Property};
+use crate::property::BindingError;
 use plain_types::Items;
+use property_store::Property;
 use refusals::Code;
 use signature_core::Kind;
 use std::alloc::{AllocError, Global};

@@ -6,8 +6,9 @@ ghost use Rattle.binding_values.specs.Listed.{IsListed};
 ghost use Rattle.binding_values.specs.Sorted.{IsRising};
 
 use crate::kept::{Done, Kept};
-use crate::property::Property;
+use crate::kept_index::KeptIndex;
 use crate::sorted::{Placed, count_before, is_at, row_at};
+use property_store::Property;
 use std::alloc::{AllocError, Global};
 use std::marker::Model;
 
@@ -26,16 +27,18 @@ impl Placed for Entry {
     }
 }
 
-/// What is kept of properties, in the order in which it was found, and where each property stands by rising
-/// object and number.
+/// What was kept of properties before, and what is kept of others since, in the order in which it was found, and
+/// where each of these stands by rising object and number.
 #[derive(Drop)]
 pub struct Memory {
+    /// What was kept before.
+    base: KeptIndex,
     rows: Vec<Done>,
     order: Vec<Entry>,
 }
 
 impl Model for Memory {
-    ghost use Rattle.std.specs.Prelude.{List};
+    ghost use Rattle.std.specs.Prelude.{◌++◌, List};
     ghost use Rattle.binding_values.specs.declared.kept.Done.{Done};
     ghost use Rattle.binding_values.specs.Coded.{coded_memory};
 
@@ -45,7 +48,7 @@ impl Model for Memory {
 
     ghost use Rattle.binding_values.specs.Order.{IsOrdered};
 
-    ghost view = { λ memory. memory.rows.items };
+    ghost view = { λ memory. memory.base ++ memory.rows.items };
 
     ghost invariant = { λ memory. IsOrdered memory.rows.items memory.order.items };
 }
@@ -54,16 +57,39 @@ impl Memory {
     pub fn new(alloc: Global) -> Memory
         ensures { result ≡ [] }
     {
+        Memory::over(alloc, KeptIndex::new(alloc))
+    }
+
+    /// Over what was kept before.
+    pub fn over(alloc: Global, base: KeptIndex) -> Memory
+        ensures { result ≡ base }
+    {
         Memory {
+            base,
             rows: Vec::new(alloc),
             order: Vec::new(alloc),
         }
+    }
+
+    /// What was kept before, and what has come since, in order.
+    pub fn into_parts(self) -> (KeptIndex, Vec<Done>)
+        ensures { self ≡ result.0 ++ result.1.items }
+    {
+        let Memory {
+            base,
+            rows,
+            order: _,
+        } = self;
+        (base, rows)
     }
 
     /// What is kept of a property.
     pub(crate) fn at(&self, at: Property) -> Option<&Kept>
         ensures { option_map (λ kept. kept.now) result ≡ kept_of self.now at }
     {
+        if let Some(kept) = self.base.at(at) {
+            return Some(kept);
+        }
         let entry = row_at(self.order.as_slice(), at)?;
         let row = row_in(self.rows.as_slice(), entry.row)?;
         Some(&row.kept)

@@ -1,15 +1,8 @@
-//! Properties, and why one that is bound has no value.
+//! Why a property that is bound has no value.
 ghost use Rattle.std.specs.Prelude.{◌≡◌};
-ghost use Rattle.binding_values.specs.Scene.{is_property};
 ghost use Rattle.binding_values.specs.Sorted.{is_before};
 
-/// A declared property of an object.
-#[derive(Clone, Copy)]
-pub struct Property {
-    pub object: u32,
-    /// Its place among the properties that the object's class declares.
-    pub number: usize,
-}
+use property_store::Property;
 
 /// Why a bound property has no value.
 #[derive(Clone, Copy)]
@@ -18,13 +11,6 @@ pub enum BindingError {
     BindingLoop,
     /// The expression has no value, or none of the property's kind.
     EvaluationError,
-}
-
-/// The two are one property.
-pub fn is_property(a: Property, b: Property) -> bool
-    ensures { result ≡ is_property a b }
-{
-    a.object == b.object && a.number == b.number
 }
 
 /// The first stands before the second.

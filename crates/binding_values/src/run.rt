@@ -8,7 +8,8 @@ ghost use Rattle.binding_values.specs.declared.property.BindingError.TheVariants
 ghost use Rattle.binding_values.specs.Kept.{IsClosed, IsKept, IsRight, IsWithin, kept_of};
 ghost use Rattle.binding_values.specs.Looking.{IsReady, scene_in};
 ghost use Rattle.binding_values.specs.Run.{IsRunning, IsSettled, IsTried, Stepped, WaitsFor, ats, bottom};
-ghost use Rattle.binding_values.specs.Scene.{among, term_at};
+ghost use Rattle.binding_values.specs.Scene.{term_at};
+ghost use Rattle.property_store.specs.Property.{among};
 ghost use Rattle.binding_values.specs.Stored.{cell_in, outcome_in, scene_of};
 
 use crate::bound::Bound;
@@ -16,8 +17,8 @@ use crate::kept::{Done, Kept};
 use crate::known::{Known, cell_at, expr_at};
 use crate::meeting::attempt;
 use crate::memory::Memory;
-use crate::property::{BindingError, Property, is_property};
-use property_store::Stores;
+use crate::property::BindingError;
+use property_store::{Property, Stores, is_property};
 use std::alloc::{AllocError, Global};
 use variant_value::Value;
 
@@ -86,12 +87,12 @@ fn look(
     done: &Memory,
     at: Property,
 ) -> Result<(Kept, Option<Property>), AllocError>
-    requires ready { IsPlace stores.now.table place }
-    requires bound { IsSome (term_at (scene_of (store_at stores.now place) bindings.now).bindings at) }
+    requires ready { IsPlace stores.now.shelves.table place }
+    requires bound { IsSome (term_at (scene_of (store_at stores.now.shelves place) bindings.now).bindings at) }
     requires absent { kept_of done.now at ≡ None }
-    ensures tried { IfOk result (λ found. IsTried (scene_of (store_at stores.now place) bindings.now) (kept_of done.now) at found.0) }
-    ensures next { IfOk result (λ found. IfSome found.1 (WaitsFor (scene_of (store_at stores.now place) bindings.now) (kept_of done.now) found.0.reads)) }
-    ensures settled { IfOk result (λ found. IfNone found.1 (All (IsSettled (scene_of (store_at stores.now place) bindings.now) (kept_of done.now)) found.0.reads)) }
+    ensures tried { IfOk result (λ found. IsTried (scene_of (store_at stores.now.shelves place) bindings.now) (kept_of done.now) at found.0) }
+    ensures next { IfOk result (λ found. IfSome found.1 (WaitsFor (scene_of (store_at stores.now.shelves place) bindings.now) (kept_of done.now) found.0.reads)) }
+    ensures settled { IfOk result (λ found. IfNone found.1 (All (IsSettled (scene_of (store_at stores.now.shelves place) bindings.now) (kept_of done.now)) found.0.reads)) }
 {
     let known = Known {
         stores,
@@ -116,9 +117,9 @@ fn step(
     below: &mut Vec<Done>,
     top: Property,
 ) -> Result<Option<Property>, AllocError>
-    requires ready { IsPlace stores.now.table place }
-    requires running { IsRunning (scene_of (store_at stores.now place) bindings.now) done.old below.old.items top }
-    ensures { IfOk result (Stepped (scene_of (store_at stores.now place) bindings.now) done.old below.old.items top done.new below.new.items) }
+    requires ready { IsPlace stores.now.shelves.table place }
+    requires running { IsRunning (scene_of (store_at stores.now.shelves place) bindings.now) done.old below.old.items top }
+    ensures { IfOk result (Stepped (scene_of (store_at stores.now.shelves place) bindings.now) done.old below.old.items top done.new below.new.items) }
 {
     let (kept, next) = look(alloc, stores, place, bindings, done, top)?;
     match next {
@@ -143,7 +144,7 @@ fn step(
 
 /// Finds the value of a bound property, and of all that it comes of, and keeps them. What was kept before is
 /// not evaluated.
-pub(crate) fn find(
+pub fn find(
     alloc: Global,
     stores: &Stores,
     place: usize,
@@ -151,12 +152,12 @@ pub(crate) fn find(
     done: &mut Memory,
     start: Property,
 ) -> Result<(), AllocError>
-    requires ready { IsPlace stores.now.table place }
-    requires right { IsRight (scene_of (store_at stores.now place) bindings.now) (kept_of done.old) }
-    requires closed { IsClosed (scene_of (store_at stores.now place) bindings.now) (kept_of done.old) }
-    requires bound { IsSome (term_at (scene_of (store_at stores.now place) bindings.now).bindings start) }
-    ensures right { OnOk result (IsRight (scene_of (store_at stores.now place) bindings.now) (kept_of done.new)) }
-    ensures closed { OnOk result (IsClosed (scene_of (store_at stores.now place) bindings.now) (kept_of done.new)) }
+    requires ready { IsPlace stores.now.shelves.table place }
+    requires right { IsRight (scene_of (store_at stores.now.shelves place) bindings.now) (kept_of done.old) }
+    requires closed { IsClosed (scene_of (store_at stores.now.shelves place) bindings.now) (kept_of done.old) }
+    requires bound { IsSome (term_at (scene_of (store_at stores.now.shelves place) bindings.now).bindings start) }
+    ensures right { OnOk result (IsRight (scene_of (store_at stores.now.shelves place) bindings.now) (kept_of done.new)) }
+    ensures closed { OnOk result (IsClosed (scene_of (store_at stores.now.shelves place) bindings.now) (kept_of done.new)) }
     ensures within { OnOk result (IsWithin (kept_of done.old) (kept_of done.new)) }
     ensures kept { OnOk result (IsKept (kept_of done.new) start) }
 {
@@ -183,12 +184,12 @@ pub fn outcome(
     done: &mut Memory,
     at: Property,
 ) -> Result<Result<Value, BindingError>, AllocError>
-    requires ready { IsPlace stores.now.table place }
-    requires right { IsRight (scene_of (store_at stores.now place) bindings.now) (kept_of done.old) }
-    requires closed { IsClosed (scene_of (store_at stores.now place) bindings.now) (kept_of done.old) }
-    ensures right { OnOk result (IsRight (scene_of (store_at stores.now place) bindings.now) (kept_of done.new)) }
-    ensures closed { OnOk result (IsClosed (scene_of (store_at stores.now place) bindings.now) (kept_of done.new)) }
-    ensures outcome { IfOk result (λ outcome. outcome ≡ outcome_in (store_at stores.now place) bindings.now at) }
+    requires ready { IsPlace stores.now.shelves.table place }
+    requires right { IsRight (scene_of (store_at stores.now.shelves place) bindings.now) (kept_of done.old) }
+    requires closed { IsClosed (scene_of (store_at stores.now.shelves place) bindings.now) (kept_of done.old) }
+    ensures right { OnOk result (IsRight (scene_of (store_at stores.now.shelves place) bindings.now) (kept_of done.new)) }
+    ensures closed { OnOk result (IsClosed (scene_of (store_at stores.now.shelves place) bindings.now) (kept_of done.new)) }
+    ensures outcome { IfOk result (λ outcome. outcome ≡ outcome_in (store_at stores.now.shelves place) bindings.now at) }
 {
     if expr_at(stores, place, bindings, at).is_none() {
         return stored(alloc, stores, place, at);
@@ -205,8 +206,8 @@ fn stored(
     place: usize,
     at: Property,
 ) -> Result<Result<Value, BindingError>, AllocError>
-    requires { IsPlace stores.now.table place }
-    ensures { IfOk result (λ outcome. outcome ≡ option_map_or (λ cell. Ok cell.value) (cell_in (store_at stores.now place) at) (Err EvaluationError)) }
+    requires { IsPlace stores.now.shelves.table place }
+    ensures { IfOk result (λ outcome. outcome ≡ option_map_or (λ cell. Ok cell.value) (cell_in (store_at stores.now.shelves place) at) (Err EvaluationError)) }
 {
     match cell_at(stores, place, at) {
         Some((_, value)) => Ok(Ok(value.copy(alloc)?)),

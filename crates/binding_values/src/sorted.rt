@@ -1,14 +1,15 @@
 //! Rows of properties, by rising object and number.
 ghost use Rattle.std.specs.Prelude.{◌≡◌, false, find, slice_get};
 ghost use Rattle.std.specs.Option.{option_map, option_map_or};
-ghost use Rattle.binding_values.specs.Scene.{is_property};
+ghost use Rattle.property_store.specs.Property.{is_property};
 ghost use Rattle.binding_values.specs.Sorted.{IsCountBefore, IsRising};
 
-use crate::property::{Property, is_before, is_property};
+use crate::property::is_before;
+use property_store::{Property, is_property};
 
 /// A row that is about a property.
 pub trait Placed {
-    ghost use Rattle.binding_values.specs.declared.property.Property.{Property};
+    ghost use Rattle.property_store.specs.declared.property.Property.{Property};
 
     ghost at: { Self → Property };
 
@@ -17,7 +18,7 @@ pub trait Placed {
 }
 
 /// How many rows stand before those of a property.
-pub(crate) fn count_before<T: Placed>(rows: &[T], at: Property) -> usize
+pub fn count_before<T: Placed>(rows: &[T], at: Property) -> usize
     requires { IsRising T.at rows.now }
     ensures { IsCountBefore T.at rows.now at result }
 {
@@ -35,7 +36,7 @@ pub(crate) fn count_before<T: Placed>(rows: &[T], at: Property) -> usize
 }
 
 /// Whether the row of a property stands at a place.
-pub(crate) fn is_at<T: Placed>(rows: &[T], place: usize, at: Property) -> bool
+pub fn is_at<T: Placed>(rows: &[T], place: usize, at: Property) -> bool
     ensures { result ≡ option_map_or (λ row. is_property at (T.at row)) (slice_get rows.now place) false }
 {
     match rows.get(place) {

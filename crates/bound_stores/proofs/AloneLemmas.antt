@@ -21,15 +21,16 @@ use Rattle.property_store.proofs.SoundLemmas.{sound_changed}
 use Rattle.binding_values.specs.declared.binding.Binding.{Binding}
 use Rattle.binding_graph.specs.declared.change.Change.{Change}
 use Rattle.binding_graph.specs.declared.change.Told.TheVariants as told
-use Rattle.binding_values.specs.declared.property.Property.{Property}
+use Rattle.property_store.specs.declared.property.Property.{Property}
 use Rattle.binding_graph.specs.Graph.{Graph, all_shown, changes, is_bound, is_open, no_graph, value_in}
-use Rattle.binding_values.specs.Scene.{Cell, is_property}
+use Rattle.binding_values.specs.Scene.{Cell}
+use Rattle.property_store.specs.Property.{is_property}
 use Rattle.binding_values.specs.Stored.{cell_in, cell_of}
 use Rattle.binding_graph.specs.Table.{Graphs, graph_at}
 use Rattle.thread_model.specs.State.{closed}
 use Rattle.thread_model.proofs.AloneLemmas.{going_told, write_told}
 use Rattle.thread_model.proofs.QuietLemmas.{changed_one, found_changed}
-use Rattle.bound_stores.specs.Bound.{all_closed, bound_at, seen, with_bound}
+use Rattle.bound_stores.specs.Bound.{all_closed, bound_at, seen_of, with_bound}
 use Rattle.bound_stores.specs.Changed.{alone, changes_in, told_at, told_of}
 use Rattle.bound_stores.specs.Named.{TellsWritten, with_written}
 use Rattle.bound_stores.specs.Settled.{is_idle}
@@ -143,7 +144,7 @@ kept_idle bindings place test idle =
 -- so it is seen
 module _ (stores after : Shelves) (bindings : Graphs) (place : ℕ) (q : Property) (value fit : Value) (shelf : IsPlace stores.table place) (idle : is_idle (graph_at bindings.graphs place) ≡ true) (sound : IsSound (store_at stores place)) (short : IsShort value)
     (fits : fitting (store_at stores place) q.object q.number value ≡ Some fit) (is : after ≡ with_store stores place (changed (with_value q.number fit) q.object (store_at stores place))) where
-  pub alone_told : TellsWritten place q (seen stores bindings) (seen after bindings) (alone (is_change (store_at stores place) q.object q.number value))
+  pub alone_told : TellsWritten place q (seen_of stores bindings) (seen_of after bindings) (alone (is_change (store_at stores place) q.object q.number value))
   alone_told =
       ap (λ now. changes_in q now (alone (is_change (store_at stores place) q.object q.number value))) shown
       ∙ (tells_alone (store_at stores place) sound q value fit short fits ∙ sym told)
@@ -157,12 +158,12 @@ module _ (stores after : Shelves) (bindings : Graphs) (place : ℕ) (q : Propert
       at_place : store_at after place ≡ changed (with_value q.number fit) q.object (store_at stores place)
       at_place = ap (λ (shelves : Shelves). store_at shelves place) is ∙ column.with_there [] stores.table place _ shelf
 
-      shown : (value_in (store_at after place) (bound_at (seen after bindings) place) q).0 ≡ fit
+      shown : (value_in (store_at after place) (bound_at (seen_of after bindings) place) q).0 ≡ fit
       shown =
-          ap (λ (shown : Value × _). shown.0) (value_seen (store_at after place) bindings.graphs (seen after bindings).graphs place q refl)
+          ap (λ (shown : Value × _). shown.0) (value_seen (store_at after place) bindings.graphs (seen_of after bindings).graphs place q refl)
           ∙ (ap (λ store. (value_in store graph q).0) at_place ∙ shows_fit (store_at stores place) sound q value fit short fits graph its.none)
 
-      told : told_at place (seen stores bindings) (seen after bindings) (Some q) ≡ changes (all_shown (store_at stores place) []) (all_shown (changed (with_value q.number fit) q.object (store_at stores place)) []) (Some q)
+      told : told_at place (seen_of stores bindings) (seen_of after bindings) (Some q) ≡ changes (all_shown (store_at stores place) []) (all_shown (changed (with_value q.number fit) q.object (store_at stores place)) []) (Some q)
       told =
           told_seen stores after bindings bindings place (Some q)
           ∙ (ap (λ store. told_of (store_at stores place) graph store graph (Some q)) at_place
@@ -171,16 +172,16 @@ module _ (stores after : Shelves) (bindings : Graphs) (place : ℕ) (q : Propert
 
 -- the store alone is another one
 module _ (stores after : Shelves) (bindings : Graphs) (place : ℕ) (store : Store) (test : Binding → Bool) (idle : is_idle (graph_at bindings.graphs place) ≡ true) (is : after ≡ with_store stores place store) where
-  pub idle_seen : seen after bindings ≡ with_bound (seen stores bindings) place store (record (graph_at (all_closed bindings.graphs) place) { bindings = filter test (graph_at (all_closed bindings.graphs) place).bindings })
+  pub idle_seen : seen_of after bindings ≡ with_bound (seen_of stores bindings) place store (record (graph_at (all_closed bindings.graphs) place) { bindings = filter test (graph_at (all_closed bindings.graphs) place).bindings })
   idle_seen = put_seen stores after bindings bindings place store (graph_at bindings.graphs place) _ is (sym (column.with_same no_graph bindings.graphs place)) (kept_idle bindings place test idle)
 
 pub alone_seen : (stores after : Shelves) (bindings : Graphs) (place : ℕ) (q : Property) (fit : Value) → is_idle (graph_at bindings.graphs place) ≡ true → after ≡ with_store stores place (changed (with_value q.number fit) q.object (store_at stores place))
-    → seen after bindings ≡ with_written (seen stores bindings) place q fit
+    → seen_of after bindings ≡ with_written (seen_of stores bindings) place q fit
 alone_seen stores after bindings place q fit idle is = idle_seen stores after bindings place (changed (with_value q.number fit) q.object (store_at stores place)) (λ binding. not (is_property q binding.at)) idle is
 
 -- an object that goes tells nothing
 pub going_alone : (stores after : Shelves) (bindings : Graphs) (place object : ℕ) → IsPlace stores.table place → is_idle (graph_at bindings.graphs place) ≡ true → after ≡ with_store stores place (without object (store_at stores place))
-    → told_at place (seen stores bindings) (seen after bindings) None ≡ []
+    → told_at place (seen_of stores bindings) (seen_of after bindings) None ≡ []
 going_alone stores after bindings place object shelf idle is =
     let graph = graph_at bindings.graphs place in
     let its = idle_is graph idle in

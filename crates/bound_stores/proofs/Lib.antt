@@ -7,4 +7,5 @@ pub mod ReadingLemmas
 pub mod SeenLemmas
 pub mod SettledLemmas
 pub mod ShowingLemmas
+pub mod TakenLemmas
 pub mod WrittenLemmas

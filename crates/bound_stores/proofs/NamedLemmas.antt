@@ -15,7 +15,7 @@ use Rattle.property_store.specs.Named.{answer_named, declared_at, written_named}
 use Rattle.property_store.specs.Store.{IsSound, Properties, Store, changed, declared_in, field_at, field_number, fitting, is_change, properties_of, with_value, write_refusal, written}
 use Rattle.property_store.specs.Table.{Shelves, store_at, with_store}
 use Rattle.binding_graph.specs.Table.{Graphs, graph_at}
-use Rattle.bound_stores.specs.Bound.{seen}
+use Rattle.bound_stores.specs.Bound.{seen_of}
 use Rattle.bound_stores.specs.Changed.{alone}
 use Rattle.bound_stores.specs.Named.{TellsWritten, WritesDeclared, WritesNamed}
 use Rattle.bound_stores.specs.Settled.{is_idle}
@@ -157,7 +157,7 @@ module _ (store : Store) (object : ℕ) (name : List ℕ) (value : Value) where
 -- so it is seen
 module _ (stores after : Shelves) (bindings : Graphs) (place object : ℕ) (name : List ℕ) (value : Value) where
   pub named_alone : (number : ℕ) (change : Bool) → IsPlace stores.table place → is_idle (graph_at bindings.graphs place) ≡ true → IsSound (store_at stores place) → IsShort value → Ok (number, change) ≡ answer_named (store_at stores place) object name value
-      → after ≡ with_store stores place (written_named (store_at stores place) object name value) → WritesDeclared place object name value (seen stores bindings) number (alone change) (seen after bindings)
+      → after ≡ with_store stores place (written_named (store_at stores place) object name value) → WritesDeclared place object name value (seen_of stores bindings) number (alone change) (seen_of after bindings)
   named_alone number change shelf idle sound short e new =
       let its = has_written (store_at stores place) object name value number change e in
       let is : after ≡ with_store stores place (changed (with_value number its.fit) object (store_at stores place)) = new ∙ ap (with_store stores place) its.new_is in
@@ -167,13 +167,13 @@ module _ (stores after : Shelves) (bindings : Graphs) (place object : ℕ) (name
         named = its.named;
         fits = its.fits;
         is = alone_seen stores after bindings place (record { object = object; number = number }) its.fit idle is;
-        told = subst (λ change. TellsWritten place (record { object = object; number = number }) (seen stores bindings) (seen after bindings) (alone change)) (sym its.change_is)
+        told = subst (λ change. TellsWritten place (record { object = object; number = number }) (seen_of stores bindings) (seen_of after bindings) (alone change)) (sym its.change_is)
             (alone_told stores after bindings place (record { object = object; number = number }) value its.fit shelf idle sound short its.fitting_is is);
       }
 
-  pub not_named : (why : Unwritten) → Err why ≡ answer_named (store_at stores place) object name value → after ≡ stores → WritesNamed place object name value (seen stores bindings) (Err why) (seen after bindings)
+  pub not_named : (why : Unwritten) → Err why ≡ answer_named (store_at stores place) object name value → after ≡ stores → WritesNamed place object name value (seen_of stores bindings) (Err why) (seen_of after bindings)
   not_named why e same = by why (unwritten (store_at stores place) object name value why e)
     where
-      by : (why : Unwritten) → IsUnwritten (store_at stores place) object name value why → WritesNamed place object name value (seen stores bindings) (Err why) (seen after bindings)
-      by (Undeclared rest) its = (its.0, its.1, ap (λ shelves. seen shelves bindings) same)
-      by (Refused code) its = (its.0, record { number = its.1; kind = its.2; named = its.3; misfit = its.4 }, ap (λ shelves. seen shelves bindings) same)
+      by : (why : Unwritten) → IsUnwritten (store_at stores place) object name value why → WritesNamed place object name value (seen_of stores bindings) (Err why) (seen_of after bindings)
+      by (Undeclared rest) its = (its.0, its.1, ap (λ shelves. seen_of shelves bindings) same)
+      by (Refused code) its = (its.0, record { number = its.1; kind = its.2; named = its.3; misfit = its.4 }, ap (λ shelves. seen_of shelves bindings) same)

@@ -7,7 +7,7 @@ use Rattle.property_store.specs.Store.{Store}
 use Rattle.binding_graph.specs.Table.{graph_at, with_graph}
 use Rattle.binding_values.specs.declared.binding.Binding.{Binding}
 use Rattle.binding_graph.specs.declared.change.Change.{Change}
-use Rattle.binding_values.specs.declared.property.Property.{Property}
+use Rattle.property_store.specs.declared.property.Property.{Property}
 use Rattle.binding_graph.specs.declared.shown.Shown.{Shown}
 use Rattle.binding_graph.specs.Graph as graphs
 use Rattle.binding_graph.specs.Graph.{Graph, all_shown, is_open, no_graph, settled_changes, settled_graph}

@@ -10,7 +10,7 @@ use Rattle.property_store.specs.declared.field.Field.{Field}
 use Rattle.property_store.specs.Store.{IsSound, Properties, Store, declared_in, dynamic_value, field_number, named_value, properties_of}
 use Rattle.property_store.proofs.ListLemmas.{position_some}
 use Rattle.binding_values.specs.declared.property.BindingError.{BindingError}
-use Rattle.binding_values.specs.declared.property.Property.{Property}
+use Rattle.property_store.specs.declared.property.Property.{Property}
 use Rattle.binding_graph.specs.Graph.{Graph, is_bound, value_in}
 use Rattle.binding_values.specs.Scene.{Cell}
 use Rattle.binding_values.specs.Stored.{cell_in}

@@ -6,11 +6,11 @@ use Rattle.property_store.specs.Store.{Store}
 use Rattle.property_store.specs.Table.{Shelves, store_at, with_store}
 use Rattle.binding_values.specs.declared.binding.Binding.{Binding}
 use Rattle.binding_graph.specs.declared.change.Change.{Change}
-use Rattle.binding_values.specs.declared.property.Property.{Property}
+use Rattle.property_store.specs.declared.property.Property.{Property}
 use Rattle.binding_graph.specs.Graph.{Graph, all_shown, changes, is_open, no_graph}
 use Rattle.binding_graph.specs.Table.{Graphs, graph_at, with_graph}
 use Rattle.thread_model.specs.State.{closed}
-use Rattle.bound_stores.specs.Bound.{BoundShelves, ChangesBound, all_closed, bound_at, seen, with_bound}
+use Rattle.bound_stores.specs.Bound.{BoundShelves, ChangesBound, all_closed, bound_at, seen_of, with_bound}
 use Rattle.bound_stores.specs.Changed.{told_at, told_of}
 use Rattle.bound_stores.specs.Settled.{kept_of, settled_in}
 use Rattle.bound_stores.proofs.InvariantLemmas.{closed_bound, closed_settled, seen_put}
@@ -40,7 +40,7 @@ changes_closed old new place e = ap all_closed e ∙ (seen_put old place (graph_
 
 module _ (stores new : Shelves) (bindings after : Graphs) (place : ℕ) where
   -- a store and a graph that are put
-  pub put_seen : (store : Store) (graph other : Graph) → new ≡ with_store stores place store → after.graphs ≡ with_graph bindings.graphs place graph → closed graph ≡ other → seen new after ≡ with_bound (seen stores bindings) place store other
+  pub put_seen : (store : Store) (graph other : Graph) → new ≡ with_store stores place store → after.graphs ≡ with_graph bindings.graphs place graph → closed graph ≡ other → seen_of new after ≡ with_bound (seen_of stores bindings) place store other
   put_seen store graph other first second is =
       ap (λ shelves. let made : BoundShelves = record { shelves = shelves; graphs = all_closed after.graphs } in made) first
       ∙ ap (λ graphs. let made : BoundShelves = record { shelves = with_store stores place store; graphs = graphs } in made)
@@ -48,29 +48,29 @@ module _ (stores new : Shelves) (bindings after : Graphs) (place : ℕ) where
 
   -- with other bindings, settled
   pub settled_seen : (store : Store) (change : List Binding → List Binding) → new ≡ with_store stores place store → after.graphs ≡ with_graph bindings.graphs place (settled_in store (with_bindings change (graph_at bindings.graphs place)))
-      → seen new after ≡ with_bound (seen stores bindings) place store (with_bindings change (bound_at (seen stores bindings) place))
+      → seen_of new after ≡ with_bound (seen_of stores bindings) place store (with_bindings change (bound_at (seen_of stores bindings) place))
   settled_seen store change first second =
-      put_seen store (settled_in store (with_bindings change (graph_at bindings.graphs place))) (with_bindings change (bound_at (seen stores bindings) place)) first second
+      put_seen store (settled_in store (with_bindings change (graph_at bindings.graphs place))) (with_bindings change (bound_at (seen_of stores bindings) place)) first second
       (closed_settled store (with_bindings change (graph_at bindings.graphs place)) ∙ (closed_bound (graph_at bindings.graphs place) change ∙ ap (with_bindings change) (sym (closed_at bindings.graphs place))))
 
   -- what is told of two states, as it is seen
-  pub told_seen : (written : Option Property) → told_at place (seen stores bindings) (seen new after) written ≡ told_of (store_at stores place) (graph_at bindings.graphs place) (store_at new place) (graph_at after.graphs place) written
+  pub told_seen : (written : Option Property) → told_at place (seen_of stores bindings) (seen_of new after) written ≡ told_of (store_at stores place) (graph_at bindings.graphs place) (store_at new place) (graph_at after.graphs place) written
   told_seen written =
       ap (λ graph. told_of (store_at stores place) graph (store_at new place) (graph_at (all_closed after.graphs) place) written) (closed_at bindings.graphs place)
       ∙ (ap (λ graph. told_of (store_at stores place) (closed (graph_at bindings.graphs place)) (store_at new place) graph written) (closed_at after.graphs place)
       ∙ told_closed (store_at stores place) (graph_at bindings.graphs place) (store_at new place) (graph_at after.graphs place) written)
 
-  pub changes_seen : new.layouts ≡ stores.layouts → ChangesAt [] place stores.table new.table → ChangesAt no_graph place bindings.graphs after.graphs → ChangesBound place (seen stores bindings) (seen new after)
+  pub changes_seen : new.layouts ≡ stores.layouts → ChangesAt [] place stores.table new.table → ChangesAt no_graph place bindings.graphs after.graphs → ChangesBound place (seen_of stores bindings) (seen_of new after)
   changes_seen layouts tables graphs = record { layouts = layouts; stores = tables; graphs = changes_closed bindings.graphs after.graphs place graphs }
 
   module _ (shelf : IsPlace stores.table place) (there : IsPlace bindings.graphs place) where
-    pub put_changes : (store : Store) (graph : Graph) → new ≡ with_store stores place store → after.graphs ≡ with_graph bindings.graphs place graph → ChangesBound place (seen stores bindings) (seen new after)
+    pub put_changes : (store : Store) (graph : Graph) → new ≡ with_store stores place store → after.graphs ≡ with_graph bindings.graphs place graph → ChangesBound place (seen_of stores bindings) (seen_of new after)
     put_changes store graph first second =
         changes_seen (ap (λ (shelves : Shelves). shelves.layouts) first) (column.changes_with [] stores.table new.table place store shelf (ap (λ (shelves : Shelves). shelves.table) first))
         (column.changes_with no_graph bindings.graphs after.graphs place graph there second)
 
     pub put_told : (store : Store) (change : List Binding → List Binding) (written : Option Property) → new ≡ with_store stores place store → after.graphs ≡ with_graph bindings.graphs place (settled_in store (with_bindings change (graph_at bindings.graphs place)))
-        → told_at place (seen stores bindings) (seen new after) written ≡ cond (is_open (graph_at bindings.graphs place)) [] (changes (all_shown (store_at stores place) (graph_at bindings.graphs place).bindings) (all_shown store (change (graph_at bindings.graphs place).bindings)) written)
+        → told_at place (seen_of stores bindings) (seen_of new after) written ≡ cond (is_open (graph_at bindings.graphs place)) [] (changes (all_shown (store_at stores place) (graph_at bindings.graphs place).bindings) (all_shown store (change (graph_at bindings.graphs place).bindings)) written)
     put_told store change written first second =
         told_seen written
         ∙ (ap (λ store. told_of (store_at stores place) old store (graph_at after.graphs place) written) (ap (λ (shelves : Shelves). store_at shelves place) first ∙ column.with_there [] stores.table place store shelf)
@@ -92,5 +92,5 @@ module _ (stores new : Shelves) (bindings after : Graphs) (place : ℕ) where
       left : after.graphs ≡ with_graph bindings.graphs place no_graph
       left = forgotten ∙ column.with_after no_graph bindings.graphs middle place no_graph changed
 
-      pub forgotten_changes : ChangesBound place (seen stores bindings) (seen new after)
+      pub forgotten_changes : ChangesBound place (seen_of stores bindings) (seen_of new after)
       forgotten_changes = changes_seen layouts tables (column.changes_with no_graph bindings.graphs after.graphs place no_graph there left)

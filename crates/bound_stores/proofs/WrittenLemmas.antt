@@ -7,7 +7,7 @@ use Rattle.variant_value.specs.Values.{converted}
 use Rattle.property_store.specs.declared.field.Field.{Field}
 use Rattle.property_store.specs.Store.{Properties, Store, changed, field_at, fitting, properties_of, with_value, written}
 use Rattle.property_store.proofs.SoundLemmas.{changed_fields}
-use Rattle.binding_values.specs.declared.property.Property.{Property}
+use Rattle.property_store.specs.declared.property.Property.{Property}
 use Rattle.binding_graph.specs.Graph.{Graph, is_bound, taken, value_in}
 
 -- of two changes of an object, where the second makes the same without the first

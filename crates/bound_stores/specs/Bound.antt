@@ -2,7 +2,7 @@
 use Rattle.std.specs.Prelude.{◌≡◌, ℕ, [], map}
 use Rattle.places.specs.Table.{ChangesAt, Table}
 use Rattle.property_store.specs.Store.{Store}
-use Rattle.property_store.specs.Table.{Shelves, store_at, with_store}
+use Rattle.property_store.specs.Table.{Shelves, Stock, store_at, with_store}
 use Rattle.binding_graph.specs.Graph.{Graph, no_graph}
 use Rattle.binding_graph.specs.Table.{Graphs, graph_at, with_graph}
 use Rattle.thread_model.specs.State.{closed}
@@ -18,8 +18,12 @@ abbrev pub all_closed : Table Graph → Table Graph
 all_closed graphs = record { places = map closed graphs.places; room = graphs.room }
 
 -- so stores and bindings are seen
-abbrev pub seen : Shelves → Graphs → BoundShelves
-seen stores bindings = record { shelves = stores; graphs = all_closed bindings.graphs }
+abbrev pub seen_of : Shelves → Graphs → BoundShelves
+seen_of shelves bindings = record { shelves = shelves; graphs = all_closed bindings.graphs }
+
+-- and what was written is not
+abbrev pub seen : Stock → Graphs → BoundShelves
+seen stores bindings = seen_of stores.shelves bindings
 
 -- what is stored at a place
 abbrev pub stored_at : BoundShelves → ℕ → Store

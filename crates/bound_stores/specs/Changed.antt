@@ -4,7 +4,7 @@ use Rattle.variant_value.specs.declared.value.Value.{Value}
 use Rattle.property_store.specs.Store.{Store}
 use Rattle.binding_graph.specs.declared.change.Change.{Change}
 use Rattle.binding_graph.specs.declared.change.Told.TheVariants as told
-use Rattle.binding_values.specs.declared.property.Property.{Property}
+use Rattle.property_store.specs.declared.property.Property.{Property}
 use Rattle.binding_graph.specs.Graph.{Graph, all_shown, changes, is_open}
 use Rattle.bound_stores.specs.declared.changed.Changed.{Changed}
 use Rattle.bound_stores.specs.declared.changed.Changed.TheVariants.{Nothing, Written, Several}

@@ -9,7 +9,7 @@ use Rattle.property_store.specs.declared.unwritten.Unwritten.TheVariants.{Refuse
 use Rattle.property_store.specs.Named.{declared_at}
 use Rattle.property_store.specs.Store.{with_value}
 use Rattle.property_store.specs.Store as store
-use Rattle.binding_values.specs.declared.property.Property.{Property}
+use Rattle.property_store.specs.declared.property.Property.{Property}
 use Rattle.binding_graph.specs.Graph.{unbound, value_in}
 use Rattle.bound_stores.specs.declared.changed.Changed.{Changed}
 use Rattle.bound_stores.specs.Bound.{BoundShelves, bound_at, stored_at, with_bound}

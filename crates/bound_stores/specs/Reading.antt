@@ -5,7 +5,7 @@ use Rattle.std.specs.Prelude.{option_and_then}
 use Rattle.variant_value.specs.declared.value.Value.{Value}
 use Rattle.property_store.specs.Named.{declared_at}
 use Rattle.property_store.specs.Store.{Store, dynamic_value, field_number, properties_of}
-use Rattle.binding_values.specs.declared.property.Property.{Property}
+use Rattle.property_store.specs.declared.property.Property.{Property}
 use Rattle.binding_graph.specs.Graph.{Graph, is_bound, value_in}
 
 -- the value of the property of a name: of one that the class declares what it shows, of a dynamic one what it

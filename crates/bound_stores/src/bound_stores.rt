@@ -1,5 +1,5 @@
 //! What the properties of all places store, and their bindings.
-ghost use Rattle.std.specs.Prelude.{◌≡◌, ◌≤◌, [], IfOk, IfSome, IsTrue, None, OnErr, OnOk, Some, length, if◌then◌else◌};
+ghost use Rattle.std.specs.Prelude.{◌≡◌, ◌≤◌, [], IfOk, IfSome, IsFalse, IsTrue, None, OnErr, OnOk, Some, length, if◌then◌else◌};
 ghost use Rattle.places.specs.Table.{IsPlace, opened};
 ghost use Rattle.refusals.specs.Answers.{RefusedBy};
 ghost use Rattle.term_core.specs.Forms.{is_within_limits};
@@ -12,13 +12,13 @@ ghost use Rattle.thread_model.specs.State.{closed};
 ghost use Rattle.bound_stores.specs.Bound.{ChangesBound, bound_at, stored_at, with_bound};
 ghost use Rattle.bound_stores.specs.Changed.{told_at};
 ghost use Rattle.bound_stores.specs.Named.{TellsWritten, WritesNamed, with_written};
+ghost use Rattle.bound_stores.specs.Settled.{is_idle};
 
 use crate::changed::Changed;
 use crate::changing;
 use binding_graph::{Bindings, Change};
-use binding_values::Property;
 use plain_types::{Items, Text};
-use property_store::{Field, Stores, Unwritten};
+use property_store::{Field, Property, Stores, Unwritten};
 use refusals::Fault;
 use std::alloc::{AllocError, Global};
 use std::marker::Model;
@@ -71,7 +71,7 @@ impl BoundStores {
         ensures room { OnOk result (1 ≤ self.new.shelves.table.room) }
         ensures free { OnOk result (1 ≤ self.new.graphs.room) }
     {
-        binding_graph::steps();
+        binding_graph::openings();
         self.stores.ready()?;
         self.bindings.ready()
     }
@@ -85,7 +85,7 @@ impl BoundStores {
         ensures opened { self.new.shelves.table ≡ opened self.old.shelves.table [] }
         ensures graphs { self.new.graphs ≡ opened self.old.graphs no_graph }
     {
-        binding_graph::steps();
+        binding_graph::openings();
         self.bindings.open();
         self.stores.open()
     }
@@ -120,6 +120,7 @@ impl BoundStores {
         requires short { IsShort value }
         ensures told { IfOk result (TellsWritten place at self.old self.new) }
         ensures ok { OnOk result (self.new ≡ with_written self.old place at value) }
+        ensures idle { OnErr result (IsFalse (is_idle (bound_at self.old place))) }
         ensures only { ChangesBound place self.old self.new }
     {
         changing::write(&mut self.stores, &mut self.bindings, place, at, value)
@@ -138,6 +139,7 @@ impl BoundStores {
         requires graph { IsPlace self.old.graphs place }
         requires short { IsShort value }
         ensures writes { IfOk result (λ answer. WritesNamed place object name.now value self.old answer self.new) }
+        ensures idle { OnErr result (IsFalse (is_idle (bound_at self.old place))) }
         ensures only { ChangesBound place self.old self.new }
     {
         changing::write_named(
@@ -186,6 +188,7 @@ impl BoundStores {
         ensures told { IfOk result (λ told. told ≡ told_at place self.old self.new None) }
         ensures ok { OnOk result (self.new ≡ with_bound self.old place
             (without object (stored_at self.old place)) (without_object object (bound_at self.old place))) }
+        ensures idle { OnErr result (IsFalse (is_idle (bound_at self.old place))) }
         ensures only { ChangesBound place self.old self.new }
     {
         changing::remove(

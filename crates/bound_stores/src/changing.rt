@@ -1,5 +1,5 @@
 //! Changes of one place, which leave every place settled, whatever memory was found.
-ghost use Rattle.std.specs.Prelude.{◌≡◌, [], IfOk, IfSome, IsTrue, OnErr, OnOk, None, Some, if◌then◌else◌};
+ghost use Rattle.std.specs.Prelude.{◌≡◌, [], IfOk, IfSome, IsFalse, IsTrue, OnErr, OnOk, None, Some, if◌then◌else◌};
 ghost use Rattle.places.specs.Table.{IsPlace};
 ghost use Rattle.refusals.specs.Answers.{RefusedBy};
 ghost use Rattle.term_core.specs.Forms.{is_within_limits};
@@ -10,17 +10,16 @@ ghost use Rattle.binding_graph.specs.Graph.{all_shown, begin_refusal, begun, bin
 ghost use Rattle.binding_values.specs.Stored.{is_bindable};
 ghost use Rattle.binding_graph.specs.Table.{graph_at};
 ghost use Rattle.thread_model.specs.State.{closed};
-ghost use Rattle.bound_stores.specs.Bound.{ChangesBound, bound_at, seen, with_bound};
+ghost use Rattle.bound_stores.specs.Bound.{bound_at, seen, with_bound};
 ghost use Rattle.bound_stores.specs.Changed.{alone, told_at};
 ghost use Rattle.bound_stores.specs.Named.{TellsWritten, WritesNamed, with_written};
-ghost use Rattle.bound_stores.specs.Settled.{AllSettled, is_idle};
+ghost use Rattle.bound_stores.specs.Settled.{AllSettled, IsReady, StaysSettled, is_idle};
 
 use crate::changed::Changed;
 use crate::settling;
 use binding_graph::{Bindings, Change, steps};
-use binding_values::Property;
 use plain_types::Items;
-use property_store::{Stores, Unwritten};
+use property_store::{Property, Stores, Unwritten};
 use refusals::{Code, Fault};
 use std::alloc::{AllocError, Global};
 use term_core::Expr;
@@ -28,10 +27,10 @@ use variant_value::Value;
 
 /// Whether nothing is bound and no group is open; what is true of every store is told with it.
 fn is_idle(stores: &Stores, bindings: &Bindings, place: usize) -> bool
-    requires store { IsPlace stores.now.table place }
+    requires store { IsPlace stores.now.shelves.table place }
     requires graph { IsPlace bindings.now.graphs place }
     ensures idle { result ≡ is_idle (graph_at bindings.now.graphs place) }
-    ensures sound { IsSound (store_at stores.now place) }
+    ensures sound { IsSound (store_at stores.now.shelves place) }
 {
     let _ = stores.count(place);
     bindings.count(place) == 0 && bindings.depth(place) == 0
@@ -50,9 +49,7 @@ fn alone(is_change: bool) -> Changed
 
 /// Takes out all objects of a place, with their bindings, and ends its groups.
 pub(crate) fn clear(stores: &mut Stores, bindings: &mut Bindings, place: usize)
-    requires store { IsPlace stores.old.table place }
-    requires graph { IsPlace bindings.old.graphs place }
-    requires all { AllSettled stores.old bindings.old }
+    requires ready { IsReady place stores.old bindings.old }
     ensures new { seen stores.new bindings.new ≡ with_bound (seen stores.old bindings.old) place [] no_graph }
     ensures all { AllSettled stores.new bindings.new }
 {
@@ -69,14 +66,11 @@ pub(crate) fn add_object(
     object: u32,
     class: u32,
 ) -> Result<(), AllocError>
-    requires store { IsPlace stores.old.table place }
-    requires graph { IsPlace bindings.old.graphs place }
-    requires all { AllSettled stores.old bindings.old }
-    requires absent { properties_of (store_at stores.old place) object ≡ None }
+    requires ready { IsReady place stores.old bindings.old }
+    requires absent { properties_of (store_at stores.old.shelves place) object ≡ None }
     ensures ok { OnOk result (seen stores.new bindings.new ≡ with_bound (seen stores.old bindings.old) place
-        (added (store_at stores.old place) object (fields_of stores.old class)) (bound_at (seen stores.old bindings.old) place)) }
-    ensures only { ChangesBound place (seen stores.old bindings.old) (seen stores.new bindings.new) }
-    ensures all { AllSettled stores.new bindings.new }
+        (added (store_at stores.old.shelves place) object (fields_of stores.old.shelves class)) (bound_at (seen stores.old bindings.old) place)) }
+    ensures stays { StaysSettled place stores.old stores.new bindings.old bindings.new }
 {
     steps();
     stores.add_object(place, object, class)?;
@@ -99,15 +93,13 @@ pub(crate) fn write(
     at: Property,
     value: Value,
 ) -> Result<Changed, AllocError>
-    requires store { IsPlace stores.old.table place }
-    requires graph { IsPlace bindings.old.graphs place }
-    requires all { AllSettled stores.old bindings.old }
-    requires fits { fitting (store_at stores.old place) at.object at.number value ≡ Some value }
+    requires ready { IsReady place stores.old bindings.old }
+    requires fits { fitting (store_at stores.old.shelves place) at.object at.number value ≡ Some value }
     requires short { IsShort value }
     ensures told { IfOk result (TellsWritten place at (seen stores.old bindings.old) (seen stores.new bindings.new)) }
     ensures ok { OnOk result (seen stores.new bindings.new ≡ with_written (seen stores.old bindings.old) place at value) }
-    ensures only { ChangesBound place (seen stores.old bindings.old) (seen stores.new bindings.new) }
-    ensures all { AllSettled stores.new bindings.new }
+    ensures idle { OnErr result (IsFalse (is_idle (graph_at bindings.old.graphs place))) }
+    ensures stays { StaysSettled place stores.old stores.new bindings.old bindings.new }
 {
     steps();
     if is_idle(stores, bindings, place) {
@@ -132,13 +124,11 @@ pub(crate) fn write_named(
     name: &str,
     value: Value,
 ) -> Result<Result<(usize, Changed), Unwritten>, AllocError>
-    requires store { IsPlace stores.old.table place }
-    requires graph { IsPlace bindings.old.graphs place }
-    requires all { AllSettled stores.old bindings.old }
+    requires ready { IsReady place stores.old bindings.old }
     requires short { IsShort value }
     ensures writes { IfOk result (λ answer. WritesNamed place object name.now value (seen stores.old bindings.old) answer (seen stores.new bindings.new)) }
-    ensures only { ChangesBound place (seen stores.old bindings.old) (seen stores.new bindings.new) }
-    ensures all { AllSettled stores.new bindings.new }
+    ensures idle { OnErr result (IsFalse (is_idle (graph_at bindings.old.graphs place))) }
+    ensures stays { StaysSettled place stores.old stores.new bindings.old bindings.new }
 {
     steps();
     if is_idle(stores, bindings, place) {
@@ -166,14 +156,12 @@ pub(crate) fn remove(
     place: usize,
     object: u32,
 ) -> Result<Items<Change>, AllocError>
-    requires store { IsPlace stores.old.table place }
-    requires graph { IsPlace bindings.old.graphs place }
-    requires all { AllSettled stores.old bindings.old }
+    requires ready { IsReady place stores.old bindings.old }
     ensures told { IfOk result (λ told. told ≡ told_at place (seen stores.old bindings.old) (seen stores.new bindings.new) None) }
     ensures ok { OnOk result (seen stores.new bindings.new ≡ with_bound (seen stores.old bindings.old) place
-        (without object (store_at stores.old place)) (without_object object (bound_at (seen stores.old bindings.old) place))) }
-    ensures only { ChangesBound place (seen stores.old bindings.old) (seen stores.new bindings.new) }
-    ensures all { AllSettled stores.new bindings.new }
+        (without object (store_at stores.old.shelves place)) (without_object object (bound_at (seen stores.old bindings.old) place))) }
+    ensures idle { OnErr result (IsFalse (is_idle (graph_at bindings.old.graphs place))) }
+    ensures stays { StaysSettled place stores.old stores.new bindings.old bindings.new }
 {
     steps();
     if is_idle(stores, bindings, place) {
@@ -197,19 +185,16 @@ pub(crate) fn bind(
     at: Property,
     expr: Expr,
 ) -> Result<Items<Change>, Fault>
-    requires store { IsPlace stores.old.table place }
-    requires graph { IsPlace bindings.old.graphs place }
-    requires all { AllSettled stores.old bindings.old }
-    requires bindable { IsTrue (is_bindable (store_at stores.old place) at) }
+    requires ready { IsReady place stores.old bindings.old }
+    requires bindable { IsTrue (is_bindable (store_at stores.old.shelves place) at) }
     requires limited { IsTrue (is_within_limits expr) }
     ensures refusal { RefusedBy (bind_refusal (bound_at (seen stores.old bindings.old) place) at) result }
     ensures told { IfOk result (λ told. told ≡ told_at place (seen stores.old bindings.old) (seen stores.new bindings.new) (Some at)) }
     ensures ok { OnOk result (seen stores.new bindings.new ≡ with_bound (seen stores.old bindings.old) place
-        (store_at stores.old place) (bound (bound_at (seen stores.old bindings.old) place) at expr)) }
+        (store_at stores.old.shelves place) (bound (bound_at (seen stores.old bindings.old) place) at expr)) }
     ensures refused { IfSome (bind_refusal (bound_at (seen stores.old bindings.old) place) at)
         (λ code. seen stores.new bindings.new ≡ seen stores.old bindings.old) }
-    ensures only { ChangesBound place (seen stores.old bindings.old) (seen stores.new bindings.new) }
-    ensures all { AllSettled stores.new bindings.new }
+    ensures stays { StaysSettled place stores.old stores.new bindings.old bindings.new }
 {
     match settling::bind(stores, bindings, place, at, expr) {
         Ok(told) => Ok(told),
@@ -228,14 +213,11 @@ pub(crate) fn unbind(
     place: usize,
     at: Property,
 ) -> Result<Items<Change>, AllocError>
-    requires store { IsPlace stores.old.table place }
-    requires graph { IsPlace bindings.old.graphs place }
-    requires all { AllSettled stores.old bindings.old }
+    requires ready { IsReady place stores.old bindings.old }
     ensures told { IfOk result (λ told. told ≡ told_at place (seen stores.old bindings.old) (seen stores.new bindings.new) (Some at)) }
     ensures ok { OnOk result (seen stores.new bindings.new ≡ with_bound (seen stores.old bindings.old) place
-        (taken (store_at stores.old place) (bound_at (seen stores.old bindings.old) place) at) (unbound (bound_at (seen stores.old bindings.old) place) at)) }
-    ensures only { ChangesBound place (seen stores.old bindings.old) (seen stores.new bindings.new) }
-    ensures all { AllSettled stores.new bindings.new }
+        (taken (store_at stores.old.shelves place) (bound_at (seen stores.old bindings.old) place) at) (unbound (bound_at (seen stores.old bindings.old) place) at)) }
+    ensures stays { StaysSettled place stores.old stores.new bindings.old bindings.new }
 {
     match settling::unbind(stores, bindings, place, at) {
         Ok(told) => Ok(told),
@@ -252,16 +234,13 @@ pub(crate) fn begin(
     bindings: &mut Bindings,
     place: usize,
 ) -> Result<u32, Fault>
-    requires store { IsPlace stores.old.table place }
-    requires graph { IsPlace bindings.old.graphs place }
-    requires all { AllSettled stores.old bindings.old }
+    requires ready { IsReady place stores.old bindings.old }
     ensures refusal { RefusedBy (begin_refusal (bound_at (seen stores.old bindings.old) place)) result }
     ensures depth { IfOk result (λ depth. depth ≡ (bound_at (seen stores.new bindings.new) place).depth) }
     ensures ok { OnOk result (seen stores.new bindings.new ≡ with_bound (seen stores.old bindings.old) place
-        (store_at stores.old place) (begun (store_at stores.old place) (bound_at (seen stores.old bindings.old) place))) }
+        (store_at stores.old.shelves place) (begun (store_at stores.old.shelves place) (bound_at (seen stores.old bindings.old) place))) }
     ensures err { OnErr result (seen stores.new bindings.new ≡ seen stores.old bindings.old) }
-    ensures only { ChangesBound place (seen stores.old bindings.old) (seen stores.new bindings.new) }
-    ensures all { AllSettled stores.new bindings.new }
+    ensures stays { StaysSettled place stores.old stores.new bindings.old bindings.new }
 {
     bindings.begin(place, stores)
 }
@@ -273,19 +252,16 @@ pub(crate) fn end(
     bindings: &mut Bindings,
     place: usize,
 ) -> Result<(u32, Items<Change>), Fault>
-    requires store { IsPlace stores.old.table place }
-    requires graph { IsPlace bindings.old.graphs place }
-    requires all { AllSettled stores.old bindings.old }
+    requires ready { IsReady place stores.old bindings.old }
     ensures refusal { RefusedBy (end_refusal (bound_at (seen stores.old bindings.old) place)) result }
     ensures depth { IfOk result (λ left. left.0 ≡ (bound_at (seen stores.new bindings.new) place).depth) }
     ensures told { IfOk result (λ left. left.1 ≡ (if is_open (bound_at (seen stores.new bindings.new) place) then []
-        else changes (bound_at (seen stores.old bindings.old) place).last (all_shown (store_at stores.new place) (bound_at (seen stores.new bindings.new) place).bindings) None)) }
+        else changes (bound_at (seen stores.old bindings.old) place).last (all_shown (store_at stores.new.shelves place) (bound_at (seen stores.new bindings.new) place).bindings) None)) }
     ensures ok { OnOk result (seen stores.new bindings.new ≡ with_bound (seen stores.old bindings.old) place
-        (store_at stores.old place) (closed (ended (bound_at (seen stores.old bindings.old) place)))) }
+        (store_at stores.old.shelves place) (closed (ended (bound_at (seen stores.old bindings.old) place)))) }
     ensures refused { IfSome (end_refusal (bound_at (seen stores.old bindings.old) place))
         (λ code. seen stores.new bindings.new ≡ seen stores.old bindings.old) }
-    ensures only { ChangesBound place (seen stores.old bindings.old) (seen stores.new bindings.new) }
-    ensures all { AllSettled stores.new bindings.new }
+    ensures stays { StaysSettled place stores.old stores.new bindings.old bindings.new }
 {
     match settling::end(stores, bindings, place) {
         Ok(left) => Ok(left),

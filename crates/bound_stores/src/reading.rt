@@ -12,9 +12,9 @@ ghost use Rattle.bound_stores.specs.Bound.{bound_at, stored_at};
 ghost use Rattle.bound_stores.specs.Reading.{bound_named, named_in};
 
 use crate::bound_stores::BoundStores;
-use binding_values::{BindingError, Property};
+use binding_values::BindingError;
 use plain_types::{Items, Text};
-use property_store::Stores;
+use property_store::{Property, Stores};
 use signature_core::Kind;
 use std::alloc::AllocError;
 use variant_value::Value;

@@ -1,7 +1,7 @@
 //! How a place is changed, and what is told of that.
 ghost use Rattle.std.specs.Prelude.{◌≡◌, [], IfOk, IfSome, IsTrue, Some, None, OnErr, OnOk, if◌then◌else◌};
 ghost use Rattle.std.specs.Result.{result_err};
-ghost use Rattle.places.specs.Table.{ChangesAt, IsPlace};
+ghost use Rattle.places.specs.Table.{IsPlace};
 ghost use Rattle.refusals.specs.Answers.{RefusedBy};
 ghost use Rattle.term_core.specs.Forms.{is_within_limits};
 ghost use Rattle.property_store.specs.Store.{fitting, without, written};
@@ -11,12 +11,11 @@ ghost use Rattle.binding_graph.specs.Graph.{all_shown, bind_refusal, bound, chan
 ghost use Rattle.binding_graph.specs.Step.{InStep};
 ghost use Rattle.binding_values.specs.Stored.{is_bindable};
 ghost use Rattle.binding_graph.specs.Table.{graph_at, with_graph};
-ghost use Rattle.bound_stores.specs.Settled.{IsSettled, settled_in};
+ghost use Rattle.bound_stores.specs.Settled.{ChangesInStep, IsSettledAt, LeavesStores, settled_in};
 
 use binding_graph::{BINDINGS, Bindings, Change, steps};
-use binding_values::Property;
 use plain_types::Items;
-use property_store::Stores;
+use property_store::{Property, Stores};
 use refusals::{Code, Fault};
 use std::alloc::AllocError;
 use term_core::Expr;
@@ -29,12 +28,12 @@ pub(crate) fn settle(
     place: usize,
     written: Option<Property>,
 ) -> Result<Items<Change>, AllocError>
-    requires store { IsPlace stores.old.table place }
+    requires store { IsPlace stores.old.shelves.table place }
     requires graph { IsPlace bindings.old.graphs place }
     requires step { InStep stores.old bindings.old }
-    ensures told { IfOk result (λ told. told ≡ settled_changes (store_at stores.old place) (graph_at bindings.old.graphs place) written) }
-    ensures ok { OnOk result (bindings.new.graphs ≡ with_graph bindings.old.graphs place (settled_in (store_at stores.old place) (graph_at bindings.old.graphs place))) }
-    ensures stores { stores.new ≡ stores.old }
+    ensures told { IfOk result (λ told. told ≡ settled_changes (store_at stores.old.shelves place) (graph_at bindings.old.graphs place) written) }
+    ensures ok { OnOk result (bindings.new.graphs ≡ with_graph bindings.old.graphs place (settled_in (store_at stores.old.shelves place) (graph_at bindings.old.graphs place))) }
+    ensures stores { stores.new.shelves ≡ stores.old.shelves }
     ensures err { OnErr result (bindings.new.graphs ≡ bindings.old.graphs) }
     ensures step { InStep stores.new bindings.new }
 {
@@ -51,12 +50,9 @@ pub(crate) fn note(
     bindings: &mut Bindings,
     place: usize,
 ) -> Result<(), AllocError>
-    requires store { IsPlace stores.old.table place }
-    requires graph { IsPlace bindings.old.graphs place }
-    requires step { InStep stores.old bindings.old }
-    requires settled { IsSettled (store_at stores.old place) (graph_at bindings.old.graphs place) }
-    ensures ok { OnOk result (bindings.new.graphs ≡ with_graph bindings.old.graphs place (settled_graph (store_at stores.old place) (graph_at bindings.old.graphs place))) }
-    ensures stores { stores.new ≡ stores.old }
+    requires ready { IsSettledAt place stores.old bindings.old }
+    ensures ok { OnOk result (bindings.new.graphs ≡ with_graph bindings.old.graphs place (settled_graph (store_at stores.old.shelves place) (graph_at bindings.old.graphs place))) }
+    ensures stores { stores.new.shelves ≡ stores.old.shelves }
     ensures err { OnErr result (bindings.new.graphs ≡ bindings.old.graphs) }
     ensures step { InStep stores.new bindings.new }
 {
@@ -85,21 +81,16 @@ pub(crate) fn bind(
     at: Property,
     expr: Expr,
 ) -> Result<Items<Change>, Fault>
-    requires store { IsPlace stores.old.table place }
-    requires graph { IsPlace bindings.old.graphs place }
-    requires step { InStep stores.old bindings.old }
-    requires settled { IsSettled (store_at stores.old place) (graph_at bindings.old.graphs place) }
-    requires bindable { IsTrue (is_bindable (store_at stores.old place) at) }
+    requires ready { IsSettledAt place stores.old bindings.old }
+    requires bindable { IsTrue (is_bindable (store_at stores.old.shelves place) at) }
     requires limited { IsTrue (is_within_limits expr) }
     ensures refused { RefusedBy (bind_refusal (graph_at bindings.old.graphs place) at) result }
     ensures unchanged { IfSome (bind_refusal (graph_at bindings.old.graphs place) at) (λ code. bindings.new.graphs ≡ bindings.old.graphs) }
     ensures told { IfOk result (λ told. told ≡ (if is_open (graph_at bindings.old.graphs place) then []
-        else changes (all_shown (store_at stores.old place) (graph_at bindings.old.graphs place).bindings)
-        (all_shown (store_at stores.old place) (bound (graph_at bindings.old.graphs place) at expr).bindings) (Some at))) }
-    ensures ok { OnOk result (bindings.new.graphs ≡ with_graph bindings.old.graphs place (settled_in (store_at stores.old place) (bound (graph_at bindings.old.graphs place) at expr))) }
-    ensures stores { stores.new ≡ stores.old }
-    ensures only { ChangesAt no_graph place bindings.old.graphs bindings.new.graphs }
-    ensures step { InStep stores.new bindings.new }
+        else changes (all_shown (store_at stores.old.shelves place) (graph_at bindings.old.graphs place).bindings)
+        (all_shown (store_at stores.old.shelves place) (bound (graph_at bindings.old.graphs place) at expr).bindings) (Some at))) }
+    ensures ok { OnOk result (bindings.new.graphs ≡ with_graph bindings.old.graphs place (settled_in (store_at stores.old.shelves place) (bound (graph_at bindings.old.graphs place) at expr))) }
+    ensures stays { LeavesStores place stores.old stores.new bindings.old bindings.new }
 {
     may_bind(bindings, place, at)?;
     note(stores, bindings, place)?;
@@ -114,20 +105,14 @@ pub(crate) fn unbind(
     place: usize,
     at: Property,
 ) -> Result<Items<Change>, AllocError>
-    requires store { IsPlace stores.old.table place }
-    requires graph { IsPlace bindings.old.graphs place }
-    requires step { InStep stores.old bindings.old }
-    requires settled { IsSettled (store_at stores.old place) (graph_at bindings.old.graphs place) }
+    requires ready { IsSettledAt place stores.old bindings.old }
     ensures told { IfOk result (λ told. told ≡ (if is_open (graph_at bindings.old.graphs place) then []
-        else changes (all_shown (store_at stores.old place) (graph_at bindings.old.graphs place).bindings)
-        (all_shown (taken (store_at stores.old place) (graph_at bindings.old.graphs place) at) (unbound (graph_at bindings.old.graphs place) at).bindings) (Some at))) }
+        else changes (all_shown (store_at stores.old.shelves place) (graph_at bindings.old.graphs place).bindings)
+        (all_shown (taken (store_at stores.old.shelves place) (graph_at bindings.old.graphs place) at) (unbound (graph_at bindings.old.graphs place) at).bindings) (Some at))) }
     ensures ok { OnOk result (bindings.new.graphs ≡ with_graph bindings.old.graphs place
-        (settled_in (taken (store_at stores.old place) (graph_at bindings.old.graphs place) at) (unbound (graph_at bindings.old.graphs place) at))) }
-    ensures stores { OnOk result (stores.new ≡ with_store stores.old place (taken (store_at stores.old place) (graph_at bindings.old.graphs place) at)) }
-    ensures layouts { stores.new.layouts ≡ stores.old.layouts }
-    ensures only { ChangesAt no_graph place bindings.old.graphs bindings.new.graphs }
-    ensures rest { ChangesAt [] place stores.old.table stores.new.table }
-    ensures step { InStep stores.new bindings.new }
+        (settled_in (taken (store_at stores.old.shelves place) (graph_at bindings.old.graphs place) at) (unbound (graph_at bindings.old.graphs place) at))) }
+    ensures stores { OnOk result (stores.new.shelves ≡ with_store stores.old.shelves place (taken (store_at stores.old.shelves place) (graph_at bindings.old.graphs place) at)) }
+    ensures stays { ChangesInStep place stores.old stores.new bindings.old bindings.new }
 {
     note(stores, bindings, place)?;
     bindings.take(place, stores, at)?;
@@ -143,22 +128,16 @@ pub(crate) fn write(
     at: Property,
     value: Value,
 ) -> Result<Items<Change>, AllocError>
-    requires store { IsPlace stores.old.table place }
-    requires graph { IsPlace bindings.old.graphs place }
-    requires step { InStep stores.old bindings.old }
-    requires settled { IsSettled (store_at stores.old place) (graph_at bindings.old.graphs place) }
-    requires fits { fitting (store_at stores.old place) at.object at.number value ≡ Some value }
+    requires ready { IsSettledAt place stores.old bindings.old }
+    requires fits { fitting (store_at stores.old.shelves place) at.object at.number value ≡ Some value }
     requires short { IsShort value }
     ensures told { IfOk result (λ told. told ≡ (if is_open (graph_at bindings.old.graphs place) then []
-        else changes (all_shown (store_at stores.old place) (graph_at bindings.old.graphs place).bindings)
-        (all_shown (written (store_at stores.old place) at.object at.number value) (unbound (graph_at bindings.old.graphs place) at).bindings) (Some at))) }
+        else changes (all_shown (store_at stores.old.shelves place) (graph_at bindings.old.graphs place).bindings)
+        (all_shown (written (store_at stores.old.shelves place) at.object at.number value) (unbound (graph_at bindings.old.graphs place) at).bindings) (Some at))) }
     ensures ok { OnOk result (bindings.new.graphs ≡ with_graph bindings.old.graphs place
-        (settled_in (written (store_at stores.old place) at.object at.number value) (unbound (graph_at bindings.old.graphs place) at))) }
-    ensures stores { OnOk result (stores.new ≡ with_store stores.old place (written (store_at stores.old place) at.object at.number value)) }
-    ensures layouts { stores.new.layouts ≡ stores.old.layouts }
-    ensures only { ChangesAt no_graph place bindings.old.graphs bindings.new.graphs }
-    ensures rest { ChangesAt [] place stores.old.table stores.new.table }
-    ensures step { InStep stores.new bindings.new }
+        (settled_in (written (store_at stores.old.shelves place) at.object at.number value) (unbound (graph_at bindings.old.graphs place) at))) }
+    ensures stores { OnOk result (stores.new.shelves ≡ with_store stores.old.shelves place (written (store_at stores.old.shelves place) at.object at.number value)) }
+    ensures stays { ChangesInStep place stores.old stores.new bindings.old bindings.new }
 {
     steps();
     note(stores, bindings, place)?;
@@ -174,20 +153,14 @@ pub(crate) fn remove(
     place: usize,
     object: u32,
 ) -> Result<Items<Change>, AllocError>
-    requires store { IsPlace stores.old.table place }
-    requires graph { IsPlace bindings.old.graphs place }
-    requires step { InStep stores.old bindings.old }
-    requires settled { IsSettled (store_at stores.old place) (graph_at bindings.old.graphs place) }
+    requires ready { IsSettledAt place stores.old bindings.old }
     ensures told { IfOk result (λ told. told ≡ (if is_open (graph_at bindings.old.graphs place) then []
-        else changes (all_shown (store_at stores.old place) (graph_at bindings.old.graphs place).bindings)
-        (all_shown (without object (store_at stores.old place)) (without_object object (graph_at bindings.old.graphs place)).bindings) None)) }
+        else changes (all_shown (store_at stores.old.shelves place) (graph_at bindings.old.graphs place).bindings)
+        (all_shown (without object (store_at stores.old.shelves place)) (without_object object (graph_at bindings.old.graphs place)).bindings) None)) }
     ensures ok { OnOk result (bindings.new.graphs ≡ with_graph bindings.old.graphs place
-        (settled_in (without object (store_at stores.old place)) (without_object object (graph_at bindings.old.graphs place)))) }
-    ensures stores { OnOk result (stores.new ≡ with_store stores.old place (without object (store_at stores.old place))) }
-    ensures layouts { stores.new.layouts ≡ stores.old.layouts }
-    ensures only { ChangesAt no_graph place bindings.old.graphs bindings.new.graphs }
-    ensures rest { ChangesAt [] place stores.old.table stores.new.table }
-    ensures step { InStep stores.new bindings.new }
+        (settled_in (without object (store_at stores.old.shelves place)) (without_object object (graph_at bindings.old.graphs place)))) }
+    ensures stores { OnOk result (stores.new.shelves ≡ with_store stores.old.shelves place (without object (store_at stores.old.shelves place))) }
+    ensures stays { ChangesInStep place stores.old stores.new bindings.old bindings.new }
 {
     steps();
     note(stores, bindings, place)?;
@@ -203,17 +176,13 @@ pub(crate) fn end(
     bindings: &mut Bindings,
     place: usize,
 ) -> Result<(u32, Items<Change>), Fault>
-    requires store { IsPlace stores.old.table place }
-    requires graph { IsPlace bindings.old.graphs place }
-    requires step { InStep stores.old bindings.old }
+    requires ready { IsSettledAt place stores.old bindings.old }
     ensures refused { RefusedBy (end_refusal (graph_at bindings.old.graphs place)) result }
     ensures unchanged { IfSome (end_refusal (graph_at bindings.old.graphs place)) (λ code. bindings.new.graphs ≡ bindings.old.graphs) }
     ensures depth { IfOk result (λ left. left.0 ≡ (ended (graph_at bindings.old.graphs place)).depth) }
-    ensures told { IfOk result (λ told. told.1 ≡ settled_changes (store_at stores.old place) (ended (graph_at bindings.old.graphs place)) None) }
-    ensures ok { OnOk result (bindings.new.graphs ≡ with_graph bindings.old.graphs place (settled_in (store_at stores.old place) (ended (graph_at bindings.old.graphs place)))) }
-    ensures stores { stores.new ≡ stores.old }
-    ensures only { ChangesAt no_graph place bindings.old.graphs bindings.new.graphs }
-    ensures step { InStep stores.new bindings.new }
+    ensures told { IfOk result (λ told. told.1 ≡ settled_changes (store_at stores.old.shelves place) (ended (graph_at bindings.old.graphs place)) None) }
+    ensures ok { OnOk result (bindings.new.graphs ≡ with_graph bindings.old.graphs place (settled_in (store_at stores.old.shelves place) (ended (graph_at bindings.old.graphs place)))) }
+    ensures stays { LeavesStores place stores.old stores.new bindings.old bindings.new }
 {
     let left = bindings.end(place, stores)?;
     let told = settle(stores, bindings, place, None)?;

@@ -2,7 +2,7 @@
 use Rattle.std.proofs.Common.{◌≡◌, ◌<◌, ◌≤◌, ◌+◌, ℕ, List, [], ◌∷◌, length, map, drop, get_or, sym, ap, ◌∙◌}
 use Rattle.std.proofs.lemmas.List.{drop_all}
 use Rattle.binding_values.specs.declared.property.BindingError.{BindingError}
-use Rattle.binding_values.specs.declared.property.Property.{Property}
+use Rattle.property_store.specs.declared.property.Property.{Property}
 use Rattle.thread_model.specs.declared.line.Line.TheVariants.{BindingWarning}
 use Rattle.thread_model.specs.declared.post.Post.{Post}
 use Rattle.thread_model.specs.Agenda.{binding_line}

@@ -5,9 +5,10 @@ ghost use Rattle.thread_model.specs.Agenda.{call_line, functor_line};
 ghost use Rattle.class_table.specs.Sound.{IsMethod};
 ghost use Rattle.nested_calls.specs.Telling.{Warns, fresh_telling, spent, with_line};
 
-use binding_values::{BindingError, Property};
+use binding_values::BindingError;
 use class_table::Method;
 use plain_types::{Items, Text};
+use property_store::Property;
 use refusals::{Code, Fault};
 use session_effects::{Setup, Slot};
 use std::alloc::{AllocError, Global};

@@ -1,8 +1,17 @@
 pub mod ListLemmas
+pub mod ChainLemmas
+pub mod LinkLemmas
+pub mod MarkLemmas
 pub mod StoreLemmas
 pub mod PlaceLemmas
 pub mod DynamicLemmas
 pub mod SearchLemmas
 pub mod KindLemmas
 pub mod WriteLemmas
+pub mod StoredLemmas
+pub mod HeadLemmas
+pub mod WrittenLemmas
+pub mod TakenLemmas
+pub mod ComeLemmas
+pub mod DrainLemmas
 pub mod SoundLemmas

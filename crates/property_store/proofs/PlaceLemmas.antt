@@ -1,6 +1,6 @@
 -- The stores of places in rows.
-use Rattle.std.proofs.Common.{◌≡◌, ◌∙◌, ℕ, ◌<◌, ◌==◌, nat_lt, not, Bool, true, false, cond, List, [], ◌∷◌, ◌++◌, Some, None, filter, find, length, get_or, refl, sym, ap, subst, arith}
-use Rattle.std.specs.List.{AllPairs}
+use Rattle.std.proofs.Common.{Result, Ok, Err, OnErr, ◌≡◌, ◌∙◌, ℕ, ◌<◌, ◌==◌, nat_lt, not, Bool, true, false, cond, List, [], ◌∷◌, ◌++◌, Some, None, filter, find, length, get_or, refl, sym, ap, subst, arith}
+use Rattle.std.specs.List.{All, AllPairs}
 use Rattle.std.specs.Option.{option_map}
 use Rattle.std.proofs.lemmas.List.{get_or-map, length-map, map-set}
 use Rattle.std.proofs.lemmas.List.Elements.{All-append, All-filter, All-map, All-set}
@@ -13,7 +13,7 @@ use Rattle.property_store.specs.declared.row.Row.{Row}
 use Rattle.property_store.specs.Inside.{AreKept, AreRows, row_of, shelves_of, shown, store_of}
 use Rattle.property_store.specs.Store.{AreSound, Properties, Store, added, changed, fields_in, fresh, properties_of}
 use Rattle.property_store.specs.Store as store
-use Rattle.property_store.specs.Table.{Shelves, store_at, with_store}
+use Rattle.property_store.specs.Table.{Shelves, Stock, store_at, with_store}
 use Rattle.property_store.proofs.ListLemmas.{found, map_same, mapped, unmapped}
 use Rattle.property_store.proofs.KindLemmas.{fresh_sound}
 use Rattle.property_store.proofs.StoreLemmas.{IsRowOf, absent_none, absent_unchanged, added_shown, changed_shown, number, properties_shown, row_stands, there}
@@ -44,6 +44,16 @@ module _ {layouts : List (List Field)} (rows : Table (List (Keyed Row))) {seen :
 pub unchanged_store : (seen : Shelves) (place : ℕ) (store : Store) → store ≡ store_at seen place → seen ≡ with_store seen place store
 unchanged_store seen place store is = sym (ap (with_store seen place) is ∙ ap {B = Shelves} (λ table. record seen { table = table }) (with_same [] seen.table place))
 
+-- what holds of all rows and of one that comes
+pub inserted_all : (P : Row → Type 0) (rows : List (Keyed Row)) → All (λ keyed. P keyed.row) rows → (key : ℕ) (row : Row) → P row → All (λ keyed. P keyed.row) (inserted number rows key row)
+inserted_all P rows all key row is =
+    All-append (λ (keyed : Keyed Row). P keyed.row) (filter (λ keyed. nat_lt keyed.row.object row.object) rows) (record { key = key; row = row } ∷ filter (λ keyed. nat_lt row.object keyed.row.object) rows)
+    (All-filter (λ (keyed : Keyed Row). nat_lt keyed.row.object row.object) (λ keyed. P keyed.row) rows all)
+    (All-append (λ (keyed : Keyed Row). P keyed.row) (record { key = key; row = row } ∷ []) (filter (λ keyed. nat_lt row.object keyed.row.object) rows) (λ k d within. subst (λ (keyed : Keyed Row). P keyed.row) (alone k d within) is) (All-filter (λ (keyed : Keyed Row). nat_lt row.object keyed.row.object) (λ keyed. P keyed.row) rows all))
+  where
+    alone : (k : ℕ) (d : Keyed Row) → k < 1 → record { key = key; row = row } ≡ get_or (record { key = key; row = row } ∷ []) k d
+    alone k d within = let first : k ≡ 0 = omega (arith, within) in rw first refl
+
 module _ (layouts : List (List Field)) where
   module _ (rows : List (Keyed Row)) (sound : AreRows layouts rows) where
     pub with_row_sound : (key : ℕ) (row : Row) → AreSound (shown layouts row) → AreRows layouts (with_row rows key row)
@@ -57,24 +67,20 @@ module _ (layouts : List (List Field)) where
     without_sound key = All-filter (λ (keyed : Keyed Row). not (keyed.key == key)) (λ (keyed : Keyed Row). AreSound (shown layouts keyed.row)) rows sound
 
     pub inserted_sound : (key : ℕ) (row : Row) → AreSound (shown layouts row) → AreRows layouts (inserted number rows key row)
-    inserted_sound key row is =
-        let P : Keyed Row → Type 0 = λ keyed. AreSound (shown layouts keyed.row) in
-        All-append P (filter (λ keyed. nat_lt keyed.row.object row.object) rows) (record { key = key; row = row } ∷ filter (λ keyed. nat_lt row.object keyed.row.object) rows)
-        (All-filter (λ (keyed : Keyed Row). nat_lt keyed.row.object row.object) P rows sound)
-        (All-append P (record { key = key; row = row } ∷ []) (filter (λ keyed. nat_lt row.object keyed.row.object) rows) (λ k d within. subst P (alone k d within) is) (All-filter (λ (keyed : Keyed Row). nat_lt row.object keyed.row.object) P rows sound))
-      where
-        alone : (k : ℕ) (d : Keyed Row) → k < 1 → record { key = key; row = row } ≡ get_or (record { key = key; row = row } ∷ []) k d
-        alone k d within = let first : k ≡ 0 = omega (arith, within) in rw first refl
+    inserted_sound key row is = inserted_all (λ row. AreSound (shown layouts row)) rows sound key row is
 
   pub kept_with : (rows : Table (List (Keyed Row))) → AreKept layouts rows → (place : ℕ) (new : Table (List (Keyed Row))) (list : List (Keyed Row)) → new ≡ with_place rows place list → AreRows layouts list → AreKept layouts new
   kept_with rows kept place new list e sound = subst (AreKept layouts) (sym e) (All-set (AreRows layouts) rows.places place list sound kept)
 
 -- a row that stands under a key is one of the rows
-pub under_sound : (layouts : List (List Field)) (rows : List (Keyed Row)) → AreRows layouts rows → (key : ℕ) (row : Row) → row_under rows key ≡ Some row → AreSound (shown layouts row)
-under_sound layouts rows sound key row under =
+pub under_all : (P : Row → Type 0) (rows : List (Keyed Row)) → All (λ keyed. P keyed.row) rows → (key : ℕ) (row : Row) → row_under rows key ≡ Some row → P row
+under_all P rows all key row under =
     let there = mapped (λ (keyed : Keyed Row). keyed.row) (find (λ keyed. keyed.key == key) rows) row under in
     let is = found (λ (keyed : Keyed Row). keyed.key == key) rows there.x there.is in
-    subst (λ (r : Row). AreSound (shown layouts r)) there.gives (subst (λ (keyed : Keyed Row). AreSound (shown layouts keyed.row)) (is.is there.x) (sound is.at there.x is.within))
+    subst P there.gives (subst (λ (keyed : Keyed Row). P keyed.row) (is.is there.x) (all is.at there.x is.within))
+
+pub under_sound : (layouts : List (List Field)) (rows : List (Keyed Row)) → AreRows layouts rows → (key : ℕ) (row : Row) → row_under rows key ≡ Some row → AreSound (shown layouts row)
+under_sound layouts rows sound = under_all (λ row. AreSound (shown layouts row)) rows sound
 
 pub store_sound : (layouts : List (List Field)) (rows : List (Keyed Row)) → table.IsSound number rows → AreRows layouts rows → store.IsSound (store_of layouts rows)
 store_sound layouts rows sound each = record { rising = rising rows sound; each = All-map AreSound (λ (keyed : Keyed Row). shown layouts keyed.row) rows each }
@@ -133,7 +139,7 @@ module _ {layouts : List (List Field)} {rows new : Table (List (Keyed Row))} {se
   each_sound : AreRows layouts (rows_at rows place)
   each_sound = it.kept place [] (rows_open rows it.view_is place it.is_place)
 
-  is_row : IsRowOf (rows_at rows place) key n old
+  pub is_row : IsRowOf (rows_at rows place) key n old
   is_row = row_stands (rows_at rows place) it.sound key n old it.found under_old
 
   pub old_there : properties_of (store_at seen place) n ≡ Some (shown layouts old)
@@ -189,3 +195,16 @@ module _ {layouts : List (List Field)} (rows : Table (List (Keyed Row))) {seen :
         ∙ (ap (λ of. filter (λ (of : Properties). nat_lt of.object n) (store_of layouts (rows_at rows place)) ++ of ∷ filter (λ (of : Properties). nat_lt n of.object) (store_of layouts (rows_at rows place))) is
         ∙ (ap (λ s. added s n (fields_in layouts class)) (sym there)
         ∙ ap (λ (s : Shelves). added (store_at seen place) n (fields_in s.layouts class)) view_is))))
+
+pub on_err : {T E : Type 0} {A B : Type 0} (result : Result T E) → (A → B) → OnErr result A → OnErr result B
+on_err (Ok value) f h = tt
+on_err (Err error) f h = f h
+
+pub shelves_seen : {inside seen : Stock} → inside ≡ seen → inside.shelves ≡ seen.shelves
+shelves_seen view_is = ap (λ (s : Stock). s.shelves) view_is
+
+pub marks_seen : {inside seen : Stock} → inside ≡ seen → inside.marks ≡ seen.marks
+marks_seen view_is = ap (λ (s : Stock). s.marks) view_is
+
+pub stock_same : {a b : Stock} → a.shelves ≡ b.shelves → a.marks ≡ b.marks → a ≡ b
+stock_same shelves marks = λ i. record { shelves = shelves i; marks = marks i }

@@ -63,6 +63,10 @@ module _ (rows : List (Keyed Row)) (sound : IsSound number rows) where
             (cases_eq k here.at);
       }
 
+-- an object that is not there is not missed
+pub without_absent : (list : store.Store) (n : ℕ) → properties_of list n ≡ None → store.without n list ≡ list
+without_absent list n none = filter_all (λ (of : Properties). not (of.object == n)) list (λ k d within. let other = none_passes (λ (of : Properties). of.object == n) list none k d within in rw other refl)
+
 -- the properties that rows show
 module _ (layouts : List (List Field)) (rows : List (Keyed Row)) where
   pub properties_shown : (n : ℕ) → properties_of (store_of layouts rows) n ≡ option_map (shown layouts) (row_of rows n)

@@ -15,7 +15,9 @@ use Rattle.variant_value.specs.declared.value.Value.{Value}
 use Rattle.variant_value.specs.Values.{IsShort, converted}
 use Rattle.property_store.specs.declared.dynamic.Named.{Named}
 use Rattle.property_store.specs.declared.field.Field.{Field}
+use Rattle.property_store.specs.declared.link.Head.{Head}
 use Rattle.property_store.specs.declared.row.Row.{Row}
+use Rattle.property_store.specs.declared.row.Stored.{Stored}
 use Rattle.property_store.specs.declared.unwritten.Unwritten.{Unwritten}
 use Rattle.property_store.specs.declared.unwritten.Unwritten.TheVariants.{Refused, Undeclared}
 use Rattle.property_store.specs.Inside.{AreKept, shelves_of, shown}
@@ -59,13 +61,30 @@ module _ (seen : Shelves) (place n : ℕ) (value : Value) (none : properties_of 
   pub nothing_named : (name : List ℕ) → IsWrittenNamed seen seen place n name value (Err (Undeclared value))
   nothing_named name = record { answer = rw none refl; new_is = unchanged_store seen place _ (rw none refl); err = refl }
 
-standing : {A : Type 0} (xs : List A) (i : ℕ) → i < length xs → (x : A) × (slice_get xs i ≡ Some x)
+pub standing : {A : Type 0} (xs : List A) (i : ℕ) → i < length xs → (x : A) × (slice_get xs i ≡ Some x)
 standing [] i within = absurd (omega (arith, within))
 standing (x ∷ xs) zero within = (x, refl)
 standing (x ∷ xs) (suc i) within = standing xs i (omega (arith, within))
 
-numbered_err : (number : ℕ) (P : Type 0) (done : Result Bool Code) → OnErr done P → OnErr (numbered number done) P
-numbered_err number P (Ok change) h = tt
+-- what is told of what was stored
+abbrev pub told : Result Stored Code → Result Bool Code
+told (Ok stored) = Ok stored.is_change
+told (Err code) = Err code
+
+abbrev pub told_named : Result (ℕ × Stored) Unwritten → Result (ℕ × Bool) Unwritten
+told_named (Ok stored) = Ok (stored.0, stored.1.is_change)
+told_named (Err unwritten) = Err unwritten
+
+told_err : (done : Result Stored Code) → result_err (told done) ≡ result_err done
+told_err (Ok stored) = refl
+told_err (Err code) = refl
+
+told_answer : (answer : Bool) (done : Result Stored Code) → IfOk done (λ stored. stored.is_change ≡ answer) → IfOk (told done) (λ change. change ≡ answer)
+told_answer answer (Ok stored) is = is
+told_answer answer (Err code) is = is
+
+numbered_err : (number : ℕ) (P : Type 0) (done : Result Stored Code) → OnErr (told done) P → OnErr (told_named (numbered number done)) P
+numbered_err number P (Ok stored) h = tt
 numbered_err number P (Err code) h = h
 
 module _ {layouts : List (List Field)} {rows new : Table (List (Keyed Row))} {seen : Shelves} {place key n : ℕ} {old row : Row} (it : IsChanged layouts rows new seen place key n old row) where
@@ -75,12 +94,12 @@ module _ {layouts : List (List Field)} {rows new : Table (List (Keyed Row))} {se
   abbrev fields : List Field
   fields = fields_in layouts old.class
 
-  pub row_written : {number : ℕ} {value : Value} {result : Result Bool Code} → IsStored fields number value old row result → IsWritten seen (shelves_of layouts new) place n number value result
-  row_written {number} {value} {result} said = record {
-    refused = rw (old_there it) said.refused;
-    answer = rw (old_there it) said.answer;
+  pub row_written : {number : ℕ} {value : Value} {head : Head} {result : Result Stored Code} → IsStored fields number value head old row result → IsWritten seen (shelves_of layouts new) place n number value (told result)
+  row_written {number} {value} {head} {result} said = record {
+    refused = rw (old_there it) (told_err result ∙ said.refused);
+    answer = rw (old_there it) (told_answer _ result said.answer);
     new_is = rw (old_there it) (by_fit (fit_in fields number value) (ap (shown layouts) said.stored));
-    err = by result said.refused;
+    err = by (told result) (told_err result ∙ said.refused);
   }
     where
       by_fit : (fit : Option Value) → shown layouts row ≡ record (shown layouts old) { values = with_fit fit number old.values }
@@ -100,36 +119,36 @@ module _ {layouts : List (List Field)} {rows new : Table (List (Keyed Row))} {se
       by (Ok answer) refused = tt
       by (Err code) refused = view_same it (ap (shown layouts) said.stored ∙ ap {B = Properties} (λ fit. record (shown layouts old) { values = with_fit fit number old.values }) (unfit code (slice_get fields number) refused))
 
-  pub row_kept : {number : ℕ} {value : Value} {result : Result Bool Code} → IsStored fields number value old row result → IsShort value → AreKept layouts new
+  pub row_kept : {number : ℕ} {value : Value} {head : Head} {result : Result Stored Code} → IsStored fields number value head old row result → IsShort value → AreKept layouts new
   row_kept {number} {value} said short = kept_under it (subst AreSound (sym (ap (shown layouts) said.stored)) (stored_sound (shown layouts old) number value (old_sound it) short))
 
-  pub name_written : (name : List ℕ) (value : Value) (result : Result (ℕ × Bool) Unwritten) → IsNamed fields name value old row result → IsWrittenNamed seen (shelves_of layouts new) place n name value result
-  name_written name value result = by (field_number name fields) refl
+  pub name_written : (name : List ℕ) (value : Value) (head : Head) (result : Result (ℕ × Stored) Unwritten) → IsNamed fields name value head old row result → IsWrittenNamed seen (shelves_of layouts new) place n name value (told_named result)
+  name_written name value head result = by (field_number name fields) refl
     where
       declared : (found : Option ℕ) → field_number name fields ≡ found → declared_at store n name ≡ option_and_then (λ number. option_map (λ (field : Field). (number, field.kind)) (slice_get fields number)) found
       declared found e = rw (old_there it) (ap (option_and_then (λ number. option_map (λ (field : Field). (number, field.kind)) (slice_get fields number))) e)
 
-      answered : (number : ℕ) (done : Result Bool Code) → result_err done ≡ write_refusal store n number value → IfOk done (λ answer. answer ≡ is_change store n number value)
-          → numbered number done ≡ option_map_or (λ code. Err (Refused code)) (write_refusal store n number value) (Ok (number, is_change store n number value))
-      answered number (Ok change) refused answer = (λ i. option_map_or (λ code. Err (Refused code)) (refused i) (Ok (number, answer i)))
+      answered : (number : ℕ) (done : Result Stored Code) → result_err (told done) ≡ write_refusal store n number value → IfOk (told done) (λ answer. answer ≡ is_change store n number value)
+          → told_named (numbered number done) ≡ option_map_or (λ code. Err (Refused code)) (write_refusal store n number value) (Ok (number, is_change store n number value))
+      answered number (Ok stored) refused answer = (λ i. option_map_or (λ code. Err (Refused code)) (refused i) (Ok (number, answer i)))
       answered number (Err code) refused answer = (λ i. option_map_or (λ code. Err (Refused code)) (refused i) (Ok (number, is_change store n number value)))
 
-      by : (found : Option ℕ) → field_number name fields ≡ found → IsNumbered fields value old row result found → IsWrittenNamed seen (shelves_of layouts new) place n name value result
+      by : (found : Option ℕ) → field_number name fields ≡ found → IsNumbered fields value head old row result found → IsWrittenNamed seen (shelves_of layouts new) place n name value (told_named result)
       by None e said =
           let none : declared_at store n name ≡ None = declared None e in
           let same = view_same it (ap (shown layouts) said.1) in
-          subst (IsWrittenNamed seen (shelves_of layouts new) place n name value) (sym said.0) (record { answer = rw none refl; new_is = same ∙ unchanged_store seen place _ (rw none refl); err = same })
+          subst (IsWrittenNamed seen (shelves_of layouts new) place n name value) (sym (ap told_named said.0)) (record { answer = rw none refl; new_is = same ∙ unchanged_store seen place _ (rw none refl); err = same })
       by (Some number) e said =
           let there = standing fields number said.0 in
           let some : declared_at store n name ≡ Some (number, there.0.kind) = declared (Some number) e ∙ ap (option_map (λ (field : Field). (number, field.kind))) there.1 in
           let done = row_written said.1.2 in
-          subst (IsWrittenNamed seen (shelves_of layouts new) place n name value) (sym said.1.1)
+          subst (IsWrittenNamed seen (shelves_of layouts new) place n name value) (sym (ap told_named said.1.1))
           (record { answer = rw some (answered number said.1.0 done.refused done.answer); new_is = rw some done.new_is; err = numbered_err number _ said.1.0 done.err })
 
-  pub name_kept : (name : List ℕ) (value : Value) (result : Result (ℕ × Bool) Unwritten) → IsNamed fields name value old row result → IsShort value → AreKept layouts new
-  name_kept name value result said short = by (field_number name fields) said
+  pub name_kept : (name : List ℕ) (value : Value) (head : Head) (result : Result (ℕ × Stored) Unwritten) → IsNamed fields name value head old row result → IsShort value → AreKept layouts new
+  name_kept name value head result said short = by (field_number name fields) said
     where
-      by : (found : Option ℕ) → IsNumbered fields value old row result found → AreKept layouts new
+      by : (found : Option ℕ) → IsNumbered fields value head old row result found → AreKept layouts new
       by None said = kept_under it (subst AreSound (sym (ap (shown layouts) said.1)) (old_sound it))
       by (Some number) said = row_kept said.1.2 short
 

@@ -1,12 +1,20 @@
 -- How stores stand in rows. No public clause cites this module.
-use Rattle.std.specs.Prelude.{ℕ, ◌==◌, ◌<◌, ◌≤◌, List, length, All, Option, find, map, nat_lt, option_map}
-use Rattle.std.specs.List.{AllWithin}
+use Rattle.std.specs.Prelude.{ℕ, ◌≡◌, ◌==◌, ◌<◌, ◌≤◌, if◌then◌else◌, List, length, All, Option, filter, find, map, min, nat_lt, option_and_then, option_map, slice_get, slice_index_or, slice_set}
+use Rattle.std.specs.List.{AllWithin, flat_map, range_with_len}
+use Rattle.places.specs.Joined.{joined}
 use Rattle.places.specs.Table.{Table}
-use Rattle.shared_rows.specs.Rows.{Keyed}
+use Rattle.shared_rows.specs.Rows.{Keyed, rows_at}
 use Rattle.property_store.specs.declared.field.Field.{Field}
+use Rattle.property_store.specs.declared.link.Head.{Head}
+use Rattle.property_store.specs.declared.link.Head.TheVariants.{None}
+use Rattle.property_store.specs.declared.link.Link.{Link}
+use Rattle.property_store.specs.declared.link.Link.TheVariants.{Unmarked}
+use Rattle.property_store.specs.declared.property.Property.{Property}
 use Rattle.property_store.specs.declared.row.Row.{Row}
+use Rattle.property_store.specs.Chain.{AreLinked, first_of, is_all, is_linked}
+use Rattle.property_store.specs.Marks.{Marks}
 use Rattle.property_store.specs.Store.{AreSound, Properties, Store, fields_in}
-use Rattle.property_store.specs.Table.{Shelves}
+use Rattle.property_store.specs.Table.{Shelves, Stock}
 
 -- the row of an object
 abbrev pub row_of : List (Keyed Row) → ℕ → Option Row
@@ -21,6 +29,41 @@ pub record IsCountUpTo (rows : List (Keyed Row)) (last count : ℕ) : Type 0 whe
   pub within : count ≤ length rows
   pub below : AllWithin (λ keyed. keyed.row.object ≤ last) rows 0 count
   pub above : AllWithin (λ keyed. last < keyed.row.object) rows count (length rows)
+
+-- the link of a property
+abbrev pub link_at : List (Keyed Row) → Property → Option Link
+link_at rows q = option_and_then (λ row. slice_get row.links q.number) (row_of rows q.object)
+
+-- with the mark of a property taken
+abbrev pub unlinked : Property → Row → Row
+unlinked at row = record row { links = slice_set row.links at.number Unmarked }
+
+abbrev pub without_link : Property → List (Keyed Row) → List (Keyed Row)
+without_link at rows = map (λ keyed. if keyed.row.object == at.object then record { key = keyed.key; row = unlinked at keyed.row } else keyed) rows
+
+-- the declared properties of an object, and those of all
+abbrev pub numbers_of : ℕ → ℕ → List Property
+numbers_of object count = map {B = Property} (λ number. record { object = object; number = number }) (range_with_len 0 count)
+
+abbrev pub properties_in : List (Keyed Row) → List Property
+properties_in rows = flat_map (λ keyed. numbers_of keyed.row.object (length keyed.row.links)) rows
+
+-- the marks of a place
+abbrev pub marks_of : List (Keyed Row) → Head → Marks
+marks_of rows head = record { all = is_all head; each = filter (λ q. is_linked (link_at rows q)) (properties_in rows) }
+
+-- the head of a place
+abbrev pub head_at : Table Head → ℕ → Head
+head_at heads place = slice_index_or heads.places place None
+
+-- the head leads over all properties of a place that are linked; there is a link for each value
+pub record AreChained (rows : List (Keyed Row)) (head : Head) : Type 0 where
+  pub as_many : All (λ keyed. length keyed.row.links ≡ length keyed.row.values) rows
+  pub linked : AreLinked (link_at rows) (first_of head)
+
+-- only as many places can be opened without memory as there is room for heads
+abbrev pub limited : Table (List (Keyed Row)) → ℕ → Table (List (Keyed Row))
+limited rows room = record { places = rows.places; room = min rows.room room }
 
 module _ (layouts : List (List Field)) where
   -- what a row holds
@@ -40,3 +83,12 @@ module _ (layouts : List (List Field)) where
   -- and those of all places
   abbrev pub AreKept : Table (List (Keyed Row)) → Type 0
   AreKept rows = All AreRows rows.places
+
+  pub record IsKept (rows : Table (List (Keyed Row))) (heads : Table Head) : Type 0 where
+    pub sound : AreKept rows
+    pub same : length heads.places ≡ length rows.places
+    pub chained : (place : ℕ) → AreChained (rows_at rows place) (head_at heads place)
+
+  -- what contracts see
+  abbrev pub stock_of : Table (List (Keyed Row)) → Table Head → Stock
+  stock_of rows heads = record { shelves = shelves_of (limited rows heads.room); marks = joined marks_of rows.places heads.places }

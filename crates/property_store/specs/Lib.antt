@@ -1,5 +1,9 @@
 pub mod Store
 pub mod Named
+pub mod Property
+pub mod Marks
+pub mod Laws
 pub mod Table
+pub mod Chain
 pub mod Inside
 pub mod Storing

@@ -3,6 +3,8 @@ use Rattle.std.specs.Prelude.{◌≡◌, ◌<◌, ℕ, Bool, false, not, is_some
 use Rattle.std.specs.Option.{option_map_or}
 use Rattle.std.specs.Result.{result_err}
 use Rattle.signature_core.specs.declared.kind.Kind.{Kind}
+use Rattle.places.specs.Table.{Table, with_place}
+use Rattle.shared_rows.specs.Rows.{Keyed, row_under, rows_at, with_row}
 use Rattle.refusals.specs.Answers.{RefusedBy}
 use Rattle.refusals.specs.declared.code.Code.{Code}
 use Rattle.refusals.specs.declared.code.Code.TheVariants.{BadValue}
@@ -10,10 +12,15 @@ use Rattle.refusals.specs.declared.fault.Fault.{Fault}
 use Rattle.variant_value.specs.declared.value.Value.{Value}
 use Rattle.variant_value.specs.Values.{converted, is_same}
 use Rattle.property_store.specs.declared.field.Field.{Field}
+use Rattle.property_store.specs.declared.link.Head.{Head}
+use Rattle.property_store.specs.declared.link.Link.{Link}
+use Rattle.property_store.specs.declared.link.Link.TheVariants.{Unmarked}
 use Rattle.property_store.specs.declared.row.Row.{Row}
+use Rattle.property_store.specs.declared.row.Stored.{Stored}
 use Rattle.property_store.specs.declared.unwritten.Unwritten.{Unwritten}
 use Rattle.property_store.specs.declared.unwritten.Unwritten.TheVariants.{Refused, Undeclared}
-use Rattle.property_store.specs.Store.{field_number, refusal_of_name, with_name, without_name}
+use Rattle.property_store.specs.Chain.{IsMarking}
+use Rattle.property_store.specs.Store.{field_number, fields_in, refusal_of_name, with_name, without_name}
 
 -- the value as one of the property's kind
 abbrev pub fit_in : List Field → ℕ → Value → Option Value
@@ -34,25 +41,49 @@ is_other fit number values = option_map_or (λ fit. option_map_or (λ stands. no
 abbrev pub with_fit : Option Value → ℕ → List Value → List Value
 with_fit fit number values = option_map_or (λ fit. slice_set values number fit) fit values
 
--- a value was stored among those of a row, or is refused as it is, and all else stays
-pub record IsStored (fields : List Field) (number : ℕ) (value : Value) (old new : Row) (result : Result Bool Code) : Type 0 where
+-- a value and a link stand for each declared property
+pub record AreAsMany (fields : List Field) (row : Row) : Type 0 where
+  pub values : length row.values ≡ length fields
+  pub links : length row.links ≡ length fields
+
+-- was the property linked
+abbrev pub was_linked : Result Stored Code → Bool
+was_linked (Ok stored) = stored.is_linked
+was_linked (Err code) = false
+
+-- where a value fits its property is marked, and else no property is
+abbrev pub IsMarkedWith : Option Value → Head → ℕ → List Link → List Link → Bool → Type 0
+IsMarkedWith (Some fit) head number old new linked = IsMarking head number old new linked
+IsMarkedWith None head number old new linked = (new ≡ old) × (linked ≡ false)
+
+-- a value was stored among those of a row, and its property marked, or it is refused as it is, and all else stays
+pub record IsStored (fields : List Field) (number : ℕ) (value : Value) (head : Head) (old new : Row) (result : Result Stored Code) : Type 0 where
   pub refused : result_err result ≡ refusal_in fields number value
-  pub answer : IfOk result (λ answer. answer ≡ is_other (fit_in fields number value) number old.values)
-  pub stored : new ≡ record old { values = with_fit (fit_in fields number value) number old.values }
+  pub answer : IfOk result (λ stored. stored.is_change ≡ is_other (fit_in fields number value) number old.values)
+  pub stored : new ≡ record old { values = with_fit (fit_in fields number value) number old.values; links = new.links }
+  pub marked : IsMarkedWith (fit_in fields number value) head number old.links new.links (was_linked result)
+
+-- so it was done in the row under a key, and no other row has changed
+pub record IsStoredUnder (layouts : List (List Field)) (rows new : Table (List (Keyed Row))) (place key number : ℕ) (value : Value) (head : Head) (result : Result Stored Code) : Type 0 where
+  pub row : Row
+  pub changed : Row
+  pub under : row_under (rows_at rows place) key ≡ Some row
+  pub done : IsStored (fields_in layouts row.class) number value head row changed result
+  pub new_is : new ≡ with_place rows place (with_row (rows_at rows place) key changed)
 
 -- what a write to the property of a number comes to
-abbrev pub numbered : ℕ → Result Bool Code → Result (ℕ × Bool) Unwritten
-numbered number (Ok change) = Ok (number, change)
+abbrev pub numbered : ℕ → Result Stored Code → Result (ℕ × Stored) Unwritten
+numbered number (Ok stored) = Ok (number, stored)
 numbered number (Err code) = Err (Refused code)
 
 -- a value was stored as that of the property whose number was found, or is not, and all else stays
-abbrev pub IsNumbered : List Field → Value → Row → Row → Result (ℕ × Bool) Unwritten → Option ℕ → Type 0
-IsNumbered fields value old new result None = (result ≡ Err (Undeclared value)) × (new ≡ old)
-IsNumbered fields value old new result (Some number) = (number < length fields) × ((done : Result Bool Code) × (result ≡ numbered number done) × IsStored fields number value old new done)
+abbrev pub IsNumbered : List Field → Value → Head → Row → Row → Result (ℕ × Stored) Unwritten → Option ℕ → Type 0
+IsNumbered fields value head old new result None = (result ≡ Err (Undeclared value)) × (new ≡ old)
+IsNumbered fields value head old new result (Some number) = (number < length fields) × ((done : Result Stored Code) × (result ≡ numbered number done) × IsStored fields number value head old new done)
 
 -- and as that of the property of a name
-abbrev pub IsNamed : List Field → List ℕ → Value → Row → Row → Result (ℕ × Bool) Unwritten → Type 0
-IsNamed fields name value old new result = IsNumbered fields value old new result (field_number name fields)
+abbrev pub IsNamed : List Field → List ℕ → Value → Head → Row → Row → Result (ℕ × Stored) Unwritten → Type 0
+IsNamed fields name value head old new result = IsNumbered fields value head old new result (field_number name fields)
 
 -- a value was given to the dynamic property of a name, or is refused as it is, and all else stays
 pub record IsSet (name : List ℕ) (value : Value) (old new : Row) (result : Result (Unit {0}) Fault) : Type 0 where
@@ -65,3 +96,8 @@ pub record IsSet (name : List ℕ) (value : Value) (old new : Row) (result : Res
 pub record IsRemoved (name : List ℕ) (old new : Row) : Type 0 where
   pub removed : new.dynamic.items ≡ without_name name old.dynamic.items
   pub rest : new ≡ record old { dynamic = new.dynamic }
+
+-- the mark of a property was taken, and all else stays
+pub record IsUnlinked (number : ℕ) (old new : Row) (link : Link) : Type 0 where
+  pub was : slice_get old.links number ≡ Some link
+  pub rest : new ≡ record old { links = slice_set old.links number Unmarked }

@@ -2,12 +2,19 @@
 use Rattle.std.specs.Prelude.{ℕ, List, [], slice_index_or}
 use Rattle.places.specs.Table.{Table, with_place}
 use Rattle.property_store.specs.declared.field.Field.{Field}
+use Rattle.property_store.specs.Marks.{Marks}
 use Rattle.property_store.specs.Store.{Store, fields_in}
 
 pub record Shelves : Type 0 where
   -- the properties that each class declares
   pub layouts : List (List Field)
   pub table : Table Store
+
+-- what stands in the stores of all places
+pub record Stock : Type 0 where
+  pub shelves : Shelves
+  -- what was written at each place
+  pub marks : List Marks
 
 -- the store of a place
 abbrev pub store_at : Shelves → ℕ → Store

@@ -4,11 +4,19 @@
 
 mod dynamic;
 mod field;
+mod laws;
+mod link;
+mod links;
+mod property;
 mod row;
 mod stores;
 mod unwritten;
+mod written;
 
 pub use dynamic::DYNAMIC;
 pub use field::{Field, default_of};
+pub use laws::drains;
+pub use property::{Property, is_property};
 pub use stores::Stores;
 pub use unwritten::Unwritten;
+pub use written::Written;

@@ -21,7 +21,7 @@ use Rattle.term_core.specs.declared.action.Effect.TheVariants as e
 use Rattle.term_core.specs.declared.target.Target.{Target}
 use Rattle.term_core.specs.Term.{Term}
 use Rattle.binding_graph.specs.declared.change.Change.{Change}
-use Rattle.binding_values.specs.declared.property.Property.{Property as At}
+use Rattle.property_store.specs.declared.property.Property.{Property as At}
 use Rattle.bound_stores.specs.declared.changed.Changed.{Changed}
 use Rattle.bound_stores.specs.declared.changed.Changed.TheVariants.{Written}
 use Rattle.bound_stores.specs.Changed.{changes_in}

@@ -6,7 +6,7 @@ use Rattle.refusals.specs.declared.fault.Fault.{Fault}
 use Rattle.refusals.specs.declared.fault.Fault.TheVariants.{Refused, Memory}
 use Rattle.variant_value.specs.declared.value.Value.{Value}
 use Rattle.binding_graph.specs.declared.change.Change.{Change}
-use Rattle.binding_values.specs.declared.property.Property.{Property}
+use Rattle.property_store.specs.declared.property.Property.{Property}
 use Rattle.thread_model.specs.Doing.{Doing, in_state}
 use Rattle.thread_model.specs.Items.{Emit, Item, WarnOf, puts}
 use Rattle.thread_model.specs.Methods.{Found}

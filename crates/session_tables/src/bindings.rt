@@ -14,8 +14,9 @@ ghost use Rattle.session_tables.specs.Tables.{ChangesOnly, IsPlaced, state_at, w
 
 use crate::tables::Tables;
 use binding_graph::Change;
-use binding_values::{BindingError, Property};
+use binding_values::BindingError;
 use plain_types::Items;
+use property_store::Property;
 use refusals::{Code, Fault};
 use std::alloc::AllocError;
 use term_core::Expr;

@@ -12,10 +12,9 @@ ghost use Rattle.session_tables.specs.Tables.{ChangesOnly, IsPlaced, state_at, w
 
 use crate::named::NamedWrite;
 use crate::tables::Tables;
-use binding_values::Property;
 use bound_stores::Changed;
 use plain_types::{Items, Text};
-use property_store::Unwritten;
+use property_store::{Property, Unwritten};
 use refusals::Fault;
 use signature_core::Kind;
 use std::alloc::AllocError;

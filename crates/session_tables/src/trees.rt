@@ -18,9 +18,9 @@ ghost use Rattle.session_tables.specs.Tables.{AreLaid, AreStored, ChangesOnly, I
 
 use crate::tables::Tables;
 use binding_graph::Change;
-use binding_values::Property;
 use class_table::ClassTable;
 use plain_types::{Items, Text};
+use property_store::Property;
 use refusals::{Code, Fault};
 use std::alloc::AllocError;
 use thread_model::OBJECT_NAME;

@@ -4,9 +4,9 @@
 ghost use Rattle.std.specs.Prelude.{◌≡◌, ◌<◌, [], OnOk, length};
 
 use binding_graph::{Bindings, Change, Told};
-use binding_values::{BindingError, Property, is_bindable};
+use binding_values::{BindingError, is_bindable};
 use plain_types::{Items, Text};
-use property_store::{Field, Stores};
+use property_store::{Field, Property, Stores};
 use refusals::{Code, Fault};
 use signature_core::Kind;
 use std::alloc::{AllocError, Global};

@@ -26,7 +26,5 @@ mod gaps;
 mod handing;
 #[cfg(test)]
 mod members;
-#[cfg(test)]
-mod properties;
 
 pub use handing::answers;

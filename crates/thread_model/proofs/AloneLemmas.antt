@@ -16,10 +16,11 @@ use Rattle.property_store.proofs.SoundLemmas.{without_others}
 use Rattle.term_core.specs.Term.{Term}
 use Rattle.binding_graph.specs.declared.change.Change.{Change}
 use Rattle.binding_graph.specs.declared.change.Told.TheVariants as told
-use Rattle.binding_values.specs.declared.property.Property.{Property}
+use Rattle.property_store.specs.declared.property.Property.{Property}
 use Rattle.binding_graph.specs.declared.shown.Shown.{Shown}
 use Rattle.binding_graph.specs.Graph.{all_shown, before, changes, fresh, has_turn, in_turn, is_same_error, notice, shown_as, shown_at, shown_now, warning}
-use Rattle.binding_values.specs.Scene.{Cell, Outcome, among, choose, evaluated, is_property, plain}
+use Rattle.binding_values.specs.Scene.{Cell, Outcome, choose, evaluated, plain}
+use Rattle.property_store.specs.Property.{among, is_property}
 use Rattle.binding_values.specs.Sorted.{IsRising}
 use Rattle.binding_values.specs.Stored.{cell_in, cell_of, numbered, properties_in, properties_of_object, scene_of}
 use Rattle.binding_values.proofs.FuelLemmas.{is_itself, plain_rule, property_eq}

@@ -9,7 +9,7 @@ use Rattle.term_core.specs.Term.{Term}
 use Rattle.term_evaluation.specs.Reading.{reads_of}
 use Rattle.property_store.specs.declared.field.Field.{Field}
 use Rattle.property_store.specs.Store.{field_at}
-use Rattle.binding_values.specs.declared.property.Property.{Property}
+use Rattle.property_store.specs.declared.property.Property.{Property}
 use Rattle.thread_model.proofs.BindingLemmas.{IsBindable}
 use Rattle.thread_model.proofs.BoundTermLemmas.{bound_term_short}
 use Rattle.thread_model.specs.Binding.{Bound, asked_binding, asked_property, bindable_property, reads_refusal}

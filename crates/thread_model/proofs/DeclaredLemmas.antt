@@ -21,7 +21,7 @@ use Rattle.object_tree.specs.Refusing.{keeps_parent}
 use Rattle.object_tree.specs.Changes.{added, changed, marked, moved, orphaned, removed, reparented, with_blocked}
 use Rattle.property_store.specs.Store as stored
 use Rattle.property_store.specs.Store.{Properties, fitting, properties_of, with_value}
-use Rattle.binding_values.specs.declared.property.Property.{Property as At}
+use Rattle.property_store.specs.declared.property.Property.{Property as At}
 use Rattle.binding_graph.specs.Graph.{is_bound, unbound, value_in}
 use Rattle.property_store.proofs.SoundLemmas.{added_found, added_others, changed_fields, without_others}
 use Rattle.publish_board.specs.declared.join.Join.{Join}

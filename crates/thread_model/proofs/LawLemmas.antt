@@ -32,7 +32,7 @@ use Rattle.thread_model.specs.declared.line.Answer.TheVariants as a
 use Rattle.thread_model.specs.declared.line.Line.{Line}
 use Rattle.thread_model.specs.declared.post.Post.{Post}
 use Rattle.thread_model.specs.Absence.{absence}
-use Rattle.binding_values.specs.declared.property.Property.{Property as At}
+use Rattle.property_store.specs.declared.property.Property.{Property as At}
 use Rattle.binding_graph.specs.Graph.{is_bound}
 use Rattle.thread_model.specs.Binding.{Bound, asked_binding, asked_property, binding_error_found, binding_refusal, binds_found, ends, unbinds_found}
 use Rattle.thread_model.specs.Showing.{changes, comes_to}

@@ -19,10 +19,11 @@ use Rattle.binding_graph.specs.declared.change.Change.{Change}
 use Rattle.binding_graph.specs.declared.change.Told.TheVariants as told
 use Rattle.binding_values.specs.declared.property.BindingError.{BindingError}
 use Rattle.binding_values.specs.declared.property.BindingError.TheVariants.{BindingLoop, EvaluationError}
-use Rattle.binding_values.specs.declared.property.Property.{Property}
+use Rattle.property_store.specs.declared.property.Property.{Property}
 use Rattle.binding_graph.specs.declared.shown.Shown.{Shown}
 use Rattle.binding_graph.specs.Graph.{all_shown, before, changes, has_turn, in_turn, is_same_error, notice, shown_as, shown_at, shown_now, warning}
-use Rattle.binding_values.specs.Scene.{Cell, Outcome, among, is_property, plain}
+use Rattle.binding_values.specs.Scene.{Cell, Outcome, plain}
+use Rattle.property_store.specs.Property.{among, is_property}
 use Rattle.binding_values.specs.Stored.{bindable_number, cell_in, cell_of, fields_at, meant, outcome_in, properties_in}
 use Rattle.binding_values.proofs.FuelLemmas.{is_itself, property_eq}
 use Rattle.binding_values.proofs.MapLemmas.{all_given}

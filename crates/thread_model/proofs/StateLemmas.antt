@@ -23,7 +23,7 @@ use Rattle.property_store.specs.Store.{AreSound, Properties, changed, fitting, p
 use Rattle.variant_value.specs.declared.value.Value.{Value}
 use Rattle.term_core.specs.Forms.{is_within_limits}
 use Rattle.term_core.specs.Term.{Term}
-use Rattle.binding_values.specs.declared.property.Property.{Property as At}
+use Rattle.property_store.specs.declared.property.Property.{Property as At}
 use Rattle.binding_graph.specs.Graph as graph
 use Rattle.binding_graph.specs.Graph.{Graph, begin_refusal, begun, bind_refusal, bound, ended, is_bound, is_open, unbound, value_in}
 use Rattle.binding_graph.proofs.ShownLemmas.{value_short}

@@ -8,9 +8,10 @@ use Rattle.property_store.proofs.SoundLemmas.{sound_changed}
 use Rattle.binding_values.specs.declared.binding.Binding.{Binding}
 use Rattle.binding_graph.specs.declared.change.Change.{Change}
 use Rattle.binding_graph.specs.declared.change.Told.TheVariants as told
-use Rattle.binding_values.specs.Scene.{Cell, is_property}
+use Rattle.binding_values.specs.Scene.{Cell}
+use Rattle.property_store.specs.Property.{is_property}
 use Rattle.binding_values.specs.Stored.{cell_in}
-use Rattle.binding_values.specs.declared.property.Property.{Property as At}
+use Rattle.property_store.specs.declared.property.Property.{Property as At}
 use Rattle.binding_graph.specs.Graph as graph
 use Rattle.binding_graph.specs.Graph.{all_shown, is_open}
 use Rattle.thread_model.specs.Doing.{Doing, in_state}

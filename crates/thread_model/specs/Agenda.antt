@@ -4,7 +4,7 @@ use Rattle.std.specs.Option.{option_map_or}
 use Rattle.refusals.specs.declared.code.Code.TheVariants.{Limit}
 use Rattle.variant_value.specs.declared.value.Value.{Value}
 use Rattle.binding_values.specs.declared.property.BindingError.{BindingError}
-use Rattle.binding_values.specs.declared.property.Property.{Property}
+use Rattle.property_store.specs.declared.property.Property.{Property}
 use Rattle.term_core.specs.Act.{acts_of, effect, when}
 use Rattle.class_table.specs.declared.class.Method.{Method}
 use Rattle.class_table.specs.Lookup.{method_text}

@@ -10,7 +10,7 @@ use Rattle.term_core.specs.Forms.{binding_term_of}
 use Rattle.term_core.specs.Term.{Term}
 use Rattle.term_evaluation.specs.declared.reading.Read.{Read}
 use Rattle.term_evaluation.specs.Reading.{reads_of}
-use Rattle.binding_values.specs.declared.property.Property.{Property}
+use Rattle.property_store.specs.declared.property.Property.{Property}
 use Rattle.binding_graph.specs.Graph as graph
 use Rattle.binding_graph.specs.Graph.{begin_refusal, bind_refusal, end_refusal, is_bound, is_open}
 use Rattle.binding_values.specs.Stored.{meant}

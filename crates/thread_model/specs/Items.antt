@@ -3,7 +3,7 @@ use Rattle.std.specs.Prelude.{ℕ, List, Option}
 use Rattle.refusals.specs.declared.code.Code.{Code}
 use Rattle.variant_value.specs.declared.value.Value.{Value}
 use Rattle.binding_values.specs.declared.property.BindingError.{BindingError}
-use Rattle.binding_values.specs.declared.property.Property.{Property}
+use Rattle.property_store.specs.declared.property.Property.{Property}
 use Rattle.term_core.specs.Act as term
 use Rattle.thread_model.specs.declared.line.Answer.{Answer}
 use Rattle.thread_model.specs.Doing.{Doing}

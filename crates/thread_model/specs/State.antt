@@ -2,7 +2,7 @@
 use Rattle.std.specs.Prelude.{◌≡◌, ◌+◌, ℕ, Bool, false, List, [], Option, Some, IsFalse, IsTrue, bytes_eq, map, option_map, if◌then◌else◌}
 use Rattle.std.specs.List.{All}
 use Rattle.binding_values.specs.declared.property.BindingError.{BindingError}
-use Rattle.binding_values.specs.declared.property.Property.{Property as At}
+use Rattle.property_store.specs.declared.property.Property.{Property as At}
 use Rattle.binding_graph.specs.Graph as graph
 use Rattle.binding_graph.specs.Graph.{Graph, is_open, no_graph, value_in}
 use Rattle.binding_values.specs.Stored.{is_bindable}

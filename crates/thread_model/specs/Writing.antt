@@ -7,7 +7,7 @@ use Rattle.signature_core.specs.declared.kind.Kind.{Kind}
 use Rattle.variant_value.specs.declared.value.Value.{Value}
 use Rattle.variant_value.specs.declared.value.Value.TheVariants as v
 use Rattle.variant_value.specs.Values.{converted, inferred, text_of, value_of}
-use Rattle.binding_values.specs.declared.property.Property.{Property as At}
+use Rattle.property_store.specs.declared.property.Property.{Property as At}
 use Rattle.property_store.specs.Store.{dynamic_refusal, field_number, properties_of, with_dynamic, with_value, without_dynamic}
 use Rattle.thread_model.specs.Doing.{Doing}
 use Rattle.thread_model.specs.Items.{Next}

@@ -7,10 +7,10 @@ use Rattle.binding_values.proofs.run.find.Given as goal
 
 abbrev pub invariant-steps : goal.invariant-steps
 invariant-steps l = record {
-  running : IsRunning (scene_of (store_at l.stores l.place) l.bindings) l.done l.below.items l.top;
+  running : IsRunning (scene_of (store_at l.stores.shelves l.place) l.bindings) l.done l.below.items l.top;
   within : IsWithin (kept_of l.initial.done) (kept_of l.done);
   start : bottom l.below.items l.top ≡ l.fn.start;
 }
 
 abbrev pub decreases-steps : goal.decreases-steps
-decreases-steps l = work (scene_of (store_at l.stores l.place) l.bindings) l.done l.below.items l.top
+decreases-steps l = work (scene_of (store_at l.stores.shelves l.place) l.bindings) l.done l.below.items l.top

@@ -1,6 +1,6 @@
 use Rattle.std.proofs.Common.{◌≡◌, drop}
 use Rattle.binding_values.specs.Run.{ats}
-use Rattle.binding_values.specs.Scene.{among}
+use Rattle.property_store.specs.Property.{among}
 use Rattle.binding_values.proofs.run.stands_in.Given as goal
 
 abbrev pub invariant-loop-row : goal.invariant-loop-row

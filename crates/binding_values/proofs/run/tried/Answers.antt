@@ -1,7 +1,7 @@
 use Rattle.std.proofs.Common.{◌≡◌, ◌∙◌, Result, Ok, Err, IfOk, List, sym, subst}
 use Rattle.property_store.specs.Table.{store_at}
 use Rattle.binding_values.specs.declared.kept.Kept.{Kept}
-use Rattle.binding_values.specs.declared.property.Property.{Property}
+use Rattle.property_store.specs.declared.property.Property.{Property}
 use Rattle.binding_values.specs.Kept.{kept_of}
 use Rattle.binding_values.specs.Looking.{scene_in, values_in}
 use Rattle.term_evaluation.specs.Met.{EachButLast}
@@ -22,4 +22,4 @@ returns-clause-but_last c = carried (IsSettled (scene_in c.args.known.now) (kept
 pub unwrap-kind-requires : goal.unwrap-kind-requires
 unwrap-kind-requires c =
     some_kept _ c.cell_at.result _ c.cell_at.ensures
-    ∙ bound_there (store_at c.args.known.now.stores.now c.args.known.now.place) c.args.at c.args.known.now.bindings.now c.requires.bound
+    ∙ bound_there (store_at c.args.known.now.stores.now.shelves c.args.known.now.place) c.args.at c.args.known.now.bindings.now c.requires.bound

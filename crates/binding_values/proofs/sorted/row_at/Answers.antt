@@ -1,6 +1,6 @@
 use Rattle.std.proofs.Common.{◌∙◌, Some, ap, sym, arith}
 use Rattle.std.proofs.lemmas.List.{get_or_default}
-use Rattle.binding_values.specs.Scene.{is_property}
+use Rattle.property_store.specs.Property.{is_property}
 use Rattle.binding_values.proofs.SortedLemmas.{found_nowhere, found_there}
 use Rattle.binding_values.proofs.sorted.row_at.Goals as goal
 

@@ -7,7 +7,7 @@ use Rattle.bound_stores.proofs.settling.settle.Goals.{then-count-eq0+then-depth-
 
 pub returns-clause-ok : goal.returns-clause-ok
 returns-clause-ok c =
-    let store = store_at c.args.stores.now c.args.place in
+    let store = store_at c.args.stores.now.shelves c.args.place in
     let old = c.args.bindings.now.graphs in
     let now = c.settle.new.self.graphs in
     elim c.if-count-eq0.branch [

@@ -2,7 +2,7 @@ use Rattle.std.proofs.Common.{not, subst, sym, rules}
 use Rattle.std.proofs.lemmas.Fn.{filter_same}
 use Rattle.binding_values.specs.declared.binding.Binding.{Binding}
 use Rattle.binding_values.specs.Binds.{AreBindings}
-use Rattle.binding_values.specs.Scene.{is_property}
+use Rattle.property_store.specs.Property.{is_property}
 use Rattle.binding_values.proofs.BoundLemmas.{fewer_sound}
 use Rattle.binding_values.proofs.bound.Bound.remove.Goals as goal
 

@@ -22,6 +22,6 @@ returns-clause-value c =
 pub returns-clause-short : goal.returns-clause-short
 returns-clause-short c = by c.value.result c.value.ensures.value
   where
-    by : (found : Option (Bor Value)) → option_map (λ value. value.now) found ≡ value_at (store_at c.self.inside.stores c.args.place) c.args.at.object c.args.at.number → IfSome found (λ value. IsShort value.now)
+    by : (found : Option (Bor Value)) → option_map (λ value. value.now) found ≡ value_at (store_at c.self.inside.stores.shelves c.args.place) c.args.at.object c.args.at.number → IfSome found (λ value. IsShort value.now)
     by None e = tt
-    by (Some value) e = stored_short (store_at c.self.inside.stores c.args.place) c.count.ensures.sound c.args.at.object c.args.at.number value.now (sym e)
+    by (Some value) e = stored_short (store_at c.self.inside.stores.shelves c.args.place) c.count.ensures.sound c.args.at.object c.args.at.number value.now (sym e)

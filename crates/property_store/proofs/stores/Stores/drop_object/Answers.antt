@@ -1,31 +1,18 @@
-use Rattle.std.proofs.Common.{◌∙◌, ap, subst, sym}
-use Rattle.shared_rows.specs.Rows.{rows_at}
-use Rattle.property_store.specs.Store.{without}
-use Rattle.property_store.specs.Inside.{AreKept, shelves_of}
-use Rattle.property_store.proofs.PlaceLemmas.{after, kept_with, rows_open, store_there, unchanged_store, without_sound}
-use Rattle.property_store.proofs.StoreLemmas.{absent_kept, removed_shown, row_stands}
+use Rattle.std.proofs.Common.{◌≡◌, ◌∙◌, None, ap, sym}
+use Rattle.std.specs.Option.{option_map}
+use Rattle.property_store.specs.Store.{Properties, properties_of}
+use Rattle.property_store.specs.Table.{store_at}
+use Rattle.property_store.proofs.ListLemmas.{not_some, unmapped}
+use Rattle.property_store.proofs.PlaceLemmas.{unchanged_store}
+use Rattle.property_store.proofs.StoreLemmas.{without_absent}
 use Rattle.property_store.proofs.stores.Stores.drop_object.Goals as goal
-use Rattle.property_store.proofs.stores.Stores.drop_object.Goals.{in-Some, in_default}
 
-pub invariant_of-self : goal.invariant_of-self
-invariant_of-self c = elim c.match-take.branch [
-  | in-Some w ↦
-      kept_with c.self.inside.layouts c.self.inside.rows c.self.invariant c.args.place c.take.new.self _ w.in-Some.ensures.taken.4
-      (without_sound c.self.inside.layouts (rows_at c.self.inside.rows c.args.place) (c.self.invariant c.args.place _ (rows_open c.self.inside.rows c.self.view_is c.args.place c.requires)) w.in-Some.ensures.taken.0)
-  | in_default w ↦ subst (AreKept c.self.inside.layouts) (sym w.in_default.ensures.unchanged) c.self.invariant
-]
+-- there is no such object
+nobody : (c : goal.Else-is_some) → properties_of (store_at c.args.self.now.shelves c.args.place) c.args.object ≡ None
+nobody c =
+    unmapped (λ (of : Properties). of.fields) (properties_of (store_at c.args.self.now.shelves c.args.place) c.args.object)
+    (sym c.fields.ensures ∙ ap (option_map (λ fields. fields.now)) (not_some c.fields.result (sym c.is_some.ensures ∙ c.if-is_some.false)))
 
-pub returns : goal.returns
-returns c =
-    let there = store_there c.self.inside.rows c.self.view_is c.args.place c.requires in
-    elim c.match-take.branch [
-      | in-Some w ↦
-          let is = row_stands (rows_at c.self.inside.rows c.args.place) c.take.ensures.sound w.in-Some.ensures.taken.0 c.args.object w.in-Some.row w.in-Some.ensures.taken.1 w.in-Some.ensures.taken.2 in
-          after c.self.inside.rows c.self.view_is c.args.place c.take.new.self _ _ w.in-Some.ensures.taken.4
-          (removed_shown c.self.inside.layouts (rows_at c.self.inside.rows c.args.place) w.in-Some.ensures.taken.0 c.args.object w.in-Some.row is ∙ ap (without c.args.object) (sym there))
-      | in_default w ↦
-          ap (shelves_of c.self.inside.layouts) w.in_default.ensures.unchanged
-          ∙ c.self.view_is
-          ∙ unchanged_store c.args.self.now c.args.place _
-          (ap (without c.args.object) there ∙ (absent_kept c.self.inside.layouts (rows_at c.self.inside.rows c.args.place) c.args.object w.in_default.ensures.absent ∙ sym there))
-    ]
+pub returns-else-is_some-clause-stores : goal.returns-else-is_some-clause-stores
+returns-else-is_some-clause-stores c =
+    unchanged_store c.args.self.now.shelves c.args.place _ (without_absent (store_at c.args.self.now.shelves c.args.place) c.args.object (nobody c))

@@ -1,17 +1,17 @@
 use Rattle.std.proofs.Common.{◌≡◌, ◌∙◌, ap, get_or, sym}
 use Rattle.shared_rows.specs.Rows.{Keyed}
 use Rattle.property_store.specs.declared.row.Row.{Row}
-use Rattle.property_store.specs.Inside.{shown}
+use Rattle.property_store.specs.Inside.{limited, shown}
 use Rattle.property_store.specs.Store.{Properties}
 use Rattle.property_store.specs.Table.{store_at}
-use Rattle.property_store.proofs.PlaceLemmas.{at_there, rows_open, stands_there}
+use Rattle.property_store.proofs.PlaceLemmas.{at_there, rows_open, shelves_seen, stands_there}
 use Rattle.property_store.proofs.stores.Stores.object_at.Goals as goal
 
 pub at-requires-clause-place : goal.at-requires-clause-place
-at-requires-clause-place c = rows_open c.self.inside.rows c.self.view_is c.args.place c.requires.place
+at-requires-clause-place c = rows_open (limited c.self.inside.rows c.self.inside.heads.room) (shelves_seen c.self.view_is) c.args.place c.requires.place
 
 pub at-requires-clause-stands : goal.at-requires-clause-stands
-at-requires-clause-stands c = stands_there c.self.inside.rows c.self.view_is c.args.place c.requires.place c.args.position c.requires.stands
+at-requires-clause-stands c = stands_there (limited c.self.inside.rows c.self.inside.heads.room) (shelves_seen c.self.view_is) c.args.place c.requires.place c.args.position c.requires.stands
 
 pub returns : goal.returns
 returns c = record { object = λ default. ap (λ (of : Properties). of.object) (sym (there default)); fields = λ default. c.fields_in.ensures ∙ ap (λ (of : Properties). of.fields) (sym (there default)) }
@@ -19,5 +19,5 @@ returns c = record { object = λ default. ap (λ (of : Properties). of.object) (
     keyed : Keyed Row
     keyed = record { key = c.at.result.0; row = c.at.result.1.now }
 
-    there : (default : Properties) → get_or (store_at c.args.self.now c.args.place) c.args.position default ≡ shown c.self.inside.layouts c.at.result.1.now
-    there default = at_there c.self.inside.rows c.self.view_is c.args.place c.requires.place c.args.position c.requires.stands keyed (c.at.ensures keyed) default
+    there : (default : Properties) → get_or (store_at c.args.self.now.shelves c.args.place) c.args.position default ≡ shown c.self.inside.layouts c.at.result.1.now
+    there default = at_there (limited c.self.inside.rows c.self.inside.heads.room) (shelves_seen c.self.view_is) c.args.place c.requires.place c.args.position c.requires.stands keyed (c.at.ensures keyed) default

@@ -1,46 +1,83 @@
-use Rattle.std.proofs.Common.{[], sym, arith}
-use Rattle.shared_rows.specs.Rows.{rows_at}
+use Rattle.std.proofs.Common.{Err, Ok, arith, cond, refl, sym}
 use Rattle.std.proofs.lemmas.Grind.{common_steps}
-use Rattle.property_store.proofs.KindLemmas.{as_many}
-use Rattle.property_store.proofs.PlaceLemmas.{IsChanged, nothing, rows_open, under_sound}
-use Rattle.property_store.proofs.WriteLemmas.{nothing_written, row_kept, row_written}
+use Rattle.places.proofs.TableLemmas.{with_same}
+use Rattle.property_store.specs.declared.link.Head.TheVariants.{First, None}
+use Rattle.property_store.specs.Inside.{head_at, limited}
+use Rattle.property_store.specs.Store.{fields_in}
+use Rattle.property_store.specs.Storing.{IsStored}
+use Rattle.property_store.specs.Table.{store_at}
+use Rattle.property_store.proofs.HeadLemmas.{IsRowChanged, as_changed, each_many}
+use Rattle.property_store.proofs.PlaceLemmas.{nothing, rows_open, shelves_seen}
+use Rattle.property_store.proofs.WriteLemmas.{nothing_written, row_written}
+use Rattle.property_store.proofs.WrittenLemmas.{nothing_marked, refused_same, stored_as, stored_kept, stored_marks}
 use Rattle.property_store.proofs.stores.Stores.write.Goals as goal
 
--- the row of the object is changed
-changed : (c : goal.After-update) → IsChanged c.self.inside.layouts c.self.inside.rows c.update.new.self c.args.self.now c.args.place c.in-Some.key c.args.object c.update.ensures.3.shown.now c.update.ensures.3.left.now
-changed c =
-    let done = c.update.ensures in
-    record { kept = c.self.invariant; view_is = c.self.view_is; is_place = c.requires.place; sound = c.find.ensures.sound; found = sym c.in-Some.ensures.found; lent = done.0; under = done.2; lends = done.3.shows; left = done.1; leaves = done.3.leaves; new_is = done.4 }
-
+-- there is no such object
 pub returns-in_default-clause-refused : goal.returns-in_default-clause-refused
-returns-in_default-clause-refused c = (nothing_written c.args.self.now c.args.place c.args.object c.args.value (nothing c.self.inside.rows c.self.view_is c.args.place c.requires.place c.args.object (sym c.in_default.ensures.found)) c.args.number).refused
+returns-in_default-clause-refused c = (nothing_written c.args.self.now.shelves c.args.place c.args.object c.args.value (nothing (limited c.self.inside.rows c.self.inside.heads.room) (shelves_seen c.self.view_is) c.args.place c.requires.place c.args.object (sym c.in_default.ensures.found)) c.args.number).refused
 
 pub returns-in_default-clause-answer : goal.returns-in_default-clause-answer
-returns-in_default-clause-answer c = (nothing_written c.args.self.now c.args.place c.args.object c.args.value (nothing c.self.inside.rows c.self.view_is c.args.place c.requires.place c.args.object (sym c.in_default.ensures.found)) c.args.number).answer
+returns-in_default-clause-answer c = (nothing_written c.args.self.now.shelves c.args.place c.args.object c.args.value (nothing (limited c.self.inside.rows c.self.inside.heads.room) (shelves_seen c.self.view_is) c.args.place c.requires.place c.args.object (sym c.in_default.ensures.found)) c.args.number).answer
 
 pub returns-in_default-clause-new : goal.returns-in_default-clause-new
-returns-in_default-clause-new c = (nothing_written c.args.self.now c.args.place c.args.object c.args.value (nothing c.self.inside.rows c.self.view_is c.args.place c.requires.place c.args.object (sym c.in_default.ensures.found)) c.args.number).new_is
+returns-in_default-clause-new c = (nothing_written c.args.self.now.shelves c.args.place c.args.object c.args.value (nothing (limited c.self.inside.rows c.self.inside.heads.room) (shelves_seen c.self.view_is) c.args.place c.requires.place c.args.object (sym c.in_default.ensures.found)) c.args.number).new_is
 
-pub update-requires-clause-callable : goal.update-requires-clause-callable
-update-requires-clause-callable c = λ lent under. as_many _ (under_sound c.self.inside.layouts (rows_at c.self.inside.rows c.args.place) (c.self.invariant c.args.place [] (rows_open c.self.inside.rows c.self.view_is c.args.place c.requires.place)) c.in-Some.key lent.now under)
+pub returns-in_default-clause-marks : goal.returns-in_default-clause-marks
+returns-in_default-clause-marks c = nothing_marked c.args.place c.args.object (store_at c.args.self.now.shelves c.args.place) c.args.self.now.marks (nothing (limited c.self.inside.rows c.self.inside.heads.room) (shelves_seen c.self.view_is) c.args.place c.requires.place c.args.object (sym c.in_default.ensures.found)) c.args.number c.args.value
+
+pub write_under-requires-clause-many : goal.write_under-requires-clause-many
+write_under-requires-clause-many c = each_many c.self.invariant c.args.place (rows_open (limited c.self.inside.rows c.self.inside.heads.room) (shelves_seen c.self.view_is) c.args.place c.requires.place)
+
+-- the value is refused
+refused_row : (c : goal.In-Err) → IsRowChanged c.self.inside.layouts c.self.inside.rows c.self.inside.heads c.write_under.new.rows c.self.inside.heads c.args.self.now c.args.place c.in-Some.key c.args.object c.write_under.ensures.row c.write_under.ensures.changed (head_at c.self.inside.heads c.args.place)
+refused_row c =
+    let done = c.write_under.ensures in
+    record { kept = c.self.invariant; view_is = c.self.view_is; is_place = c.requires.place; sound = c.find.ensures.sound; found = sym c.in-Some.ensures.found; lent = done.row; under = done.under; lends = refl; left = done.changed; leaves = refl; rows_are = done.new_is; heads_are = sym (with_same None c.self.inside.heads c.args.place) }
+
+refused : (c : goal.In-Err) → IsStored (fields_in c.self.inside.layouts c.write_under.ensures.row.class) c.args.number c.args.value (head_at c.self.inside.heads c.args.place) c.write_under.ensures.row c.write_under.ensures.changed (Err c.in-Err.code)
+refused c = stored_as (c.get-head.ensures None) c.in-Err.is c.write_under.ensures.done
 
 pub invariant_of-self : goal.invariant_of-self
-invariant_of-self c = row_kept (changed c) c.update.ensures.3.met c.requires.short
+invariant_of-self c = stored_kept (refused_row c) (refused c) refl c.requires.short
+
+pub returns-in-Err-clause-refused : goal.returns-in-Err-clause-refused
+returns-in-Err-clause-refused c = (row_written (as_changed (refused_row c)) (refused c)).refused
+
+pub returns-in-Err-clause-new : goal.returns-in-Err-clause-new
+returns-in-Err-clause-new c = (row_written (as_changed (refused_row c)) (refused c)).new_is
+
+pub returns-in-Err-clause-err : goal.returns-in-Err-clause-err
+returns-in-Err-clause-err c = refused_same (refused_row c) (refused c) refl refl (row_written (as_changed (refused_row c)) (refused c)).err
+
+pub returns-in-Err-clause-marks : goal.returns-in-Err-clause-marks
+returns-in-Err-clause-marks c = stored_marks (refused_row c) (refused c) refl
+
+-- it is stored
+stored_row : (c : goal.After-set_first) → IsRowChanged c.self.inside.layouts c.self.inside.rows c.self.inside.heads c.write_under.new.rows c.set_first.new.heads c.args.self.now c.args.place c.in-Some.key c.args.object c.write_under.ensures.row c.write_under.ensures.changed (cond c.in-Ok.stored.is_linked (First (record { object = c.args.object; number = c.args.number })) (head_at c.self.inside.heads c.args.place))
+stored_row c =
+    let done = c.write_under.ensures in
+    record { kept = c.self.invariant; view_is = c.self.view_is; is_place = c.requires.place; sound = c.find.ensures.sound; found = sym c.in-Some.ensures.found; lent = done.row; under = done.under; lends = refl; left = done.changed; leaves = refl; rows_are = done.new_is; heads_are = c.set_first.ensures }
+
+stored : (c : goal.After-set_first) → IsStored (fields_in c.self.inside.layouts c.write_under.ensures.row.class) c.args.number c.args.value (head_at c.self.inside.heads c.args.place) c.write_under.ensures.row c.write_under.ensures.changed (Ok c.in-Ok.stored)
+stored c = stored_as (c.get-head.ensures None) c.in-Ok.is c.write_under.ensures.done
+
+pub invariant_of-self-2 : goal.invariant_of-self-2
+invariant_of-self-2 c = stored_kept (stored_row c) (stored c) refl c.requires.short
 
 pub returns-clause-refused : goal.returns-clause-refused
-returns-clause-refused c = (row_written (changed c) c.update.ensures.3.met).refused
+returns-clause-refused c = (row_written (as_changed (stored_row c)) (stored c)).refused
 
 pub returns-clause-answer : goal.returns-clause-answer
-returns-clause-answer c = (row_written (changed c) c.update.ensures.3.met).answer
+returns-clause-answer c = (row_written (as_changed (stored_row c)) (stored c)).answer
 
 pub returns-clause-new : goal.returns-clause-new
-returns-clause-new c = (row_written (changed c) c.update.ensures.3.met).new_is
+returns-clause-new c = (row_written (as_changed (stored_row c)) (stored c)).new_is
 
-pub returns-clause-err : goal.returns-clause-err
-returns-clause-err c = (row_written (changed c) c.update.ensures.3.met).err
+pub returns-clause-marks : goal.returns-clause-marks
+returns-clause-marks c = stored_marks (stored_row c) (stored c) refl
 
 pub find-requires : goal.find-requires
 find-requires c = grind (arith, common_steps)
 
-pub update-requires-clause-place : goal.update-requires-clause-place
-update-requires-clause-place c = grind (arith, common_steps)
+pub write_under-requires-clause-place : goal.write_under-requires-clause-place
+write_under-requires-clause-place c = grind (arith, common_steps)

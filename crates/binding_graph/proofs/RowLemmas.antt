@@ -1,0 +1,73 @@
+-- What properties show, with a row more.
+use Rattle.std.proofs.Common.{◌≡◌, ◌∙◌, ℕ, Bool, true, false, cond, List, [], ◌∷◌, ◌++◌, Option, Some, None, filter, set, refl, sym, ap, ap₂}
+use Rattle.std.specs.Prelude.{if◌then◌else◌}
+use Rattle.std.specs.List.{insert, slice_get}
+use Rattle.std.specs.Option.{option_map_or, option_or}
+use Rattle.std.proofs.lemmas.Bool.{both_ways}
+use Rattle.std.proofs.lemmas.List.Elements.{All-append, All-cons, All-filter}
+use Rattle.std.proofs.lemmas.List.Folds.{find-append}
+use Rattle.variant_value.specs.Values.{IsOfKind}
+use Rattle.property_store.specs.declared.property.Property.{Property}
+use Rattle.property_store.specs.Property.{is_property}
+use Rattle.binding_values.specs.Sorted.{IsCountBefore, IsRising, is_before}
+use Rattle.binding_values.proofs.SortedLemmas.{inserted, is_behind, is_other, is_property_sym, replaced, stands_so, stands_within, with_rising}
+use Rattle.binding_graph.specs.declared.shown.Shown.{Shown}
+use Rattle.binding_graph.specs.Graph.{AreShown, shown_at}
+use Rattle.binding_graph.specs.Rows.{IsPut}
+use Rattle.binding_graph.specs.Rows.{with_shown}
+use Rattle.binding_graph.proofs.TouchedLemmas.{found_filter}
+
+module _ (new : Shown) (rows : List Shown) where
+  abbrev below : List Shown
+  below = filter (λ shown. is_before shown.at new.at) rows
+
+  abbrev above : List Shown
+  above = filter (λ shown. is_before new.at shown.at) rows
+
+  -- what is found of a property is the row, or what was found before
+  pub found_with : (q : Property) → shown_at (with_shown new rows) q ≡ (if is_property q new.at then Some new else shown_at rows q)
+  found_with q =
+      find-append (λ (shown : Shown). is_property q shown.at) below (new ∷ above)
+      ∙ (ap₂ (λ front back. option_or front (cond (is_property q new.at) (Some new) back)) (found_filter (λ p. is_before p new.at) rows q) (found_filter (is_before new.at) rows q)
+      ∙ by (is_before q new.at) refl (is_property q new.at) refl (is_before new.at q) refl (shown_at rows q))
+    where
+      by : (before : Bool) → is_before q new.at ≡ before → (same : Bool) → is_property q new.at ≡ same → (behind : Bool) → is_before new.at q ≡ behind → (found : Option Shown)
+          → option_or (cond before found None) (cond same (Some new) (cond behind found None)) ≡ cond same (Some new) found
+      by true e true f behind g found = absurd (both_ways _ (is_other q new.at e) f)
+      by true e false f behind g (Some shown) = refl
+      by true e false f true g None = refl
+      by true e false f false g None = refl
+      by false e true f behind g found = refl
+      by false e false f true g found = refl
+      by false e false f false g found = absurd (both_ways _ g (is_behind q new.at e (is_property_sym new.at q ∙ f)))
+
+  -- it is in order, and of its kinds
+  pub are_shown_with : AreShown rows → IsOfKind new.kind new.value → AreShown (with_shown new rows)
+  are_shown_with are fits = record {
+    rising = with_rising (λ (shown : Shown). shown.at) new rows are.rising;
+    fitting = All-append Fits below (new ∷ above) (All-filter (λ shown. is_before shown.at new.at) Fits rows are.fitting) (All-cons Fits new above fits (All-filter (λ shown. is_before new.at shown.at) Fits rows are.fitting));
+  }
+    where
+      Fits : Shown → Type 0
+      Fits shown = IsOfKind shown.kind shown.value
+
+  -- the row in its place, by what was asked of the place
+  module _ (place : ℕ) (rising : IsRising (λ (shown : Shown). shown.at) rows) (count : IsCountBefore (λ (shown : Shown). shown.at) rows new.at place) (stands : Bool) (asked : stands ≡ option_map_or (λ (shown : Shown). is_property new.at shown.at) (slice_get rows place) false) where
+    pub set_with : stands ≡ true → set rows place new ≡ with_shown new rows
+    set_with is =
+        let within = stands_within (λ (shown : Shown). shown.at) rows place new.at stands asked is in
+        replaced (λ (shown : Shown). shown.at) new rows place rising count new within (stands_so (λ (shown : Shown). shown.at) rows place new.at stands asked new within ∙ is)
+
+    pub insert_with : stands ≡ false → insert rows place new ≡ with_shown new rows
+    insert_with is = inserted (λ (shown : Shown). shown.at) new rows place rising count (λ d within. stands_so (λ (shown : Shown). shown.at) rows place new.at stands asked d within ∙ is)
+
+-- a row more of those that are put in place of others
+pub merged_next : (front : List Shown) (row : Shown) (rows new : List Shown) → IsPut row rows new → (q : Property) → option_map_or Some (shown_at front q) (shown_at new q) ≡ option_map_or Some (shown_at (front ++ row ∷ []) q) (shown_at rows q)
+merged_next front row rows new put q =
+    ap (option_map_or Some (shown_at front q)) (put q)
+    ∙ (by (shown_at front q) (is_property q row.at) ∙ ap (λ found. option_map_or Some found (shown_at rows q)) (sym (find-append (λ (shown : Shown). is_property q shown.at) front (row ∷ []))))
+  where
+    by : (found : Option Shown) (same : Bool) → option_map_or Some found (cond same (Some row) (shown_at rows q)) ≡ option_map_or Some (option_or found (cond same (Some row) None)) (shown_at rows q)
+    by (Some shown) same = refl
+    by None true = refl
+    by None false = refl

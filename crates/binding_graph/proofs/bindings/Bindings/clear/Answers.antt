@@ -1,0 +1,18 @@
+use Rattle.std.proofs.Common.{ap, refl, subst, sym}
+use Rattle.binding_graph.specs.Graph.{no_graph}
+use Rattle.binding_graph.specs.Cache.{no_cache}
+use Rattle.property_store.specs.Table.{store_at}
+use Rattle.property_store.specs.Marks.{marks_at}
+use Rattle.binding_graph.specs.Woven.{IsAt, Woven}
+use Rattle.binding_graph.proofs.StepLemmas.{all_in_step}
+use Rattle.binding_graph.proofs.PlaceLemmas.{nothing_drained, place_there, with_in_step, with_woven_as}
+use Rattle.binding_graph.proofs.bindings.Bindings.clear.Goals as goal
+
+pub returns-clause-cleared : goal.returns-clause-cleared
+returns-clause-cleared c = rw (← c.self.view_is) (with_woven_as c.self.inside.graphs c.args.place c.new.result no_graph (ap (λ (woven : Woven). woven.graph) c.new.ensures))
+
+pub returns-clause-step : goal.returns-clause-step
+returns-clause-step c =
+    rw (← c.self.view_is)
+    (λ stores step. with_in_step stores stores c.self.inside.graphs c.args.place c.new.result (place_there c.self.inside.graphs c.args.place (rw (← c.self.view_is) at c.requires)) (nothing_drained c.args.place stores)
+    (subst (IsAt stores c.args.place) (sym c.new.ensures) (all_in_step (store_at stores.shelves c.args.place) (marks_at stores.marks c.args.place) no_graph no_cache refl refl)) step)

@@ -1,0 +1,41 @@
+-- What is kept of a place from one settling to the next.
+use Rattle.std.specs.Prelude.{◌≡◌, ℕ, List, [], false, None, Option, option_map, slice_index_or}
+use Rattle.property_store.specs.declared.property.Property.{Property}
+use Rattle.property_store.specs.Marks.{Marks, all_marks, is_marked}
+use Rattle.property_store.specs.Store.{Store}
+use Rattle.binding_values.specs.declared.binding.Binding.{Binding}
+use Rattle.binding_values.specs.declared.kept.Done.{Done}
+use Rattle.binding_values.specs.Kept.{Keeping, kept_of, known}
+use Rattle.binding_values.specs.Stored.{cell_in, scene_of}
+use Rattle.kept_values.specs.Right.{IsRightBut, IsWhole, both}
+use Rattle.binding_graph.specs.declared.shown.Shown.{Shown}
+use Rattle.binding_graph.specs.Graph.{Graph, shown_as, shown_at}
+
+pub record Cache : Type 0 where
+  -- what the last evaluation of each bound property gave
+  pub kept : List Done
+  -- what has changed of the bindings since
+  pub pending : Marks
+  -- how many evaluations settlings have made
+  pub evaluations : ℕ
+
+-- where nothing is kept
+abbrev pub no_cache : Cache
+no_cache = record { kept = []; pending = all_marks; evaluations = 0 }
+
+-- the cache of a place
+abbrev pub cache_at : List Cache → ℕ → Cache
+cache_at caches place = slice_index_or caches place no_cache
+
+-- what a property shows by what is kept
+abbrev pub shown_by : Store → List Binding → Keeping → Property → Option Shown
+shown_by store bindings keeping q = option_map (λ cell. shown_as q cell.kind (known (scene_of store bindings) keeping q)) (cell_in store q)
+
+-- what is kept of a place is right, but for what a marked property reaches: the values of its bindings, and what
+-- its properties showed
+pub record IsInStep (store : Store) (marks : Marks) (graph : Graph) (cache : Cache) : Type 0 where
+  pub right : IsRightBut (scene_of store graph.bindings) (both marks cache.pending) (kept_of cache.kept)
+  pub whole : IsWhole (scene_of store graph.bindings) (both marks cache.pending) (kept_of cache.kept)
+  pub last : (q : Property) → is_marked (both marks cache.pending) q ≡ false → shown_at graph.last q ≡ shown_by store graph.bindings (kept_of cache.kept) q
+  -- unless all is marked, only properties that are there have shown something
+  pub there : (both marks cache.pending).all ≡ false → (q : Property) → cell_in store q ≡ None → shown_at graph.last q ≡ None

@@ -1,0 +1,28 @@
+-- The bindings of a place, and what is kept of them.
+use Rattle.std.specs.Prelude.{ℕ, map}
+use Rattle.places.specs.Table.{Table}
+use Rattle.property_store.specs.Marks.{Marks, marks_at}
+use Rattle.property_store.specs.Store.{Store}
+use Rattle.property_store.specs.Table.{Stock, store_at}
+use Rattle.binding_graph.specs.Cache.{Cache, IsInStep, no_cache}
+use Rattle.binding_graph.specs.Graph.{Graph, no_graph}
+use Rattle.binding_graph.specs.Table.{Graphs}
+
+pub record Woven : Type 0 where
+  pub graph : Graph
+  pub cache : Cache
+
+abbrev pub no_woven : Woven
+no_woven = record { graph = no_graph; cache = no_cache }
+
+-- the graphs of all places in one list, and what is kept in another
+abbrev pub unwoven : Table Woven → Graphs
+unwoven table = record { graphs = record { places = map (λ woven. woven.graph) table.places; room = table.room }; caches = map (λ woven. woven.cache) table.places }
+
+-- it is in step with the store of a place
+abbrev pub IsAt : Stock → ℕ → Woven → Type 0
+IsAt stores place woven = IsInStep (store_at stores.shelves place) (marks_at stores.marks place) woven.graph woven.cache
+
+-- it stays in step with whatever store it was
+abbrev pub StaysAt : Woven → Woven → Type 0
+StaysAt old new = (store : Store) (marks : Marks) → IsInStep store marks old.graph old.cache → IsInStep store marks new.graph new.cache

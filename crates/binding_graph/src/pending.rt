@@ -1,0 +1,125 @@
+//! What has changed of the bindings of a place since it was settled.
+ghost use Rattle.std.specs.Prelude.{◌≡◌, false, not, true};
+ghost use Rattle.places.specs.Table.{IsPlace};
+ghost use Rattle.property_store.specs.Marks.{all_marks, has_marks, is_marked, marks_at, no_marks};
+ghost use Rattle.property_store.specs.Property.{among};
+ghost use Rattle.kept_values.specs.Right.{AreMore, both};
+ghost use Rattle.binding_graph.specs.Drained.{IsDrained};
+
+use property_store::{Property, Stores, Written, is_property};
+use std::alloc::Global;
+use std::marker::Model;
+use std::mem;
+
+/// So many properties are marked at most; where there are more, all are.
+const MARKS: usize = 16384;
+
+/// The properties that are marked, or that all are.
+#[derive(Drop)]
+pub(crate) struct Pending {
+    all: bool,
+    each: Vec<Property>,
+}
+
+impl Model for Pending {
+    ghost use Rattle.property_store.specs.Marks.{Marks};
+    ghost use Rattle.binding_graph.specs.Coded.{coded_marks};
+
+    ghost Value = { Marks };
+
+    ghost coded = { coded_marks };
+
+    ghost view = { λ pending. record { all = pending.all; each = pending.each.items } };
+}
+
+impl Pending {
+    /// All are marked.
+    pub(crate) fn new(alloc: Global) -> Pending
+        ensures { result ≡ all_marks }
+    {
+        Pending {
+            all: true,
+            each: Vec::new(alloc),
+        }
+    }
+
+    pub(crate) fn is_all(&self) -> bool
+        ensures { result ≡ self.now.all }
+    {
+        self.all
+    }
+
+    pub(crate) fn is_empty(&self) -> bool
+        ensures { result ≡ not (has_marks self.now) }
+    {
+        !self.all && self.each.is_empty()
+    }
+
+    /// Marks all. This takes no memory.
+    pub(crate) fn mark_all(&mut self)
+        ensures { self.new ≡ all_marks }
+    {
+        self.all = true;
+        self.each.clear();
+    }
+
+    /// Marks a property; where there is no memory for that, all are marked.
+    pub(crate) fn mark(&mut self, at: Property)
+        ensures kept { AreMore self.old self.new }
+        ensures marked { is_marked self.new at ≡ true }
+    {
+        if self.all {
+            return;
+        }
+        if self.each.len() >= MARKS || self.each.push(at).is_err() {
+            self.mark_all();
+        }
+    }
+
+    fn is_marked(&self, at: Property) -> bool
+        ensures { result ≡ is_marked self.now at }
+    {
+        self.all || is_among(at, self.each.as_slice())
+    }
+
+    /// Marks a property that may be marked already.
+    pub(crate) fn mark_once(&mut self, at: Property)
+        ensures kept { AreMore self.old self.new }
+        ensures marked { is_marked self.new at ≡ true }
+    {
+        if !self.is_marked(at) {
+            self.mark(at);
+        }
+    }
+
+    /// The properties that are marked; then none is.
+    pub(crate) fn take(&mut self, alloc: Global) -> Vec<Property>
+        ensures taken { result.items ≡ self.old.each }
+        ensures none { self.new ≡ no_marks }
+    {
+        self.all = false;
+        mem::replace(&mut self.each, Vec::new(alloc))
+    }
+}
+
+fn is_among(at: Property, each: &[Property]) -> bool
+    ensures { result ≡ among at each.now }
+{
+    each.iter().any(|one| is_property(at, *one))
+}
+
+/// Takes what was written at a place, and marks it.
+pub(crate) fn drain(pending: &mut Pending, stores: &mut Stores, place: usize)
+    requires { IsPlace stores.old.shelves.table place }
+    ensures stores { IsDrained place stores.old stores.new }
+    ensures taken { has_marks (marks_at stores.new.marks place) ≡ false }
+    ensures kept { AreMore (both (marks_at stores.old.marks place) pending.old) pending.new }
+{
+    'marks: loop {
+        match stores.take_written(place) {
+            Written::None => return,
+            Written::One(at) => pending.mark(at),
+            Written::All => pending.mark_all(),
+        }
+    }
+}

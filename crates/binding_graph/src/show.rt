@@ -1,0 +1,192 @@
+//! What properties show by the values and the bindings of now.
+ghost use Rattle.std.specs.Prelude.{◌≡◌, ◌<◌, ◌++◌, [], ◌∷◌, if◌then◌else◌, IfOk, None, Ok, OnOk, filter_map, length, slice_index_or};
+ghost use Rattle.std.specs.Option.{option_map_or};
+ghost use Rattle.places.specs.Table.{IsPlace};
+ghost use Rattle.property_store.specs.declared.property.Property.{Property};
+ghost use Rattle.property_store.specs.Property.{among, is_property};
+ghost use Rattle.property_store.specs.Store.{Properties};
+ghost use Rattle.property_store.specs.Table.{store_at};
+ghost use Rattle.binding_graph.specs.Graph.{AreShown, all_shown, shown_as, shown_at, shown_now};
+ghost use Rattle.binding_values.specs.Kept.{IsClosed, IsRight, kept_of};
+ghost use Rattle.binding_values.specs.Stored.{properties_of_object, scene_of};
+ghost use Rattle.kept_values.specs.Right.{IsComplete};
+
+use crate::showing::Showing;
+use crate::shown::Shown;
+use binding_values::{BindingError, Bound, Memory, cell_at, outcome};
+use kept_values::KeptValues;
+use property_store::{Property, Stores, default_of};
+use signature_core::Kind;
+use std::alloc::{AllocError, Global};
+use variant_value::Value;
+
+/// What a property of a kind shows.
+pub(crate) fn shown_as(
+    alloc: Global,
+    at: Property,
+    kind: Kind,
+    outcome: Result<Value, BindingError>,
+) -> Shown
+    ensures { result ≡ shown_as at kind outcome }
+{
+    match outcome {
+        Ok(value) => Shown {
+            at,
+            kind,
+            value,
+            error: None,
+        },
+        Err(error) => Shown {
+            at,
+            kind,
+            value: default_of(alloc, kind),
+            error: Some(error),
+        },
+    }
+}
+
+/// What a property shows, where it is there; all is evaluated that it reads.
+pub(crate) fn show(
+    alloc: Global,
+    stores: &Stores,
+    place: usize,
+    bindings: &Bound,
+    at: Property,
+) -> Result<Option<Shown>, AllocError>
+    requires { IsPlace stores.now.shelves.table place }
+    ensures { IfOk result (λ shown. shown ≡ shown_now (store_at stores.now.shelves place) bindings.now at) }
+{
+    let Some((kind, _)) = cell_at(stores, place, at) else {
+        return Ok(None);
+    };
+    let mut done = Memory::new(alloc);
+    let outcome = outcome(alloc, stores, place, bindings, &mut done, at)?;
+    Ok(Some(shown_as(alloc, at, kind, outcome)))
+}
+
+/// What is kept of a property, or else what it stores.
+fn known(
+    alloc: Global,
+    kept: &KeptValues,
+    at: Property,
+    stored: &Value,
+) -> Result<Result<Value, BindingError>, AllocError>
+    ensures { IfOk result (λ known. known ≡ option_map_or (λ kept. kept.outcome) (kept_of kept.now at) (Ok stored.now)) }
+{
+    let Some(kept) = kept.at(at) else {
+        return Ok(Ok(stored.copy(alloc)?));
+    };
+    match &kept.outcome {
+        Ok(value) => Ok(Ok(value.copy(alloc)?)),
+        Err(error) => Ok(Err(*error)),
+    }
+}
+
+/// What a property shows, where it is there, by what is kept of all that is bound.
+pub(crate) fn show_kept(
+    alloc: Global,
+    stores: &Stores,
+    place: usize,
+    bindings: &Bound,
+    kept: &KeptValues,
+    at: Property,
+) -> Result<Option<Shown>, AllocError>
+    requires ready { IsPlace stores.now.shelves.table place }
+    requires complete { IsComplete (scene_of (store_at stores.now.shelves place) bindings.now) (kept_of kept.now) }
+    ensures { IfOk result (λ shown. shown ≡ shown_now (store_at stores.now.shelves place) bindings.now at) }
+{
+    let _ = bindings;
+    let Some((kind, stored)) = cell_at(stores, place, at) else {
+        return Ok(None);
+    };
+    let outcome = known(alloc, kept, at, stored)?;
+    Ok(Some(shown_as(alloc, at, kind, outcome)))
+}
+
+/// Puts what a property shows behind the others, where it is there.
+fn put_shown(
+    alloc: Global,
+    stores: &Stores,
+    place: usize,
+    bindings: &Bound,
+    kept: &KeptValues,
+    rows: &mut Vec<Shown>,
+    at: Property,
+) -> Result<(), AllocError>
+    requires ready { IsPlace stores.now.shelves.table place }
+    requires complete { IsComplete (scene_of (store_at stores.now.shelves place) bindings.now) (kept_of kept.now) }
+    ensures { OnOk result (rows.new.items ≡ rows.old.items ++ filter_map (shown_now (store_at stores.now.shelves place) bindings.now) (at ∷ [])) }
+{
+    if let Some(shown) = show_kept(alloc, stores, place, bindings, kept, at)? {
+        rows.push(shown)?;
+    }
+    Ok(())
+}
+
+/// Puts what the declared properties of an object show behind the others.
+fn show_object(
+    alloc: Global,
+    stores: &Stores,
+    place: usize,
+    bindings: &Bound,
+    kept: &KeptValues,
+    rows: &mut Vec<Shown>,
+    position: usize,
+) -> Result<(), AllocError>
+    requires ready { IsPlace stores.now.shelves.table place }
+    requires stands { position < length (store_at stores.now.shelves place) }
+    requires complete { IsComplete (scene_of (store_at stores.now.shelves place) bindings.now) (kept_of kept.now) }
+    ensures { OnOk result ((default : Properties) → rows.new.items ≡ rows.old.items ++ filter_map (shown_now (store_at stores.now.shelves place) bindings.now) (properties_of_object (slice_index_or (store_at stores.now.shelves place) position default))) }
+{
+    let (object, fields) = stores.object_at(place, position);
+    let mut number = 0;
+    while number < fields.len() {
+        let at = Property { object, number };
+        put_shown(alloc, stores, place, bindings, kept, rows, at)?;
+        number += 1;
+    }
+    Ok(())
+}
+
+/// What all declared properties of a place show, by rising object and number.
+pub(crate) fn show_all(
+    alloc: Global,
+    stores: &Stores,
+    place: usize,
+    bindings: &Bound,
+    kept: &KeptValues,
+) -> Result<Showing, AllocError>
+    requires ready { IsPlace stores.now.shelves.table place }
+    requires complete { IsComplete (scene_of (store_at stores.now.shelves place) bindings.now) (kept_of kept.now) }
+    ensures { IfOk result (λ showing. showing ≡ all_shown (store_at stores.now.shelves place) bindings.now) }
+{
+    let mut rows = Vec::new(alloc);
+    let _ = bindings.len();
+    for position in 0..stores.count(place) {
+        show_object(alloc, stores, place, bindings, kept, &mut rows, position)?;
+    }
+    Ok(Showing::from_rows(rows))
+}
+
+/// What touched properties show that are there.
+pub(crate) fn show_each(
+    alloc: Global,
+    stores: &Stores,
+    place: usize,
+    bindings: &Bound,
+    kept: &KeptValues,
+    touched: &[Property],
+) -> Result<Showing, AllocError>
+    requires ready { IsPlace stores.now.shelves.table place }
+    requires complete { IsComplete (scene_of (store_at stores.now.shelves place) bindings.now) (kept_of kept.now) }
+    ensures { IfOk result (λ showing. (q : Property) → shown_at showing q ≡ (if among q touched.now then shown_now (store_at stores.now.shelves place) bindings.now q else None)) }
+{
+    let mut now = Showing::new(alloc);
+    let _ = (bindings.len(), stores.count(place));
+    for at in touched {
+        if let Some(shown) = show_kept(alloc, stores, place, bindings, kept, *at)? {
+            now.put(shown)?;
+        }
+    }
+    Ok(now)
+}

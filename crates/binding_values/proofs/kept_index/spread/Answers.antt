@@ -1,0 +1,24 @@
+use Rattle.std.proofs.Common.{All, arith, subst}
+use Rattle.std.proofs.lemmas.List.{take_all}
+use Rattle.binding_values.specs.Kept.{kept_of}
+use Rattle.binding_values.specs.Readers.{IsUnread}
+use Rattle.binding_values.proofs.ReachedLemmas.{longer_length, longer_then, nothing_reads, unread_more}
+use Rattle.binding_values.proofs.kept_index.spread.Goals as goal
+
+pub loop-at-preserved : goal.loop-at-preserved
+loop-at-preserved c =
+    let longer = c.in_ok-touch_readers.ensures.longer in
+    let length_rises = longer_length c.loop-at.touched.items c.touch_readers.new.touched.items longer in
+    record {
+      within = omega (arith, length_rises, c.loop-at-test.true);
+      gone = c.in_ok-touch_readers.ensures.gone (kept_of c.args.rows.now) c.loop-at.invariant.gone;
+      known = c.in_ok-touch_readers.ensures.readers;
+      unread = unread_more c.loop-at.touched.items c.touch_readers.new.touched.items c.loop-at.readers c.touch_readers.new.readers c.loop-at.at c.index.result.now (omega (arith, c.loop-at-test.true)) longer c.in_ok-touch_readers.ensures.within c.loop-at.invariant.unread (subst (IsUnread c.touch_readers.new.readers) c.index.ensures c.in_ok-touch_readers.ensures.unread);
+      longer = longer_then c.args.touched.now.items c.loop-at.touched.items c.touch_readers.new.touched.items c.loop-at.invariant.longer longer;
+    }
+
+pub returns-clause-reached : goal.returns-clause-reached
+returns-clause-reached c =
+    nothing_reads (kept_of c.args.rows.now) c.loop-at.touched.items c.loop-at.rows c.loop-at.readers c.loop-at.invariant.gone
+    (subst (All (IsUnread c.loop-at.readers)) (take_all c.loop-at.at c.loop-at.touched.items (omega (arith, c.loop-at-test.false))) c.loop-at.invariant.unread)
+    c.loop-at.invariant.known
