@@ -21,6 +21,7 @@ OTHER_CONNECTIONS = 15_000
 FEW = 16
 EARS = 1_000
 BINDINGS = 1_000
+MOST_BINDINGS = 1_024  # as many as a session may have
 RINGS = 20
 TREES = 2
 METAS = 300
@@ -152,6 +153,16 @@ def followed(bindings):
     return Figure(name, "evaluation", rounds, lambda times: inputs.chain(bindings, times * rounds), bindings)
 
 
+def paired(bindings):
+    """The figure of a property that is set and read by one of so many bindings."""
+    return line(f"set of what one of {bindings:,} bindings reads", lambda lines: inputs.pairs(bindings, lines))
+
+
+UNREAD = line("set of an int that no binding reads", lambda lines: inputs.unread(0, lines))
+UNREAD_BESIDE = line("set of an int that no binding reads, beside one binding", lambda lines: inputs.unread(1, lines))
+GROUPED = line("set of an int that no binding reads, in a group", lambda lines: inputs.grouped(1, lines))
+
+
 def unheard(sessions):
     """The figure of a property that is set, published, and joined by none of so many sessions."""
     name = f"set of an int that is published, beside {so_many(sessions, 'sessions')}"
@@ -230,6 +241,12 @@ FIGURES = [
     TOLD_SETS,
     Ratio("a call by NOTIFY: from a slot that does nothing to one that sets", TOLD_SETS, TOLD, 1.5),
     *grown("a binding", followed, 2 * FEW, BINDINGS, "in a chain"),
+    *grown("set of what a binding reads", paired, 10, MOST_BINDINGS, "bindings", 1.1),
+    UNREAD,
+    UNREAD_BESIDE,
+    Ratio("set of what no binding reads: from no binding to one", UNREAD_BESIDE, UNREAD, 1.05),
+    GROUPED,
+    Ratio("set of what no binding reads: from outside a group to one", GROUPED, UNREAD_BESIDE, 1.1),
     SENT_AND_SPUN,
     *grown("an event", POSTED, FEW, CONNECTIONS, "at once", 1.2),
     *grown("set of what is published", unheard, FEW, MANY_SESSIONS, "sessions", 1.02),

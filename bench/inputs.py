@@ -18,11 +18,13 @@ from lines import (
     look_around,
     meta,
     new,
+    pair,
     publish,
     read,
     read_x,
     ring,
     set_x,
+    set_y,
     spin,
     write,
     write_list,
@@ -219,6 +221,31 @@ def chain(length, times):
     yield end("a")
     yield from (set_x("a", value) for value in range(1, times + 1))
     yield read_x("a", last, times + length)
+
+
+def pairs(bindings, times):
+    """A Pair that is set so many times, beside others of which each has a binding of its own, as it has; with it there are so
+    many bindings, which are made in a group."""
+    yield from numbered("a", 1, ["Pair"] * bindings)
+    yield begin("a")
+    yield from (pair("a", number) for number in range(1, bindings + 1))
+    yield end("a")
+    yield from (set_y("a", value) for value in range(1, times + 1))
+    yield read_x("a", 1, times + 1)
+
+
+def unread(bindings, times):
+    """A Link that no binding reads, set so many times in a session with so many bindings of other Links."""
+    yield from numbered("a", 1, ["Link"] * (bindings + 2))
+    yield from (follow("a", number, number - 1) for number in range(3, bindings + 3))
+    yield from (set_x("a", value) for value in range(1, times + 1))
+
+
+def grouped(bindings, times):
+    """The same in a group, which does not end."""
+    yield from unread(bindings, 0)
+    yield begin("a")
+    yield from (set_x("a", value) for value in range(1, times + 1))
 
 
 # Publications and joins.

@@ -22,6 +22,14 @@ LINK = {
     "properties": [{"name": "x", "type": "int", "notify": "xChanged(int)", "bindable": True}],
 }
 
+PAIR = {
+    "name": "Pair",
+    "super": "QObject",
+    "signals": ["xChanged(int)"],
+    "slots": [],
+    "properties": [*LINK["properties"], {"name": "y", "type": "int", "bindable": True}],
+}
+
 METHODS = 256  # as many as a class may have
 METHODS_OF_QOBJECT = ["destroyed()", "objectNameChanged(QString)", "deleteLater()"]
 
@@ -69,7 +77,7 @@ def class_file(classes):
 
 def usual_classes():
     """The class file of all inputs but those that are class files themselves."""
-    return class_file(ENCODE(it) for it in (BELL, EAR, CELL, LINK, PANEL))
+    return class_file(ENCODE(it) for it in (BELL, EAR, CELL, LINK, PAIR, PANEL))
 
 
 def lamps(count):
@@ -136,6 +144,17 @@ def begin(session):
 def end(session):
     """It ends, and nobody hears of what has changed."""
     return command(session, "end"), reply(session, 0)
+
+
+def pair(session, number):
+    """A Pair is bound to be one more than what else it has."""
+    to = {"+": [{"prop": "y"}, {"const": 1}]}
+    return command(session, "bind", object=number, property="x", to=to), reply(session, True)
+
+
+def set_y(session, value):
+    """The first object, a Pair, is set, and nobody hears of it."""
+    return command(session, "set", object=1, property="y", value=value), reply(session, True)
 
 
 def read_x(session, number, value):

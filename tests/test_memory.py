@@ -3,21 +3,41 @@ tells good programs from bad ones."""
 
 import json
 from collections import Counter
+from concurrent.futures import ProcessPoolExecutor
 from dataclasses import replace
+from functools import partial
 from subprocess import CompletedProcess
 
+from .generators import bindings
 from .plain.lines import answer, server_of
+from .support.by_chance import session_by_chance
 from .support.cases import CASE, Cases, ProgramCases
-from .support.growths import COMPLAINT, KINDS, OUT_OF_MEMORY, Trial, count_start, missing, refuse_growths, start_of
+from .support.growths import COMPLAINT, KINDS, OUT_OF_MEMORY, Tried, Trial, count_start, missing, refuse_growths, start_of
 from .support.lines import lines_of
 from .support.program import ROWS, Row, library, row_of, rows_in
+
+
+SESSIONS = 1_000
+COMMANDS = 200
+REFUSED = 600  # one of so many requests for memory is refused, if the program comes to it
+
+
+def refuse_by_chance(program, preloaded, seed):
+    """What comes of a session with bindings in which one growth is refused, which is taken by chance."""
+    made = bindings.Watching(seed)
+    with session_by_chance(made, seed, COMMANDS) as session:
+        trial, number = Trial(program, preloaded, session.row), made.randint(1, REFUSED)
+        ran, _was_refused = trial.run(number)
+        outcome = trial.outcome(ran)
+        return Tried(Counter([outcome]), None if outcome else trial.refusal_fault(number, ran))
 
 
 class RefusedGrowths(ProgramCases):
     """Rows with one request for memory refused after another.
 
     Rows that start alike, by the same words and class files, differ only behind their start, so all but the first of
-    them begin there. Where the class file has more than 4 KiB, the number grows by a fiftieth at each step.
+    them begin there. Where the class file has more than 4 KiB, or the row more than 1,000 lines, the number grows by a
+    fiftieth at each step.
     """
 
     def test_refused_growths(self):
@@ -35,6 +55,14 @@ class RefusedGrowths(ProgramCases):
         outcomes = sum((it.outcomes for it in tried), Counter())
         self.tell(", ".join(f"{kind}: {count:,}" for kind, count in sorted(outcomes.items())))
         self.assertEqual([] if CASE else missing(outcomes), [], "no refused growth ever led to this")
+
+    def test_sessions_with_bindings(self):
+        """So does one growth, taken by chance, of each of many sessions whose bindings are asked for after each command."""
+        cases = ((f"by chance, {seed}", seed) for seed in range(1, SESSIONS + 1))
+        tried = self.check_each(cases, partial(refuse_by_chance, self.program, library("refuse_growth")), lambda it: it.fault, ProcessPoolExecutor)
+        outcomes = sum((it.outcomes for it in tried), Counter())
+        self.tell(", ".join(f"{kind}: {count:,}" for kind, count in sorted(outcomes.items())))
+        self.assertGreaterEqual(outcomes[KINDS[0]], 0 if CASE else SESSIONS // 10, "too few sessions have failed")
 
 
 def text(**keys):

@@ -8,7 +8,6 @@ from collections import Counter, defaultdict
 from concurrent.futures import ProcessPoolExecutor
 from dataclasses import dataclass, field, replace
 from functools import cache, partial
-from pathlib import Path
 from tempfile import TemporaryDirectory
 
 from .generators import bindings, chance, mixed, sessions, signals, trees
@@ -17,10 +16,11 @@ from .plain.classes import Classes
 from .plain.lines import answer, server_with
 from .plain.session import Session
 from .plain.world import Server, told_alone
+from .support.by_chance import row_with_classes, session_by_chance
 from .support.cases import CASE, ProgramCases
 from .support.differences import difference, shown_input
 from .support.lines import lines_of, text_of
-from .support.program import SECONDS, Row
+from .support.program import Row
 
 SEED = os.environ.get("SEED", "1")
 LONG_SESSIONS = 50
@@ -43,14 +43,6 @@ def all_shown(tried):
     for it in tried:
         shown.update(it.shown)
     return shown
-
-
-def row_with_classes(name, commands, wanted, declared, room, turns=None, seconds=SECONDS):
-    """A row of commands with a class file of its own, which is put into the room."""
-    path = Path(room, "classes.json")
-    path.write_text(text_of({"classes": declared}))
-    words = (str(path), *(("--turns", str(turns)) if turns else ()))
-    return Row(name, lines_of(commands), lines_of(wanted), words=words, seconds=seconds)
 
 
 class Lines(ProgramCases):
@@ -119,25 +111,30 @@ def shown_by_bindings(commands, answers):
     })
 
 
-def try_session(kind, shown_by, program, seed):
-    """Tries a session that is made by a kind of chance."""
-    made = kind(seed)
-    declared, turns = list(made.classes()), made.choice(signals.TURNS)
-    commands, answers = signals.life_of(made, Server(Classes(declared), turns))
-    with TemporaryDirectory(prefix="metad-session-") as room:
-        wanted = [line for told in answers for line in told]
-        row = row_with_classes(f"by chance, {seed}", commands, wanted, declared, room, turns)
-        fault = row.fault(row.run(program))
-    return Tried(fault and f"{fault}\nits class file: {text_of({'classes': declared})}", shown_by(commands, answers))
+def shown_by_watching(commands, answers):
+    """What a session whose bindings are asked for has to show: errors of each kind, and values."""
+    asked = Counter()
+    for command, told in zip(commands, answers):
+        if command["do"] in bindings.Watching.asked:
+            reply = told[-1].get("reply")
+            asked[f"asked for {reply}" if isinstance(reply, str) and command["do"] == "bindingError" else "other answers"] += 1
+    return Counter({what: asked[what] for what in (f"asked for {BINDING_LOOP}", f"asked for {EVALUATION_ERROR}", "other answers")})
+
+
+def try_session(kind, shown_by, program, seed, number=signals.COMMANDS):
+    """Tries a session of so many commands that is made by a kind of chance."""
+    with session_by_chance(kind(seed), seed, number) as made:
+        fault = made.row.fault(made.row.run(program))
+    return Tried(fault and f"{fault}\nits class file: {text_of({'classes': made.declared})}", shown_by(made.commands, made.answers))
 
 
 class OneSession(ProgramCases):
     """Sessions with classes, bodies and commands by chance, each with few turns."""
 
-    def check_sessions(self, number, kind, shown_by, needed=None):
+    def check_sessions(self, seeds, kind, shown_by, needed=None, **how):
         """Tries so many sessions, which together have to show all that is needed, where they are not cases by name."""
-        cases = ((f"by chance, {seed}", seed) for seed in range(int(SEED), int(SEED) + number))
-        tried = self.check_each(cases, partial(try_session, kind, shown_by, self.program), lambda it: it.fault, ProcessPoolExecutor)
+        cases = ((f"by chance, {seed}", seed) for seed in range(int(SEED), int(SEED) + seeds))
+        tried = self.check_each(cases, partial(try_session, kind, shown_by, self.program, **how), lambda it: it.fault, ProcessPoolExecutor)
         shown = all_shown(tried)
         self.tell(", ".join(f"{what}: {number:,}" for what, number in shown.items()))
         lacking = [what for what in needed or shown if not shown[what]]
@@ -151,6 +148,10 @@ class OneSession(ProgramCases):
     def test_bindings(self):
         """Bindings and groups beside them."""
         self.check_sessions(bindings.SESSIONS, bindings.Chance, shown_by_bindings)
+
+    def test_watched_bindings(self):
+        """Bindings whose errors and values are all asked for after each command."""
+        self.check_sessions(bindings.WATCHED_SESSIONS, bindings.Watching, shown_by_watching, number=bindings.WATCHED_COMMANDS)
 
 
 def by_session(lines):

@@ -9,6 +9,8 @@ from . import signals
 from .signals import form_of, kind_of
 
 SESSIONS = 500
+WATCHED_SESSIONS = 1_000
+WATCHED_COMMANDS = 600
 SHARE = 0.6  # of the commands that are those of bindings
 COMMANDS_MADE = {"bind": 16, "unbind": 2, "bindingError": 4, "begin": 2.5, "set": 14, "get": 6, "find": 1, "status": 0.5}
 STRANGE_FORMS = (
@@ -102,3 +104,22 @@ class Chance(signals.Chance):
         if wanted == "bool":
             return self.is_so(0.5)
         return self.choice(signals.TEXTS if wanted == "QString" else signals.NUMBERS if self.is_so(0.1) else signals.NUMBERS[:4])
+
+
+class Watching(Chance):
+    """The same, where after each command the error and the value of each bound property are asked for."""
+
+    asked = ("bindingError", "get")
+
+    def __init__(self, seed):
+        super().__init__(seed)
+        self.waiting = []
+
+    def command(self, session):
+        """What is still to be asked, or else the next command, after which all that is bound then is to be asked."""
+        if self.waiting is None:
+            self.waiting = [{"do": word, "object": at.number, "property": at.name} for at in session.bindings for word in self.asked]
+        if self.waiting:
+            return self.waiting.pop()
+        self.waiting = None
+        return super().command(session)

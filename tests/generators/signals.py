@@ -245,10 +245,10 @@ class Chance(random.Random):
         return command
 
 
-def life_of(chance, server):
-    """Commands by chance in a session of a server, which connect its first objects first, and what it is told to each."""
+def life_of(chance, server, number=COMMANDS):
+    """So many commands by chance in a session of a server, which connect its first objects first, and what it is told to each."""
     commands, answers = [], []
-    for at in range(COMMANDS):
+    for at in range(number):
         if at < LAMPS:
             command = {"do": "new", "class": "Lamp"}
         elif at < LAMPS + CONNECTIONS:

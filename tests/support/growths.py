@@ -30,7 +30,8 @@ from .differences import LAST, difference, shown_input
 from .lines import lines_in, lines_of
 
 MOST = 100_000
-LARGE = 4 * 1024
+LARGE = 4 * 1024  # bytes of a class file
+LONG = 1_000  # lines
 PART = 50
 OUT_OF_MEMORY = 5
 COMPLAINT = b"metad: out of memory\n"
@@ -202,7 +203,7 @@ def refuse_growths(program, library, row, first):
     trial = Trial(program, library, row)
     if not trial.is_plain():
         return Tried(fault="it has not one answer a line")
-    return trial.refuse_each(first, is_sparse=sum(map(len, classes_of(row))) > LARGE)
+    return trial.refuse_each(first, is_sparse=sum(map(len, classes_of(row))) > LARGE or len(trial.lines) > LONG)
 
 
 def missing(outcomes):

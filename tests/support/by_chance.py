@@ -1,0 +1,40 @@
+"""Sessions that are made by chance, as rows for the built program."""
+
+from contextlib import contextmanager
+from pathlib import Path
+from tempfile import TemporaryDirectory
+from typing import NamedTuple
+
+from tests.generators import signals
+from tests.plain.classes import Classes
+from tests.plain.world import Server
+
+from .lines import lines_of, text_of
+from .program import SECONDS, Row
+
+
+def row_with_classes(name, commands, wanted, declared, room, turns=None, seconds=SECONDS):
+    """A row of commands with a class file of its own, which is put into the room."""
+    path = Path(room, "classes.json")
+    path.write_text(text_of({"classes": declared}))
+    words = (str(path), *(("--turns", str(turns)) if turns else ()))
+    return Row(name, lines_of(commands), lines_of(wanted), words=words, seconds=seconds)
+
+
+class Made(NamedTuple):
+    """A session that was made by chance: its class file, its commands, what each is told, and the row of them."""
+
+    declared: list
+    commands: list
+    answers: list
+    row: Row
+
+
+@contextmanager
+def session_by_chance(made, seed, number=signals.COMMANDS):
+    """A session of so many commands that a kind of chance makes, while its class file stands."""
+    declared, turns = list(made.classes()), made.choice(signals.TURNS)
+    commands, answers = signals.life_of(made, Server(Classes(declared), turns), number)
+    with TemporaryDirectory(prefix="metad-session-") as room:
+        wanted = [line for told in answers for line in told]
+        yield Made(declared, commands, answers, row_with_classes(f"by chance, {seed}", commands, wanted, declared, room, turns))
