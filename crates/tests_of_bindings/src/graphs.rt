@@ -1,15 +1,16 @@
 //! What bindings and groups of two places show and tell, call by call.
-#![tactic(auto, unfolding(binding_graph::specs::Step::InStep))]
+ghost use Rattle.std.specs.Prelude.{◌≡◌, ◌+◌, ◌<◌, [], OnOk, length};
+ghost use Rattle.binding_graph.specs.Step.{InStep};
+ghost use Rattle.tests_of_bindings.specs.Opened.{AreTwo};
 
-ghost use Rattle.std.specs.Prelude.{◌≡◌, ◌<◌, [], OnOk, length};
-
-use binding_graph::{Bindings, Change, Told};
+use binding_graph::{Bindings, Change, Told, openings, steps};
 use binding_values::{BindingError, is_bindable};
 use plain_types::{Items, Text};
 use property_store::{Field, Property, Stores};
 use refusals::{Code, Fault};
 use signature_core::Kind;
 use std::alloc::{AllocError, Global};
+use std::marker::Model;
 use std::test::Fail;
 use term_core::Expr;
 use variant_value::Value;
@@ -31,10 +32,14 @@ enum Asked {
     /// The depth, or the number of the code behind 100.
     Begin,
     End,
+    /// Adds an object.
+    Add(u32),
     DropObject(u32),
     Clear,
     Count,
     Depth,
+    /// How many evaluations settlings have made.
+    Evaluations,
 }
 
 use Asked::*;
@@ -46,8 +51,14 @@ struct Bench {
     stores: Stores,
     bindings: Bindings,
     alloc: Global,
-    ghost stores_two: { length stores.table.places ≡ 2 },
-    ghost bindings_two: { length bindings.graphs.places ≡ 2 },
+}
+
+impl Model for Bench {
+    ghost Value = { Unit };
+
+    ghost view = { λ bench. tt };
+
+    ghost invariant = { λ bench. AreTwo bench.stores bench.bindings };
 }
 
 fn layouts(alloc: Global) -> Result<Items<Items<Field>>, AllocError> {
@@ -70,32 +81,49 @@ fn layouts(alloc: Global) -> Result<Items<Items<Field>>, AllocError> {
     Ok(layouts)
 }
 
-/// Opens two places in both tables, with their objects.
-fn open_places(stores: &mut Stores, bindings: &mut Bindings) -> Result<(), AllocError>
-    requires stores { stores.old.table.places ≡ [] }
-    requires bindings { bindings.old.graphs.places ≡ [] }
-    ensures stores { OnOk result (length stores.new.table.places ≡ 2) }
-    ensures bindings { OnOk result (length bindings.new.graphs.places ≡ 2) }
+/// Opens a place in both tables.
+fn open_place(stores: &mut Stores, bindings: &mut Bindings) -> Result<(), AllocError>
+    requires { InStep stores.old bindings.old }
+    ensures step { InStep stores.new bindings.new }
+    ensures stores { OnOk result (length stores.new.shelves.table.places ≡ length stores.old.shelves.table.places + 1) }
+    ensures graphs { OnOk result (length bindings.new.graphs.places ≡ length bindings.old.graphs.places + 1) }
 {
+    openings();
     stores.ready()?;
-    stores.open();
-    stores.add_object(0, 1, 0)?;
-    stores.add_object(0, 2, 0)?;
-    stores.ready()?;
-    stores.open();
-    stores.add_object(1, 1, 0)?;
     bindings.ready()?;
     bindings.open();
-    bindings.ready()?;
-    bindings.open();
+    stores.open();
     Ok(())
+}
+
+/// Adds an object, where it is not there.
+fn add(
+    stores: &mut Stores,
+    bindings: &Bindings,
+    place: usize,
+    object: u32,
+) -> Result<(), AllocError>
+    requires place { place < length stores.old.shelves.table.places }
+    requires step { InStep stores.old bindings.now }
+    ensures step { InStep stores.new bindings.now }
+    ensures places { length stores.new.shelves.table.places ≡ length stores.old.shelves.table.places }
+{
+    steps();
+    if stores.fields(place, object).is_some() {
+        return Ok(());
+    }
+    stores.add_object(place, object, 0)
 }
 
 impl Bench {
     fn new(alloc: Global) -> Result<Bench, AllocError> {
         let mut stores = Stores::new(alloc, layouts(alloc)?);
         let mut bindings = Bindings::new(alloc);
-        open_places(&mut stores, &mut bindings)?;
+        open_place(&mut stores, &mut bindings)?;
+        open_place(&mut stores, &mut bindings)?;
+        add(&mut stores, &bindings, 0, 1)?;
+        add(&mut stores, &bindings, 0, 2)?;
+        add(&mut stores, &bindings, 1, 1)?;
         Ok(Bench {
             stores,
             bindings,
@@ -117,8 +145,7 @@ impl Bench {
         let place = place.min(1);
         match asked {
             Write(object, number, value) => {
-                let change = self.stores.write(place, object, number, Value::Int(value));
-                Ok(change.unwrap_or(false) as u64)
+                Ok(self.write(place, Property { object, number }, value))
             }
             Bind(object, number, text) => self.bind(place, Property { object, number }, text),
             Take(object, number) => self.take(place, Property { object, number }),
@@ -126,16 +153,27 @@ impl Bench {
             Settle(object, number) => self.settle(place, Property { object, number }),
             Begin => self.begin(place),
             End => Ok(self.end(place)),
+            Add(object) => self.add(place, object),
             DropObject(object) => Ok(self.drop_object(place, object)),
             Clear => Ok(self.clear(place)),
             Count => Ok(self.bindings.count(place) as u64),
             Depth => Ok(self.bindings.depth(place) as u64),
+            Evaluations => Ok(self.bindings.evaluations(place)),
         }
     }
 
+    fn write(&mut self, place: usize, at: Property, value: i32) -> u64
+        requires { place < 2 }
+    {
+        steps();
+        let change = self
+            .stores
+            .write(place, at.object, at.number, Value::Int(value));
+        change.unwrap_or(false) as u64
+    }
+
     fn bind(&mut self, place: usize, at: Property, text: &str) -> Result<u64, AllocError>
-        requires stores { place < length self.old.stores.table.places }
-        requires bindings { place < length self.old.bindings.graphs.places }
+        requires { place < 2 }
     {
         let Ok(json) = serde_json::Value::from_str(self.alloc, text) else {
             return Err(AllocError);
@@ -154,15 +192,13 @@ impl Bench {
     }
 
     fn take(&mut self, place: usize, at: Property) -> Result<u64, AllocError>
-        requires stores { place < length self.old.stores.table.places }
-        requires bindings { place < length self.old.bindings.graphs.places }
+        requires { place < 2 }
     {
         Ok(self.bindings.take(place, &mut self.stores, at)? as u64)
     }
 
     fn value(&self, place: usize, at: Property) -> Result<u64, AllocError>
-        requires stores { place < length self.now.stores.table.places }
-        requires bindings { place < length self.now.bindings.graphs.places }
+        requires { place < 2 }
     {
         let (value, error) = self.bindings.value(place, &self.stores, at)?;
         let error = match error {
@@ -173,8 +209,7 @@ impl Bench {
     }
 
     fn settle(&mut self, place: usize, written: Property) -> Result<u64, AllocError>
-        requires stores { place < length self.old.stores.table.places }
-        requires bindings { place < length self.old.bindings.graphs.places }
+        requires { place < 2 }
     {
         let written = match written.object {
             0 => None,
@@ -189,8 +224,7 @@ impl Bench {
     }
 
     fn begin(&mut self, place: usize) -> Result<u64, AllocError>
-        requires stores { place < length self.old.stores.table.places }
-        requires bindings { place < length self.old.bindings.graphs.places }
+        requires { place < 2 }
     {
         match self.bindings.begin(place, &mut self.stores) {
             Ok(depth) => Ok(depth as u64),
@@ -199,7 +233,7 @@ impl Bench {
     }
 
     fn end(&mut self, place: usize) -> u64
-        requires { place < length self.old.bindings.graphs.places }
+        requires { place < 2 }
     {
         match self.bindings.end(place, &self.stores) {
             Ok(depth) => depth as u64,
@@ -207,17 +241,24 @@ impl Bench {
         }
     }
 
-    fn drop_object(&mut self, place: usize, object: u32) -> u64
-        requires stores { place < length self.old.stores.table.places }
-        requires bindings { place < length self.old.bindings.graphs.places }
+    fn add(&mut self, place: usize, object: u32) -> Result<u64, AllocError>
+        requires { place < 2 }
     {
+        add(&mut self.stores, &self.bindings, place, object)?;
+        Ok(0)
+    }
+
+    fn drop_object(&mut self, place: usize, object: u32) -> u64
+        requires { place < 2 }
+    {
+        steps();
         self.stores.drop_object(place, object);
         self.bindings.drop_object(place, object);
         self.bindings.count(place) as u64
     }
 
     fn clear(&mut self, place: usize) -> u64
-        requires { place < length self.old.bindings.graphs.places }
+        requires { place < 2 }
     {
         self.bindings.clear(place);
         self.bindings.count(place) as u64
@@ -364,6 +405,111 @@ const IN_GROUPS: &[Case] = &[
     (0, Depth, 0),
 ];
 
+const EVALUATED: &[Case] = &[
+    (0, Bind(1, 0, SUM), 0),
+    (0, Evaluations, 0),
+    (0, Settle(1, 0), 2101),
+    (0, Evaluations, 1),
+    (0, Settle(0, 0), 0),
+    (0, Evaluations, 1),
+    (0, Write(1, 1, 4), 1),
+    (0, Settle(1, 1), 2114_2105),
+    (0, Evaluations, 2),
+    // Nothing reads this.
+    (0, Write(2, 0, 3), 1),
+    (0, Settle(2, 0), 2203),
+    (0, Evaluations, 2),
+    // A write counts also where the value stays.
+    (0, Write(1, 1, 4), 0),
+    (0, Settle(1, 1), 0),
+    (0, Evaluations, 3),
+    // Looks count nothing, also before a settling.
+    (0, ValueOf(1, 0), 50),
+    (0, Write(1, 1, 6), 1),
+    (0, ValueOf(1, 0), 70),
+    (0, ValueOf(1, 0), 70),
+    (0, Evaluations, 3),
+    (0, Settle(1, 1), 2116_2107),
+    (0, Evaluations, 4),
+    // Three writes in a group are one.
+    (0, Begin, 1),
+    (0, Write(1, 1, 2), 1),
+    (0, Write(1, 1, 3), 1),
+    (0, Write(1, 1, 4), 1),
+    (0, Settle(1, 1), 0),
+    (0, End, 0),
+    (0, Evaluations, 4),
+    (0, Settle(0, 0), 2105_2114),
+    (0, Evaluations, 5),
+];
+
+const TURN: &str =
+    r#"{"if":[{"<":[{"prop":"x","of":2},{"const":5}]},{"prop":"y","of":2},{"prop":"y"}]}"#;
+
+/// What is evaluated is what was read last.
+const TURNED: &[Case] = &[
+    (0, Bind(1, 0, TURN), 0),
+    (0, Settle(1, 0), 0),
+    (0, Evaluations, 1),
+    (0, Write(1, 1, 3), 1),
+    (0, Settle(1, 1), 2113),
+    (0, Evaluations, 1),
+    (0, Write(2, 1, 4), 1),
+    (0, Settle(2, 1), 2214_2104),
+    (0, Evaluations, 2),
+    (0, Write(2, 0, 9), 1),
+    (0, Settle(2, 0), 2209_2103),
+    (0, Evaluations, 3),
+    (0, Write(2, 1, 7), 1),
+    (0, Settle(2, 1), 2217),
+    (0, Evaluations, 3),
+    (0, Write(1, 1, 8), 1),
+    (0, Settle(1, 1), 2118_2108),
+    (0, Evaluations, 4),
+    (0, Write(2, 0, 1), 1),
+    (0, Settle(2, 0), 2201_2107),
+    (0, Evaluations, 5),
+    (0, Write(1, 1, 2), 1),
+    (0, Settle(1, 1), 2112),
+    (0, Evaluations, 5),
+    (0, Write(2, 1, 5), 1),
+    (0, Settle(2, 1), 2215_2105),
+    (0, Evaluations, 6),
+];
+
+/// A loop that opens and closes by the write of a third property.
+const LOOPED: &[Case] = &[
+    (0, Bind(1, 0, SUM), 0),
+    (0, Bind(1, 1, CHOICE), 0),
+    (0, Settle(0, 0), 2101),
+    (0, Write(2, 1, 6), 1),
+    (0, Settle(2, 1), 1101_1111_2216_2100),
+    (0, Write(2, 1, 3), 1),
+    (0, Settle(2, 1), 2213_2104_2113),
+];
+
+/// An object that comes after it is read, and goes again.
+const COMES_AND_GOES: &[Case] = &[
+    (1, Bind(1, 0, SUM), 0),
+    (1, Settle(1, 0), 2101),
+    (0, Bind(1, 0, r#"{"prop":"x","of":9}"#), 0),
+    (0, Bind(2, 0, SUM), 0),
+    (0, Settle(0, 0), 1102_2201),
+    (0, Evaluations, 2),
+    (0, Add(9), 0),
+    (0, Settle(0, 0), 0),
+    (0, ValueOf(1, 0), 0),
+    (0, Evaluations, 3),
+    (0, Write(9, 0, 6), 1),
+    (0, Settle(9, 0), 2906_2106),
+    (0, Evaluations, 4),
+    // Then all that is bound is evaluated again, at this place alone.
+    (0, DropObject(9), 2),
+    (0, Settle(0, 0), 1102_2100),
+    (0, Evaluations, 6),
+    (1, Evaluations, 1),
+];
+
 fn ask(alloc: Global, cases: &[Case]) -> Result<bool, AllocError> {
     let mut bench = Bench::new(alloc)?;
     bench.answers(cases)
@@ -378,5 +524,41 @@ fn bound_properties_show_what_they_are_bound_to(rt: HostRuntime) -> Result<(), F
 #[test]
 fn groups_tell_at_their_end(rt: HostRuntime) -> Result<(), Fail> {
     assert!(rt; ask(rt.alloc(), IN_GROUPS)?);
+    Ok(())
+}
+
+#[test]
+fn settlings_evaluate_what_changes_reach(rt: HostRuntime) -> Result<(), Fail> {
+    assert!(rt; ask(rt.alloc(), EVALUATED)?);
+    assert!(rt; ask(rt.alloc(), TURNED)?);
+    assert!(rt; ask(rt.alloc(), LOOPED)?);
+    assert!(rt; ask(rt.alloc(), COMES_AND_GOES)?);
+    Ok(())
+}
+
+/// Of a thousand bound properties, of which each reads another property, the value of the first after a write of
+/// what it reads, and how many evaluations that took.
+fn written_of_many(alloc: Global) -> Result<(u64, u64), AllocError> {
+    let mut bench = Bench::new(alloc)?;
+    for object in 1..1001 {
+        bench.ask(0, Add(object))?;
+        bench.ask(0, Bind(object, 0, r#"{"prop":"y"}"#))?;
+    }
+    bench.ask(0, Settle(0, 0))?;
+    for object in 1..1001 {
+        bench.ask(0, ValueOf(object, 0))?;
+    }
+    let before = bench.ask(0, Evaluations)?;
+    bench.ask(0, Write(1, 1, 5))?;
+    bench.ask(0, Settle(1, 1))?;
+    let evaluations = bench.ask(0, Evaluations)?.wrapping_sub(before);
+    Ok((bench.ask(0, ValueOf(1, 0))?, evaluations))
+}
+
+#[test]
+fn a_write_evaluates_what_reads_it(rt: HostRuntime) -> Result<(), Fail> {
+    let (value, evaluations) = written_of_many(rt.alloc())?;
+    assert!(rt; value == 50);
+    assert!(rt; evaluations <= 1);
     Ok(())
 }
