@@ -36,8 +36,8 @@ class RefusedGrowths(ProgramCases):
     """Rows with one request for memory refused after another.
 
     Rows that start alike, by the same words and class files, differ only behind their start, so all but the first of
-    them begin there. Where the class file has more than 4 KiB, or the row more than 1,000 lines, the number grows by a
-    fiftieth at each step.
+    them begin there. Where the class file has more than 4 KiB the number grows by a fiftieth at each step,
+    and where the row has more than 1,000 lines by a fifth.
     """
 
     def test_refused_growths(self):

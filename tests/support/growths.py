@@ -32,7 +32,7 @@ from .lines import lines_in, lines_of
 MOST = 100_000
 LARGE = 4 * 1024  # bytes of a class file
 LONG = 1_000  # lines
-PART = 50
+PART, LONG_PART = 50, 5
 OUT_OF_MEMORY = 5
 COMPLAINT = b"metad: out of memory\n"
 KINDS = ("session failed", "receiver failed", "line lost", "session not entered", "program ended")
@@ -157,8 +157,8 @@ class Trial:
             made, most = (middle, most) if self.run(middle)[1] else (made, middle)
         return made
 
-    def refuse_each(self, first, is_sparse):
-        """Refuses one growth after another, from the first one on; where it is sparse, at growing distances."""
+    def refuse_each(self, first, part):
+        """Refuses one growth after another, from the first one on; with a part, at distances that grow by it."""
         tried, number = Tried(), first
         for _ in range(MOST):
             ran, was_refused = self.run(number)
@@ -171,7 +171,7 @@ class Trial:
                 tried.fault = self.refusal_fault(number, ran)
                 return tried
             tried.outcomes[outcome] += 1
-            number += 1 + (number // PART if is_sparse else 0)
+            number += 1 + (number // part if part else 0)
         tried.fault = "no end of growths"
         return tried
 
@@ -203,7 +203,9 @@ def refuse_growths(program, library, row, first):
     trial = Trial(program, library, row)
     if not trial.is_plain():
         return Tried(fault="it has not one answer a line")
-    return trial.refuse_each(first, is_sparse=sum(map(len, classes_of(row))) > LARGE or len(trial.lines) > LONG)
+    if len(trial.lines) > LONG:
+        return trial.refuse_each(first, LONG_PART)
+    return trial.refuse_each(first, PART if sum(map(len, classes_of(row))) > LARGE else None)
 
 
 def missing(outcomes):
