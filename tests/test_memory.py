@@ -19,14 +19,15 @@ from .support.program import ROWS, Row, library, row_of, rows_in
 
 SESSIONS = 1_000
 COMMANDS = 200
-REFUSED = 600  # one of so many requests for memory is refused, if the program comes to it
+REFUSED = 400  # one of so many requests for memory behind the start is refused, if the program comes to it
 
 
 def refuse_by_chance(program, preloaded, seed):
     """What comes of a session with bindings in which one growth is refused, which is taken by chance."""
     made = bindings.Watching(seed)
     with session_by_chance(made, seed, COMMANDS) as session:
-        trial, number = Trial(program, preloaded, session.row), made.randint(1, REFUSED)
+        trial = Trial(program, preloaded, session.row)
+        number = count_start(program, preloaded, session.row) + made.randint(1, REFUSED)
         ran, _was_refused = trial.run(number)
         outcome = trial.outcome(ran)
         return Tried(Counter([outcome]), None if outcome else trial.refusal_fault(number, ran))
