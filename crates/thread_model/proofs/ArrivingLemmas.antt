@@ -16,18 +16,18 @@ use Rattle.thread_model.specs.Thread.{Settings, arrive_all, arrives}
 
 -- by each join a queue gets a call, or counts it as lost or mismatched, or stays as it was
 module _ (classes : List Class) (rows : List Row) (from : List ℕ) (post : Post) (P : Queue → Type 0) (mismatched : (queue : Queue) → P queue → P (with_mismatched queue)) (lost : (queue : Queue) → P queue → P (with_lost queue))
-    (Q : Join → Type 0) (called : (queue : Queue) (join : Join) → Q join → P queue → P (posted queue (Call (joined_call classes rows post.arguments join)))) where
+    (Q : Join → Type 0) (called : (queue : Queue) (join : Join) → is_matched post.kinds join ≡ true → Q join → P queue → P (posted queue (Call (joined_call classes rows post.arguments join)))) where
   reached_keeps : (queue : Queue) (join : Join) → Q join → P queue → P (reached classes rows from post queue join)
-  reached_keeps queue join meant holds = by (listens from post.name join) (is_matched post.kinds join)
+  reached_keeps queue join meant holds = by (listens from post.name join) (is_matched post.kinds join) refl
     where
-      call : (room : Bool) → P (cond room (posted queue (Call (joined_call classes rows post.arguments join))) (with_lost queue))
-      call true = called queue join meant holds
-      call false = lost queue holds
+      call : is_matched post.kinds join ≡ true → (room : Bool) → P (cond room (posted queue (Call (joined_call classes rows post.arguments join))) (with_lost queue))
+      call is true = called queue join is meant holds
+      call is false = lost queue holds
 
-      by : (a b : Bool) → P (cond a (cond b (with_call queue (joined_call classes rows post.arguments join)) (with_mismatched queue)) queue)
-      by false b = holds
-      by true false = mismatched queue holds
-      by true true = call (has_room queue)
+      by : (a b : Bool) → is_matched post.kinds join ≡ b → P (cond a (cond b (with_call queue (joined_call classes rows post.arguments join)) (with_mismatched queue)) queue)
+      by false b is = holds
+      by true false is = mismatched queue holds
+      by true true is = call is (has_room queue)
 
   pub reached_by_keeps : (queue : Queue) (joins : List Join) → All Q joins → P queue → P (reached_by classes rows from post queue joins)
   reached_by_keeps queue [] all holds = holds

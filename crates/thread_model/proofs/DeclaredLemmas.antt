@@ -57,7 +57,7 @@ use Rattle.thread_model.proofs.StepLemmas.{Holds, step_holds}
 
 -- something that is said of an object by its number and its class
 module _ (G : ℕ → ℕ → Type 0) where
-  abbrev OfEach : List Row → Type 0
+  abbrev pub OfEach : List Row → Type 0
   OfEach rows = All (λ row. G row.number row.class) rows
 
   -- it holds after a change of a row that leaves both
@@ -70,7 +70,7 @@ module _ (G : ℕ → ℕ → Type 0) where
       one row true holds = same row holds
       one row false holds = holds
 
-  each_reparented : (forest : Forest) (number : ℕ) (parent : Option ℕ) → OfEach forest.rows → OfEach (reparented forest number parent).rows
+  pub each_reparented : (forest : Forest) (number : ℕ) (parent : Option ℕ) → OfEach forest.rows → OfEach (reparented forest number parent).rows
   unfolding moved
   each_reparented forest number parent all = by (keeps_parent forest.rows number parent)
     where
@@ -78,16 +78,16 @@ module _ (G : ℕ → ℕ → Type 0) where
       by true = all
       by false = each_changed (λ row. record row { parent = parent; stamp = forest.last_stamp + 1 }) number (λ row holds. holds) forest.rows all
 
-  each_marked : (forest : Forest) (number : ℕ) → OfEach forest.rows → OfEach (marked forest number).rows
+  pub each_marked : (forest : Forest) (number : ℕ) → OfEach forest.rows → OfEach (marked forest number).rows
   unfolding marked
   each_marked forest number all = each_changed (λ row. record row { dying = true }) number (λ row holds. holds) forest.rows all
 
-  each_blocked : (forest : Forest) (number : ℕ) (on : Bool) → OfEach forest.rows → OfEach (with_blocked forest number on).rows
+  pub each_blocked : (forest : Forest) (number : ℕ) (on : Bool) → OfEach forest.rows → OfEach (with_blocked forest number on).rows
   unfolding with_blocked
   each_blocked forest number on all = each_changed (λ row. record row { blocked = on }) number (λ row holds. holds) forest.rows all
 
 -- it holds of what stays after an object has gone
-each_removed : (G H : ℕ → ℕ → Type 0) (forest : Forest) (number : ℕ) → ((n class : ℕ) → (n == number) ≡ false → G n class → H n class) → OfEach G forest.rows → OfEach H (removed forest number).rows
+pub each_removed : (G H : ℕ → ℕ → Type 0) (forest : Forest) (number : ℕ) → ((n class : ℕ) → (n == number) ≡ false → G n class → H n class) → OfEach G forest.rows → OfEach H (removed forest number).rows
 unfolding removed
 each_removed G H forest number others all = All-map (λ (row : Row). H row.number row.class) (orphaned number) kept (λ index default within. root (get_or kept index default) (has_parent (Some number) (get_or kept index default))
     (others (get_or kept index default).number (get_or kept index default).class (not-true (has_number number (get_or kept index default)) (filter_passes (λ row. not (has_number number row)) forest.rows index default within))
@@ -110,14 +110,14 @@ module _ (classes : List Class) (state : State) (declared : IsDeclared classes s
       All-weaker (λ row. Has classes state row.number row.class) (λ row. Has classes (with_properties state number change) row.number row.class)
       (λ row has. changed_fields change number same fields state.store row.number ∙ has) state.forest.rows declared
 
-  declared_with_writing : (object : ℕ) (writing : Writing) → IsDeclared classes (with_writing state object writing)
+  pub declared_with_writing : (object : ℕ) (writing : Writing) → IsDeclared classes (with_writing state object writing)
   declared_with_writing object (Declared number value) = declared_with_properties object _ (λ of. refl) (λ of. refl)
   declared_with_writing object (Dynamic name value) = declared_with_properties object _ (λ of. refl) (λ of. refl)
   declared_with_writing object (Removed name) = declared_with_properties object _ (λ of. refl) (λ of. refl)
   declared_with_writing object Nothing = declared
 
   -- what a bound property shows is stored
-  declared_with_binding_taken : (at : At) → IsDeclared classes (with_binding_taken state at)
+  pub declared_with_binding_taken : (at : At) → IsDeclared classes (with_binding_taken state at)
   declared_with_binding_taken at =
       cond_both (is_bound state.graph.bindings at) (stored.written state.store at.object at.number shows) state.store (λ store. IsDeclared classes (record state { store = store; graph = unbound state.graph at }))
       (λ bound. by (fitting state.store at.object at.number shows))
@@ -222,7 +222,7 @@ holds classes = record {
   goes = λ doing target declared. gone_declared classes doing declared target;
 }
 
-item_declared : (settings : Settings) (item : Item) (doing : Doing) → IsDeclared settings.classes doing.state → IsDeclared settings.classes (step settings item doing).doing.state
+pub item_declared : (settings : Settings) (item : Item) (doing : Doing) → IsDeclared settings.classes doing.state → IsDeclared settings.classes (step settings item doing).doing.state
 item_declared settings item doing = step_holds settings (λ old new. IsDeclared settings.classes old.state → IsDeclared settings.classes new.state) (holds settings.classes) item doing
 
 -- and after an agenda is done

@@ -62,7 +62,7 @@ number_kind k.Ulonglong z value e = fitting k.Ulonglong _ (v.Ulonglong _) value 
 number_kind k.Text z value e = absurd (cc)
 
 -- a value that is read as one of a kind
-read_kind : (kind : Kind) (json : Data) (value : Value) → value_of kind json ≡ Ok value → IsOfKind kind value
+pub read_kind : (kind : Kind) (json : Data) (value : Value) → value_of kind json ≡ Ok value → IsOfKind kind value
 read_kind kind json value e = by kind e
   where
     truth : (found : Option Bool) → ok_or (option_map v.Bool found) BadValue ≡ Ok value → IsOfKind k.Bool value

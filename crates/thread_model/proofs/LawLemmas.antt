@@ -101,7 +101,7 @@ done_sound : (settings : Settings) (next : Next) (answer : Answer) → list_any 
 done_sound settings next answer none sound = run_sound settings (next.items ++ to_do.Reply answer ∷ []) next.doing none sound
 
 -- nor does a reply behind items let an object go
-replies_stay : (items : List Item) (answer : Answer) → list_any is_gone items ≡ false → list_any is_gone (items ++ to_do.Reply answer ∷ []) ≡ false
+pub replies_stay : (items : List Item) (answer : Answer) → list_any is_gone items ≡ false → list_any is_gone (items ++ to_do.Reply answer ∷ []) ≡ false
 replies_stay items answer none = list_any-append is_gone items (to_do.Reply answer ∷ []) ∙ ap (λ b. b || false) none
 
 is_present : (state : State) (target : ℕ) → absence state target ≡ None → is_there state.forest.rows target ≡ true
@@ -117,7 +117,7 @@ record Begins (next : Next) : Type 0 where
   pub sound : IsSound next.doing.state
 
 -- properties are written
-writing_sound : (doing : Doing) (target : ℕ) (writing : Writing) → IsFit doing.state target writing → IsSound doing.state → IsSound (with_writing doing.state target writing)
+pub writing_sound : (doing : Doing) (target : ℕ) (writing : Writing) → IsFit doing.state target writing → IsSound doing.state → IsSound (with_writing doing.state target writing)
 writing_sound doing target writing fit sound = sound_at_end (with_writing doing.state target writing) (writing_under [] doing (under_way [] doing.state refl sound) target writing fit)
 
 -- another state is told of
@@ -153,7 +153,7 @@ ended_sound settings state sound =
     done_sound settings (ending settings state) (a.Number (without_group state).graph.depth) (replies_stay (ending settings state).items (a.Number (without_group state).graph.depth) (ending_stays settings state))
     (record { whole = whole_without_group state sound.whole; living = sound.living })
 
-deed_sound : (doing : Doing) (deed : Deed) → deed_refusal doing.state deed ≡ None → IsSound doing.state → IsSound (with_deed doing.state deed)
+pub deed_sound : (doing : Doing) (deed : Deed) → deed_refusal doing.state deed ≡ None → IsSound doing.state → IsSound (with_deed doing.state deed)
 unfolding deed_done
 deed_sound doing deed passed sound = sound_at_end (with_deed doing.state deed) (deed_under [] doing (under_way [] doing.state refl sound) deed passed)
 
@@ -285,7 +285,7 @@ post_sound classes state from post sound =
     (λ queue holds. (sound_mismatched queue holds.0, holds.1))
     (λ queue holds. (sound_lost queue holds.0, holds.1))
     (λ (join : Join). is_there state.forest.rows join.object ≡ true)
-    (λ queue join there holds. (sound_posted queue (Call (joined_call classes state.forest.rows post.arguments join)) holds.0, each_posted (IsMeant state) queue (Call (joined_call classes state.forest.rows post.arguments join)) there holds.1))
+    (λ queue join matched there holds. (sound_posted queue (Call (joined_call classes state.forest.rows post.arguments join)) holds.0, each_posted (IsMeant state) queue (Call (joined_call classes state.forest.rows post.arguments join)) there holds.1))
     state.queue state.desk.joins sound.whole.named.joins (sound.whole.queue, sound.whole.meant) in
     record { whole = whole_with_queue state (reached_by classes state.forest.rows from post state.queue state.desk.joins) queue.0 queue.1 sound.whole; living = sound.living }
 

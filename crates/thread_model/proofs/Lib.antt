@@ -41,3 +41,14 @@ pub mod ClassLemmas
 pub mod SignalLemmas
 pub mod EventLemmas
 pub mod SharingLemmas
+pub mod FittingArgumentLemmas
+pub mod FittingTableLemmas
+pub mod FittingClassLemmas
+pub mod FittingLaterLemmas
+pub mod FittingFoundLemmas
+pub mod FittingToldLemmas
+pub mod FittingChangeLemmas
+pub mod FittingCallLemmas
+pub mod FittingItemLemmas
+pub mod FittingRunLemmas
+pub mod FittingCommandLemmas

@@ -1,6 +1,6 @@
 -- What commands, posts and items leave of every session.
 use Rattle.std.specs.Prelude.{◌≡◌, ℕ, List, [], ◌∷◌, ◌++◌, IsFalse}
-use Rattle.std.specs.List.{list_any}
+use Rattle.std.specs.List.{All, list_any}
 use Rattle.variant_value.specs.declared.value.Value.{Value}
 use Rattle.term_core.specs.Act.{Act}
 use Rattle.term_evaluation.specs.Unfolding.{unfolded}
@@ -9,6 +9,7 @@ use Rattle.thread_model.specs.declared.post.Post.{Post}
 use Rattle.thread_model.specs.Agenda.{step}
 use Rattle.thread_model.specs.Asked.{Asked}
 use Rattle.thread_model.specs.Doing.{Doing}
+use Rattle.thread_model.specs.Fitting.{AreSettings, IsFitting, IsFittingAsked, IsFittingUnderWay, IsRightPost}
 use Rattle.thread_model.specs.Items as to_do
 use Rattle.thread_model.specs.Items.{Item}
 use Rattle.thread_model.specs.Run.{run}
@@ -38,6 +39,14 @@ pub record KeepsDeclared : Type 0 where
   pub by_item : (settings : Settings) (item : Item) (doing : Doing) → IsDeclared settings.classes doing.state → IsDeclared settings.classes (step settings item doing).doing.state
   pub by_command : (settings : Settings) (self : List ℕ) (state : State) (asked : Asked) → IsSound state → IsDeclared settings.classes state → IsDeclared settings.classes (does settings self state asked).state
   pub by_post : (classes : List Class) (state : State) (from : List ℕ) (post : Post) → IsDeclared classes state → IsDeclared classes (arrives classes state from post)
+
+-- what a session holds fits the classes and the functors: before the first command, item by item while a command
+-- is done, after it, and after each right post of another session; what a command posts is right
+pub record KeepsFitting : Type 0 where
+  pub at_first : (settings : Settings) → IsFitting settings empty
+  pub by_item : (settings : Settings) (item : Item) (agenda : List Item) (doing : Doing) → AreSettings settings → IsFittingUnderWay settings (item ∷ agenda) doing → IsFittingUnderWay settings ((step settings item doing).items ++ agenda) (step settings item doing).doing
+  pub by_command : (settings : Settings) (self : List ℕ) (state : State) (asked : Asked) → AreSettings settings → IsFittingAsked settings state asked → IsSound state → IsDeclared settings.classes state → IsFitting settings state → IsFitting settings (does settings self state asked).state × All IsRightPost (does settings self state asked).posts
+  pub by_post : (settings : Settings) (state : State) (from : List ℕ) (post : Post) → IsFitting settings state → IsRightPost post → IsFitting settings (arrives settings.classes state from post)
 
 -- an action over the arguments of its slot does what it does with them put in, over none
 abbrev pub ActsInPlace : Type 0

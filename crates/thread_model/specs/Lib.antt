@@ -17,6 +17,7 @@ pub mod Acts
 pub mod Agenda
 pub mod Run
 pub mod UnderWay
+pub mod Fitting
 pub mod Effects
 pub mod Classes
 pub mod Trees

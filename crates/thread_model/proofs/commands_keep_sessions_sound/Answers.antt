@@ -1,3 +1,4 @@
+use Rattle.thread_model.proofs.FittingCommandLemmas.{keeps_fitting}
 use Rattle.thread_model.proofs.DeclaredLemmas.{keeps_declared}
 use Rattle.thread_model.proofs.LawLemmas.{keeps_sound, keeps_under_way}
 use Rattle.thread_model.proofs.commands_keep_sessions_sound.Goals as goal
@@ -10,3 +11,6 @@ returns-clause-items c = keeps_under_way
 
 pub returns-clause-properties : goal.returns-clause-properties
 returns-clause-properties c = keeps_declared
+
+pub returns-clause-fitting : goal.returns-clause-fitting
+returns-clause-fitting c = keeps_fitting
