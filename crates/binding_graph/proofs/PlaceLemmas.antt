@@ -1,7 +1,7 @@
 -- The graphs of places, and what is kept of them.
-use Rattle.std.proofs.Common.{◌≡◌, ◌≢◌, ◌∙◌, ◌==◌, ℕ, zero, suc, Bool, true, false, not, List, [], ◌∷◌, Some, Result, Ok, Err, OnErr, OnOk, filter, is_some, cond, find, get_or, map, option_map, refl, set, sym, ap, subst, ⊎_elim, arith}
+use Rattle.std.proofs.Common.{◌≡◌, ◌≢◌, ◌∙◌, ◌==◌, ℕ, zero, suc, Bool, true, false, not, List, [], ◌∷◌, Some, Result, Ok, Err, OnErr, OnOk, filter, is_some, cond, find, get_or, length, map, option_map, refl, set, sym, ap, subst, ⊎_elim, arith}
 use Rattle.std.proofs.lemmas.Bool.{both_ways, cases_Bool, eq-eqb, eqb-true}
-use Rattle.std.proofs.lemmas.List.{get_or-set_other, get_or-set_same, length-map}
+use Rattle.std.proofs.lemmas.List.{get_or-set_other, get_or-set_same, get_or_past, length-map}
 use Rattle.places.specs.Table.{IsPlace, Table, opened, with_place}
 use Rattle.places.proofs.TableLemmas.{default_pushed, with_same}
 use Rattle.property_store.specs.declared.property.Property.{Property}
@@ -10,11 +10,11 @@ use Rattle.property_store.specs.Property.{is_property}
 use Rattle.property_store.specs.Table.{Stock, store_at}
 use Rattle.binding_values.specs.declared.binding.Binding.{Binding}
 use Rattle.binding_values.specs.Scene.{term_at}
-use Rattle.binding_graph.specs.Cache.{IsInStep, cache_at}
+use Rattle.binding_graph.specs.Cache.{IsInStep, cache_at, no_cache}
 use Rattle.binding_graph.specs.Graph.{Graph, is_bound, no_graph, unbound}
 use Rattle.binding_graph.specs.Drained.{IsDrained}
 use Rattle.binding_graph.specs.Step.{InStep}
-use Rattle.binding_graph.specs.Table.{graph_at, with_graph}
+use Rattle.binding_graph.specs.Table.{OthersKept, graph_at, with_graph}
 use Rattle.binding_graph.specs.Woven.{IsAt, StaysAt, Woven, no_woven, unwoven}
 use Rattle.binding_graph.proofs.StepLemmas.{same_in_step}
 
@@ -99,6 +99,22 @@ nothing_drained place stores = record { shelves = refl; others = λ other apart.
 pub stays_with : (stores : Stock) (table : Table Woven) (place : ℕ) (now new : Woven) → IsPlace table place → now ≡ woven_at table place → StaysAt now new → InStep stores (unwoven table) → InStep stores (unwoven (with_place table place new))
 stays_with stores table place now new is_place stood stays step =
     with_in_step stores stores table place new is_place (nothing_drained place stores) (stays (store_at stores.shelves place) (marks_at stores.marks place) (subst (IsAt stores place) (sym stood) (at_place stores table step place))) step
+
+-- what is kept of other places
+pub others_kept : (table : Table Woven) (place : ℕ) (woven : Woven) → OthersKept place (unwoven table) (unwoven (with_place table place woven))
+others_kept table place woven other apart =
+    cache_there (with_place table place woven) other ∙ (ap (λ (woven : Woven). woven.cache) (get_or-set_other table.places place other woven no_woven apart) ∙ sym (cache_there table other))
+
+-- and of this one
+pub kept_here : (table : Table Woven) (place : ℕ) (woven : Woven) → IsPlace table place → cache_at (unwoven (with_place table place woven)).caches place ≡ woven.cache
+kept_here table place woven is_place = cache_there (with_place table place woven) place ∙ ap (λ (woven : Woven). woven.cache) (get_or-set_same table.places place woven no_woven is_place)
+
+-- a place that is opened keeps nothing, and what is kept of others stays
+pub opened_kept : (table : Table Woven) (place : ℕ) → cache_at (unwoven (opened table no_woven)).caches place ≡ cache_at (unwoven table).caches place
+opened_kept table place = cache_there (opened table no_woven) place ∙ (ap (λ (woven : Woven). woven.cache) (default_pushed no_woven table.places place) ∙ sym (cache_there table place))
+
+pub nothing_behind : (table : Table Woven) (place : ℕ) → place ≡ length table.places → cache_at (unwoven table).caches place ≡ no_cache
+nothing_behind table place is = cache_there table place ∙ ap (λ (woven : Woven). woven.cache) (get_or_past table.places place no_woven (omega (arith, is)))
 
 -- where no graph is, and nothing is kept, whatever the stores are
 pub opened_in_step : (stores : Stock) (table : Table Woven) → InStep stores (unwoven table) → InStep stores (unwoven (opened table no_woven))

@@ -109,8 +109,8 @@ more_in_step {store} {marks} {more} {pending} {graph} {cache} step are_more = st
 
 -- where all that is bound is kept, and what properties showed is what they show
 
-pub complete_in_step : (store : Store) (graph : Graph) (cache : Cache) → IsComplete (scene_of store graph.bindings) (kept_of cache.kept) → graph.last ≡ all_shown store graph.bindings → cache.pending ≡ no_marks → (marks : Marks) → has_marks marks ≡ false → IsInStep store marks graph cache
-complete_in_step store graph cache complete last pending marks none = record {
+pub complete_in_step : (store : Store) (graph : Graph) (cache : Cache) → IsComplete (scene_of store graph.bindings) (kept_of cache.kept) → graph.last ≡ all_shown store graph.bindings → (marks : Marks) → IsInStep store marks graph cache
+complete_in_step store graph cache complete last marks = record {
   right = complete_is_right (scene_of store graph.bindings) (both marks cache.pending) (kept_of cache.kept) complete;
   whole = λ q off. complete.whole q;
   last = λ q off. found q ∙ ap (λ outcome. option_map (λ (cell : Cell). shown_as q cell.kind outcome) (cell_in store q)) (sym (complete_is_known (scene_of store graph.bindings) (kept_of cache.kept) complete q));

@@ -106,7 +106,7 @@ same_rows (x ∷ xs) (y ∷ ys) rising risen same = by (is_before x.at y.at) ref
 
 -- nothing is told of what shows what it showed
 
-same_value : (value : Value) → is_same value value ≡ true
+pub same_value : (value : Value) → is_same value value ≡ true
 same_value v.Invalid = refl
 same_value (v.Bool true) = refl
 same_value (v.Bool false) = refl

@@ -7,11 +7,16 @@ use Rattle.property_store.specs.Named.{written_named}
 use Rattle.property_store.specs.Store.{Store, added, changed, properties_of, with_dynamic, without, without_dynamic, written}
 use Rattle.property_store.specs.Table.{Stock, fields_of, store_at, with_store}
 use Rattle.binding_graph.specs.Cache.{IsInStep, cache_at}
-use Rattle.binding_graph.specs.Table.{Graphs, graph_at}
+use Rattle.binding_graph.specs.Table.{Graphs, OthersKept, graph_at}
 
 -- what the bindings keep of the stores' values is right for these stores, but for what a written property reaches
 unfoldable pub InStep : Stock → Graphs → Type 0
 InStep stores bindings = (place : ℕ) → IsInStep (store_at stores.shelves place) (marks_at stores.marks place) (graph_at bindings.graphs place) (cache_at bindings.caches place)
+
+-- the bindings of a place have changed: they are in step with the stores, and what is kept of other places stays
+pub record LeavesInStep (place : ℕ) (stores : Stock) (old new : Graphs) : Type 0 where
+  pub step : InStep stores new
+  pub others : OthersKept place old new
 
 -- so it stays with every change of a store
 abbrev pub StaysInStep : Stock → Stock → Type 0

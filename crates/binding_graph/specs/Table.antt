@@ -1,7 +1,7 @@
 -- What contracts see of the bindings of all places.
-use Rattle.std.specs.Prelude.{ℕ, List, slice_index_or}
+use Rattle.std.specs.Prelude.{◌≡◌, ◌≢◌, ℕ, List, slice_index_or}
 use Rattle.places.specs.Table.{Table, with_place}
-use Rattle.binding_graph.specs.Cache.{Cache}
+use Rattle.binding_graph.specs.Cache.{Cache, cache_at}
 use Rattle.binding_graph.specs.Graph.{Graph, no_graph}
 
 pub record Graphs : Type 0 where
@@ -16,3 +16,7 @@ graph_at graphs place = slice_index_or graphs.places place no_graph
 -- with another graph at a place, and all else as before
 abbrev pub with_graph : Table Graph → ℕ → Graph → Table Graph
 with_graph graphs place graph = with_place graphs place graph
+
+-- what is kept of every other place stays
+abbrev pub OthersKept : ℕ → Graphs → Graphs → Type 0
+OthersKept place old new = (other : ℕ) → other ≢ place → cache_at new.caches other ≡ cache_at old.caches other

@@ -6,13 +6,14 @@ ghost use Rattle.std.specs.Result.{result_err};
 ghost use Rattle.places.specs.Table.{IsPlace, opened};
 ghost use Rattle.refusals.specs.Answers.{RefusedBy};
 ghost use Rattle.term_core.specs.Forms.{is_within_limits};
-ghost use Rattle.property_store.specs.Table.{Stock, store_at, with_store};
+ghost use Rattle.property_store.specs.Table.{Stock, store_at};
 ghost use Rattle.variant_value.specs.Values.{IsShort};
-ghost use Rattle.binding_graph.specs.Cache.{cache_at};
+ghost use Rattle.binding_graph.specs.Cache.{cache_at, no_cache};
+ghost use Rattle.binding_graph.specs.Drained.{IsDrained, IsStored};
 ghost use Rattle.binding_graph.specs.Graph.{IsSound, begin_refusal, begun, bind_refusal, bound, end_refusal, ended, is_bound, no_graph, settled_changes, settled_graph, taken, unbound, value_in, without_object};
-ghost use Rattle.binding_graph.specs.Step.{InStep};
+ghost use Rattle.binding_graph.specs.Step.{InStep, LeavesInStep};
 ghost use Rattle.binding_values.specs.Stored.{is_bindable};
-ghost use Rattle.binding_graph.specs.Table.{graph_at, with_graph};
+ghost use Rattle.binding_graph.specs.Table.{OthersKept, graph_at, with_graph};
 
 use crate::change::Change;
 use crate::lazy_graph::LazyGraph;
@@ -67,6 +68,7 @@ impl Bindings {
         ensures kept { self.old.graphs.room ≤ self.new.graphs.room }
         ensures full { OnErr result (self.old.graphs.room ≡ 0) }
         ensures err { OnErr result (self.new ≡ self.old) }
+        ensures caches { self.new.caches ≡ self.old.caches }
         ensures step { (stores : Stock) → InStep stores self.old → InStep stores self.new }
     {
         self.graphs.ready()
@@ -77,15 +79,20 @@ impl Bindings {
         requires { 1 ≤ self.old.graphs.room }
         ensures place { result ≡ length self.old.graphs.places }
         ensures opened { self.new.graphs ≡ opened self.old.graphs no_graph }
+        ensures nothing { cache_at self.new.caches result ≡ no_cache }
+        ensures others { OthersKept result self.old self.new }
         ensures step { (stores : Stock) → InStep stores self.old → InStep stores self.new }
     {
         self.graphs.open(LazyGraph::new())
     }
 
-    /// Forgets all bindings and groups of a place, and what its properties showed.
+    /// Forgets all bindings and groups of a place, and what its properties showed. Nothing is kept of it then, and
+    /// `evaluations` begins anew.
     pub fn clear(&mut self, place: usize)
         requires { IsPlace self.old.graphs place }
         ensures cleared { self.new.graphs ≡ with_graph self.old.graphs place no_graph }
+        ensures nothing { cache_at self.new.caches place ≡ no_cache }
+        ensures others { OthersKept place self.old self.new }
         ensures step { (stores : Stock) → InStep stores self.old → InStep stores self.new }
     {
         *self.graphs.get_mut(place) = LazyGraph::new();
@@ -138,7 +145,7 @@ impl Bindings {
         ensures refused { RefusedBy (bind_refusal (graph_at self.old.graphs place) at) result }
         ensures ok { OnOk result (self.new.graphs ≡ with_graph self.old.graphs place (bound (graph_at self.old.graphs place) at expr)) }
         ensures err { OnErr result (self.new.graphs ≡ self.old.graphs) }
-        ensures step { InStep stores.now self.new }
+        ensures step { LeavesInStep place stores.now self.old self.new }
     {
         self.graphs.get_mut(place).bind(self.alloc, at, expr)
     }
@@ -154,11 +161,11 @@ impl Bindings {
         requires places { IsPlace self.old.graphs place × IsPlace stores.old.shelves.table place }
         requires step { InStep stores.old self.old }
         ensures bound { IfOk result (λ taken. taken ≡ is_bound (graph_at self.old.graphs place).bindings at) }
-        ensures stored { OnOk result (stores.new.shelves ≡ with_store stores.old.shelves place (taken (store_at stores.old.shelves place) (graph_at self.old.graphs place) at)) }
+        ensures stored { OnOk result (IsStored place (taken (store_at stores.old.shelves place) (graph_at self.old.graphs place) at) stores.old stores.new) }
         ensures graph { OnOk result (self.new.graphs ≡ with_graph self.old.graphs place (unbound (graph_at self.old.graphs place) at)) }
         ensures stores { OnErr result (stores.new ≡ stores.old) }
         ensures err { OnErr result (self.new.graphs ≡ self.old.graphs) }
-        ensures step { InStep stores.new self.new }
+        ensures step { LeavesInStep place stores.new self.old self.new }
     {
         if !self.is_bound(place, at) {
             return Ok(false);
@@ -202,13 +209,12 @@ impl Bindings {
         requires step { InStep stores.old self.old }
         ensures told { IfOk result (λ told. told ≡ settled_changes (store_at stores.old.shelves place) (graph_at self.old.graphs place) written) }
         ensures ok { OnOk result (self.new.graphs ≡ with_graph self.old.graphs place (settled_graph (store_at stores.old.shelves place) (graph_at self.old.graphs place))) }
-        ensures stores { stores.new.shelves ≡ stores.old.shelves }
+        ensures stores { IsDrained place stores.old stores.new }
         ensures err { OnErr result (self.new.graphs ≡ self.old.graphs) }
-        ensures step { InStep stores.new self.new }
+        ensures step { LeavesInStep place stores.new self.old self.new }
     {
-        self.graphs
-            .get_mut(place)
-            .settle(self.alloc, stores, place, written)
+        let graph = self.graphs.get_mut(place);
+        graph.settle(self.alloc, stores, place, written)
     }
 
     /// Opens a group within those that are open, and returns how many there are now. More than `GROUPS` are
@@ -219,9 +225,9 @@ impl Bindings {
         ensures refused { RefusedBy (begin_refusal (graph_at self.old.graphs place)) result }
         ensures depth { IfOk result (λ depth. depth ≡ (graph_at self.old.graphs place).depth + 1) }
         ensures ok { OnOk result (self.new.graphs ≡ with_graph self.old.graphs place (begun (store_at stores.old.shelves place) (graph_at self.old.graphs place))) }
-        ensures stores { stores.new.shelves ≡ stores.old.shelves }
+        ensures stores { IsDrained place stores.old stores.new }
         ensures err { OnErr result (self.new.graphs ≡ self.old.graphs) }
-        ensures step { InStep stores.new self.new }
+        ensures step { LeavesInStep place stores.new self.old self.new }
     {
         self.graphs.get_mut(place).begin(self.alloc, stores, place)
     }
@@ -235,7 +241,7 @@ impl Bindings {
         ensures depth { IfOk result (λ depth. depth ≡ (ended (graph_at self.old.graphs place)).depth) }
         ensures ok { OnOk result (self.new.graphs ≡ with_graph self.old.graphs place (ended (graph_at self.old.graphs place))) }
         ensures err { OnErr result (self.new.graphs ≡ self.old.graphs) }
-        ensures step { InStep stores.now self.new }
+        ensures step { LeavesInStep place stores.now self.old self.new }
     {
         self.graphs.get_mut(place).end()
     }
@@ -244,6 +250,7 @@ impl Bindings {
     pub fn drop_object(&mut self, place: usize, object: u32)
         requires { IsPlace self.old.graphs place }
         ensures dropped { self.new.graphs ≡ with_graph self.old.graphs place (without_object object (graph_at self.old.graphs place)) }
+        ensures others { OthersKept place self.old self.new }
         ensures step { (stores : Stock) → InStep stores self.old → InStep stores self.new }
     {
         self.graphs.get_mut(place).drop_object(object);

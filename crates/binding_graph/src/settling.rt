@@ -44,7 +44,6 @@ impl Web {
         written: Option<Property>,
     ) -> Result<Items<Change>, AllocError>
         requires ready { IsPlace stores.now.shelves.table place }
-        requires taken { has_marks (marks_at stores.now.marks place) ≡ false }
         ensures told { IfOk result (λ told. IsTrue tells → told ≡ changes self.old.graph.last (all_shown (store_at stores.now.shelves place) self.old.graph.bindings) written) }
         ensures ok { OnOk result (self.new.graph ≡ record self.old.graph { last = all_shown (store_at stores.now.shelves place) self.old.graph.bindings }) }
         ensures err { OnErr result (self.new.graph ≡ self.old.graph) }

@@ -1,5 +1,5 @@
 -- A write where nothing is bound and no group is open.
-use Rattle.std.proofs.Common.{◌≡◌, ◌∙◌, ◌==◌, ◌&&◌, ℕ, zero, suc, Bool, true, false, not, cond, List, [], ◌∷◌, length, nat_lt, is_some, IfOk, Result, Ok, Err, Option, Some, None, option_map, set, filter, refl, sym, ap, subst, arith}
+use Rattle.std.proofs.Common.{◌≡◌, ◌∙◌, ◌==◌, ◌&&◌, ℕ, zero, suc, Bool, true, false, not, cond, List, [], ◌∷◌, length, nat_lt, is_some, IfOk, Result, Ok, Err, Option, Some, None, option_map, filter, refl, sym, ap, subst, arith}
 use Rattle.std.proofs.lemmas.Bool.{and_parts, eqb-true}
 use Rattle.std.specs.List.{slice_get}
 use Rattle.std.specs.Result.{result_err, result_unwrap_or}
@@ -16,7 +16,6 @@ use Rattle.property_store.specs.Store.{AreSound, IsSound, Properties, Store, cha
 use Rattle.property_store.specs.Store as stored
 use Rattle.property_store.specs.Table.{Shelves, store_at, with_store}
 use Rattle.property_store.proofs.KindLemmas.{converted_fits, with_value_sound}
-use Rattle.property_store.proofs.ListLemmas.{found}
 use Rattle.property_store.proofs.SoundLemmas.{sound_changed}
 use Rattle.binding_values.specs.declared.binding.Binding.{Binding}
 use Rattle.binding_graph.specs.declared.change.Change.{Change}
@@ -28,8 +27,7 @@ use Rattle.property_store.specs.Property.{is_property}
 use Rattle.binding_values.specs.Stored.{cell_in, cell_of}
 use Rattle.binding_graph.specs.Table.{Graphs, graph_at}
 use Rattle.thread_model.specs.State.{closed}
-use Rattle.thread_model.proofs.AloneLemmas.{going_told, write_told}
-use Rattle.thread_model.proofs.QuietLemmas.{changed_one, found_changed}
+use Rattle.thread_model.proofs.AloneLemmas.{going_told, its_cell, write_told}
 use Rattle.bound_stores.specs.Bound.{all_closed, bound_at, seen_of, with_bound}
 use Rattle.bound_stores.specs.Changed.{alone, changes_in, told_at, told_of}
 use Rattle.bound_stores.specs.Named.{TellsWritten, with_written}
@@ -51,12 +49,6 @@ idle_is graph idle = by graph.bindings refl graph.depth refl idle
     by [] e zero f is = record { none = e; shut = ap (λ depth. nat_lt 0 depth) f }
     by [] e (suc depth) f is = let never : suc depth ≡ 0 = eqb-true (suc depth) 0 (and_parts true (suc depth == 0) is).1 in absurd (omega (arith, never))
     by (first ∷ rest) e depth f is = let never : suc (length rest) ≡ 0 = eqb-true (suc (length rest)) 0 (and_parts (suc (length rest) == 0) (depth == 0) is).0 in absurd (omega (arith, never))
-
--- a value in the place of another
-got_set : {X : Type 0} (xs : List X) (n : ℕ) (x old : X) → slice_get xs n ≡ Some old → slice_get (set xs n x) n ≡ Some x
-got_set [] n x old is = absurd (cc)
-got_set (y ∷ xs) zero x old is = refl
-got_set (y ∷ xs) (suc n) x old is = got_set xs n x old is
 
 module _ (store : Store) (sound : IsSound store) (q : Property) (value fit : Value) (short : IsShort value) (fits : fitting store q.object q.number value ≡ Some fit) where
   abbrev new : Store
@@ -95,11 +87,7 @@ module _ (store : Store) (sound : IsSound store) (q : Property) (value fit : Val
       ∙ ap (option_map (λ value. let cell : Cell = record { kind = written.field.kind; value = value } in cell)) written.stands)
 
   cell_after : cell_in new q ≡ Some (record { kind = written.field.kind; value = fit })
-  cell_after =
-      ap (λ of. option_map_or (cell_of q.number) of None) (found_changed (with_value q.number fit) q.object (λ of. refl) store q.object ∙ ap (option_map (changed_one (with_value q.number fit) q.object)) written.found)
-      ∙ (ap (λ is. cell_of q.number (cond is (with_value q.number fit written.of) written.of)) (found (λ (of : Properties). of.object == q.object) store written.of written.found).passes
-      ∙ (ap (λ field. option_map_or (λ (field : Field). option_map (λ value. let cell : Cell = record { kind = field.kind; value = value } in cell) (slice_get (set written.of.values q.number fit) q.number)) field None) written.declared
-      ∙ ap (option_map (λ value. let cell : Cell = record { kind = written.field.kind; value = value } in cell)) (got_set written.of.values q.number fit written.old written.stands)))
+  cell_after = its_cell store q fit (record { kind = written.field.kind; value = written.old }) cell_before
 
   new_sound : IsSound new
   new_sound = sound_changed (with_value q.number fit) q.object (λ of. refl) store

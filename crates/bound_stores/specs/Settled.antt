@@ -28,7 +28,13 @@ pub record AllSettled (stores : Stock) (bindings : Graphs) : Type 0 where
   pub step : InStep stores bindings
   pub each : (place : ℕ) → IsSettled (store_at stores.shelves place) (graph_at bindings.graphs place)
 
--- a place that is there, where stores and bindings are in step, and that is settled
+-- a place that is there, where stores and bindings are in step
+pub record IsInStepAt (place : ℕ) (stores : Stock) (bindings : Graphs) : Type 0 where
+  pub store : IsPlace stores.shelves.table place
+  pub graph : IsPlace bindings.graphs place
+  pub step : InStep stores bindings
+
+-- and that is settled
 pub record IsSettledAt (place : ℕ) (stores : Stock) (bindings : Graphs) : Type 0 where
   pub store : IsPlace stores.shelves.table place
   pub graph : IsPlace bindings.graphs place

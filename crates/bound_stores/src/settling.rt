@@ -11,7 +11,7 @@ ghost use Rattle.binding_graph.specs.Graph.{all_shown, bind_refusal, bound, chan
 ghost use Rattle.binding_graph.specs.Step.{InStep};
 ghost use Rattle.binding_values.specs.Stored.{is_bindable};
 ghost use Rattle.binding_graph.specs.Table.{graph_at, with_graph};
-ghost use Rattle.bound_stores.specs.Settled.{ChangesInStep, IsSettledAt, LeavesStores, settled_in};
+ghost use Rattle.bound_stores.specs.Settled.{ChangesInStep, IsInStepAt, IsSettledAt, LeavesStores, settled_in};
 
 use binding_graph::{BINDINGS, Bindings, Change, steps};
 use plain_types::Items;
@@ -28,9 +28,7 @@ pub(crate) fn settle(
     place: usize,
     written: Option<Property>,
 ) -> Result<Items<Change>, AllocError>
-    requires store { IsPlace stores.old.shelves.table place }
-    requires graph { IsPlace bindings.old.graphs place }
-    requires step { InStep stores.old bindings.old }
+    requires ready { IsInStepAt place stores.old bindings.old }
     ensures told { IfOk result (λ told. told ≡ settled_changes (store_at stores.old.shelves place) (graph_at bindings.old.graphs place) written) }
     ensures ok { OnOk result (bindings.new.graphs ≡ with_graph bindings.old.graphs place (settled_in (store_at stores.old.shelves place) (graph_at bindings.old.graphs place))) }
     ensures stores { stores.new.shelves ≡ stores.old.shelves }
@@ -176,7 +174,7 @@ pub(crate) fn end(
     bindings: &mut Bindings,
     place: usize,
 ) -> Result<(u32, Items<Change>), Fault>
-    requires ready { IsSettledAt place stores.old bindings.old }
+    requires ready { IsInStepAt place stores.old bindings.old }
     ensures refused { RefusedBy (end_refusal (graph_at bindings.old.graphs place)) result }
     ensures unchanged { IfSome (end_refusal (graph_at bindings.old.graphs place)) (λ code. bindings.new.graphs ≡ bindings.old.graphs) }
     ensures depth { IfOk result (λ left. left.0 ≡ (ended (graph_at bindings.old.graphs place)).depth) }

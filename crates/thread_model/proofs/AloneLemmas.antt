@@ -1,12 +1,11 @@
 -- Where no property is bound and no group is open, a write tells of the written property alone, and nothing
 -- is told when an object goes.
-use Rattle.std.proofs.Common.{◌≡◌, ◌∙◌, ◌+◌, ◌==◌, ◌&&◌, ◌||◌, ℕ, zero, suc, Bool, true, false, not, cond, List, [], ◌∷◌, ◌++◌, Option, Some, None, Ok, All, append-nil, filter, filter_map, find, get_or, option_map, set, slice_get, refl, sym, ap, subst, arith, if◌then◌else◌}
+use Rattle.std.proofs.Common.{◌≡◌, ◌∙◌, ◌==◌, ◌&&◌, ℕ, zero, suc, Bool, true, false, not, cond, List, [], ◌∷◌, ◌++◌, Option, Some, None, Ok, All, append-nil, filter, filter_map, find, get_or, option_map, set, slice_get, refl, sym, ap, subst, arith, if◌then◌else◌}
 use Rattle.std.specs.List.{cons_option}
 use Rattle.std.specs.Option.{option_and_then, option_map_or}
-use Rattle.std.proofs.lemmas.Bool.{not-true, or_left, or_right}
+use Rattle.std.proofs.lemmas.Bool.{not-true}
 use Rattle.std.proofs.lemmas.Bool.Decides.{nat_tests}
 use Rattle.std.proofs.lemmas.List.Elements.{All-filter, filter_map-append, filter_passes}
-use Rattle.std.proofs.lemmas.List.Folds.{list_any-append}
 use Rattle.variant_value.specs.declared.value.Value.{Value}
 use Rattle.variant_value.specs.Values.{is_same}
 use Rattle.property_store.specs.declared.field.Field.{Field}
@@ -20,15 +19,17 @@ use Rattle.property_store.specs.declared.property.Property.{Property}
 use Rattle.binding_graph.specs.declared.shown.Shown.{Shown}
 use Rattle.binding_graph.specs.Graph.{all_shown, before, changes, fresh, has_turn, in_turn, is_same_error, notice, shown_as, shown_at, shown_now, warning}
 use Rattle.binding_values.specs.Scene.{Cell, Outcome, choose, evaluated, plain}
-use Rattle.property_store.specs.Property.{among, is_property}
+use Rattle.property_store.specs.Property.{is_property}
 use Rattle.binding_values.specs.Sorted.{IsRising}
-use Rattle.binding_values.specs.Stored.{cell_in, cell_of, numbered, properties_in, properties_of_object, scene_of}
-use Rattle.binding_values.proofs.FuelLemmas.{is_itself, plain_rule, property_eq}
+use Rattle.binding_values.specs.Stored.{cell_in, cell_of, properties_in, scene_of}
+use Rattle.binding_values.proofs.FuelLemmas.{plain_rule, property_eq}
+use Rattle.binding_graph.proofs.FoundLemmas.{found_in_all}
 use Rattle.binding_graph.proofs.ShownLemmas.{all_shown_sound}
+use Rattle.binding_graph.proofs.TouchedLemmas.{same_value}
 use Rattle.binding_values.proofs.MapLemmas.{all_given}
 use Rattle.binding_values.proofs.SortedLemmas.{is_other}
-use Rattle.thread_model.proofs.BindingLemmas.{found_number, graph_sound_none, properties_changed}
-use Rattle.thread_model.proofs.QuietLemmas.{IsOfNow, all_in_turn, changed_one, found_changed, found_shown, none_made, quiet, rows_of_now, same_itself}
+use Rattle.thread_model.proofs.BindingLemmas.{found_number, graph_sound_none}
+use Rattle.thread_model.proofs.QuietLemmas.{all_in_turn, changed_one, found_changed, none_made, quiet, rows_of_now}
 
 -- an element that was written, and the others
 got_set : {X : Type 0} (xs : List X) (n : ℕ) (x old : X) → slice_get xs n ≡ Some old → slice_get (set xs n x) n ≡ Some x
@@ -45,39 +46,6 @@ got_other (y ∷ xs) (suc n) (suc m) x apart = got_other xs n m x (grind (arith,
 
 numbers_apart : (a b c d o : ℕ) → (o == a) ≡ true → (o == c) ≡ true → (a == c && b == d) ≡ false → (b == d) ≡ false
 numbers_apart a b c d o one other apart = grind (arith, nat_tests, one, other, apart)
-
--- a property that has a cell is among those that are there
-numbered_among : (object number : ℕ) (fields : List Field) (k : ℕ) (field : Field) → slice_get fields k ≡ Some field → among (record { object = object; number = number + k }) (numbered object number fields) ≡ true
-numbered_among object number [] k field is = absurd (cc)
-numbered_among object number (first ∷ fields) zero field is =
-    let same : number + 0 ≡ number = omega arith in
-    or_left (is_property (record { object = object; number = number + 0 }) (record { object = object; number = number })) _
-    (ap (λ n. is_property (record { object = object; number = n }) (record { object = object; number = number })) same ∙ is_itself (record { object = object; number = number }))
-numbered_among object number (first ∷ fields) (suc k) field is =
-    let same : number + suc k ≡ suc number + k = omega arith in
-    or_right (is_property (record { object = object; number = number + suc k }) (record { object = object; number = number })) _
-    (ap (λ n. among (record { object = object; number = n }) (numbered object (suc number) fields)) same ∙ numbered_among object (suc number) fields k field is)
-
-standing_in : (s : Store) (q : Property) (cell : Cell) → cell_in s q ≡ Some cell → among q (properties_in s) ≡ true
-standing_in [] q cell is = absurd (cc)
-standing_in (of ∷ rest) q cell is = list_any-append (is_property q) (properties_of_object of) (properties_in rest) ∙ by (of.object == q.object) refl is (standing_in rest q cell)
-  where
-    own : (field : Option Field) → slice_get of.fields q.number ≡ field → option_map_or (λ (field : Field). option_map (λ value. let c : Cell = record { kind = field.kind; value = value } in c) (slice_get of.values q.number)) field None ≡ Some cell
-        → among (record { object = of.object; number = q.number }) (properties_of_object of) ≡ true
-    own None e f = absurd (cc)
-    own (Some field) e f =
-        let same : 0 + q.number ≡ q.number = omega arith in
-        subst (λ n. among (record { object = of.object; number = n }) (properties_of_object of) ≡ true) same (numbered_among of.object 0 of.fields q.number field e)
-
-    by : (here : Bool) → (of.object == q.object) ≡ here → option_map_or (cell_of q.number) (cond here (Some of) (properties_of rest q.object)) None ≡ Some cell → (cell_in rest q ≡ Some cell → among q (properties_in rest) ≡ true)
-        → (among q (properties_of_object of) || among q (properties_in rest)) ≡ true
-    by true e f later =
-        let its : record { object = of.object; number = q.number } ≡ q = property_eq (record { object = of.object; number = q.number }) q (same_number q.number e) in
-        or_left (among q (properties_of_object of)) _ (subst (λ (p : Property). among p (properties_of_object of) ≡ true) its (own (slice_get of.fields q.number) refl f))
-      where
-        same_number : (n : ℕ) → (of.object == q.object) ≡ true → (of.object == q.object && n == n) ≡ true
-        same_number n is = grind (arith, nat_tests, is)
-    by false e f later = or_right (among q (properties_of_object of)) _ (later f)
 
 -- where nothing is bound a property shows what is stored
 pub stored_shown : (s : Store) (q : Property) → shown_now s [] q ≡ option_map (λ (cell : Cell). shown_as q cell.kind (Ok cell.value)) (cell_in s q)
@@ -115,7 +83,7 @@ no_warning last shown is = ap (λ error. option_and_then (λ error. if option_ma
 no_notice : (last : List Shown) (shown : Shown) → before last shown ≡ shown → notice last shown ≡ None
 no_notice last shown is =
     ap (λ (stood : Shown). if is_same stood.value shown.value then None else Some (let change : Change = record { at = shown.at; told = told.Value shown.value } in change)) is
-    ∙ ap (λ same. cond same None (Some (let change : Change = record { at = shown.at; told = told.Value shown.value } in change))) (same_itself shown.value)
+    ∙ ap (λ same. cond same None (Some (let change : Change = record { at = shown.at; told = told.Value shown.value } in change))) (same_value shown.value)
 
 -- where nothing stands for an error, and no other property shows another value than before, one may tell of
 -- its value
@@ -167,7 +135,7 @@ module _ (s : Store) (q : Property) (value : Value) where
       by None e = refl
       by (Some of) e = inside of (of.object == q.object) refl (found_number s p.object of e)
 
-  its_cell : (cell : Cell) → cell_in s q ≡ Some cell → cell_in new q ≡ Some (record { kind = cell.kind; value = value })
+  pub its_cell : (cell : Cell) → cell_in s q ≡ Some cell → cell_in new q ≡ Some (record { kind = cell.kind; value = value })
   its_cell cell is = ap (λ found. option_map_or (cell_of q.number) found None) (found_changed (with_value q.number value) q.object (λ of. refl) s q.object) ∙ by (properties_of s q.object) refl is
     where
       two : (of : Properties) (field : Option Field) (old : Option Value) → slice_get of.values q.number ≡ old
@@ -199,14 +167,10 @@ module _ (s : Store) (q : Property) (value : Value) where
       row : Shown
       row = shown_as q cell.kind (Ok value)
 
-      same : properties_in new ≡ properties_in s
-      same = properties_changed (with_value q.number value) q.object (λ of. refl) (λ of. refl) s
-
       shown_row : shown_at now q ≡ Some row
       shown_row =
-          found_shown new [] (properties_in new) q
-          ∙ (ap (λ there. cond there (shown_now new [] q) None) (ap (among q) same ∙ standing_in s q cell is)
-          ∙ (stored_shown new q ∙ ap (option_map (λ (cell : Cell). shown_as q cell.kind (Ok cell.value))) (its_cell cell is)))
+          found_in_all new [] q
+          ∙ (stored_shown new q ∙ ap (option_map (λ (cell : Cell). shown_as q cell.kind (Ok cell.value))) (its_cell cell is))
 
       its : filter (λ (shown : Shown). is_property q shown.at) now ≡ row ∷ []
       its = only_one q now (all_shown_sound new sound [] graph_sound_none.bindings).rising ∙ ap (λ found. option_map_or (λ (shown : Shown). shown ∷ []) found []) shown_row
@@ -214,18 +178,15 @@ module _ (s : Store) (q : Property) (value : Value) where
       others : All (λ (shown : Shown). is_property q shown.at ≡ false → before last shown ≡ shown) now
       others index default within apart =
           let shown : Shown = get_or now index default in
-          let of_now : IsOfNow new [] (properties_in new) shown = rows_of_now new [] (properties_in new) index default within in
+          let of_now : shown_now new [] shown.at ≡ Some shown = rows_of_now new [] (properties_in new) index default within in
           let found : shown_at last shown.at ≡ Some shown =
-          found_shown s [] (properties_in s) shown.at
-          ∙ (ap (λ there. cond there (shown_now s [] shown.at) None) (sym (ap (among shown.at) same) ∙ of_now.there)
-          ∙ (stored_shown s shown.at ∙ (ap (option_map (λ (cell : Cell). shown_as shown.at cell.kind (Ok cell.value))) (sym (other_cell shown.at apart)) ∙ (sym (stored_shown new shown.at) ∙ of_now.is)))) in
+          found_in_all s [] shown.at
+          ∙ (stored_shown s shown.at ∙ (ap (option_map (λ (cell : Cell). shown_as shown.at cell.kind (Ok cell.value))) (sym (other_cell shown.at apart)) ∙ (sym (stored_shown new shown.at) ∙ of_now))) in
           ap (λ stood. option_map_or (λ (stood : Shown). stood) stood (fresh shown.at shown.kind)) found
 
       stood : before last row ≡ shown_as q cell.kind (Ok cell.value)
       stood = ap (λ stood. option_map_or (λ (stood : Shown). stood) stood (fresh q cell.kind))
-          (found_shown s [] (properties_in s) q
-          ∙ (ap (λ there. cond there (shown_now s [] q) None) (standing_in s q cell is)
-          ∙ (stored_shown s q ∙ ap (option_map (λ (cell : Cell). shown_as q cell.kind (Ok cell.value))) is)))
+          (found_in_all s [] q ∙ (stored_shown s q ∙ ap (option_map (λ (cell : Cell). shown_as q cell.kind (Ok cell.value))) is))
 
       its_notice : notice last row ≡ (if is_same cell.value value then None else Some (let change : Change = record { at = q; told = told.Value value } in change))
       its_notice = ap (λ (stood : Shown). if is_same stood.value value then None else Some (let change : Change = record { at = q; told = told.Value value } in change)) stood
@@ -236,19 +197,6 @@ module _ (s : Store) (q : Property) (value : Value) where
 
 -- an object that goes takes nothing from the others
 module _ (s : Store) (object : ℕ) where
-  left_among : (s : Store) (p : Property) → among p (properties_in (without object s)) ≡ true → among p (properties_in s) ≡ true
-  left_among [] p is = is
-  left_among (of ∷ rest) p is = list_any-append (is_property p) (properties_of_object of) (properties_in rest) ∙ by (not (of.object == object)) is (left_among rest p)
-    where
-      either : (own : Bool) (later after : Bool) → (own || later) ≡ true → (later ≡ true → after ≡ true) → (own || after) ≡ true
-      either true later after e so = refl
-      either false later after e so = so e
-
-      by : (stays : Bool) → among p (properties_in (cond stays (of ∷ without object rest) (without object rest))) ≡ true → (among p (properties_in (without object rest)) ≡ true → among p (properties_in rest) ≡ true)
-          → (among p (properties_of_object of) || among p (properties_in rest)) ≡ true
-      by true e so = either (among p (properties_of_object of)) (among p (properties_in (without object rest))) (among p (properties_in rest)) (sym (list_any-append (is_property p) (properties_of_object of) (properties_in (without object rest))) ∙ e) so
-      by false e so = or_right (among p (properties_of_object of)) _ (so e)
-
   -- what is there after it is of another object
   found_other : (s : Store) (other : ℕ) (of : Properties) → properties_of (without object s) other ≡ Some of → (other == object) ≡ false
   found_other [] other of is = absurd (cc)
@@ -278,10 +226,9 @@ module _ (s : Store) (object : ℕ) where
           by None e f = absurd (cc)
           by (Some of) e f = ap (λ found. option_map_or (cell_of q.number) found None) (sym (without_others s object q.object (found_other s q.object of e)))
 
-      one : (shown : Shown) → IsOfNow (without object s) [] (properties_in (without object s)) shown → before last shown ≡ shown
+      one : (shown : Shown) → shown_now (without object s) [] shown.at ≡ Some shown → before last shown ≡ shown
       one shown of_now =
           let found : shown_at last shown.at ≡ Some shown =
-          found_shown s [] (properties_in s) shown.at
-          ∙ (ap (λ there. cond there (shown_now s [] shown.at) None) (left_among s shown.at of_now.there)
-          ∙ (stored_shown s shown.at ∙ (ap (option_map (λ (cell : Cell). shown_as shown.at cell.kind (Ok cell.value))) (same_cell shown.at shown of_now.is) ∙ (sym (stored_shown (without object s) shown.at) ∙ of_now.is)))) in
+          found_in_all s [] shown.at
+          ∙ (stored_shown s shown.at ∙ (ap (option_map (λ (cell : Cell). shown_as shown.at cell.kind (Ok cell.value))) (same_cell shown.at shown of_now) ∙ (sym (stored_shown (without object s) shown.at) ∙ of_now))) in
           ap (λ stood. option_map_or (λ (stood : Shown). stood) stood (fresh shown.at shown.kind)) found

@@ -76,7 +76,7 @@ module _ (settings : Settings) (state : State) where
       let sender : row.sender ≡ target = eqb-true row.sender target (and_parts _ _ passes).0 in
       let its : row.signal ≡ signal = eqb-true row.signal signal (and_parts _ _ passes).1 in
       let here : AreArguments (kinds_of settings.classes state.forest.rows row.sender row.signal) args =
-          subst (λ sender. AreArguments (kinds_of settings.classes state.forest.rows sender row.signal) args) (sym sender) (subst (λ signal. AreArguments (kinds_of settings.classes state.forest.rows target signal) args) (sym its) all) in
+      subst (λ sender. AreArguments (kinds_of settings.classes state.forest.rows sender row.signal) args) (sym sender) (subst (λ signal. AreArguments (kinds_of settings.classes state.forest.rows target signal) args) (sym its) all) in
       record {
         given = given;
         arguments = All-weaker (λ (other : Connection). other.number ≡ row.number → other ≡ row) (λ (other : Connection). other.number ≡ row.number → AreArguments (kinds_of settings.classes state.forest.rows other.sender other.signal) args)
@@ -147,7 +147,7 @@ module _ (settings : Settings) (doing : Doing) (on : Carries settings doing.stat
           let given = take (length method.signature.kinds) args in
           let call : QueuedCall = record { object = connection.receiver; callee = callee.Method index; sender = connection.sender; args = given } in
           let arguments : AreArguments (kinds_of settings.classes rows connection.receiver index) given = subst (λ kinds. AreArguments kinds given) (sym params)
-              (fitting_arguments (kinds_of settings.classes rows connection.sender connection.signal) method.signature.kinds args (ap (fits (kinds_of settings.classes rows connection.sender connection.signal)) (sym params) ∙ may.fitting) all) in
+          (fitting_arguments (kinds_of settings.classes rows connection.sender connection.signal) method.signature.kinds args (ap (fits (kinds_of settings.classes rows connection.sender connection.signal)) (sym params) ∙ may.fitting) all) in
           let its : IsCall settings rows connection.receiver (callee.Method index) given = record { callee = may.callee; arguments = arguments } in
           cond_both (is_queued connection.mode) (puts [] (queued doing call)) (puts (method_items connection.receiver index connection.sender given (depth + 1) depth method) doing) (Comes settings rows)
           (λ later. no_item settings rows (queued doing call) (queued_carries settings rows doing on call its))

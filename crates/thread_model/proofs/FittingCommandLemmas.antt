@@ -122,13 +122,16 @@ module _ (settings : Settings) (are : AreSettings settings) (state : State) (sou
   -- a signal that is found is published
   published_fits : (target : ℕ) (signal name : List ℕ) (found : Found Publication) → asked_publication settings state target signal name ≡ found → Keep (publishes_found state found)
   published_fits target signal name (Err code) is = as_was
-  published_fits target signal name (Ok row) is = (record {
-    objects = fit.objects;
-    events = fit.events;
-    connections = fit.connections;
-    publications = All-push (IsPublished settings rows) state.desk.publications row fit.publications its;
-    joins = fit.joins;
-  }, none)
+  published_fits target signal name (Ok row) is = (
+    record {
+      objects = fit.objects;
+      events = fit.events;
+      connections = fit.connections;
+      publications = All-push (IsPublished settings rows) state.desk.publications row fit.publications its;
+      joins = fit.joins;
+    },
+    none,
+  )
     where
       its : IsPublished settings rows row
       its = by (signal_named (methods_of settings state target) signal) refl (found_past (absence state target) _ row is)
@@ -141,13 +144,16 @@ module _ (settings : Settings) (are : AreSettings settings) (state : State) (sou
 
   joined_fits : (self from name : List ℕ) (types : List (List ℕ)) (target : ℕ) (method : List ℕ) (found : Found Join) → asked_join settings state from name types target method ≡ found → joining_refusal settings self state found ≡ None → Keep (joins_found state found)
   joined_fits self from name types target method (Err code) is passed = as_was
-  joined_fits self from name types target method (Ok join) is passed = (record {
-    objects = fit.objects;
-    events = fit.events;
-    connections = fit.connections;
-    publications = fit.publications;
-    joins = All-push (IsJoined settings rows) state.desk.joins join fit.joins (record { callee = there; fitting = fitting });
-  }, none)
+  joined_fits self from name types target method (Ok join) is passed = (
+    record {
+      objects = fit.objects;
+      events = fit.events;
+      connections = fit.connections;
+      publications = fit.publications;
+      joins = All-push (IsJoined settings rows) state.desk.joins join fit.joins (record { callee = there; fitting = fitting });
+    },
+    none,
+  )
     where
       there : is_some (slice_get (methods_of settings state join.object) join.method) ≡ true
       there = by (asked_kinds types) (method_named (methods_of settings state target) method) refl (found_past (absence state target) _ join is)
@@ -169,13 +175,16 @@ module _ (settings : Settings) (are : AreSettings settings) (state : State) (sou
 
   left_fits : (from name : List ℕ) (target : ℕ) (found : Found ℕ) → Keep (leaves state from name target found)
   left_fits from name target (Err code) = as_was
-  left_fits from name target (Ok method) = (record {
-    objects = fit.objects;
-    events = fit.events;
-    connections = fit.connections;
-    publications = fit.publications;
-    joins = All-filter (λ join. not (is_join from name target method join)) (IsJoined settings rows) state.desk.joins fit.joins;
-  }, none)
+  left_fits from name target (Ok method) = (
+    record {
+      objects = fit.objects;
+      events = fit.events;
+      connections = fit.connections;
+      publications = fit.publications;
+      joins = All-filter (λ join. not (is_join from name target method join)) (IsJoined settings rows) state.desk.joins fit.joins;
+    },
+    none,
+  )
 
   -- a new object is of a class that is there, and leaves the others as they were
   made_fits : (class : List ℕ) (parent : Option ℕ) → class_refusal settings.classes class ≡ None → IsFitting settings (with_object settings.classes state parent (class_index settings.classes class))
@@ -216,13 +225,16 @@ module _ (settings : Settings) (are : AreSettings settings) (state : State) (sou
   performed_fits self (Do deed) passed may = found_fits (Ok deed) passed (λ other is. let same : deed ≡ other = cc in subst (IsFittingDeed settings rows) same may)
   performed_fits self Status passed may = as_was
   performed_fits self (Publish target signal name) passed may = published_fits target signal name (asked_publication settings state target signal name) refl
-  performed_fits self (Unpublish name) passed may = (record {
-    objects = fit.objects;
-    events = fit.events;
-    connections = fit.connections;
-    publications = All-filter (λ row. not (has_name name row)) (IsPublished settings rows) state.desk.publications fit.publications;
-    joins = fit.joins;
-  }, none)
+  performed_fits self (Unpublish name) passed may = (
+    record {
+      objects = fit.objects;
+      events = fit.events;
+      connections = fit.connections;
+      publications = All-filter (λ row. not (has_name name row)) (IsPublished settings rows) state.desk.publications fit.publications;
+      joins = fit.joins;
+    },
+    none,
+  )
   performed_fits self (AsksJoin from name types target method) passed may = joined_fits self from name types target method (asked_join settings state from name types target method) refl passed
   performed_fits self (Leave from name target method) passed may = left_fits from name target (asked_listener settings state target method)
   performed_fits self (Bind target property to) passed may = bound_fits settings are state sound declared fit target property to (asked_binding state target property to) refl passed

@@ -1,14 +1,8 @@
 -- Where properties show what they showed, nothing is told.
-use Rattle.std.proofs.Common.{◌≡◌, ◌∙◌, ◌<◌, ◌==◌, ◌||◌, ℕ, suc, zero, Bool, true, false, cond, List, [], ◌∷◌, ◌++◌, Option, Some, None, Ok, Err, All, filter, filter_map, find, get_or, is_some, length, option_map, slice_get, refl, sym, ap, arith, if◌then◌else◌}
-use Rattle.std.specs.Cmp.{int_eq_equiv, nat_eq_equiv}
+use Rattle.std.proofs.Common.{◌≡◌, ◌∙◌, ◌==◌, ℕ, suc, Bool, true, false, cond, List, [], ◌∷◌, ◌++◌, Option, Some, None, Ok, All, filter, filter_map, get_or, is_some, option_map, slice_get, refl, sym, ap, arith, if◌then◌else◌}
 use Rattle.std.specs.List.{cons_option}
 use Rattle.std.specs.Option.{option_and_then, option_map_or}
-use Rattle.std.proofs.lemmas.Bool.{or_left, or_right}
 use Rattle.std.proofs.lemmas.List.Elements.{All-append, All-filter}
-use Rattle.std.proofs.lemmas.Slice.Eq.{bytes_eq-Decides}
-use Rattle.signature_core.specs.declared.kind.Kind.{Kind}
-use Rattle.variant_value.specs.declared.value.Value.{Value}
-use Rattle.variant_value.specs.declared.value.Value.TheVariants as v
 use Rattle.variant_value.specs.Values.{is_same}
 use Rattle.property_store.specs.declared.field.Field.{Field}
 use Rattle.property_store.specs.Store.{Properties, Store, changed, default_of, properties_of}
@@ -21,25 +15,15 @@ use Rattle.binding_values.specs.declared.property.BindingError.{BindingError}
 use Rattle.binding_values.specs.declared.property.BindingError.TheVariants.{BindingLoop, EvaluationError}
 use Rattle.property_store.specs.declared.property.Property.{Property}
 use Rattle.binding_graph.specs.declared.shown.Shown.{Shown}
-use Rattle.binding_graph.specs.Graph.{all_shown, before, changes, has_turn, in_turn, is_same_error, notice, shown_as, shown_at, shown_now, warning}
-use Rattle.binding_values.specs.Scene.{Cell, Outcome, plain}
-use Rattle.property_store.specs.Property.{among, is_property}
-use Rattle.binding_values.specs.Stored.{bindable_number, cell_in, cell_of, fields_at, meant, outcome_in, properties_in}
-use Rattle.binding_values.proofs.FuelLemmas.{is_itself, property_eq}
+use Rattle.binding_graph.specs.Graph.{all_shown, before, changes, has_turn, in_turn, is_same_error, notice, shown_as, shown_now, warning}
+use Rattle.binding_values.specs.Scene.{Cell, plain}
+use Rattle.binding_values.specs.Stored.{bindable_number, cell_in, cell_of, fields_at, meant, properties_in}
 use Rattle.binding_values.proofs.MapLemmas.{all_given}
+use Rattle.binding_graph.proofs.FoundLemmas.{found_in_all, shown_of}
+use Rattle.binding_graph.proofs.TouchedLemmas.{same_value}
 use Rattle.thread_model.proofs.BindingLemmas.{properties_changed}
 
--- a value is the same as itself, and so is an error
-pub same_itself : (value : Value) → is_same value value ≡ true
-same_itself v.Invalid = refl
-same_itself (v.Bool true) = refl
-same_itself (v.Bool false) = refl
-same_itself (v.Int z) = int_eq_equiv.refl z
-same_itself (v.Uint n) = nat_eq_equiv.refl n
-same_itself (v.Longlong z) = int_eq_equiv.refl z
-same_itself (v.Ulonglong n) = nat_eq_equiv.refl n
-same_itself (v.Text text) = (bytes_eq-Decides text text).1 refl
-
+-- an error is the same as itself
 same_error_itself : (error : BindingError) → is_same_error error error ≡ true
 same_error_itself BindingLoop = refl
 same_error_itself EvaluationError = refl
@@ -99,75 +83,19 @@ quiet last now written same =
     notices : (shown : Shown) → before last shown ≡ shown → notice last shown ≡ None
     notices shown is =
         ap (λ (stood : Shown). if is_same stood.value shown.value then None else Some (let change : Change = record { at = shown.at; told = told.Value shown.value } in change)) is
-        ∙ ap (λ same. cond same None (Some (let change : Change = record { at = shown.at; told = told.Value shown.value } in change))) (same_itself shown.value)
+        ∙ ap (λ same. cond same None (Some (let change : Change = record { at = shown.at; told = told.Value shown.value } in change))) (same_value shown.value)
 
 module _ (s : Store) (bindings : List Binding) where
-  -- what a property shows says which property it is
-  shown_of : (q : Property) (shown : Shown) → shown_now s bindings q ≡ Some shown → shown.at ≡ q
-  shown_of q shown is = by (cell_in s q) is
-    where
-      as_at : (kind : Kind) (outcome : Outcome) → (shown_as q kind outcome).at ≡ q
-      as_at kind (Ok value) = refl
-      as_at kind (Err error) = refl
-
-      by : (cell : Option Cell) → option_map (λ cell. shown_as q cell.kind (outcome_in s bindings q)) cell ≡ Some shown → shown.at ≡ q
-      by None e = absurd (cc)
-      by (Some cell) e = let same : shown_as q cell.kind (outcome_in s bindings q) ≡ shown = cc in ap (λ (shown : Shown). shown.at) (sym same) ∙ as_at cell.kind (outcome_in s bindings q)
-
-  -- what is found of a property is what it shows, where it is there
-  pub found_shown : (properties : List Property) (q : Property) → shown_at (filter_map (shown_now s bindings) properties) q ≡ cond (among q properties) (shown_now s bindings q) None
-  found_shown [] q = refl
-  found_shown (p ∷ properties) q = by (is_property q p) refl (shown_now s bindings p) refl (found_shown properties q)
-    where
-      rest : List Shown
-      rest = filter_map (shown_now s bindings) properties
-
-      test : Shown → Bool
-      test shown = is_property q shown.at
-
-      nothing : (there : Bool) → cond there None None ≡ (let none : Option Shown = None in none)
-      nothing true = refl
-      nothing false = refl
-
-      by : (here : Bool) → is_property q p ≡ here → (made : Option Shown) → shown_now s bindings p ≡ made → find test rest ≡ cond (among q properties) (shown_now s bindings q) None
-          → find test (cons_option made rest) ≡ cond (here || among q properties) (shown_now s bindings q) None
-      by true e None f later =
-          let none : shown_now s bindings q ≡ None = ap (shown_now s bindings) (property_eq q p e) ∙ f in
-          later ∙ (ap (λ made. cond (among q properties) made None) none ∙ (nothing (among q properties) ∙ sym none))
-      by true e (Some shown) f later =
-          let at = shown_of p shown f in
-          let passes : is_property q shown.at ≡ true = ap (is_property q) at ∙ e in
-          ap (λ same. cond same (Some shown) (find test rest)) passes ∙ sym (ap (shown_now s bindings) (property_eq q p e) ∙ f)
-      by false e None f later = later
-      by false e (Some shown) f later =
-          let at = shown_of p shown f in
-          let other : is_property q shown.at ≡ false = ap (is_property q) at ∙ e in
-          ap (λ same. cond same (Some shown) (find test rest)) other ∙ later
-
-  -- each row stands for a property that is there
-  pub record IsOfNow (properties : List Property) (shown : Shown) : Type 0 where
-    pub there : among shown.at properties ≡ true
-    pub is : shown_now s bindings shown.at ≡ Some shown
-
-  pub rows_of_now : (properties : List Property) → All (IsOfNow properties) (filter_map (shown_now s bindings) properties)
-  rows_of_now properties = all_given (shown_now s bindings) (IsOfNow properties) properties (λ index default within shown made.
-      let p : Property = get_or properties index default in
-      let at = shown_of p shown made in
-      record { there = ap (λ q. among q properties) at ∙ standing properties index default within; is = ap (shown_now s bindings) at ∙ made })
-    where
-      standing : (properties : List Property) (index : ℕ) (default : Property) → index < length properties → among (get_or properties index default) properties ≡ true
-      standing [] index default within = absurd (omega arith)
-      standing (p ∷ properties) zero default within = or_left (is_property p p) (among p properties) (is_itself p)
-      standing (p ∷ properties) (suc index) default within = or_right (is_property (get_or properties index default) p) (among (get_or properties index default) properties) (standing properties index default (omega arith))
+  -- each row shows what its property shows
+  pub rows_of_now : (properties : List Property) → All (λ (shown : Shown). shown_now s bindings shown.at ≡ Some shown) (filter_map (shown_now s bindings) properties)
+  rows_of_now properties = all_given (shown_now s bindings) (λ (shown : Shown). shown_now s bindings shown.at ≡ Some shown) properties (λ index default within shown made. ap (shown_now s bindings) (shown_of s bindings (get_or properties index default) shown made) ∙ made)
 
   -- where nothing has changed nothing is told
   pub nothing_changed : (written : Option Property) → changes (all_shown s bindings) (all_shown s bindings) written ≡ []
   nothing_changed written = quiet (all_shown s bindings) (all_shown s bindings) written (λ index default within. one (get_or (all_shown s bindings) index default) (rows_of_now (properties_in s) index default within))
     where
-      one : (shown : Shown) → IsOfNow (properties_in s) shown → before (all_shown s bindings) shown ≡ shown
-      one shown it =
-          let found : shown_at (all_shown s bindings) shown.at ≡ Some shown = found_shown (properties_in s) shown.at ∙ (ap (λ there. cond there (shown_now s bindings shown.at) None) it.there ∙ it.is) in
-          ap (λ stood. option_map_or (λ (stood : Shown). stood) stood (shown_as shown.at shown.kind (Ok (default_of shown.kind)))) found
+      one : (shown : Shown) → shown_now s bindings shown.at ≡ Some shown → before (all_shown s bindings) shown ≡ shown
+      one shown is = ap (λ stood. option_map_or (λ (stood : Shown). stood) stood (shown_as shown.at shown.kind (Ok (default_of shown.kind)))) (found_in_all s bindings shown.at ∙ is)
 
 -- what all properties show, by their cells and by the properties that names stand for
 abbrev all_by : List Binding → (Property → Option Cell) → (ℕ → Target → List ℕ → Option Property) → List Property → List Shown

@@ -21,14 +21,14 @@ returns-clause-depth c =
 pub returns-clause-ok : goal.returns-clause-ok
 returns-clause-ok c =
     where_ok_too c.begin.result
-    (λ is. put_seen c.args.stores.now.shelves c.begin.new.stores.shelves c.args.bindings.now c.begin.new.self c.args.place (store_at c.args.stores.now.shelves c.args.place) (begun (store_at c.args.stores.now.shelves c.args.place) (graph_at c.args.bindings.now.graphs c.args.place)) (begun (store_at c.args.stores.now.shelves c.args.place) (bound_at (seen_of c.args.stores.now.shelves c.args.bindings.now) c.args.place)) (settled_store c.args.stores.now.shelves c.begin.new.stores.shelves c.args.place c.begin.ensures.stores) is
+    (λ is. put_seen c.args.stores.now.shelves c.begin.new.stores.shelves c.args.bindings.now c.begin.new.self c.args.place (store_at c.args.stores.now.shelves c.args.place) (begun (store_at c.args.stores.now.shelves c.args.place) (graph_at c.args.bindings.now.graphs c.args.place)) (begun (store_at c.args.stores.now.shelves c.args.place) (bound_at (seen_of c.args.stores.now.shelves c.args.bindings.now) c.args.place)) (settled_store c.args.stores.now.shelves c.begin.new.stores.shelves c.args.place c.begin.ensures.stores.shelves) is
     (closed_begun (store_at c.args.stores.now.shelves c.args.place) (graph_at c.args.bindings.now.graphs c.args.place) ∙ ap (begun (store_at c.args.stores.now.shelves c.args.place)) (sym (closed_at c.args.bindings.now.graphs c.args.place))))
     c.begin.ensures.ok
 
 pub returns-clause-stays : goal.returns-clause-stays
 returns-clause-stays c = record {
   only =
-      changes_seen c.args.stores.now.shelves c.begin.new.stores.shelves c.args.bindings.now c.begin.new.self c.args.place (ap (λ (shelves : Shelves). shelves.layouts) c.begin.ensures.stores) (column.changes_same [] c.args.stores.now.shelves.table c.begin.new.stores.shelves.table c.args.place (ap (λ (shelves : Shelves). shelves.table) c.begin.ensures.stores))
+      changes_seen c.args.stores.now.shelves c.begin.new.stores.shelves c.args.bindings.now c.begin.new.self c.args.place (ap (λ (shelves : Shelves). shelves.layouts) c.begin.ensures.stores.shelves) (column.changes_same [] c.args.stores.now.shelves.table c.begin.new.stores.shelves.table c.args.place (ap (λ (shelves : Shelves). shelves.table) c.begin.ensures.stores.shelves))
       (changes_either c.begin.result c.args.bindings.now.graphs c.begin.new.self.graphs c.args.place _ c.requires.ready.graph c.begin.ensures.ok c.begin.ensures.err);
   all = search rules;
 }

@@ -12,9 +12,9 @@ returns-clause-ok c =
     let now = c.settle.new.self.graphs in
     elim c.if-count-eq0.branch [
       | then-count-eq0+then-depth-eq0 w ↦ ap (λ (bindings : Graphs). bindings.graphs) w.bindings-is
-          ∙ left_idle store old now w.clear.new.self.graphs c.args.place c.requires.graph c.in_ok-told.ensures.ok (sym c.count.ensures.count ∙ w.if-count-eq0.true) (sym w.depth.ensures ∙ w.if-depth-eq0.true) w.clear.ensures.cleared
+          ∙ left_idle store old now w.clear.new.self.graphs c.args.place c.requires.ready.graph c.in_ok-told.ensures.ok (sym c.count.ensures.count ∙ w.if-count-eq0.true) (sym w.depth.ensures ∙ w.if-depth-eq0.true) w.clear.ensures.cleared
       | else-count-eq0 w ↦ ap (λ (bindings : Graphs). bindings.graphs) w.bindings-is ∙ elim w.else-count-eq0.branch [
-        | else-count-eq0-via-then-count-eq0+else-depth-eq0 v ↦ left_deep store old now now c.args.place c.requires.graph c.in_ok-told.ensures.ok (λ shut. v.if-depth-eq0.false (v.depth.ensures ∙ shut))
-        | else-count-eq0-via-else-count-eq0 v ↦ left_bound store old now now c.args.place c.requires.graph c.in_ok-told.ensures.ok (λ none. v.if-count-eq0.false (c.count.ensures.count ∙ none))
+        | else-count-eq0-via-then-count-eq0+else-depth-eq0 v ↦ left_deep store old now now c.args.place c.requires.ready.graph c.in_ok-told.ensures.ok (λ shut. v.if-depth-eq0.false (v.depth.ensures ∙ shut))
+        | else-count-eq0-via-else-count-eq0 v ↦ left_bound store old now now c.args.place c.requires.ready.graph c.in_ok-told.ensures.ok (λ none. v.if-count-eq0.false (c.count.ensures.count ∙ none))
       ]
     ]

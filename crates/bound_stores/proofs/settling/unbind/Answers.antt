@@ -16,7 +16,7 @@ returns-clause-ok c =
     let old = c.args.bindings.now.graphs in
     let store = store_at stores place in
     let after : store_at c.take.new.stores.shelves place ≡ taken store (graph_at old place) c.args.at =
-    took_at stores c.note.new.stores.shelves c.take.new.stores.shelves old c.note.new.bindings.graphs place c.args.at c.requires.ready.store c.requires.ready.graph c.note.ensures.stores c.in_ok-note.ensures.ok c.in_ok-take.ensures.stored in
+    took_at stores c.note.new.stores.shelves c.take.new.stores.shelves old c.note.new.bindings.graphs place c.args.at c.requires.ready.store c.requires.ready.graph c.note.ensures.stores c.in_ok-note.ensures.ok c.in_ok-take.ensures.stored.shelves in
     where_ok_too c.settle.result
     (λ is. settled_after store (taken store (graph_at old place) c.args.at) old c.note.new.bindings.graphs c.take.new.self.graphs c.settle.new.bindings.graphs place
     (filter (λ (binding : Binding). not (is_property c.args.at binding.at))) c.requires.ready.graph c.in_ok-note.ensures.ok c.in_ok-take.ensures.graph

@@ -3,7 +3,7 @@ use Rattle.refusals.specs.Answers.{RefusedBy}
 use Rattle.property_store.specs.Table.{store_at}
 use Rattle.binding_graph.specs.Graph.{Graph, begin_refusal, begun}
 use Rattle.binding_graph.specs.Woven.{IsAt, no_woven}
-use Rattle.binding_graph.proofs.PlaceLemmas.{at_place, graph_now, place_there, put_back, put_so, with_in_step}
+use Rattle.binding_graph.proofs.PlaceLemmas.{at_place, graph_now, others_kept, place_there, put_back, put_so, with_in_step}
 use Rattle.binding_graph.proofs.bindings.Bindings.begin.Goals as goal
 
 pub begin-requires-clause-step : goal.begin-requires-clause-step
@@ -22,4 +22,7 @@ pub returns-clause-err : goal.returns-clause-err
 returns-clause-err c = rw (← c.self.view_is) (put_back c.begin.result c.self.inside.graphs c.args.place c.get_mut.result.now c.begin.new.self (c.get_mut.ensures.value no_woven) c.begin.ensures.err)
 
 pub returns-clause-step : goal.returns-clause-step
-returns-clause-step c = with_in_step c.args.stores.now c.begin.new.stores c.self.inside.graphs c.args.place c.begin.new.self (place_there c.self.inside.graphs c.args.place (rw (← c.self.view_is) at c.requires.places.0)) c.begin.ensures.stores c.begin.ensures.step (rw (← c.self.view_is) at c.requires.step)
+returns-clause-step c = record {
+  step = with_in_step c.args.stores.now c.begin.new.stores c.self.inside.graphs c.args.place c.begin.new.self (place_there c.self.inside.graphs c.args.place (rw (← c.self.view_is) at c.requires.places.0)) c.begin.ensures.stores c.begin.ensures.step (rw (← c.self.view_is) at c.requires.step);
+  others = rw (← c.self.view_is) (others_kept c.self.inside.graphs c.args.place c.begin.new.self);
+}

@@ -2,7 +2,7 @@ use Rattle.std.proofs.Common.{subst}
 use Rattle.refusals.specs.Answers.{RefusedBy}
 use Rattle.binding_graph.specs.Graph.{Graph, bind_refusal, bound}
 use Rattle.binding_graph.specs.Woven.{no_woven}
-use Rattle.binding_graph.proofs.PlaceLemmas.{graph_now, place_there, put_back, put_so, stays_with}
+use Rattle.binding_graph.proofs.PlaceLemmas.{graph_now, others_kept, place_there, put_back, put_so, stays_with}
 use Rattle.binding_graph.proofs.bindings.Bindings.bind.Goals as goal
 
 pub returns-clause-refused : goal.returns-clause-refused
@@ -15,4 +15,7 @@ pub returns-clause-err : goal.returns-clause-err
 returns-clause-err c = rw (← c.self.view_is) (put_back c.bind.result c.self.inside.graphs c.args.place c.get_mut.result.now c.bind.new.self (c.get_mut.ensures.value no_woven) c.bind.ensures.err)
 
 pub returns-clause-step : goal.returns-clause-step
-returns-clause-step c = stays_with c.args.stores.now c.self.inside.graphs c.args.place c.get_mut.result.now c.bind.new.self (place_there c.self.inside.graphs c.args.place (rw (← c.self.view_is) at c.requires.places.0)) (c.get_mut.ensures.value no_woven) c.bind.ensures.step (rw (← c.self.view_is) at c.requires.step)
+returns-clause-step c = record {
+  step = stays_with c.args.stores.now c.self.inside.graphs c.args.place c.get_mut.result.now c.bind.new.self (place_there c.self.inside.graphs c.args.place (rw (← c.self.view_is) at c.requires.places.0)) (c.get_mut.ensures.value no_woven) c.bind.ensures.step (rw (← c.self.view_is) at c.requires.step);
+  others = rw (← c.self.view_is) (others_kept c.self.inside.graphs c.args.place c.bind.new.self);
+}

@@ -2,7 +2,7 @@ use Rattle.std.proofs.Common.{◌≡◌, ◌∙◌, Result, Ok, Err, IfOk, OnOk,
 use Rattle.std.specs.Result.{result_err}
 use Rattle.binding_graph.specs.Graph.{Graph, end_refusal, ended}
 use Rattle.binding_graph.specs.Woven.{no_woven}
-use Rattle.binding_graph.proofs.PlaceLemmas.{graph_now, place_there, put_back, put_so, stays_with}
+use Rattle.binding_graph.proofs.PlaceLemmas.{graph_now, others_kept, place_there, put_back, put_so, stays_with}
 use Rattle.binding_graph.proofs.bindings.Bindings.end.Goals as goal
 
 pub returns-clause-refused : goal.returns-clause-refused
@@ -22,4 +22,7 @@ pub returns-clause-err : goal.returns-clause-err
 returns-clause-err c = rw (← c.self.view_is) (put_back c.end.result c.self.inside.graphs c.args.place c.get_mut.result.now c.end.new.self (c.get_mut.ensures.value no_woven) c.end.ensures.err)
 
 pub returns-clause-step : goal.returns-clause-step
-returns-clause-step c = stays_with c.args.stores.now c.self.inside.graphs c.args.place c.get_mut.result.now c.end.new.self (place_there c.self.inside.graphs c.args.place (rw (← c.self.view_is) at c.requires.place)) (c.get_mut.ensures.value no_woven) c.end.ensures.step (rw (← c.self.view_is) at c.requires.step)
+returns-clause-step c = record {
+  step = stays_with c.args.stores.now c.self.inside.graphs c.args.place c.get_mut.result.now c.end.new.self (place_there c.self.inside.graphs c.args.place (rw (← c.self.view_is) at c.requires.place)) (c.get_mut.ensures.value no_woven) c.end.ensures.step (rw (← c.self.view_is) at c.requires.step);
+  others = rw (← c.self.view_is) (others_kept c.self.inside.graphs c.args.place c.end.new.self);
+}

@@ -36,4 +36,4 @@ returns-clause-ok c = rw (← c.self.view_is) (ap (λ last. record { bindings = 
 pub returns-clause-step : goal.returns-clause-step
 returns-clause-step c =
     complete_in_step (store_at c.args.stores.now.shelves c.args.place) (record { bindings = c.self.inside.bindings; last = c.merge.new.self; depth = c.self.inside.depth }) (record { kept = c.settle.new.self; pending = c.take-touched.new.self; evaluations = c.saturating_add-self-inside.result })
-    c.in_ok-made.ensures.complete (all_so c) c.take-touched.ensures.none (marks_at c.args.stores.now.marks c.args.place) c.requires.taken
+    c.in_ok-made.ensures.complete (all_so c) (marks_at c.args.stores.now.marks c.args.place)
