@@ -1,3 +1,4 @@
+mod ClampLemmas
 mod NumberLemmas
 mod WordLemmas
 mod WalkLemmas

@@ -9,7 +9,6 @@ use Rattle.clap.specs.declared.error.Error.{Error}
 use Rattle.clap.specs.declared.error.kind.ErrorKind.{ErrorKind}
 use Rattle.clap.specs.declared.error.kind.ErrorKind.TheVariants.{DisplayHelp, DisplayVersion, OutOfMemory}
 use Rattle.program_start.specs.declared.options.Options.{Options}
-use Rattle.program_start.specs.declared.options.TheConstants.{DEFAULT_TURNS}
 
 -- a run, with the class file at this path if there is one, in which each command has so many turns;
 -- the help; or nothing that metad knows
@@ -56,7 +55,7 @@ one_path (Some path) next = mistake
 
 -- the run at the end of the words, with 10,000 turns where no number of them was given
 abbrev pub run_with : Option (List ℕ) → Option ℕ → Asked
-run_with path turns = run path (unwrap_or turns DEFAULT_TURNS)
+run_with path turns = run path (unwrap_or turns 10000)
 
 -- what words ask for that are all paths, where `path` and `turns` were given before them
 abbrev pub asked_by_paths : Option (List ℕ) → Option ℕ → List (List ℕ) → Asked
@@ -95,5 +94,5 @@ Reads wanted (Err error) = Says wanted (kind_of error)
 
 -- the turns that the text for them gives, if there is one
 abbrev pub Gives : Option (List ℕ) → ℕ → Type 0
-Gives None turns = turns ≡ DEFAULT_TURNS
+Gives None turns = turns ≡ 10000
 Gives (Some text) turns = number_in text ≡ Some turns

@@ -115,6 +115,7 @@ pub fn clamp_body(alloc: Global, least: i32, most: i32) -> Result<Body, AllocErr
 }
 
 /// A table with `clamp` alone, whose closure is handed in.
+#[tactic(auto, using(crate::proofs::ClampLemmas::clamp_is_body))]
 pub fn with_clamp(alloc: Global, least: i32, most: i32, run: Closure) -> Result<Functors, Fault>
     requires callable { MayBeCalled (Closure.pre run) (Int ∷ []) }
     requires gives_body { GivesBody (Closure.post run) (Int ∷ []) (clamp_body least most) }

@@ -1,33 +1,30 @@
--- One more command of a run, and what each session sees of the whole run.
-use Rattle.std.proofs.Common.{◌≡◌, ◌⊎◌, inl, inr, ℕ, ◌+◌, ◌<◌, Bool, true, false, not, List, [], ◌∷◌, ◌++◌, Option, Some, None, IfNone, OnSome, IsTrue, IsFalse, length, map, take, get_or, add-one, refl, sym, ap, ap₂, subst, ◌∙◌, ⊎_elim, arith}
+-- Commands one after another, and what each session sees of the whole run.
+use Rattle.std.proofs.Common.{◌≡◌, ◌⊎◌, inl, inr, ℕ, ◌+◌, ◌<◌, ◌≤◌, Bool, true, not, List, [], ◌∷◌, ◌++◌, Option, Some, None, OnSome, IsTrue, IsFalse, length, map, take, get_or, add-one, refl, sym, ap, ap₂, subst, ◌∙◌, ⊎_elim, arith}
 use Rattle.std.specs.Prelude.{bytes_eq}
 use Rattle.std.specs.List.{list_any}
 use Rattle.std.proofs.Math.Seq.{take-suc}
 use Rattle.std.proofs.lemmas.Bool.{cases_Bool, both_ways, or_left, or_right}
-use Rattle.std.proofs.lemmas.List.{map-append}
-use Rattle.std.proofs.lemmas.List.Folds.{list_any-append}
+use Rattle.std.proofs.lemmas.List.{map-append, take_all}
 use Rattle.isolation.specs.Machine.{Tagged}
-use Rattle.isolation.specs.World.{effect, after, entries_of, only, world_after, world_lines, at_session}
+use Rattle.isolation.specs.World.{entries_of, only, world_after, world_lines, at_session}
 use Rattle.isolation.specs.Influence.{influences, KnowsAll}
 use Rattle.isolation.specs.Slice.{kept, slice}
 use Rattle.isolation.specs.Laws.{SameFor}
 use Rattle.isolation.proofs.Isolated.{first_half}
 use Rattle.isolation.proofs.Reaching.{second_half}
 use Rattle.isolation.proofs.Sliced.{slice_law}
-use Rattle.isolation.proofs.Worlds.{world_after-more, world_lines-more}
 use Rattle.thread_model.specs.declared.command.Tagged.{Tagged as Given}
 use Rattle.thread_model.specs.declared.line.Line.{Line}
 use Rattle.thread_model.specs.State.{State}
-use Rattle.thread_model.specs.Asked.{Asked, asked, tag}
+use Rattle.thread_model.specs.Asked.{Asked, tag}
 use Rattle.thread_model.specs.Thread.{Settings}
 use Rattle.thread_model.specs.Machine.{machine}
 use Rattle.thread_model.proofs.Lawful.{lawful}
-use Rattle.session_engine.specs.Sessions.{IsStep}
 use Rattle.server_world.specs.declared.report.Entry.{Entry}
 use Rattle.server_world.specs.declared.report.Entry.TheVariants.{Lines, OutOfMemory}
 use Rattle.server_world.specs.Names.{with_name, with_names}
-use Rattle.server_world.specs.Runs.{AnotherFailed, IsAsAlone, IsAsWith, IsIsolated, IsShort, IsWorldRun, entry_lines, is_out_of_memory, resets, tags}
-use Rattle.server_world.specs.Server.{Server, IsLost, KnowsAtMost, failed, names, seen, settings, states, was_refused}
+use Rattle.server_world.specs.Runs.{AnotherFailed, AreSteps, IsAsAlone, IsAsWith, IsEntry, IsIsolated, IsShort, IsWorldRun, entry_lines, is_out_of_memory, resets, tags}
+use Rattle.server_world.specs.Server.{Server, KnowsAtMost, failed, names, settings, states, was_refused}
 use Rattle.server_world.proofs.ServerLemmas.{failed_kept, failed_there, knows_all, named_by, named_itself, named_more}
 
 -- what was found after was found before
@@ -39,8 +36,33 @@ pub tags_more : (list : List Given) (i : ℕ) (given : Given) → i < length lis
 tags_more list i given within is =
     ap (λ n. tags (take n list)) (add-one i) ∙ ap tags (take-suc list i given within) ∙ map-append tag (take i list) _ ∙ ap (λ g. tags (take i list) ++ tag g ∷ []) (sym is)
 
+-- one more command behind others
+pub steps_more : (old now next : Server) (ts : List (Tagged (List ℕ) Asked)) (entries : List Entry) (t : Tagged (List ℕ) Asked) (entry : Entry) → AreSteps old ts entries now → IsEntry now next t entry → AreSteps old (ts ++ t ∷ []) (entries ++ entry ∷ []) next
+steps_more old now next [] [] t entry same is = (next, subst (λ server. IsEntry server next t entry) same is, refl)
+steps_more old now next [] (one ∷ entries) t entry steps is = absurd steps
+steps_more old now next (first ∷ ts) [] t entry steps is = absurd steps
+steps_more old now next (first ∷ ts) (one ∷ entries) t entry steps is = (steps.0, steps.1, steps_more steps.0 now next ts entries t entry steps.2 is)
+
+-- all commands, where the list is at its end
+pub steps_all : (old new : Server) (list : List Given) (i : ℕ) (entries all : List Entry) → length list ≤ i → all ≡ entries → AreSteps old (tags (take i list)) entries new → AreSteps old (tags list) all new
+steps_all old new list i entries all within same steps =
+    subst (λ entries. AreSteps old (tags list) entries new) (sym same) (subst (λ list. AreSteps old (tags list) entries new) (take_all i list within) steps)
+
+-- the settings stay, and so does that memory was refused
+pub steps_settings : (old new : Server) (ts : List (Tagged (List ℕ) Asked)) (entries : List Entry) → AreSteps old ts entries new → settings new ≡ settings old
+steps_settings old new [] [] same = ap settings same
+steps_settings old new [] (entry ∷ entries) steps = absurd steps
+steps_settings old new (t ∷ ts) [] steps = absurd steps
+steps_settings old new (t ∷ ts) (entry ∷ entries) steps = steps_settings steps.0 new ts entries steps.2 ∙ steps.1.step.settings
+
+pub steps_kept : (old new : Server) (ts : List (Tagged (List ℕ) Asked)) (entries : List Entry) → AreSteps old ts entries new → IsTrue (was_refused old) → IsTrue (was_refused new)
+steps_kept old new [] [] same was = ap was_refused same ∙ was
+steps_kept old new [] (entry ∷ entries) steps was = absurd steps
+steps_kept old new (t ∷ ts) [] steps was = absurd steps
+steps_kept old new (t ∷ ts) (entry ∷ entries) steps was = steps_kept steps.0 new ts entries steps.2 (steps.1.step.kept was)
+
 -- an entry that tells lines has them
-entry_is : (entry : Entry) (lines : List Line) → entry_lines entry ≡ Some lines → entry ≡ Lines lines
+pub entry_is : (entry : Entry) (lines : List Line) → entry_lines entry ≡ Some lines → entry ≡ Lines lines
 entry_is (Lines told) lines e = cc
 entry_is OutOfMemory lines e = absurd (cc)
 
@@ -48,90 +70,86 @@ told_some : {T P : Type 0} (value : Option T) (x : T) → value ≡ Some x → O
 told_some (Some y) x e h = h
 told_some None x e h = absurd (cc)
 
+-- where memory was found, steps are a run of the world
+pub steps_world : (old new : Server) (ts : List (Tagged (List ℕ) Asked)) (entries : List Entry) → AreSteps old ts entries new → IsFalse (was_refused new) → IsWorldRun old new ts entries
+steps_world old new [] [] same found = record { lines = refl; states = ap states same; names = ap names same }
+steps_world old new [] (entry ∷ entries) steps found = absurd steps
+steps_world old new (t ∷ ts) [] steps found = absurd steps
+steps_world old new (t ∷ ts) (entry ∷ entries) steps found =
+    let (between, one, others) = steps in
+    let here = found_before _ _ (steps_kept between new ts entries others) found in
+    let rest = steps_world between new ts entries others found in
+    let told = one.step.lines here in
+    record {
+      lines = ap₂ (λ x xs. x ∷ xs) (entry_is entry _ told)
+          (rest.lines ∙ ap₂ (λ settings world. map Lines (world_lines (machine settings) world ts)) one.step.settings (one.step.states here));
+      states = rest.states ∙ ap₂ (λ settings world. world_after (machine settings) world ts) one.step.settings (one.step.states here);
+      names = rest.names ∙ ap (λ names. with_names names ts) (told_some (entry_lines entry) _ told one.there);
+    }
+
+-- who is known stays so with further commands
+known_kept : (names : List (List ℕ)) (ts : List (Tagged (List ℕ) Asked)) (name : List ℕ) → list_any (bytes_eq name) names ≡ true → list_any (bytes_eq name) (with_names names ts) ≡ true
+known_kept names [] name there = there
+known_kept names (t ∷ ts) name there = known_kept (with_name names t.session) ts name (named_more (bytes_eq name) names t.session there)
+
+-- and more are known where more were
+known_more : (names more : List (List ℕ)) (ts : List (Tagged (List ℕ) Asked)) → ((name : List ℕ) → list_any (bytes_eq name) names ≡ true → list_any (bytes_eq name) more ≡ true)
+    → (name : List ℕ) → list_any (bytes_eq name) (with_names names ts) ≡ true → list_any (bytes_eq name) (with_names more ts) ≡ true
+known_more names more [] within = within
+known_more names more (t ∷ ts) within = known_more (with_name names t.session) (with_name more t.session) ts
+    (λ name there. ⊎_elim
+    (λ was. named_more (bytes_eq name) more t.session (within name was))
+    (λ is. subst (λ other. list_any (bytes_eq other) (with_name more t.session) ≡ true) (sym is) (named_itself more t.session))
+    (named_by names t.session name there))
+
+-- who is known after a command was there before, or gave it
+known_after : (old new : Server) (session : List ℕ) → KnowsAtMost old new session → (name : List ℕ) → list_any (bytes_eq name) (names new) ≡ true → list_any (bytes_eq name) (with_name (names old) session) ≡ true
+known_after old new session (inl same) name there = named_more (bytes_eq name) (names old) session (sym (ap (list_any (bytes_eq name)) same) ∙ there)
+known_after old new session (inr more) name there = sym (ap (list_any (bytes_eq name)) more) ∙ there
+
+-- what has failed has failed still, or has begun anew
+failed_later : (old new : Server) (ts : List (Tagged (List ℕ) Asked)) (entries : List Entry) → AreSteps old ts entries new → (name : List ℕ) → IsTrue (failed old name) → IsTrue (failed new name) ⊎ IsTrue (list_any (resets name) ts)
+failed_later old new [] [] same name was = inl (ap (λ server. failed server name) same ∙ was)
+failed_later old new [] (entry ∷ entries) steps name was = absurd steps
+failed_later old new (t ∷ ts) [] steps name was = absurd steps
+failed_later old new (t ∷ ts) (entry ∷ entries) steps name was =
+    let (between, one, others) = steps in
+    ⊎_elim
+    (λ still. ⊎_elim (λ failed. inl failed) (λ anew. inr (or_right (resets name t) _ anew)) (failed_later between new ts entries others name still))
+    (λ anew. inr (or_left (resets name t) _ anew))
+    (failed_kept old between t.session t.command (entry_lines entry) one.step one.lost name was)
+
 is_short : (entry : Entry) → entry_lines entry ≡ None → IsTrue (is_out_of_memory entry)
 is_short (Lines lines) e = absurd (cc)
 is_short OutOfMemory e = refl
 
-with_names-more : (names : List (List ℕ)) (ts : List (Tagged (List ℕ) Asked)) (t : Tagged (List ℕ) Asked) → with_names names (ts ++ t ∷ []) ≡ with_name (with_names names ts) t.session
-with_names-more names [] t = refl
-with_names-more names (first ∷ ts) t = with_names-more (with_name names first.session) ts t
-
--- an entry without memory stays, or is the next
-pub short_more : (entries : List Entry) (entry : Entry) → IsShort entries ⊎ IsTrue (is_out_of_memory entry) → IsShort (entries ++ entry ∷ [])
-short_more entries entry short = list_any-append is_out_of_memory entries (entry ∷ [])
-    ∙ ⊎_elim (λ before. or_left _ _ before) (λ here. or_right _ _ (or_left _ _ here)) short
-
--- one more command: from the server at the start, through the one now, to the next
-module _ (initial now next : Server) (given : Given) (entry : Entry) (step : IsStep (seen now) (seen next) given.session (asked given.command) (entry_lines entry)) (same : settings now ≡ settings initial) (ts : List (Tagged (List ℕ) Asked)) where
-  pub found_now : IsFalse (was_refused next) → IsFalse (was_refused now)
-  found_now found = found_before _ _ step.kept found
-
-  pub states_more : (IsFalse (was_refused now) → states now ≡ world_after (machine (settings initial)) (states initial) ts) → IsFalse (was_refused next) → states next ≡ world_after (machine (settings initial)) (states initial) (ts ++ tag given ∷ [])
-  states_more so_far found = world_after-more (machine (settings initial)) (states initial) (states now) (states next) ts (tag given) (so_far (found_now found))
-      (step.states found ∙ ap (λ settings. after (machine settings) (states now) (tag given)) same)
-
-  pub lines_more : (entries : List Entry) → (IsFalse (was_refused now) → states now ≡ world_after (machine (settings initial)) (states initial) ts) → (IsFalse (was_refused now) → entries ≡ map Lines (world_lines (machine (settings initial)) (states initial) ts))
-      → IsFalse (was_refused next) → entries ++ entry ∷ [] ≡ map Lines (world_lines (machine (settings initial)) (states initial) (ts ++ tag given ∷ []))
-  lines_more entries so_far told found =
-      ap₂ (λ xs x. xs ++ x ∷ []) (told (found_now found)) (entry_is entry _ (step.lines found) ∙ ap (λ settings. Lines (effect (machine settings) (states now) (tag given)).lines) same)
-      ∙ sym (map-append Lines (world_lines (machine (settings initial)) (states initial) ts) ((effect (machine (settings initial)) (states now) (tag given)).lines ∷ []))
-      ∙ ap (map Lines) (sym (world_lines-more (machine (settings initial)) (states initial) (states now) ts (tag given) (so_far (found_now found))))
-
-  pub names_more : OnSome (entry_lines entry) (names next ≡ with_name (names now) given.session) → (IsFalse (was_refused now) → names now ≡ with_names (names initial) ts) → IsFalse (was_refused next) → names next ≡ with_names (names initial) (ts ++ tag given ∷ [])
-  names_more there so_far found =
-      told_some (entry_lines entry) _ (step.lines found) there ∙ ap (λ names. with_name names given.session) (so_far (found_now found)) ∙ sym (with_names-more (names initial) ts (tag given))
-
-  -- who is known after it was there at the start, or gave a command
-  pub there_more : KnowsAtMost now next given.session → ((name : List ℕ) → list_any (bytes_eq name) (names now) ≡ true → list_any (bytes_eq name) (with_names (names initial) ts) ≡ true)
-      → (name : List ℕ) → list_any (bytes_eq name) (names next) ≡ true → list_any (bytes_eq name) (with_names (names initial) (ts ++ tag given ∷ [])) ≡ true
-  there_more known so_far name there = ap (list_any (bytes_eq name)) (with_names-more (names initial) ts (tag given)) ∙ by known
-    where
-      kept : list_any (bytes_eq name) (names now) ≡ true → list_any (bytes_eq name) (with_name (with_names (names initial) ts) given.session) ≡ true
-      kept was = named_more (bytes_eq name) (with_names (names initial) ts) given.session (so_far name was)
-
-      by : KnowsAtMost now next given.session → list_any (bytes_eq name) (with_name (with_names (names initial) ts) given.session) ≡ true
-      by (inl same) = kept (sym (ap (list_any (bytes_eq name)) same) ∙ there)
-      by (inr more) = ⊎_elim
-          kept
-          (λ is. subst (λ other. list_any (bytes_eq other) (with_name (with_names (names initial) ts) given.session) ≡ true) (sym is) (named_itself (with_names (names initial) ts) given.session))
-          (named_by (names now) given.session name (sym (ap (list_any (bytes_eq name)) more) ∙ there))
-
-  module _ (lost : IfNone (entry_lines entry) (IsLost now next given.session)) where
-    -- what has failed has failed still, or has begun anew
-    failed_more : AnotherFailed initial now ts → AnotherFailed initial next (ts ++ tag given ∷ [])
-    failed_more fails = record {
+-- who is to blame, if memory was refused first
+pub steps_blame : (old new : Server) (ts : List (Tagged (List ℕ) Asked)) (entries : List Entry) → AreSteps old ts entries new → IsFalse (was_refused old) → IsTrue (was_refused new) → IsShort entries ⊎ AnotherFailed old new ts
+steps_blame old new [] [] same was refused = absurd (both_ways _ was (sym (ap was_refused same) ∙ refused))
+steps_blame old new [] (entry ∷ entries) steps was refused = absurd steps
+steps_blame old new (t ∷ ts) [] steps was refused = absurd steps
+steps_blame old new (t ∷ ts) (entry ∷ entries) steps was refused =
+    let (between, one, others) = steps in
+    ⊎_elim
+    (λ now. ⊎_elim
+    (λ nothing. inl (or_left _ _ (is_short entry nothing)))
+    (λ another. inr (record {
+      name = another.0;
+      there = known_kept (with_name (names old) t.session) ts another.0 (known_after old between t.session one.known another.0 (failed_there between.engine another.0 another.3));
+      another = or_left _ _ (ap not another.1);
+      fails = ⊎_elim (λ still. inl still) (λ anew. inr (or_right (resets another.0 t) _ anew)) (failed_later between new ts entries others another.0 another.3);
+    }))
+    (one.step.blame was now))
+    (λ fine. ⊎_elim
+    (λ short. inl (or_right (is_out_of_memory entry) _ short))
+    (λ fails. inr (record {
       name = fails.name;
-      there = ap (list_any (bytes_eq fails.name)) (with_names-more (names initial) ts (tag given)) ∙ named_more (bytes_eq fails.name) (with_names (names initial) ts) given.session fails.there;
-      another = list_any-append _ ts (tag given ∷ []) ∙ or_left _ _ fails.another;
-      fails = by fails.fails;
-    }
-      where
-        by : IsTrue (failed now fails.name) ⊎ IsTrue (list_any (resets fails.name) ts) → IsTrue (failed next fails.name) ⊎ IsTrue (list_any (resets fails.name) (ts ++ tag given ∷ []))
-        by (inl was) = ⊎_elim
-            (λ still. inl still)
-            (λ anew. inr (list_any-append (resets fails.name) ts (tag given ∷ []) ∙ or_right (list_any (resets fails.name) ts) _ (or_left (resets fails.name (tag given)) false anew)))
-            (failed_kept now next given.session (asked given.command) (entry_lines entry) step lost fails.name was)
-        by (inr anew) = inr (list_any-append (resets fails.name) ts (tag given ∷ []) ∙ or_left (list_any (resets fails.name) ts) _ anew)
-
-    -- who is to blame, if memory was refused first
-    pub blame_more : KnowsAtMost now next given.session → ((name : List ℕ) → list_any (bytes_eq name) (names now) ≡ true → list_any (bytes_eq name) (with_names (names initial) ts) ≡ true)
-        → (entries : List Entry) → (IsFalse (was_refused initial) → IsTrue (was_refused now) → IsShort entries ⊎ AnotherFailed initial now ts) → IsFalse (was_refused initial) → IsTrue (was_refused next)
-        → IsShort (entries ++ entry ∷ []) ⊎ AnotherFailed initial next (ts ++ tag given ∷ [])
-    blame_more known there entries so_far was refused = ⊎_elim
-        (λ before. ⊎_elim
-        (λ short. inl (short_more entries entry (inl short)))
-        (λ fails. inr (failed_more fails))
-        (so_far was before))
-        (λ fine. ⊎_elim
-        (λ nothing. inl (short_more entries entry (inr (is_short entry nothing))))
-        (λ another. inr (record {
-          name = another.0;
-          there = there_more known there another.0 (failed_there next.engine another.0 another.3);
-          another = list_any-append _ ts (tag given ∷ []) ∙ or_right _ _ (or_left _ false (ap not another.1));
-          fails = inl another.3;
-        }))
-        (step.blame fine refused))
-        (cases_Bool (was_refused now))
+      there = known_more (names between) (with_name (names old) t.session) ts (known_after old between t.session one.known) fails.name fails.there;
+      another = or_right _ _ fails.another;
+      fails = ⊎_elim (λ still. inl still) (λ anew. inr (or_right (resets fails.name t) _ anew)) fails.fails;
+    }))
+    (steps_blame between new ts entries others fine refused))
+    (cases_Bool (was_refused between))
 
 -- the entries of a session, each made of one
 entries_of-map : {Name Command A B : Type 0} (f : A → B) (keep : Name → Bool) (ts : List (Tagged Name Command)) (xs : List A) → entries_of keep ts (map f xs) ≡ map f (entries_of keep ts xs)

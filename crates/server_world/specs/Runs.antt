@@ -1,5 +1,5 @@
 -- What a run returns: an entry for each command.
-use Rattle.std.specs.Prelude.{◌≡◌, ◌⊎◌, ◌<◌, ◌&&◌, ℕ, Bool, true, false, not, bytes_eq, List, Option, Some, None, length, map, IsTrue}
+use Rattle.std.specs.Prelude.{◌≡◌, ◌⊎◌, ◌<◌, ◌&&◌, ℕ, Bool, true, false, not, bytes_eq, List, [], ◌∷◌, Option, Some, None, IfNone, OnSome, length, map, IsTrue}
 use Rattle.std.specs.List.{list_any}
 use Rattle.isolation.specs.Machine.{Tagged}
 use Rattle.isolation.specs.World.{only, world_after, world_lines, at_session}
@@ -12,10 +12,10 @@ use Rattle.thread_model.specs.Asked.{Asked, tag}
 use Rattle.thread_model.specs.Thread.{Settings}
 use Rattle.thread_model.specs.Machine.{machine}
 use Rattle.thread_model.specs.declared.line.Line.{Line}
-use Rattle.session_engine.specs.Sessions.{AreSound, is_reset}
+use Rattle.session_engine.specs.Sessions.{AreSound, IsStep, is_reset}
 use Rattle.server_world.specs.declared.report.Entry.{Entry}
-use Rattle.server_world.specs.Names.{with_names}
-use Rattle.server_world.specs.Server.{Server, KnowsItsSessions, failed, names, seen, settings, states, was_refused}
+use Rattle.server_world.specs.Names.{with_name, with_names}
+use Rattle.server_world.specs.Server.{Server, IsLost, KnowsAtMost, KnowsItsSessions, failed, names, seen, settings, states, was_refused}
 use Rattle.server_world.specs.declared.report.Entry.TheVariants.{Lines, OutOfMemory}
 
 -- the commands of a list, as definitions see them
@@ -30,6 +30,20 @@ is_out_of_memory OutOfMemory = true
 abbrev pub entry_lines : Entry → Option (List Line)
 entry_lines (Lines lines) = Some lines
 entry_lines OutOfMemory = None
+
+-- one command of a run, with its entry: a step, from where all sessions stand
+pub record IsEntry (old new : Server) (t : Tagged (List ℕ) Asked) (entry : Entry) : Type 0 where
+  pub step : IsStep (seen old) (seen new) t.session t.command (entry_lines entry)
+  pub known : KnowsAtMost old new t.session
+  pub there : OnSome (entry_lines entry) (names new ≡ with_name (names old) t.session)
+  pub lost : IfNone (entry_lines entry) (IsLost old new t.session)
+
+-- commands done one after another, each from where the one before has left all sessions, with an entry for each
+abbrev pub AreSteps : Server → List (Tagged (List ℕ) Asked) → List Entry → Server → Type 0
+AreSteps old [] [] new = new ≡ old
+AreSteps old (t ∷ ts) (entry ∷ entries) new = (between : Server) × IsEntry old between t entry × AreSteps between ts entries new
+AreSteps old [] (entry ∷ entries) new = ⊥
+AreSteps old (t ∷ ts) [] new = ⊥
 
 -- some command found no memory
 abbrev pub IsShort : List Entry → Type 0

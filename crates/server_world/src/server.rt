@@ -1,7 +1,7 @@
 //! The server.
-ghost use Rattle.std.specs.Prelude.{◌≡◌, ◌⊎◌, ◌≤◌, ◌<◌, [], List, ℕ, Some, length, IsTrue, IsFalse, IfNone, OnSome, IfOk, OnOk, OnErr};
+ghost use Rattle.std.specs.Prelude.{◌≡◌, ◌⊎◌, ◌≤◌, ◌<◌, [], List, ℕ, Some, length, IsTrue, IsFalse, IfOk, OnOk, OnErr};
 ghost use Rattle.std.specs.Result.{result_ok};
-ghost use Rattle.thread_model.specs.Asked.{asked};
+ghost use Rattle.thread_model.specs.Asked.{asked, tag};
 ghost use Rattle.thread_model.specs.State.{empty};
 ghost use Rattle.stored_slots.specs.Table.{functors_of};
 ghost use Rattle.session_engine.specs.Core as engine;
@@ -11,7 +11,7 @@ ghost use Rattle.session_engine.specs.Items.{BeginsAnew};
 ghost use Rattle.session_engine.specs.Sessions.{AreSound, AreWell, IsStep};
 ghost use Rattle.server_world.specs.Names.{with_name};
 ghost use Rattle.server_world.specs.Server.{IsLost, IsNew, KnowsAtMost, OnlyRefused, StaysOut, failed, names, seen, seen_as, settings, states, was_refused};
-ghost use Rattle.server_world.specs.Runs.{IsBlamed, IsIsolated, IsLater, IsWorldRun, entry_lines, tags};
+ghost use Rattle.server_world.specs.Runs.{AreSteps, IsBlamed, IsEntry, IsIsolated, IsLater, IsWorldRun, tags};
 
 use crate::report::{Entry, Report};
 use class_table::ClassTable;
@@ -79,7 +79,10 @@ impl Server {
     /// Room for the whole report is made first; where it is not found, no command is done.
     pub fn run(&mut self, list: &[Tagged]) -> Report
         ensures refused { result.memory_refused ≡ was_refused (seen_as self.new) }
-        // The lines and the states are those of all sessions side by side,
+        // Whatever was refused before, each command is a step, from where the one before has left all sessions.
+        ensures steps { AreSteps (seen_as self.old) (tags list.now) result.lines (seen_as self.new)
+            ⊎ ((result.lines ≡ []) × OnlyRefused (seen_as self.old) (seen_as self.new)) }
+        // Where memory was found, the lines and the states are those of all sessions side by side,
         ensures world { IsFalse result.memory_refused → IsWorldRun (seen_as self.old) (seen_as self.new) (tags list.now) result.lines }
         // so each session is told what it would be told by itself.
         ensures isolated { IsFalse result.memory_refused → (s : List ℕ) → IsIsolated (seen_as self.old) (seen_as self.new) (tags list.now) result.lines s }
@@ -108,10 +111,7 @@ impl Server {
     }
 
     fn entry(&mut self, given: &Tagged) -> Entry
-        ensures step { IsStep (seen (seen_as self.old)) (seen (seen_as self.new)) given.now.session (asked given.now.command) (entry_lines result) }
-        ensures known { KnowsAtMost (seen_as self.old) (seen_as self.new) given.now.session }
-        ensures there { OnSome (entry_lines result) (names (seen_as self.new) ≡ with_name (names (seen_as self.old)) given.now.session) }
-        ensures lost { IfNone (entry_lines result) (IsLost (seen_as self.old) (seen_as self.new) given.now.session) }
+        ensures { IsEntry (seen_as self.old) (seen_as self.new) (tag given.now) result }
     {
         match self.step(given) {
             Ok(lines) => Entry::Lines(lines),
@@ -131,6 +131,13 @@ impl Server {
         if let Some(place) = self.engine.find(session) {
             self.engine.reset(place);
         }
+    }
+
+    /// What holds of every session. There is nothing to run: the clause is for the proofs of callers.
+    pub fn sound(&self)
+        ensures { AreSound (seen (seen_as self.now)) }
+    {
+        self.engine.sound();
     }
 
     /// Whether memory was wanted and not found in any call of this server so far, or was noted so.

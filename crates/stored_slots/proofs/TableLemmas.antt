@@ -1,8 +1,13 @@
 -- A list whose elements are seen by a part of each.
 use Rattle.std.proofs.Common.{◌≡◌, ℕ, zero, suc, ◌+◌, ◌<◌, ◌≤◌, List, [], ◌∷◌, Some, None, Bool, not, cond, ap, refl, sym, subst, map, length, get_or, arith}
-use Rattle.std.specs.Prelude.{IsSomeAnd, IfOk, Result, Ok, Err}
-use Rattle.std.specs.List.{position, position_or_len, slice_get}
+use Rattle.std.specs.Prelude.{IsErrAnd, IsSomeAnd, IfOk, Option, Result, Ok, Err, slice_index_or}
+use Rattle.refusals.specs.declared.code.Code.{Code}
+use Rattle.refusals.specs.declared.fault.Fault.{Fault}
+use Rattle.refusals.specs.declared.fault.Fault.TheVariants.{Memory}
+use Rattle.refusals.specs.Answers.{RefusedBy}
+use Rattle.std.specs.List.{All, position, position_or_len, slice_get}
 use Rattle.std.proofs.lemmas.List.{length-map}
+use Rattle.std.proofs.lemmas.List.Elements.{All-map}
 
 module _ {A B : Type 0} (part : A → B) where
   -- where a test of the parts passes first
@@ -12,6 +17,10 @@ module _ {A B : Type 0} (part : A → B) where
 
   pub position-map : (p : B → Bool) (xs : List A) → position (λ x. p (part x)) xs ≡ position p (map part xs)
   position-map p xs = rw (position_or_len-map p xs, length-map xs part) refl
+
+  -- what is true of the part of every element
+  pub all_parts : (P : B → Type 0) (xs : List A) → ((x : A) → P (part x)) → All P (map part xs)
+  all_parts P xs each = All-map P part xs (λ k d within. each (slice_index_or xs k d))
 
   -- what is known of the part at an index, of the element that is read there
   pub part_at : (P : B → Type 0) (xs : List A) (i : ℕ) (x : A) → IsSomeAnd (slice_get (map part xs) i) P → x ≡ get_or xs i x → P (part x) × (slice_get (map part xs) i ≡ Some (part x))
@@ -35,3 +44,8 @@ module _ {A B : Type 0} (part : A → B) where
 pub if_ok : {T E : Type 0} (P Q : T → Type 0) (r : Result T E) → ((x : T) → P x → Q x) → IfOk r P → IfOk r Q
 if_ok P Q (Ok x) follows holds = follows x holds
 if_ok P Q (Err e) follows holds = holds
+
+-- a call that wants memory after it has found nothing to refuse
+pub refused_by_none : {T : Type 0} (refusal : Option Code) (result : Result T Fault) → IsErrAnd result (λ fault. fault ≡ Memory) → refusal ≡ None → RefusedBy refusal result
+refused_by_none refusal (Ok value) wanted none = absurd wanted
+refused_by_none {T} refusal (Err fault) wanted none = subst (λ fault. RefusedBy {T = T} refusal (Err fault)) (sym wanted) none

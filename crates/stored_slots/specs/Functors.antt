@@ -1,16 +1,28 @@
 -- What contracts see of a server's functors: their names, parameters and bodies, in the order in which they
 -- were handed in.
-use Rattle.std.specs.Prelude.{ℕ, List, Option, Some, None, IsSomeAnd, bytes_eq, if◌then◌else◌, is_some, length, nat_le, option_map, position, slice_get}
+use Rattle.std.specs.Prelude.{◌≡◌, ℕ, List, Option, Some, None, IsSomeAnd, bytes_eq, if◌then◌else◌, is_some, length, nat_le, option_map, position, slice_get}
 use Rattle.std.specs.List.{AllZip}
 use Rattle.refusals.specs.declared.code.Code.{Code}
 use Rattle.refusals.specs.declared.code.Code.TheVariants.{Limit, NameTaken}
 use Rattle.signature_core.specs.declared.kind.Kind.{Kind}
 use Rattle.variant_value.specs.declared.value.Value.{Value}
 use Rattle.variant_value.specs.Values.{IsOfKind}
+use Rattle.term_core.specs.declared.body.Body.{Body}
 use Rattle.term_core.specs.Act.{Act}
+use Rattle.term_core.specs.Bodies.{IsBody}
 use Rattle.term_evaluation.specs.Unfolding.{unfolded_body}
 use Rattle.stored_slots.specs.declared.functor.Functor.{Functor}
 use Rattle.stored_slots.specs.declared.limit.TheConstants.{FUNCTORS}
+
+-- a body that may be that of parameters of these kinds, as a slot's may: it keeps to the limits of a class
+-- file's bodies, and takes no argument but these
+pub record IsBodyFor (kinds : List Kind) (body : Body) : Type 0 where
+  pub takes : body.params ≡ length kinds
+  pub keeps : IsBody body
+
+-- what holds of every functor of a table
+abbrev pub IsFunctor : Functor → Type 0
+IsFunctor functor = IsBodyFor functor.params functor.body
 
 -- these values may be given for parameters of these kinds: as many, each of its kind, and no text too long
 abbrev pub AreArguments : List Kind → List Value → Type 0

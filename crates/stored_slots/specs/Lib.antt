@@ -1,3 +1,4 @@
 pub mod Functors
+pub mod Proved
 pub mod Closures
 pub mod Table

@@ -5,7 +5,8 @@ ghost use Rattle.term_core.specs.CodedAct.{coded_act};
 ghost use Rattle.std.specs.Prelude.{◌≡◌, IfOk, bytes_eq};
 ghost use Rattle.term_evaluation.specs.Unfolding.{unfolded_body};
 ghost use Rattle.stored_slots.specs.Closures.{MayBeCalled, GivesBody};
-ghost use Rattle.stored_slots.specs.Functors.{AreArguments};
+ghost use Rattle.stored_slots.specs.Functors.{AreArguments, IsBodyFor};
+ghost use Rattle.stored_slots.specs.Proved.{IsBodyFor-prop};
 
 use crate::functor::Functor;
 use std::alloc::{AllocError, Global};
@@ -16,14 +17,15 @@ use variant_value::Value;
 /// it is given, and its error is want of that.
 pub type Closure = Box<dyn Fn(Global, &[Value]) -> Result<Vec<Action>, AllocError>>;
 
-/// A functor beside its closure. The two facts are what whoever handed the closure in has proved of it,
-/// and all that is known of it.
+/// A functor beside its closure. What whoever handed the two in has proved: the first two facts are all that
+/// is known of the closure, and the third is known of the body.
 #[derive(Drop)]
 pub(crate) struct StoredFunctor {
     pub(crate) functor: Functor,
     pub(crate) run: Closure,
     ghost callable: { MayBeCalled (Closure.pre run) functor.params },
     ghost gives_body: { GivesBody (Closure.post run) functor.params functor.body } by { Prim.hlevel (props, Coded-set coded_act) },
+    ghost is_body: { IsBodyFor functor.params functor.body } by { IsBodyFor-prop functor.params functor.body },
 }
 
 impl StoredFunctor {

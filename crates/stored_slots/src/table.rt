@@ -41,11 +41,11 @@ fn number_of(stored: &[StoredFunctor], name: &str) -> Option<usize>
 }
 
 impl Functors {
-    ghost use Rattle.std.specs.Prelude.{◌++◌, ◌∷◌, [], Some, None, IfOk, OnOk, OnErr, slice_get};
+    ghost use Rattle.std.specs.Prelude.{◌++◌, ◌∷◌, [], All, Some, None, IfOk, OnOk, OnErr, slice_get};
     ghost use Rattle.std.specs.Option.{option_copied};
     ghost use Rattle.refusals.specs.Answers.{RefusedBy};
     ghost use Rattle.stored_slots.specs.Closures.{MayBeCalled, GivesBody};
-    ghost use Rattle.stored_slots.specs.Functors.{IsCall, actions_of, add_refusal, index_of};
+    ghost use Rattle.stored_slots.specs.Functors.{IsBodyFor, IsCall, IsFunctor, actions_of, add_refusal, index_of};
     ghost use Rattle.stored_slots.specs.Table.{functors_of};
 
     /// A table without functors, which takes no memory yet.
@@ -65,6 +65,9 @@ impl Functors {
     /// as many as the parameters and of their kinds it may be called, whatever allocator it is given,
     /// and an `Ok` of it is the body with those arguments put in. So a closure whose answer depends on
     /// anything else, as on how often it was called, cannot be handed in.
+    ///
+    /// Of the body a fact is owed too: it keeps to the limits of bodies in class files, and takes no
+    /// argument but the parameters.
     pub fn add(
         &mut self,
         name: Text,
@@ -74,6 +77,7 @@ impl Functors {
     ) -> Result<(), Fault>
         requires callable { MayBeCalled (Closure.pre run) params }
         requires gives_body { GivesBody (Closure.post run) params body }
+        requires is_body { IsBodyFor params body }
         ensures refusal { RefusedBy (add_refusal (functors_of self.old) name) result }
         ensures ok { OnOk result (functors_of self.new
             ≡ functors_of self.old ++ record { name = name; params = params; body = body } ∷ []) }
@@ -125,6 +129,7 @@ impl Functors {
     pub fn rows(&self) -> Result<Items<Functor>, AllocError>
         ensures rows { IfOk result (λ rows. rows ≡ functors_of self.now) }
         ensures few { IfOk result (λ rows. length rows ≤ FUNCTORS) }
+        ensures each { IfOk result (λ rows. All IsFunctor rows) }
     {
         let mut rows = Items::new(self.alloc);
         for one in &self.stored {
@@ -135,7 +140,8 @@ impl Functors {
 
     /// The functor at this index.
     pub fn row(&self, index: u32) -> Option<&Functor>
-        ensures { option_copied result ≡ slice_get (functors_of self.now) index }
+        ensures row { option_copied result ≡ slice_get (functors_of self.now) index }
+        ensures sound { IfSome result (λ functor. IsFunctor functor.now) }
     {
         let stored = self.stored.get(index as usize)?;
         Some(&stored.functor)

@@ -18,13 +18,13 @@ text_of_said-said_by session [] = refl
 text_of_said-said_by session (line ∷ lines) = ap (λ rest. text_of_line session line ++ rest) (text_of_said-said_by session lines)
 
 -- what is written for pieces, and the states after them
-text_of_pieces : Settings → World → List Piece → List ℕ
+pub text_of_pieces : Settings → World → List Piece → List ℕ
 text_of_pieces settings world pieces = text_of_said (flat_map said_in (piece_answers (machine settings) world pieces))
 
-world_after_pieces : Settings → World → List Piece → World
+pub world_after_pieces : Settings → World → List Piece → World
 world_after_pieces settings world pieces = world_after (machine settings) world (commands_of pieces)
 
-text_of_pieces-cons : (settings : Settings) (world : World) (piece : Option Piece) (pieces : List Piece) → text_of_pieces settings world (cons_option piece pieces) ≡ text_of_piece settings world piece ++ text_of_pieces settings (world_after_piece settings world piece) pieces
+pub text_of_pieces-cons : (settings : Settings) (world : World) (piece : Option Piece) (pieces : List Piece) → text_of_pieces settings world (cons_option piece pieces) ≡ text_of_piece settings world piece ++ text_of_pieces settings (world_after_piece settings world piece) pieces
 unfolding text_of_pieces text_of_piece world_after_piece
 text_of_pieces-cons settings world None pieces = refl
 text_of_pieces-cons settings world (Some (Given given)) pieces =
@@ -34,25 +34,25 @@ text_of_pieces-cons settings world (Some (Given given)) pieces =
     ∙ ap (λ first. first ++ text_of_pieces settings (world_after_piece settings world (Some (Given given))) pieces) (text_of_said-said_by given.session (effect (machine settings) world given).lines)
 text_of_pieces-cons settings world (Some (Faulty fault)) pieces = refl
 
-text_of_pieces-nothing : (settings : Settings) (world : World) → text_of_pieces settings world [] ≡ []
+pub text_of_pieces-nothing : (settings : Settings) (world : World) → text_of_pieces settings world [] ≡ []
 unfolding text_of_pieces
 text_of_pieces-nothing settings world = refl
 
-world_after_pieces-cons : (settings : Settings) (world : World) (piece : Option Piece) (pieces : List Piece) → world_after_pieces settings world (cons_option piece pieces) ≡ world_after_pieces settings (world_after_piece settings world piece) pieces
+pub world_after_pieces-cons : (settings : Settings) (world : World) (piece : Option Piece) (pieces : List Piece) → world_after_pieces settings world (cons_option piece pieces) ≡ world_after_pieces settings (world_after_piece settings world piece) pieces
 unfolding world_after_pieces world_after_piece
 world_after_pieces-cons settings world None pieces = refl
 world_after_pieces-cons settings world (Some (Given given)) pieces = refl
 world_after_pieces-cons settings world (Some (Faulty fault)) pieces = refl
 
-world_after_pieces-nothing : (settings : Settings) (world : World) → world_after_pieces settings world [] ≡ world
+pub world_after_pieces-nothing : (settings : Settings) (world : World) → world_after_pieces settings world [] ≡ world
 unfolding world_after_pieces
 world_after_pieces-nothing settings world = refl
 
-by_pieces : (settings : Settings) (world : World) (bytes : List ℕ) → output settings world bytes ≡ text_of_pieces settings world (pieces_of bytes)
+pub by_pieces : (settings : Settings) (world : World) (bytes : List ℕ) → output settings world bytes ≡ text_of_pieces settings world (pieces_of bytes)
 unfolding output said_all text_of_pieces
 by_pieces settings world bytes = refl
 
-world_by_pieces : (settings : Settings) (world : World) (bytes : List ℕ) → world_of settings world bytes ≡ world_after_pieces settings world (pieces_of bytes)
+pub world_by_pieces : (settings : Settings) (world : World) (bytes : List ℕ) → world_of settings world bytes ≡ world_after_pieces settings world (pieces_of bytes)
 unfolding world_of world_after_pieces
 world_by_pieces settings world bytes = refl
 

@@ -1,6 +1,7 @@
 pub mod Sent
 pub mod Begun
 pub mod Long
+pub mod Answering
 pub mod Feeding
 pub mod Served
 pub mod Answered

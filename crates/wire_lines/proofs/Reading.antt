@@ -1,17 +1,16 @@
 -- Steps of a run that write what is gathered and read more, over an input that is known.
-use Rattle.std.proofs.Common.{◌≡◌, ℕ, ◌+◌, ◌<◌, List, [], ◌++◌, length, Option, Some, None, Result, Ok, Err, inl, refl, sym, ap, ◌∙◌, subst, append-nil, append_assoc}
+use Rattle.std.proofs.Common.{◌≡◌, ℕ, ◌+◌, ◌<◌, List, [], ◌++◌, length, Option, Some, None, Result, Ok, Err, inl, refl, sym, ap, ◌∙◌, subst, arith, append-nil, append_assoc}
 use Rattle.std.specs.Io.KnownBytes.{Appends, Consumes, IsAtEnd}
-use Rattle.server_world.specs.Server.{Server, states, settings}
+use Rattle.server_world.specs.Server.{Server}
 use Rattle.wire_devices.specs.Bytes.{AppendsFront}
-use Rattle.wire_format.specs.Input.{lines_of}
-use Rattle.wire_format.specs.Output.{output}
 use Rattle.wire_lines.specs.declared.fault.RunFault.{RunFault}
 use Rattle.wire_lines.specs.declared.fault.RunFault.TheVariants.{Read, Write, Endless, Memory}
-use Rattle.wire_lines.specs.Sending.{out, Sent, SentFront}
+use Rattle.wire_lines.specs.Sending.{out, Sent}
+use Rattle.wire_lines.specs.Steps.{read_lines}
 use Rattle.wire_lines.specs.Stream.{Point, Fed, Cut, Stops, Finishes}
 use Rattle.wire_lines.specs.Run.{Ends}
-use Rattle.wire_lines.proofs.Sent.{Sent-flushed, SentFront-emptied, Sent-nothing, SentFront-more, SentFront-whole}
-use Rattle.wire_lines.proofs.Feeding.{and_then, Later-refl, Fed-trans, Fed-more, Done-after, Stops-after, Stops-along}
+use Rattle.wire_lines.proofs.Sent.{Sent-flushed, SentFront-emptied, Sent-nothing, SentFront-whole}
+use Rattle.wire_lines.proofs.Feeding.{and_then, Cut-alike, Cut-silent, Fed-trans, Fed-more, Done-after, Stops-after, Stops-along}
 use Rattle.wire_lines.proofs.Kept.{point}
 
 -- what is left of a known input
@@ -28,25 +27,23 @@ known_end (Some all) rest end is = let same : all ≡ rest = cc in sym same ∙ 
 pub Fed-flushed : (server : Server) (old new : Option (List ℕ)) (gathered left begun : List ℕ) (lines count : ℕ) → left ≡ [] → Appends old new gathered → count ≡ lines →
     Fed (point server (out old gathered) lines begun) (point server (out new left) count begun)
 Fed-flushed server old new gathered left begun lines count none bytes same = record {
-  later = Later-refl server;
-  said = λ clean. ([], subst (λ l. Sent (out old gathered) (out new l) []) (sym none) (Sent-flushed old new gathered [] bytes), λ rest. refl, λ rest. refl);
-  counted = λ rest. ap (λ n. n + length (lines_of (begun ++ rest))) (sym same);
+  lines = [];
+  text = [];
+  reads = λ rest. refl;
+  answered = (refl, refl);
+  sent = subst (λ l. Sent (out old gathered) (out new l) []) (sym none) (Sent-flushed old new gathered [] bytes);
+  counted = omega (arith, same);
 }
 
--- or a front of it
+-- a front of what is gathered is written
 pub Cut-flushed : (server : Server) (old new : Option (List ℕ)) (gathered left begun later_begun rest : List ℕ) (lines count : ℕ) → left ≡ [] → AppendsFront old new gathered →
     Cut (point server (out old gathered) lines begun) (point server (out new left) count later_begun) rest
-Cut-flushed server old new gathered left begun later_begun rest lines count none bytes = record {
-  later = Later-refl server;
-  said = λ clean. SentFront-emptied old new gathered left _ none bytes;
-}
+Cut-flushed server old new gathered left begun later_begun rest lines count none bytes =
+    Cut-silent (point server (out old gathered) lines begun) (point server (out new left) count later_begun) rest refl (SentFront-emptied old new gathered left [] none bytes)
 
 -- nothing more is said
 pub Cut-here : (a : Point) (begun rest : List ℕ) → Cut a (point a.server a.out a.lines begun) rest
-Cut-here a begun rest = record {
-  later = Later-refl a.server;
-  said = λ clean. SentFront-more a.out a.out [] _ (SentFront-whole a.out a.out [] (Sent-nothing a.out));
-}
+Cut-here a begun rest = Cut-silent a (point a.server a.out a.lines begun) rest refl (SentFront-whole a.out a.out [] (Sent-nothing a.out))
 
 -- with the bytes that are left, all of the input is behind the point
 module _ (start end : Point) (bytes rest input : List ℕ) (is : input ≡ bytes ++ rest) where
@@ -54,15 +51,12 @@ module _ (start end : Point) (bytes rest input : List ℕ) (is : input ≡ bytes
   all_bytes = append_assoc start.begun bytes rest ∙ ap (λ l. start.begun ++ l) (sym is) ∙ sym (append-nil (start.begun ++ input))
 
   pub Cut-known : Cut (and_then start bytes) end rest → Cut (and_then start input) end []
-  Cut-known cut = record {
-    later = cut.later;
-    said = λ clean. subst (λ l. SentFront start.out end.out (output (settings start.server) (states start.server) l)) all_bytes (cut.said clean);
-  }
+  Cut-known cut = Cut-alike (and_then start bytes) end (start.begun ++ input) rest [] (ap read_lines (sym all_bytes)) cut
 
   pub Stops-known : (most : ℕ) (fault : RunFault) → Stops most fault (and_then start bytes) end rest → Stops most fault (and_then start input) end []
   Stops-known most fault stops =
       Stops-along most fault (and_then start bytes) end (and_then start input) end rest [] Cut-known
-      (λ over. subst (λ l. most < start.lines + length (lines_of l)) all_bytes over) stops
+      (λ over. subst (λ l. most < start.lines + length (read_lines l)) all_bytes over) stops
 
 -- more bytes behind those of a start
 pub Fed-read : (start a b c : Point) (bytes more : List ℕ) → Fed (and_then start bytes) a → Fed a b → Fed (and_then b more) c → Fed (and_then start (bytes ++ more)) c

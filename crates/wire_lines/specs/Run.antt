@@ -1,5 +1,5 @@
 -- What a run over a whole input promises.
-use Rattle.std.specs.Prelude.{◌≡◌, ◌⊎◌, ◌<◌, ◌≤◌, ◌^◌, ℕ, Bool, true, false, List, [], length, Option, Some, Result, Ok, Err, IsOk, IsErr, IfOk, IsFalse}
+use Rattle.std.specs.Prelude.{◌≡◌, ◌⊎◌, ◌<◌, ◌≤◌, ◌^◌, ℕ, Bool, true, false, List, [], length, take, Option, Some, Result, Ok, Err, IsOk, IsErr, IfOk, MatchResult, IsFalse}
 use Rattle.std.specs.Io.KnownBytes.{Appends}
 use Rattle.isolation.specs.Alone.{items, alone_lines}
 use Rattle.isolation.specs.Influence.{influences}
@@ -14,6 +14,7 @@ use Rattle.wire_lines.specs.declared.fault.RunFault.{RunFault}
 use Rattle.wire_lines.specs.declared.fault.RunFault.TheVariants.{Read, Write, Endless}
 use Rattle.wire_lines.specs.declared.stream.Summary.{Summary}
 use Rattle.wire_lines.specs.Sending.{IsFront}
+use Rattle.wire_lines.specs.Steps.{AreAnswered, read_lines}
 use Rattle.wire_lines.specs.Stream.{Point, Done, Cut, IsOver}
 
 -- the run came to the end of its input, and memory was never wanted in vain
@@ -61,6 +62,16 @@ pub record AnswersAll (input : List ℕ) (old new : Server) (held held_after : O
   -- and what it would be told without the commands of sessions from which no chain of joins leads to it
   pub left_out : (s : List ℕ) → IsToldAsWithout (settings old) (states old) (names old) input s
 
+-- every line of the input is answered, and all that is said is written
+abbrev pub WritesAll : List ℕ → Option (List ℕ) → Server → Option (List ℕ) → Server → Type 0
+WritesAll input held old held_after new =
+    (text : List ℕ) × AreAnswered old (read_lines input) text new × Appends held held_after text
+
+-- so many first lines are, and a front of what is said is written
+abbrev pub WritesFirst : List ℕ → Option (List ℕ) → Server → Option (List ℕ) → Server → Type 0
+WritesFirst input held old held_after new =
+    (count : ℕ) × (text : List ℕ) × AreAnswered old (take count (read_lines input)) text new × AppendsSome held held_after text
+
 -- what a run over these bytes comes to
 pub record RunsOver (input : List ℕ) (old new : Server) (held held_after left_after : Option (List ℕ)) (result : Result Summary RunFault) : Type 0 where
   pub well : WentWell result new → AnswersAll input old new held held_after
@@ -68,7 +79,9 @@ pub record RunsOver (input : List ℕ) (old new : Server) (held held_after left_
   pub stopped : IsErr result → IsFalse (was_refused new) → AppendsSome held held_after (output (settings old) (states old) input)
   -- and it finds no end only behind so many lines or bytes
   pub endless : result ≡ Err Endless → (2 ^ 32 < length (lines_of input)) ⊎ (2 ^ 40 ≤ length input)
-  -- also where memory was refused
+  -- also where memory was refused: the lines are answered one after another, and what is said to them is written,
+  pub answered : MatchResult result (λ _. WritesAll input held old held_after new) (λ _. WritesFirst input held old held_after new)
+  -- all of the input is read, and its lines are counted
   pub all_read : IsOk result → left_after ≡ Some []
   pub counted : IfOk result (λ summary. summary.lines ≡ length (lines_of input))
 
@@ -89,16 +102,10 @@ device_failed (Err Read) = true
 device_failed (Err Write) = true
 device_failed r = false
 
--- what has been written of the output of an input
-abbrev pub WritesFront : List ℕ → Option (List ℕ) → Server → Option (List ℕ) → Server → Type 0
-WritesFront input held old held_after new =
-    IsFalse (was_refused new) → AppendsSome held held_after (output (settings old) (states old) input)
-
--- a run over these bytes: what it has written, what the states are, and how many lines there were
+-- a run over these bytes: what it has answered and written, and how many lines there were
 abbrev pub Runs : ℕ → ℕ → List ℕ → Option (List ℕ) → Server → Option (List ℕ) → Server → Result Summary RunFault → Type 0
 Runs max_lines max_reads input held old held_after new (Ok summary) =
-    (IsFalse (was_refused new) → Appends held held_after (output (settings old) (states old) input) × (states new ≡ world_of (settings old) (states old) input))
-    × (summary.lines ≡ length (lines_of input))
+    WritesAll input held old held_after new × (summary.lines ≡ length (lines_of input))
 Runs max_lines max_reads input held old held_after new (Err Endless) =
-    WritesFront input held old held_after new × ((max_lines < length (lines_of input)) ⊎ (max_reads ≤ length input))
-Runs max_lines max_reads input held old held_after new (Err fault) = WritesFront input held old held_after new
+    WritesFirst input held old held_after new × ((max_lines < length (lines_of input)) ⊎ (max_reads ≤ length input))
+Runs max_lines max_reads input held old held_after new (Err fault) = WritesFirst input held old held_after new

@@ -1,13 +1,12 @@
 -- A run under way: what a server does with the lines of an input that comes in pieces.
-use Rattle.std.specs.Prelude.{◌≡◌, ℕ, ◌+◌, ◌<◌, List, [], ◌++◌, length, Result, IsTrue, IsFalse, Ok, Err}
-use Rattle.thread_model.specs.Thread.{Settings}
-use Rattle.server_world.specs.Server.{Server, states, was_refused, settings}
-use Rattle.wire_format.specs.Input.{lines_of}
-use Rattle.wire_format.specs.Output.{output, world_of}
+use Rattle.std.specs.Prelude.{◌≡◌, ℕ, ◌+◌, ◌<◌, List, [], ◌++◌, length, Option, Result, IsTrue, Ok, Err}
+use Rattle.server_world.specs.Server.{Server, was_refused, settings}
+use Rattle.wire_format.specs.Input.{Piece}
 use Rattle.wire_devices.specs.Counts.{FailsOnce}
 use Rattle.wire_lines.specs.declared.fault.RunFault.{RunFault}
 use Rattle.wire_lines.specs.declared.fault.RunFault.TheVariants.{Read, Write, Endless}
 use Rattle.wire_lines.specs.Sending.{Out, Sent, SentFront}
+use Rattle.wire_lines.specs.Steps.{AreAnswered, read_lines}
 
 -- the settings of a server stay, and so does that it once found no memory
 pub record Later (old new : Server) : Type 0 where
@@ -23,38 +22,36 @@ pub record Point : Type 0 where
   -- the bytes that are read and not yet answered
   pub begun : List ℕ
 
--- the texts and states of both points are those of one input, whatever follows
-abbrev pub Says : Settings → Point → Point → Type 0
-Says settings old new =
-    (text : List ℕ) × Sent old.out new.out text
-    × ((rest : List ℕ) → output settings (states old.server) (old.begun ++ rest) ≡ text ++ output settings (states new.server) (new.begun ++ rest))
-    × ((rest : List ℕ) → world_of settings (states old.server) (old.begun ++ rest) ≡ world_of settings (states new.server) (new.begun ++ rest))
-
--- from one point to another: lines were answered, as far as memory was never refused, and counted
+-- from one point to another: these lines were answered and counted, what was said to them is sent, and whatever
+-- follows, they are the first, and then come those behind the new point
 pub record Fed (old new : Point) : Type 0 where
-  pub later : Later old.server new.server
-  pub said : IsFalse (was_refused new.server) → Says (settings old.server) old new
-  pub counted : (rest : List ℕ) → old.lines + length (lines_of (old.begun ++ rest)) ≡ new.lines + length (lines_of (new.begun ++ rest))
+  pub lines : List (Option Piece)
+  pub text : List ℕ
+  pub reads : (rest : List ℕ) → read_lines (old.begun ++ rest) ≡ lines ++ read_lines (new.begun ++ rest)
+  pub answered : AreAnswered old.server lines text new.server
+  pub sent : Sent old.out new.out text
+  pub counted : new.lines ≡ old.lines + length lines
 
 -- all bytes are answered, and there are no more
-abbrev pub SaysAll : Settings → Point → Point → Type 0
-SaysAll settings old new =
-    Sent old.out new.out (output settings (states old.server) old.begun)
-    × (states new.server ≡ world_of settings (states old.server) old.begun)
-
 pub record Done (old new : Point) : Type 0 where
-  pub later : Later old.server new.server
-  pub said : IsFalse (was_refused new.server) → SaysAll (settings old.server) old new
-  pub counted : new.lines ≡ old.lines + length (lines_of old.begun)
+  pub text : List ℕ
+  pub answered : AreAnswered old.server (read_lines old.begun) text new.server
+  pub sent : Sent old.out new.out text
+  pub counted : new.lines ≡ old.lines + length (read_lines old.begun)
 
--- the run ended too early: what was sent is a front of the output, where these bytes follow
+-- the run ended too early: where these bytes follow, some first lines were answered, and a front of what was said
+-- to them is sent
 pub record Cut (old new : Point) (rest : List ℕ) : Type 0 where
-  pub later : Later old.server new.server
-  pub said : IsFalse (was_refused new.server) → SentFront old.out new.out (output (settings old.server) (states old.server) (old.begun ++ rest))
+  pub lines : List (Option Piece)
+  pub behind : List (Option Piece)
+  pub text : List ℕ
+  pub reads : read_lines (old.begun ++ rest) ≡ lines ++ behind
+  pub answered : AreAnswered old.server lines text new.server
+  pub sent : SentFront old.out new.out text
 
 -- there are more lines than that
 abbrev pub IsOver : ℕ → Point → List ℕ → Type 0
-IsOver most old rest = most < old.lines + length (lines_of (old.begun ++ rest))
+IsOver most old rest = most < old.lines + length (read_lines (old.begun ++ rest))
 
 -- the run stops for this fault, where these bytes follow
 abbrev pub Stops : ℕ → RunFault → Point → Point → List ℕ → Type 0

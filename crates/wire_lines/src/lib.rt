@@ -4,12 +4,14 @@
 
 mod buffer;
 mod fault;
+mod limits;
 mod lines;
 mod output;
 mod status;
 mod stream;
 
 pub use fault::RunFault;
+pub use limits::limits_are_these;
 pub use status::status_of;
 pub use stream::{Summary, run};
 pub use wire_devices::{Counted, Failed, Sink, Source};

@@ -1,22 +1,19 @@
 //! What is said, on its way to a sink.
-ghost use Rattle.std.specs.Prelude.{◌≡◌, [], IsTrue, IsFalse, IfOk, List, Some};
+ghost use Rattle.std.specs.Prelude.{◌≡◌, [], IsTrue, IfOk, List, ℕ, Some};
 ghost use Rattle.std.specs.List.{flat_map};
-ghost use Rattle.isolation.specs.World.{effect, after};
-ghost use Rattle.server_world.specs.Server.{seen_as, states, was_refused, settings};
+ghost use Rattle.server_world.specs.Server.{OnlyRefused, seen_as, settings};
 ghost use Rattle.thread_model.specs.Asked.{tag};
-ghost use Rattle.thread_model.specs.declared.line.Line.{Line};
 ghost use Rattle.thread_model.specs.declared.line.Line.TheVariants.{Error};
-ghost use Rattle.thread_model.specs.Machine.{machine};
 ghost use Rattle.refusals.specs.declared.code.Code.TheVariants.{OutOfMemory};
 ghost use Rattle.wire_devices.specs.Bytes.{AppendsAll};
 ghost use Rattle.wire_devices.specs.Counts.{CountsErrors};
 ghost use Rattle.wire_format.specs.Command.{command_of};
 ghost use Rattle.wire_format.specs.Input.{piece_from};
-ghost use Rattle.wire_format.specs.Output.{text_of_piece, world_after_piece};
 ghost use Rattle.wire_format.specs.Parts.{text_of_parts};
 ghost use Rattle.wire_format.specs.Text.{text_of_line, is_session_text};
 ghost use Rattle.wire_lines.specs.Sending.{SentAll, out};
-ghost use Rattle.wire_lines.specs.Stream.{Later, SendFails};
+ghost use Rattle.wire_lines.specs.Steps.{IsAnswered, IsDone};
+ghost use Rattle.wire_lines.specs.Stream.{SendFails};
 
 use crate::buffer::{BUFFER_BYTES, Buffer};
 use crate::fault::RunFault;
@@ -70,11 +67,8 @@ impl Output {
         server: &mut Server,
         writer: &mut W,
     ) -> Result<(), RunFault>
-        ensures later { Later (seen_as server.old) (seen_as server.new) }
-        ensures said { IsFalse (was_refused (seen_as server.new)) → SentAll (out (W.held writer.old) self.old.gathered) (out (W.held writer.new) self.new.gathered) result
-            (text_of_piece (settings (seen_as server.old)) (states (seen_as server.old)) (Some (piece_from (command_of line.now)))) }
-        ensures states { IsFalse (was_refused (seen_as server.new))
-            → states (seen_as server.new) ≡ world_after_piece (settings (seen_as server.old)) (states (seen_as server.old)) (Some (piece_from (command_of line.now))) }
+        ensures answered { (text : List ℕ) × IsAnswered (seen_as server.old) (Some (piece_from (command_of line.now))) text (seen_as server.new)
+            × SentAll (out (W.held writer.old) self.old.gathered) (out (W.held writer.new) self.new.gathered) result text }
         ensures failed { SendFails (W.failures writer.old) (W.failures writer.new) result }
     {
         match read_line(self.alloc, &mut self.scratch, line) {
@@ -92,8 +86,8 @@ impl Output {
         writer: &mut W,
     ) -> Result<(), RunFault>
         requires { IsTrue (is_session_text session.now) }
-        ensures later { Later (seen_as server.old) (seen_as server.new) }
-        ensures refused { IsTrue (was_refused (seen_as server.new)) }
+        ensures only { OnlyRefused (seen_as server.old) (seen_as server.new) }
+        ensures settings { settings (seen_as server.new) ≡ settings (seen_as server.old) }
         ensures said { SentAll (out (W.held writer.old) self.old.gathered) (out (W.held writer.new) self.new.gathered) result
             (text_of_line session.now (Error OutOfMemory)) }
         ensures failed { SendFails (W.failures writer.old) (W.failures writer.new) result }
@@ -110,14 +104,8 @@ impl Output {
         writer: &mut W,
     ) -> Result<(), RunFault>
         requires { IsTrue (is_session_text given.now.session) }
-        ensures later { Later (seen_as server.old) (seen_as server.new) }
-        ensures said { IsFalse (was_refused (seen_as server.new)) → SentAll (out (W.held writer.old) self.old.gathered) (out (W.held writer.new) self.new.gathered) result
-            (flat_map (text_of_line given.now.session) (effect (machine (settings (seen_as server.old))) (states (seen_as server.old)) (tag given.now)).lines) }
-        ensures states { IsFalse (was_refused (seen_as server.new))
-            → states (seen_as server.new) ≡ after (machine (settings (seen_as server.old))) (states (seen_as server.old)) (tag given.now) }
-        // Also where memory was refused, all that is said names the session.
-        ensures named { (lines : List Line) × SentAll (out (W.held writer.old) self.old.gathered) (out (W.held writer.new) self.new.gathered) result
-            (flat_map (text_of_line given.now.session) lines) }
+        ensures answered { (text : List ℕ) × IsDone (seen_as server.old) (tag given.now) text (seen_as server.new)
+            × SentAll (out (W.held writer.old) self.old.gathered) (out (W.held writer.new) self.new.gathered) result text }
         ensures failed { SendFails (W.failures writer.old) (W.failures writer.new) result }
     {
         let session = given.session.as_str();

@@ -1,6 +1,7 @@
 //! Runs over whole inputs.
 ghost use Rattle.std.specs.Prelude.{◌≡◌, ◌<◌, ◌++◌, ◌∷◌, ℕ, List, [], length, Some, None, IfSome, IsOk, IfOk, OnOk};
-ghost use Rattle.server_world.specs.Server.{KnowsItsSessions, seen_as, was_refused};
+ghost use Rattle.session_engine.specs.Sessions.{AreSound};
+ghost use Rattle.server_world.specs.Server.{KnowsItsSessions, seen, seen_as, was_refused};
 ghost use Rattle.wire_format.specs.Input.{NoEnd};
 ghost use Rattle.wire_lines.specs.Run.{RunsOver, DevicesFail, ReadFails, WriteFails, Ends, Runs, device_failed};
 ghost use Rattle.wire_lines.specs.Stream.{Later, SinkFails, Feeds, Finishes};
@@ -197,8 +198,7 @@ fn split_line(bytes: &[u8]) -> Option<(&[u8], &[u8])>
 /// whoever waits for an answer gets it before the run waits for more input.
 ///
 /// Where memory is wanted and not found, the line is answered by `E21`, which takes no memory: for the
-/// session of the command, or for `-` where memory was wanted while the line was read. No clause says
-/// to whom; it is only tested.
+/// session of the command, or for `-` where memory was wanted while the line was read.
 ///
 /// # Errors
 ///
@@ -212,7 +212,8 @@ pub fn run<R: Source, W: Sink>(
     writer: &mut W,
     server: &mut Server,
 ) -> Result<Summary, RunFault>
-    // Where the bytes of the source are known: the output, and that it keeps the sessions apart.
+    // Where the bytes of the source are known: what is answered to each line, and where memory was found, the output,
+    // and that it keeps the sessions apart.
     ensures runs { (input : List ℕ) → R.left reader.old ≡ Some input
         → RunsOver input (seen_as server.old) (seen_as server.new) (W.held writer.old) (W.held writer.new) (R.left reader.new) result }
     ensures devices { DevicesFail (R.failures reader.old) (R.failures reader.new) (W.failures writer.old) (W.failures writer.new) result }
@@ -220,8 +221,11 @@ pub fn run<R: Source, W: Sink>(
     ensures later { Later (seen_as server.old) (seen_as server.new) }
     // The names of the server are those of all sessions that may have a join, so a later run has its influence too.
     ensures knows { KnowsItsSessions (seen_as server.new) }
+    ensures sound { AreSound (seen (seen_as server.new)) }
 {
-    run_bounded(alloc, reader, writer, server, MOST_LINES, MOST_READS)
+    let ended = run_bounded(alloc, reader, writer, server, MOST_LINES, MOST_READS);
+    server.sound();
+    ended
 }
 
 /// The same with other bounds.

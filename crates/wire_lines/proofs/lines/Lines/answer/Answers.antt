@@ -20,6 +20,6 @@ pub returns-clause-fed : goal.returns-clause-fed
 returns-clause-fed g c =
     let before = out (g.W.Sink.held c.args.writer.now) c.args.self.now.output.gathered in
     let after = out (g.W.Sink.held c.serve.new.writer) c.serve.new.self.gathered in
-    let served = c.serve.ensures in
+    let (text, answered, sent) = c.serve.ensures.answered in
     Feeds-served (seen_as c.args.server.now) (seen_as c.serve.new.server) before after c.args.self.now.count c.args.line.now c.requires
-    c.args.self.now.most _ _ c.serve.result (sym c.if-is_blank.ensures) served.later served.said served.states served.failed
+    c.args.self.now.most _ _ c.serve.result text (sym c.if-is_blank.ensures) answered sent c.serve.ensures.failed

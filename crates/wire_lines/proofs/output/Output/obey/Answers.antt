@@ -1,14 +1,20 @@
-use Rattle.std.proofs.Common.{ℕ, List, [], ◌∷◌, subst}
-use Rattle.refusals.specs.declared.code.Code.TheVariants.{OutOfMemory}
-use Rattle.thread_model.specs.declared.line.Line.TheVariants.{Error}
-use Rattle.wire_format.specs.Text.{text_of_line}
-use Rattle.wire_lines.specs.Sending.{SentAll, out}
-use Rattle.wire_lines.proofs.Sent.{SentAll-one}
+use Rattle.std.proofs.Common.{refl}
+use Rattle.server_world.specs.declared.report.Entry.TheVariants.{Lines, OutOfMemory}
+use Rattle.wire_lines.specs.Steps.{entry_text}
 use Rattle.wire_lines.proofs.output.Output.obey.Goals as goal
 
-pub returns-in-Err-clause-named : goal.returns-in-Err-clause-named
-returns-in-Err-clause-named g c =
-    let old = out (g.W.Sink.held c.args.writer.now) c.args.self.now.gathered in
-    let new = out (g.W.Sink.held c.say_error.new.writer) c.say_error.new.self.gathered in
-    let said = subst (λ (session : List ℕ). SentAll old new c.say_error.result (text_of_line session (Error OutOfMemory))) c.as_str-session.ensures c.say_error.ensures.said in
-    (Error OutOfMemory ∷ [], SentAll-one (text_of_line c.args.given.now.session) (Error OutOfMemory) old new c.say_error.result said)
+pub returns-in-Ok-clause-answered : goal.returns-in-Ok-clause-answered
+returns-in-Ok-clause-answered g c =
+    let stepped = c.in-Ok.ensures in (
+      entry_text c.args.given.now.session (Lines c.in-Ok.lines),
+      record { entry = Lines c.in-Ok.lines; does = record { step = stepped.step; known = stepped.known; there = stepped.there; lost = tt }; says = refl },
+      rw (c.as_str-session.ensures, c.as_slice.ensures) at c.say_lines.ensures.said,
+    )
+
+pub returns-in-Err-clause-answered : goal.returns-in-Err-clause-answered
+returns-in-Err-clause-answered g c =
+    let stepped = c.in-Err.ensures in (
+      entry_text c.args.given.now.session OutOfMemory,
+      record { entry = OutOfMemory; does = record { step = stepped.step; known = stepped.known; there = tt; lost = stepped.lost }; says = refl },
+      rw c.as_str-session.ensures at c.say_error.ensures.said,
+    )

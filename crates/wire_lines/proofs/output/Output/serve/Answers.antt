@@ -1,11 +1,13 @@
-use Rattle.std.proofs.Common.{◌∙◌, ℕ, List, IsTrue, sym, subst}
+use Rattle.std.proofs.Common.{ℕ, List, IsTrue, codes, refl, sym, subst}
 use Rattle.std.proofs.lemmas.Bool.{or_left}
-use Rattle.server_world.specs.Server.{seen_as, states, settings}
+use Rattle.refusals.specs.declared.code.Code.TheVariants.{OutOfMemory}
+use Rattle.server_world.specs.Server.{seen_as}
 use Rattle.thread_model.specs.Asked.{tag}
+use Rattle.thread_model.specs.declared.line.Line.TheVariants.{Error}
 use Rattle.wire_format.specs.Command.{command_of}
-use Rattle.wire_format.specs.Text.{is_session_text}
+use Rattle.wire_format.specs.Text.{blamed, is_session_text, text_of_line}
 use Rattle.wire_format.proofs.Sessions.{session_is_name, blamed_is_session_text}
-use Rattle.wire_lines.proofs.Served.{text-given, world-given, text-faulty, world-faulty}
+use Rattle.wire_lines.proofs.Served.{answered-faulty, answered-given, answered-unread}
 use Rattle.wire_lines.proofs.output.Output.serve.Goals as goal
 
 pub obey-requires : goal.obey-requires
@@ -16,23 +18,25 @@ say_error-requires g c =
     let whole = blamed_is_session_text c.args.line.now c.in-Err-Fault.fault (rw c.in-Err-Fault.field-0-is at c.in-Err-Fault.ensures) in
     subst (λ (text : List ℕ). IsTrue (is_session_text text)) (sym c.blamed.ensures) whole
 
-pub returns-in-Ok-clause-said : goal.returns-in-Ok-clause-said
-returns-in-Ok-clause-said g c = λ clean.
-    let old = (seen_as c.args.server.now) in
-    rw (text-given (settings old) (states old) (command_of c.args.line.now) (tag c.in-Ok.given) c.in-Ok.ensures) (c.obey.ensures.said clean)
+pub returns-in-Ok-clause-answered : goal.returns-in-Ok-clause-answered
+returns-in-Ok-clause-answered g c =
+    let (text, done, sent) = c.obey.ensures.answered in
+    (text, answered-given (seen_as c.args.server.now) (seen_as c.obey.new.server) (command_of c.args.line.now) text (tag c.in-Ok.given) c.in-Ok.ensures done, sent)
 
-pub returns-in-Ok-clause-states : goal.returns-in-Ok-clause-states
-returns-in-Ok-clause-states g c = λ clean.
-    let old = (seen_as c.args.server.now) in
-    c.obey.ensures.states clean ∙ sym (world-given (settings old) (states old) (command_of c.args.line.now) (tag c.in-Ok.given) c.in-Ok.ensures)
+pub returns-in-Err-Fault-clause-answered : goal.returns-in-Err-Fault-clause-answered
+returns-in-Err-Fault-clause-answered g c =
+    let server = seen_as c.args.server.now in
+    let fault = c.in-Err-Fault.fault in
+    let text = text_of_line (blamed fault) (Error fault.code) in (
+      text,
+      answered-faulty server server (command_of c.args.line.now) text fault (rw c.in-Err-Fault.field-0-is at c.in-Err-Fault.ensures) (record { stays = refl; says = refl }),
+      rw c.blamed.ensures at c.say_error.ensures.said,
+    )
 
-pub returns-in-Err-Fault-clause-said : goal.returns-in-Err-Fault-clause-said
-returns-in-Err-Fault-clause-said g c = λ clean.
-    let old = (seen_as c.args.server.now) in
-    rw (text-faulty (settings old) (states old) (command_of c.args.line.now) c.in-Err-Fault.fault (rw c.in-Err-Fault.field-0-is at c.in-Err-Fault.ensures))
-    (rw c.blamed.ensures at c.say_error.ensures.said)
-
-pub returns-in-Err-Fault-clause-states : goal.returns-in-Err-Fault-clause-states
-returns-in-Err-Fault-clause-states g c = λ clean.
-    let old = (seen_as c.args.server.now) in
-    sym (world-faulty (settings old) (states old) (command_of c.args.line.now) c.in-Err-Fault.fault (rw c.in-Err-Fault.field-0-is at c.in-Err-Fault.ensures))
+pub returns-in-Err-Memory-clause-answered : goal.returns-in-Err-Memory-clause-answered
+returns-in-Err-Memory-clause-answered g c =
+    let old = seen_as c.args.server.now in
+    let new = seen_as c.say_out_of_memory.new.server in
+    let said = c.say_out_of_memory.ensures in
+    let text = text_of_line (codes "-") (Error OutOfMemory) in
+    (text, answered-unread old new (command_of c.args.line.now) text (record { only = said.only; settings = said.settings; says = refl }), said.said)

@@ -1,12 +1,12 @@
-use Rattle.std.proofs.Common.{◌≡◌, ◌<◌, ◌∙◌, ℕ, List, [], ◌++◌, length, take, inr, arith, append-nil, length-append, sym, ap, subst}
+use Rattle.std.proofs.Common.{◌≡◌, ◌<◌, ◌∙◌, ℕ, List, [], ◌++◌, length, take, inr, arith, append-nil, length-append, refl, sym, ap, subst}
 use Rattle.std.specs.Io.KnownBytes.{Consumes}
-use Rattle.std.proofs.KnownBytes.{Consumes-trans}
-use Rattle.std.proofs.lemmas.Grind.{common_steps}
+use Rattle.std.proofs.KnownBytes.{Consumes-nil, Consumes-trans}
 use Rattle.wire_lines.specs.declared.fault.RunFault.TheVariants.{Write}
 use Rattle.wire_lines.specs.Stream.{Fed}
 use Rattle.wire_lines.specs.Feeding.{at}
 use Rattle.wire_lines.specs.Run.{Ends}
-use Rattle.wire_lines.proofs.Feeding.{and_then, Fed-trans, Cut-after, Later-trans, Stops-cut, Stops-anywhere}
+use Rattle.wire_lines.proofs.Answering.{Later-trans}
+use Rattle.wire_lines.proofs.Feeding.{and_then, Fed-later, Fed-refl, Fed-trans, Cut-after, Cut-later, Finishes-later, Stops-cut, Stops-anywhere}
 use Rattle.wire_lines.proofs.Kept.{err_is}
 use Rattle.wire_lines.proofs.Reading.{known_rest, known_end, Fed-flushed, Cut-flushed, Cut-here, Cut-known, Stops-known, Fed-read, Stops-read, Ends-stopped, Ends-finished}
 use Rattle.server_world.specs.Server.{seen_as}
@@ -64,9 +64,22 @@ returns-then-count-eq0-clause-ends g c = λ input known.
     let all = subst (λ (b : List ℕ). Ends c.flush.new.self.most c.args.max_reads (and_then start b) end c.finish.result) whole ends in
     subst (λ (most : ℕ). Ends most c.args.max_reads (and_then start input) end c.finish.result) (flushed.most ∙ so_far.most) all
 
+pub returns-in_err-flush-clause-later : goal.returns-in_err-flush-clause-later
+returns-in_err-flush-clause-later g c = Fed-later _ _ c.reads.invariant.1.fed
+
+pub returns-in_default-clause-later : goal.returns-in_default-clause-later
+returns-in_default-clause-later g c = Fed-later _ _ c.reads.invariant.1.fed
+
+pub returns-then-count-eq0-clause-later : goal.returns-then-count-eq0-clause-later
+returns-then-count-eq0-clause-later g c =
+    Later-trans (seen_as c.args.server.now) (seen_as c.reads.server) (seen_as c.finish.new.server) (Fed-later _ _ c.reads.invariant.1.fed) (Finishes-later _ _ _ _ c.finish.ensures.done)
+
+pub returns-clause-later : goal.returns-clause-later
+returns-clause-later g c = Fed-later _ _ c.reads.invariant.1.fed
+
 pub returns-in_err-feed-clause-later : goal.returns-in_err-feed-clause-later
 returns-in_err-feed-clause-later g c =
-    Later-trans (seen_as c.args.server.now) (seen_as c.reads.server) (seen_as c.feed.new.server) c.reads.invariant.1.fed.later (Stops-cut _ _ _ _ [] (c.in_err-feed.ensures.fed [])).later
+    Later-trans (seen_as c.args.server.now) (seen_as c.reads.server) (seen_as c.feed.new.server) (Fed-later _ _ c.reads.invariant.1.fed) (Cut-later _ _ [] (Stops-cut _ _ _ _ [] (c.in_err-feed.ensures.fed [])))
 
 pub returns-in_err-feed-clause-ends : goal.returns-in_err-feed-clause-ends
 returns-in_err-feed-clause-ends g c = λ input known.
@@ -134,4 +147,16 @@ returns-clause-ends g c = λ input known.
     (Cut-known start end bytes rest input is (Cut-after (and_then start bytes) here end rest so_far.fed (Cut-here here [] rest)), inr (omega (arith, so_far.enough)))
 
 pub reads-init : goal.reads-init
-reads-init g c = grind (arith, common_steps)
+reads-init g c =
+    let old = c.args.self.now in
+    let here = λ (begun : List ℕ). at (g.W.Sink.held c.args.writer.now) old.lines (seen_as c.args.server.now) begun in (
+      [],
+      record {
+        consumed = Consumes-nil (g.R.Source.left c.args.reader.now);
+        enough = omega arith;
+        fed = subst (λ (begun : List ℕ). Fed (here begun) (here old.begun)) (sym (append-nil old.begun)) (Fed-refl (here old.begun));
+        most = refl;
+        read_fails = refl;
+        write_fails = refl;
+      },
+    )

@@ -1,0 +1,132 @@
+-- Lines that are answered one after another, and what that comes to where memory was found.
+use Rattle.std.proofs.Common.{◌≡◌, ℕ, List, [], ◌∷◌, ◌++◌, map, IsTrue, IsFalse, refl, sym, ap, ap₂, ◌∙◌, subst, ⊎_elim, append-nil, append_assoc}
+use Rattle.std.specs.Prelude.{Option, None, Some}
+use Rattle.std.specs.List.{cons_option, filter_map}
+use Rattle.std.proofs.lemmas.Bool.{both_ways, false_from_ne_true}
+use Rattle.isolation.specs.Pieces.{Given, Faulty}
+use Rattle.server_world.proofs.RunLemmas.{entry_is}
+use Rattle.server_world.specs.Server.{Server, states, was_refused, settings}
+use Rattle.wire_format.specs.Input.{Piece, lines_of, piece_of, pieces_of}
+use Rattle.wire_format.specs.Output.{output, world_of, text_of_piece, world_after_piece}
+use Rattle.wire_format.proofs.Outputs.{text_of_pieces, text_of_pieces-cons, text_of_pieces-nothing, world_after_pieces, world_after_pieces-cons, world_after_pieces-nothing, by_pieces, world_by_pieces}
+use Rattle.wire_lines.specs.Sending.{IsFront}
+use Rattle.wire_lines.specs.Steps.{AreAnswered, IsAnswered, IsUnread, entry_text, read_lines}
+use Rattle.wire_lines.specs.Stream.{Later}
+
+pub Later-trans : (a b c : Server) → Later a b → Later b c → Later a c
+Later-trans a b c first second = record { settings = second.settings ∙ first.settings; refused = λ refused. second.refused (first.refused refused) }
+
+Later-same : (a b : Server) → b ≡ a → Later a b
+Later-same a b same = record { settings = ap settings same; refused = λ refused. subst (λ server. IsTrue (was_refused server)) (sym same) refused }
+
+-- where memory was never refused at the end, it was not in between
+Later-found : (a b : Server) → Later a b → IsFalse (was_refused b) → IsFalse (was_refused a)
+Later-found a b later found = false_from_ne_true _ (λ refused. both_ways _ found (later.refused refused))
+
+unread_later : (a b : Server) (text : List ℕ) → IsUnread a text b → Later a b
+unread_later a b text unread = record { settings = unread.settings; refused = λ refused. unread.only.refused }
+
+-- a line that is answered keeps the settings, and that memory was refused
+answered_later : (a b : Server) (line : Option Piece) (text : List ℕ) → IsAnswered a line text b → Later a b
+answered_later a b None text answered = Later-same a b answered.0
+answered_later a b (Some (Given t)) text answered = ⊎_elim (λ done. record { settings = done.does.step.settings; refused = done.does.step.kept }) (unread_later a b text) answered
+answered_later a b (Some (Faulty fault)) text answered = ⊎_elim (λ said. Later-same a b said.stays) (unread_later a b text) answered
+
+-- and so do many
+pub AreAnswered-later : (a b : Server) (lines : List (Option Piece)) (text : List ℕ) → AreAnswered a lines text b → Later a b
+AreAnswered-later a b [] text answered = Later-same a b answered.0
+AreAnswered-later a b (line ∷ lines) text answered =
+    Later-trans a answered.0 b (answered_later a answered.0 line answered.1 answered.3) (AreAnswered-later answered.0 b lines answered.2 answered.4)
+
+-- one line, and some lines behind others
+pub AreAnswered-one : (a b : Server) (line : Option Piece) (text : List ℕ) → IsAnswered a line text b → AreAnswered a (line ∷ []) text b
+AreAnswered-one a b line text answered = (b, text, [], answered, (refl, refl), sym (append-nil text))
+
+pub AreAnswered-append : (a b c : Server) (lines more : List (Option Piece)) (text behind : List ℕ) → AreAnswered a lines text b → AreAnswered b more behind c → AreAnswered a (lines ++ more) (text ++ behind) c
+AreAnswered-append a b c [] more text behind first second =
+    subst (λ text. AreAnswered a more (text ++ behind) c) (sym first.1) (subst (λ server. AreAnswered server more behind c) first.0 second)
+AreAnswered-append a b c (line ∷ lines) more text behind first second = (
+  first.0,
+  first.1,
+  first.2 ++ behind,
+  first.3,
+  AreAnswered-append first.0 b c lines more first.2 behind first.4 second,
+  ap (λ l. l ++ behind) first.5 ∙ append_assoc first.1 first.2 behind,
+)
+
+-- where memory was found, a line is answered by the text of its piece, and the states are those after it
+found_text : (a b : Server) (line : Option Piece) (text : List ℕ) → IsAnswered a line text b → IsFalse (was_refused b) → (text ≡ text_of_piece (settings a) (states a) line) × (states b ≡ world_after_piece (settings a) (states a) line)
+unfolding text_of_piece world_after_piece
+found_text a b None text answered found = (answered.1, ap states answered.0)
+found_text a b (Some (Given t)) text answered found = ⊎_elim
+    (λ done. (done.says ∙ ap (entry_text t.session) (entry_is done.entry _ (done.does.step.lines found)), done.does.step.states found))
+    (λ unread. absurd (both_ways _ found unread.only.refused))
+    answered
+found_text a b (Some (Faulty fault)) text answered found = ⊎_elim
+    (λ said. (said.says, ap states said.stays))
+    (λ unread. absurd (both_ways _ found unread.only.refused))
+    answered
+
+-- the pieces of lines, without those that are none
+abbrev given : List (Option Piece) → List Piece
+given lines = filter_map (λ line. line) lines
+
+given-map : (lines : List (List ℕ)) → given (map piece_of lines) ≡ filter_map piece_of lines
+given-map [] = refl
+given-map (line ∷ lines) = ap (cons_option (piece_of line)) (given-map lines)
+
+pieces_of-given : (bytes : List ℕ) → pieces_of bytes ≡ given (read_lines bytes)
+unfolding pieces_of
+pieces_of-given bytes = sym (given-map (lines_of bytes))
+
+-- so what is said to lines is the text of their pieces, in front of that of further ones in the states after them
+texts_found : (a b : Server) (lines more : List (Option Piece)) (text : List ℕ) → AreAnswered a lines text b → IsFalse (was_refused b) →
+    text_of_pieces (settings a) (states a) (given (lines ++ more)) ≡ text ++ text_of_pieces (settings a) (states b) (given more)
+texts_found a b [] more text answered found =
+    ap₂ (λ front world. front ++ text_of_pieces (settings a) world (given more)) (sym answered.1) (ap states (sym answered.0))
+texts_found a b (line ∷ lines) more text answered found =
+    let between = answered.0 in
+    let first = found_text a between line answered.1 answered.3 (Later-found between b (AreAnswered-later between b lines answered.2 answered.4) found) in
+    let same = (answered_later a between line answered.1 answered.3).settings in
+    let rest = subst (λ s. text_of_pieces s (states between) (given (lines ++ more)) ≡ answered.2 ++ text_of_pieces s (states b) (given more)) same (texts_found between b lines more answered.2 answered.4 found) in
+    text_of_pieces-cons (settings a) (states a) line (given (lines ++ more))
+    ∙ ap₂ (λ front world. front ++ text_of_pieces (settings a) world (given (lines ++ more))) (sym first.0) (sym first.1)
+    ∙ ap (λ l. answered.1 ++ l) rest
+    ∙ sym (append_assoc answered.1 answered.2 (text_of_pieces (settings a) (states b) (given more)))
+    ∙ ap (λ l. l ++ text_of_pieces (settings a) (states b) (given more)) (sym answered.5)
+
+worlds_found : (a b : Server) (lines : List (Option Piece)) (text : List ℕ) → AreAnswered a lines text b → IsFalse (was_refused b) →
+    states b ≡ world_after_pieces (settings a) (states a) (given lines)
+worlds_found a b [] text answered found = ap states answered.0 ∙ sym (world_after_pieces-nothing (settings a) (states a))
+worlds_found a b (line ∷ lines) text answered found =
+    let between = answered.0 in
+    let first = found_text a between line answered.1 answered.3 (Later-found between b (AreAnswered-later between b lines answered.2 answered.4) found) in
+    let same = (answered_later a between line answered.1 answered.3).settings in
+    worlds_found between b lines answered.2 answered.4 found
+    ∙ ap₂ (λ s world. world_after_pieces s world (given lines)) same first.1
+    ∙ sym (world_after_pieces-cons (settings a) (states a) line (given lines))
+
+-- what is said to the first lines of an input is a front of its output,
+pub front_found : (a b : Server) (input : List ℕ) (lines behind : List (Option Piece)) (text : List ℕ) → read_lines input ≡ lines ++ behind → AreAnswered a lines text b → IsFalse (was_refused b) →
+    IsFront text (output (settings a) (states a) input)
+front_found a b input lines behind text is answered found = (
+  text_of_pieces (settings a) (states b) (given behind),
+  by_pieces (settings a) (states a) input
+      ∙ ap (text_of_pieces (settings a) (states a)) (pieces_of-given input ∙ ap given is)
+      ∙ texts_found a b lines behind text answered found,
+)
+
+-- and what is said to all of them is the output, and the states are those after it
+pub output_found : (a b : Server) (input text : List ℕ) → AreAnswered a (read_lines input) text b → IsFalse (was_refused b) → text ≡ output (settings a) (states a) input
+output_found a b input text answered found = sym (
+    by_pieces (settings a) (states a) input
+    ∙ ap (text_of_pieces (settings a) (states a)) (pieces_of-given input ∙ ap given (sym (append-nil (read_lines input))))
+    ∙ texts_found a b (read_lines input) [] text answered found
+    ∙ ap (λ l. text ++ l) (text_of_pieces-nothing (settings a) (states b))
+    ∙ append-nil text)
+
+pub world_found : (a b : Server) (input text : List ℕ) → AreAnswered a (read_lines input) text b → IsFalse (was_refused b) → states b ≡ world_of (settings a) (states a) input
+world_found a b input text answered found =
+    worlds_found a b (read_lines input) text answered found
+    ∙ ap (world_after_pieces (settings a) (states a)) (sym (pieces_of-given input))
+    ∙ sym (world_by_pieces (settings a) (states a) input)
