@@ -1,16 +1,17 @@
-"""What stands in `clients`: the client in Python with its page, the front, and `explain`."""
+"""What stands in `clients`: the client in Python with its page, the front, `explain`, `check` and `shell`."""
 
 import sys
+from pathlib import Path
 
 from tests.support.program import ROOT
 
 CLIENTS = ROOT / "clients"
 PYTHON = CLIENTS / "python"
-sys.path += [str(CLIENTS), str(PYTHON)]  # where `explaining`, `metad` and `front` are found
+sys.path += [str(CLIENTS), str(PYTHON)]  # where the modules of the tools, and `metad`, are found
 
 
 def load_tests(loader, tests, _pattern):
     """All tests of the package, also where it is named alone."""
-    for module in ("test_client", "test_front", "test_explain"):
+    for module in sorted(path.stem for path in Path(__file__).parent.glob("test_*.py")):
         tests.addTests(loader.loadTestsFromName(f"{__name__}.{module}"))
     return tests

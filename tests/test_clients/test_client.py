@@ -1,4 +1,4 @@
-"""The client in Python (clients/python/metad.py), and the page beside it.
+"""The client in Python (clients/python/metad), and the page beside it.
 
 What has to come is taken from docs/PROTOCOL.md: its examples are run by the methods of the client, and its tables
 say which commands and codes there are.
@@ -11,24 +11,42 @@ import os
 import re
 import signal
 import subprocess
-import sys
 import threading
+import time
 from pathlib import Path
 
 import metad
 
 from tests.support import protocol
-from tests.support.documents import BLOCK, examples_of
+from tests.support.documents import GUIDE, examples_of
 from tests.support.program import SECONDS, lay_out
 
 from . import PYTHON
-from .fronts import ClientCases, FrontCases
+from .fronts import ClientCases
+from .pages import check_page
 
 PIPELINED = 1_000
 LINE_MOST = 65_536
 TEXT_MOST = 4_096
+REFUSED = (
+    'get {"object":7,"property":"objectName"}: E04, no such object. '
+    "What to do: forget the number; it never means another object"
+)
 NO_OBJECT = ("E04", "no such object")
-PROGRAM_AND_PRINT = re.compile(rf"^```python\n{BLOCK}```\n+```text\n{BLOCK}```$", re.MULTILINE)
+MIRROR = """
+import json, sys
+for line in sys.stdin:
+    print(json.dumps({"reply": json.loads(line), "session": "a"}))
+"""  # a server whose replies are the commands
+STRANGE = """
+import sys
+input(), print('{"error":"E02","session":"-"}')
+input(), print(sys.argv[1])
+sys.stdin.read()
+"""  # a server that answers its first line, and writes what it was given at the next one
+ANSWERED = b'{"reply":1,"session":"a"}\n'
+ADVISED = re.compile(r"^\| `(E\d\d)` \| .* \| (.*) \|$", re.MULTILINE)
+LINK = re.compile(r"\[([^]]*)\]\([^)]*\)")
 
 
 def method_of(do):
@@ -40,6 +58,20 @@ def keys_of(command):
     """The keys of a command as the client is given them."""
     keys = {key: value for key, value in command.items() if key not in ("do", "session")}
     return {f"{key}_" if keyword.iskeyword(key) else key: value for key, value in keys.items()}
+
+
+class Unasked:
+    """What a server writes that answers a line before it was given."""
+
+    def __init__(self):
+        self.is_drained = threading.Event()
+
+    def __iter__(self):
+        return iter([ANSWERED])
+
+    def read(self, _count):
+        self.is_drained.set()
+        return b""
 
 
 class Talk:
@@ -142,20 +174,22 @@ class Client(ClientCases):
 
     def test_keys_given(self):
         """Each key of the protocol's table is a word of the method, and written; one that is not given is not."""
-        replies, written = io.BytesIO(b'{"reply":null,"session":"a"}\n' * 100), io.BytesIO()
-        session = metad.Server(replies, written).session("a")
-        for do, required, optional, _ in protocol.commands():
-            for keys in map(sorted, (required, required | optional)):
-                command = {key: [1, "one"] if key in ("args", "types") else f"the {key}" for key in keys}
-                written.seek(0)
-                written.truncate()
-                getattr(session, method_of(do))(**keys_of(command))
-                line = {**command, "do": do, "session": "a"}
-                self.assertEqual(json.loads(written.getvalue()), line, f"the line of {do} with {keys}")
+        with metad.start(sys.executable, "-uc", MIRROR) as server:
+            session = server.session("a")
+            for do, required, optional, _ in protocol.commands():
+                for keys in map(sorted, (required, required | optional)):
+                    command = {key: [1, "one"] if key in ("args", "types") else f"the {key}" for key in keys}
+                    written = getattr(session, method_of(do))(**keys_of(command))
+                    line = {**command, "do": do, "session": "a"}
+                    self.assertEqual(written, line, f"the line of {do} with {keys}")
 
     def test_codes(self):
-        """Each code has the meaning that the protocol gives it."""
+        """Each code has the meaning that the protocol gives it, and what the guide says is to be done about it."""
         self.assertEqual(metad.MEANINGS, protocol.codes(), "the codes")
+        self.assertEqual(sorted(metad.ADVICE), sorted(protocol.codes()), "the codes about which something can be done")
+        for code, advice in ADVISED.findall(GUIDE.read_text()):
+            if "see [below]" not in advice:
+                self.assertEqual(metad.ADVICE[code], LINK.sub(r"\1", advice), f"what to do about {code}")
 
     def test_refusals(self):
         """What a refusal tells; and lines that only the server can judge."""
@@ -163,7 +197,8 @@ class Client(ClientCases):
             session, strange = server.session("a"), server.session("a b")
             refused = self.raised("no object", metad.Refused, session.get, 7, "objectName")
             self.assertEqual((refused.code, refused.meaning), NO_OBJECT, "its code and meaning")
-            self.assertEqual((refused.do, str(refused)), ("get", "get: E04, no such object"), "its word and text")
+            self.assertEqual((refused.do, refused.keys), ("get", {"object": 7, "property": "objectName"}), "its word and keys")
+            self.assertEqual(str(refused), REFUSED, "its text")
             session.new("QObject")
             for what, call, code in (
                 ("a name that is none", strange.status, "E02"),
@@ -223,10 +258,9 @@ class Client(ClientCases):
                 self.assertEqual(session.known_as, session.name, "what it is known as")
             first = one.send("invoke", object=1, method="note()", args=[])
             second = other.send("invoke", object=1, method="late()", args=[])
-            self.assertEqual((first.done(), second.done()), (False, False), "what is read before anybody waits")
             self.assertEqual(heard, {"a": [], "b": []}, "what is told before anybody waits")
             self.assertIs(second.result(), True, "the later answer")
-            self.assertEqual((first.done(), second.done()), (True, True), "what is read until then")
+            self.assertEqual((first.done(), second.done()), (True, True), "what has come until then")
             self.assertEqual(heard["a"], [metad.Call(1, "note()", [], 0)], "what one was told")
             self.assertEqual(heard["b"], [metad.Call(1, "late()", [], 0)], "what the other was told")
             self.assertIs(first.result(), True, "the earlier answer")
@@ -242,6 +276,32 @@ class Client(ClientCases):
             self.assertEqual([it.result() for it in read], [text] * PIPELINED, "the names")
             self.assertEqual([it.result() for it in made], list(range(1, PIPELINED + 1)), "the numbers")
             self.assertEqual([it.result() for it in named], [True] * PIPELINED, "the writes")
+
+    def test_told_in_threads(self):
+        """Threads that wait at once: calls are told one at a time, each once, and before the method returns."""
+        heard, at_once, faults = [], [], []
+
+        def tell(call):
+            at_once.append(call)
+            time.sleep(0.0005)
+            heard.append(call.args[0])
+            faults.extend(["another call is told meanwhile"] * (len(at_once) > 1))
+            at_once.pop()
+
+        def live(session, numbers):
+            for number in numbers:
+                session.invoke(1, "seen(int)", [number])
+                faults.extend([f"{number} is not told before"] * (number not in heard))
+
+        with metad.start(self.program) as server:
+            session = server.session("a", on_call=tell)
+            session.new("Cell")
+            lives = [threading.Thread(target=live, args=(session, range(at, 200, 4))) for at in range(4)]
+            for life in lives:
+                life.start()
+            for life in lives:
+                life.join()
+        self.assertEqual((sorted(heard), faults), (list(range(200)), []), "what was told")
 
     def test_threads(self):
         """Sessions of several threads on one server."""
@@ -268,6 +328,8 @@ class Client(ClientCases):
             number = int(note.read_text())
             os.kill(number, signal.SIGSTOP)
             under_way = [session.send("status") for _ in range(3)]
+            self.assertEqual([it.done() for it in under_way], [False] * 3, "what has come while it is held up")
+            self.raised("an answer that does not come in time", metad.NotAnswered, under_way[0].result, timeout=0.05)
             os.kill(number, signal.SIGKILL)
             for pending in under_way:
                 gone = self.raised("a command under way", metad.ServerGone, pending.result)
@@ -276,11 +338,19 @@ class Client(ClientCases):
             self.assertEqual(self.raised("a later one", metad.ServerGone, session.status).status, -9, "a later command")
             self.assertEqual(server.close(), -9, "its status")
 
+    def test_killed_at_once(self):
+        """Commands that are given while a server ends, before and after that is known."""
+        note = Path(self.room, "pid")
+        with metad.start("sh", "-c", f'echo $$ > "{note}"; exec "{self.program}"') as server:
+            session = server.session("a")
+            os.kill(int(note.read_text()), signal.SIGKILL)
+            under_way = [session.send("status") for _ in range(PIPELINED)]
+            for pending in under_way:
+                gone = self.raised("a command", metad.ServerGone, pending.result)
+                self.assertEqual((type(gone), gone.status), (metad.ServerGone, -9), "how it ended")
+
     def test_ends(self):
         """A server that ends by itself, is closed, or cannot be started."""
-        with metad.start(self.program, "/dev/null") as server:
-            gone = self.raised("a class file that is refused", metad.ServerGone, server.session("a").status)
-            self.assertEqual((gone.status, gone.stderr), (1, "metad: class file refused: C01 at class 0\n"), "how it ended")
         server = metad.start(self.program)
         pending = server.session("a").send("new", class_="QObject")
         self.assertEqual((server.close(), server.close()), (0, 0), "the status at the end of the input")
@@ -297,25 +367,51 @@ class Client(ClientCases):
                 session = server.session("a")
                 self.assertEqual(session.new("QObject"), 1, "an object")
                 process.kill()
-                gone = self.raised("a server that has gone", metad.ServerGone, session.status)
+                gone = self.raised("a server that has gone", metad.ConnectionClosed, session.status)
                 self.assertEqual((gone.status, gone.stderr), (None, ""), "what is known of its end")
-        for line in ("nonsense", "[1]", "{}"):
-            with metad.start("sh", "-c", f"echo '{line}'; cat > /dev/null") as server:
-                strange = self.raised(f"the line {line}", metad.StrangeLine, server.session("a").status)
-                self.assertEqual(strange.line, f"{line}\n".encode(), "the strange line")
+
+    def test_streams_closed(self):
+        """What was given to streams before they were closed is answered, and nothing is given to them later."""
+        pipe = subprocess.PIPE
+        with subprocess.Popen([self.program], stdin=pipe, stdout=pipe) as process:
+            server = metad.Server(process.stdout, process.stdin)
+            session = server.session("a")
+            self.assertEqual(session.new("QObject"), 1, "an object")
+            process.send_signal(signal.SIGSTOP)
+            try:
+                under_way = session.send("new", class_="QObject")
+                self.assertIsNone(server.close(), "what is known of its end")
+                self.raised("a later command", metad.ConnectionClosed, session.status)
+                self.assertFalse(under_way.done(), "whether the earlier one was answered")
+            finally:
+                process.send_signal(signal.SIGCONT)
+            self.assertEqual(under_way.result(), 2, "the answer")
+
+    def test_strange_lines(self):
+        """Lines that no server writes end all commands under way, and those to come."""
+        call = '{"call":"note()","session":"a"}'
+        for line in ("nonsense", "[1]", "{}", "[" * 100_000, '{"reply":1,"session":7}', call):
+            with metad.start(sys.executable, "-uc", STRANGE, line) as server:
+                session = server.session("a")
+                under_way = [session.send("status") for _ in range(2)]
+                for pending in under_way:
+                    strange = self.raised(f"the line {line[:40]}", metad.StrangeLine, pending.result)
+                    self.assertEqual(strange.line, f"{line}\n".encode(), "the strange line")
+                self.raised("a later command", metad.StrangeLine, session.status)
+
+    def test_unasked(self):
+        """So does an answer to a line that nobody has given."""
+        reader = Unasked()
+        with metad.Server(reader, io.BytesIO()) as server:
+            self.assertTrue(reader.is_drained.wait(SECONDS), "whether it was read")
+            strange = self.raised("a command", metad.StrangeLine, server.session("a").status)
+            self.assertEqual(strange.line, ANSWERED, "the strange line")
 
 
-class Page(FrontCases):
-    """The page of the client and the front."""
+class Page(ClientCases):
+    """The page of the client."""
 
     def test_page(self):
-        """The programs of the page print what it says; a front listens where they expect it."""
-        examples = PROGRAM_AND_PRINT.findall((PYTHON / "README.md").read_text())
-        self.assertEqual(len(examples), 3, "programs of the page")
-        where = {**os.environ, "PYTHONPATH": str(PYTHON), "PYTHONDONTWRITEBYTECODE": "1"}
-        with self.front() as (path, _):
-            lay_out(self.room, {"bin/metad": self.program, "metad.sock": path})
-            for code, wanted in examples:
-                words = [sys.executable, "-W", "error", "-c", code]
-                ran = subprocess.run(words, cwd=self.room, env=where, capture_output=True, text=True, timeout=SECONDS)
-                self.assertEqual((ran.stdout, ran.stderr), (wanted, ""), f"what this prints:\n{code}")
+        """The programs of the page print what it says."""
+        lay_out(self.room, {"bin/metad": self.program})
+        self.assertEqual(check_page(self, PYTHON / "README.md"), 4, "programs of the page")

@@ -1,0 +1,89 @@
+"""A client of `metad`, the server of live objects with the meta-object system of Qt 6.
+
+    import metad
+
+    with metad.start("bin/metad") as server:
+        session = server.session("a", on_call=print)
+        sender, receiver = session.new("Probe"), session.new("Probe")
+        session.connect(sender, "ping()", receiver, "note()")
+        session.invoke(sender, "ping()")
+
+`start` starts a server, `connect` reaches one through a front's socket, and `Server` takes two streams. A method of
+a `Session` is a command of the protocol: it returns the value of the reply, or raises `Refused` with the code. What
+the commands mean, and every code and limit, stands in docs/PROTOCOL.md. Nothing is checked here that the server
+checks: a name that is none, a number out of range and a line that is too long are refused by the server.
+
+Calls of slots and functors, and warnings, are told to the callbacks of their session before the call of the command
+returns. Commands can be sent without waiting: `Session.send` returns a `Pending`, and its `result` waits. Replies come
+in the order of the commands, over the whole server.
+
+`Session.create` makes an object whose properties, signals and slots are reached by their names, see `proxies`. The
+same sessions for asyncio are in `metad.aio`.
+
+Needs Python 3.8 or later, and nothing but its standard library.
+"""
+
+from .client import Pending, Server, Session, connect, start
+from .codes import ADVICE, BINDING_ERRORS, MEANINGS, advice_on, meaning_of
+from .connection import Word
+from .errors import (
+    Ambiguous,
+    ClassFileRefused,
+    ConnectionClosed,
+    MetadError,
+    NoRelay,
+    NotAnswered,
+    NotStarted,
+    OtherSession,
+    Refused,
+    ServerGone,
+    StrangeLine,
+)
+from .hearing import Listener, OnCall, OnWarning
+from .lines import NOBODY, Call, Meta, Spun, Status, Value, Warned
+from .proxies import Connected, Heard, Method, Property, Proxy, SignalSpy, wait_for, with_relay
+
+__version__ = "0.8.0"
+
+__all__ = [
+    "ADVICE",
+    "Ambiguous",
+    "BINDING_ERRORS",
+    "Call",
+    "ClassFileRefused",
+    "Connected",
+    "ConnectionClosed",
+    "Heard",
+    "Listener",
+    "MEANINGS",
+    "Meta",
+    "MetadError",
+    "Method",
+    "NOBODY",
+    "NoRelay",
+    "NotAnswered",
+    "NotStarted",
+    "OnCall",
+    "OnWarning",
+    "OtherSession",
+    "Pending",
+    "Property",
+    "Proxy",
+    "Refused",
+    "Server",
+    "ServerGone",
+    "Session",
+    "SignalSpy",
+    "Spun",
+    "Status",
+    "StrangeLine",
+    "Value",
+    "Warned",
+    "Word",
+    "advice_on",
+    "connect",
+    "meaning_of",
+    "start",
+    "wait_for",
+    "with_relay",
+]

@@ -1,0 +1,236 @@
+"""The sessions of `metad` for asyncio: the same names as in `metad`, and what waits there is awaited here.
+
+    import asyncio
+    from metad import aio
+
+    async def main():
+        async with await aio.start("bin/metad") as server:
+            session = server.session("a", on_call=print)
+            probe = await session.new("Probe")
+            await session.invoke(probe, "note()")
+
+    asyncio.run(main())
+
+Callbacks are plain functions. They are called in the thread of the event loop, by the task that waits for an answer,
+before it gets that; they may `send` commands and make tasks, and cannot wait for answers. A task that is cancelled
+while it waits leaves its command under way. There are no proxies here, as an attribute cannot be awaited when it is
+set.
+"""
+
+from __future__ import annotations
+
+import asyncio
+from contextlib import suppress
+from tempfile import TemporaryDirectory
+from types import TracebackType
+from typing import TYPE_CHECKING, Any, Callable, Coroutine, Dict, Generator, Optional, Type, TypeVar, cast
+
+from . import commands
+from .client import reply_of
+from .commands import Asked, make_method
+from .connection import Answer, Connection, Once, ProgramConnection, SocketConnection, Word
+from .errors import NotAnswered, Refused
+from .hearing import Hearing, OnCall, OnWarning
+from .holding import START_SECONDS, Holder, class_words
+from .lines import Value, command_line
+
+if TYPE_CHECKING:
+    from typing_extensions import Concatenate, ParamSpec
+
+    Given = ParamSpec("Given")
+
+Replied = TypeVar("Replied")
+
+
+class Pending:
+    """The answer to a command that was sent. It is made by `Session.send`, and can be awaited itself."""
+
+    def __init__(self, session: Session, asked: Asked[Any], answer: Answer) -> None:
+        self._session = session
+        self._asked = asked
+        self._answer = answer
+
+    def done(self) -> bool:
+        """Whether the answer has come, or will not come any more. It does not wait, and tells nothing."""
+        return self._answer.has_come()
+
+    async def result(self) -> Value:
+        """Waits for the answer; returns the value of the reply, or raises `Refused`.
+
+        All that came before the answer is told to callbacks first. It can be asked for again, after a wait that was
+        cancelled too, and says the same however often it is asked.
+        """
+        await _came(self._answer)
+        return reply_of(self._asked, self._session.server.connection.settled(self._answer))
+
+    def __await__(self) -> Generator[Any, None, Value]:
+        return self.result().__await__()
+
+
+def awaiting(
+    build: Callable[Given, Asked[Replied]]
+) -> Callable[Concatenate[Session, Given], Coroutine[Any, Any, Replied]]:
+    """The method that gives a command and awaits the reply."""
+
+    async def method(self: Session, *args: Given.args, **keys: Given.kwargs) -> Replied:
+        return await self.ask(build(*args, **keys))
+
+    make_method(method, build)
+    return method
+
+
+class Session(Hearing):
+    """A session of a server, by its name. It is made by `Server.session`.
+
+    All is as it is of `metad.Session`, but that each method is awaited.
+    """
+
+    def __init__(self, server: Server, name: str) -> None:
+        super().__init__(name)
+        self.server = server
+        """The server that it is of."""
+        self.auto_spin = False
+        """Whether each command is followed by a `spin`; may be set at any time."""
+
+    def send(self, do: str, **keys: Value) -> Pending:
+        """Sends a command by its word and its keys, and does not wait for the answer."""
+        return self._give(Asked(do, **keys))
+
+    async def command(self, do: str, **keys: Value) -> Value:
+        """Sends a command as `send` does, and waits: for commands that have no method here."""
+        return await self.ask(Asked(do, **keys))
+
+    async def ask(self, asked: Asked[Replied]) -> Replied:
+        """Gives a command that was built by `metad.commands`, and waits for the reply."""
+        pending = self._give(asked)
+        if self.auto_spin and asked.do != "spin":
+            with suppress(Refused):  # the session has failed, which the command itself is told
+                await self._give(commands.spin())
+        return cast(Replied, await pending)
+
+    new = awaiting(commands.new)
+    delete = awaiting(commands.delete)
+    delete_later = awaiting(commands.delete_later)
+    set_parent = awaiting(commands.set_parent)
+    children = awaiting(commands.children)
+    find = awaiting(commands.find)
+    set = awaiting(commands.set)
+    get = awaiting(commands.get)
+    dynamic_names = awaiting(commands.dynamic_names)
+    bind = awaiting(commands.bind)
+    unbind = awaiting(commands.unbind)
+    binding_error = awaiting(commands.binding_error)
+    begin = awaiting(commands.begin)
+    end = awaiting(commands.end)
+    connect = awaiting(commands.connect)
+    connect_functor = awaiting(commands.connect_functor)
+    disconnect = awaiting(commands.disconnect)
+    invoke = awaiting(commands.invoke)
+    block = awaiting(commands.block)
+    publish = awaiting(commands.publish)
+    unpublish = awaiting(commands.unpublish)
+    join = awaiting(commands.join)
+    leave = awaiting(commands.leave)
+    spin = awaiting(commands.spin)
+    status = awaiting(commands.status)
+    meta = awaiting(commands.meta)
+    _reset = awaiting(commands.reset)
+
+    async def reset(self) -> bool:
+        """Puts the session back to how it is before its first command; nobody listens to single slots any more."""
+        done = await self._reset()
+        self._forget_listeners()
+        return done
+
+    def _give(self, asked: Asked[Any]) -> Pending:
+        line = command_line(self.name, asked.do, asked.keys)
+        answer = Answer(self)
+        pending = Pending(self, asked, answer)
+        self.server.connection.give(answer, line)
+        return pending
+
+
+class Server(Holder):
+    """A server, which belongs to one event loop. It is made by `start` and `connect`.
+
+    As an asynchronous context manager, a server is closed at the end. One that is not closed warns of that by a
+    `ResourceWarning` when nobody holds it any more, and its input is ended then.
+    """
+
+    def __init__(self, connection: Connection) -> None:
+        self._sessions: Dict[str, Session] = {}
+        self._hold(connection)
+
+    async def __aenter__(self) -> Server:
+        return self
+
+    async def __aexit__(
+        self, kind: Optional[Type[BaseException]], error: Optional[BaseException], trace: Optional[TracebackType]
+    ) -> None:
+        await self.close()
+
+    def session(
+        self, name: str, on_call: Optional[OnCall] = None, on_warning: Optional[OnWarning] = None
+    ) -> Session:
+        """The session of this name: the same object however often it is asked for.
+
+        A callback that is given takes the place of the one before.
+        """
+        session = self._sessions.setdefault(name, Session(self, name))
+        session.on_call = session.on_call if on_call is None else on_call
+        session.on_warning = session.on_warning if on_warning is None else on_warning
+        return session
+
+    async def close(self) -> Optional[int]:
+        """Ends the server's input behind all that was given, and waits for its end where that can be seen; returns its
+        exit status where it was started here. Closing again does nothing more."""
+        self._hang_up()
+        await _came(self.connection.closed())
+        return self.connection.status()
+
+
+async def start(
+    program: Word, *words: Word, classes: Optional[Dict[str, Value]] = None, timeout: Optional[float] = START_SECONDS
+) -> Server:
+    """Starts a server, as `metad.start` does."""
+    with TemporaryDirectory(prefix="metad-") as folder:
+        connection = ProgramConnection([program, *words, *class_words(classes, folder)])
+        try:
+            connection.open()
+            answer = connection.ask_first()
+            await asyncio.wait_for(_came(answer), timeout)
+            connection.started(answer)
+        except asyncio.TimeoutError:
+            connection.kill()
+            raise NotAnswered(f"the server has not answered its first line in {timeout} seconds") from None
+        except BaseException:
+            connection.kill()
+            raise
+    return Server(connection)
+
+
+async def connect(path: Word) -> Server:
+    """Connects with the Unix-domain socket of a front, as `metad.connect` does."""
+    connection = SocketConnection(path)
+    connection.open()
+    return Server(connection)
+
+
+async def _came(once: Once) -> None:
+    """Waits for what comes once. A wait that is cancelled disturbs nobody."""
+    loop = asyncio.get_running_loop()
+    future: asyncio.Future[None] = loop.create_future()
+
+    def wake() -> None:
+        if not future.done():
+            future.set_result(None)
+
+    def bell() -> None:
+        with suppress(RuntimeError):  # the loop was closed, and nobody waits any more
+            loop.call_soon_threadsafe(wake)
+
+    once.ring(bell)
+    try:
+        await future
+    finally:
+        once.silence(bell)

@@ -1,0 +1,300 @@
+"""Sessions that wait for the replies to their commands, and the servers that they are of."""
+
+from __future__ import annotations
+
+import threading
+from tempfile import TemporaryDirectory
+from types import TracebackType
+from typing import IO, TYPE_CHECKING, Any, Callable, Dict, Optional, Sequence, Set, Type, TypeVar, cast
+
+from . import commands
+from .commands import Asked, make_method
+from .connection import Answer, Connection, ProgramConnection, SocketConnection, Word
+from .errors import NotAnswered, OtherSession, Refused
+from .hearing import Hearing, OnCall, OnWarning
+from .holding import START_SECONDS, Holder, class_words
+from .lines import Value, command_line, named
+from .proxies import Heard, Proxy, Shape, hear_post
+
+if TYPE_CHECKING:
+    from typing_extensions import Concatenate, ParamSpec
+
+    Given = ParamSpec("Given")
+
+Replied = TypeVar("Replied")
+
+
+class Pending:
+    """The answer to a command that was sent. It is made by `Session.send`."""
+
+    def __init__(self, session: Session, asked: Asked[Any], answer: Answer) -> None:
+        self._session = session
+        self._asked = asked
+        self._answer = answer
+
+    def done(self) -> bool:
+        """Whether the answer has come, or will not come any more. It does not wait, and tells nothing."""
+        return self._answer.has_come()
+
+    def result(self, timeout: Optional[float] = None) -> Value:
+        """Waits for the answer; returns the value of the reply, or raises `Refused`.
+
+        All that came before the answer is told to callbacks first. Where the answer does not come in so many seconds,
+        it raises `NotAnswered`. After that, after an interrupt and after the exception of a callback the answer can be
+        asked for again, and it says the same however often it is asked.
+        """
+        connection = self._session.server.connection
+        line = connection.settle(self._answer, timeout, self._asked.do)
+        return reply_of(self._asked, line)
+
+
+def reply_of(asked: Asked[Any], line: Dict[str, Value]) -> Value:
+    """The value of a reply; `Refused` where the line is an error."""
+    if "error" in line:
+        raise Refused(asked.do, line["error"], named(asked.keys))
+    return line["reply"]
+
+
+def waiting(build: Callable[Given, Asked[Replied]]) -> Callable[Concatenate[Session, Given], Replied]:
+    """The method that gives a command and waits for the reply."""
+
+    def method(self: Session, *args: Given.args, **keys: Given.kwargs) -> Replied:
+        return self.ask(build(*args, **keys))
+
+    make_method(method, build)
+    return method
+
+
+class Session(Hearing):
+    """A session of a server, by its name. It is made by `Server.session`.
+
+    Objects and connections are numbers, as in the protocol. The arguments of the methods are the keys of the
+    commands; where a key need not be there, None leaves it out. A method raises `Refused` where the command is
+    refused, and `ServerGone` where the server has ended before it answered.
+
+    `on_call` and `on_warning` are called with a `Call` and a `Warned`, those that `on` was given with a `Call`, in the
+    order in which the server has told. They are called by the thread that waits for an answer, before it gets that: so
+    what comes while nobody waits is told at the next wait. They may give commands themselves, and what comes before
+    the answers to these is told within. What one raises comes out of the call or `result` that was waiting; nothing
+    else is lost by that.
+
+    Whose a call or a warning is: that of the session that gave the command whose answer comes next. So it was told to
+    the one that asked, whatever name a front has given to it. Behind a front all names of a connection are one session
+    of the server: take one `Session` of it.
+
+    With `auto_spin` each command that waits, but for `spin`, is followed by one, which the server is given at once
+    behind it; the method returns when both are answered. So what the command has posted, and what other sessions have
+    posted by then, is called before it returns. Commands of callbacks are followed by a spin when the callback has
+    returned. It costs a line and no further wait. What other sessions post later waits for the next command, as the
+    server tells nothing unasked. `send` spins nothing.
+    """
+
+    def __init__(self, server: Server, name: str) -> None:
+        super().__init__(name)
+        self.server = server
+        """The server that it is of."""
+        self.auto_spin = False
+        """Whether each command is followed by a `spin`; may be set at any time."""
+        self._spinning: Set[int] = set()  # the threads in which it spins by itself
+        self._is_due = False
+
+    def send(self, do: str, **keys: Value) -> Pending:
+        """Sends a command by its word and its keys, and does not wait for the answer.
+
+        A key that is a word of Python has an underscore behind it, as in `send("new", class_="Probe")`. None is
+        JSON's null. A proxy stands for the number of its object. The server may be far behind: what was not written
+        yet, and what is not asked for yet, is kept in memory.
+        """
+        return self._give(Asked(do, **keys))
+
+    def command(self, do: str, **keys: Value) -> Value:
+        """Sends a command as `send` does, and waits: for commands that have no method here."""
+        return self.ask(Asked(do, **keys))
+
+    def ask(self, asked: Asked[Replied]) -> Replied:
+        """Gives a command that was built by `metad.commands`, and waits for the reply."""
+        pending = self._give(asked)
+        if self.auto_spin and asked.do != "spin":
+            self._spin_on()
+        return cast(Replied, pending.result())
+
+    new = waiting(commands.new)
+    delete = waiting(commands.delete)
+    delete_later = waiting(commands.delete_later)
+    set_parent = waiting(commands.set_parent)
+    children = waiting(commands.children)
+    find = waiting(commands.find)
+    set = waiting(commands.set)
+    get = waiting(commands.get)
+    dynamic_names = waiting(commands.dynamic_names)
+    bind = waiting(commands.bind)
+    unbind = waiting(commands.unbind)
+    binding_error = waiting(commands.binding_error)
+    begin = waiting(commands.begin)
+    end = waiting(commands.end)
+    connect = waiting(commands.connect)
+    connect_functor = waiting(commands.connect_functor)
+    disconnect = waiting(commands.disconnect)
+    invoke = waiting(commands.invoke)
+    block = waiting(commands.block)
+    publish = waiting(commands.publish)
+    unpublish = waiting(commands.unpublish)
+    join = waiting(commands.join)
+    leave = waiting(commands.leave)
+    spin = waiting(commands.spin)
+    status = waiting(commands.status)
+    meta = waiting(commands.meta)
+    _reset = waiting(commands.reset)
+
+    def reset(self) -> bool:
+        """Puts the session back to how it is before its first command; nobody listens to single slots any more."""
+        done = self._reset()
+        self._forget_listeners()
+        return done
+
+    def create(self, class_: str, parent: Optional[Proxy] = None) -> Proxy:
+        """Makes an object as `new` does, and returns it with the properties and methods of its class."""
+        if parent is not None and parent.session is not self:
+            raise OtherSession(f"{parent!r} is of another session")
+        shape = self.shape(class_)
+        return Proxy(self, self.new(class_, None if parent is None else parent.number), shape)
+
+    def proxy(self, object: int, class_: str) -> Proxy:
+        """An object that is there, with the properties and methods of its class, which the server does not tell."""
+        return Proxy(self, object, self.shape(class_))
+
+    def shape(self, class_: str) -> Shape:
+        """What there is in a class. The server is asked for it once."""
+        shapes = self.server.shapes
+        if class_ not in shapes:
+            shapes[class_] = Shape(self.meta(class_))
+        return shapes[class_]
+
+    def listen(self, from_: str, name: str, types: Sequence[str], told: Callable[..., object]) -> Heard:
+        """Has a function called with what another session publishes under a name, with these types, when this one
+        spins. It needs a relay, see `with_relay`."""
+        return hear_post(self, from_, name, types, told)
+
+    def _give(self, asked: Asked[Any]) -> Pending:
+        line = command_line(self.name, asked.do, asked.keys)
+        answer = Answer(self)
+        pending = Pending(self, asked, answer)
+        self.server.connection.give(answer, line)
+        return pending
+
+    def _spin_on(self) -> None:
+        """Spins, and again for the commands that callbacks give meanwhile; within a callback, when that has ended."""
+        self._is_due, thread = True, threading.get_ident()
+        if thread in self._spinning:
+            return
+        self._spinning.add(thread)
+        try:
+            while self._is_due:
+                self._is_due = False
+                self._settle(self._give(commands.spin()))
+        finally:
+            self._spinning.discard(thread)
+
+    def _settle(self, pending: Pending) -> None:
+        """Waits for an answer, whatever it is."""
+        try:
+            pending.result()
+        except Refused:
+            pass  # the session has failed, which the command itself is told
+
+
+class Server(Holder):
+    """A server, reached by a stream of its output and a stream to its input.
+
+    It may be used from several threads, which wait side by side. Callbacks are told one at a time over all threads: one
+    that is told may give commands, and must not wait for another thread that waits for an answer.
+
+    A thread of its own writes what is given, and another reads what the server writes: so commands never wait for
+    answers that nobody has asked for yet, and an interrupt, which stops a wait, takes no answer from anybody.
+
+    As a context manager, a server is closed at the end. One that is not closed warns of that by a `ResourceWarning`
+    when nobody holds it any more, and its input is ended then.
+    """
+
+    def __init__(self, reader: IO[bytes], writer: IO[bytes]) -> None:
+        connection = Connection(reader, writer)
+        connection.open()
+        self._begin(connection)
+
+    @classmethod
+    def of(cls, connection: Connection) -> Server:
+        """The server behind a connection that is open."""
+        server = cls.__new__(cls)
+        server._begin(connection)
+        return server
+
+    def _begin(self, connection: Connection) -> None:
+        self._sessions: Dict[str, Session] = {}
+        self._hold(connection)
+
+    def __enter__(self) -> Server:
+        return self
+
+    def __exit__(
+        self, kind: Optional[Type[BaseException]], error: Optional[BaseException], trace: Optional[TracebackType]
+    ) -> None:
+        self.close()
+
+    def session(
+        self, name: str, on_call: Optional[OnCall] = None, on_warning: Optional[OnWarning] = None
+    ) -> Session:
+        """The session of this name: the same object however often it is asked for.
+
+        A callback that is given takes the place of the one before.
+        """
+        session = self._sessions.setdefault(name, Session(self, name))
+        session.on_call = session.on_call if on_call is None else on_call
+        session.on_warning = session.on_warning if on_warning is None else on_warning
+        return session
+
+    def close(self, timeout: Optional[float] = None) -> Optional[int]:
+        """Ends the server's input behind all that was given, and waits for its end where that can be seen; returns its
+        exit status where it was started here.
+
+        Answers that have come by then can still be asked for. Closing again does nothing more. Where the end does not
+        come in so many seconds, it raises `NotAnswered`.
+        """
+        self._hang_up()
+        if not self.connection.closed().wait(timeout):
+            raise NotAnswered(f"no end in {timeout} seconds")
+        return self.connection.status()
+
+
+def start(
+    program: Word, *words: Word, classes: Optional[Dict[str, Value]] = None, timeout: Optional[float] = START_SECONDS
+) -> Server:
+    """Starts a server: a program with the words of its command line. `OSError` where it cannot be started.
+
+    `classes` is what a class file holds; one is written for the start then, as the last word. The server is given a
+    line that is no command and enters no session. When it has answered that by `E02`, it is there: where it ends
+    before, this raises `ClassFileRefused` or `NotStarted`, and where it does nothing in so many seconds, it is killed,
+    and this raises `NotAnswered`.
+    """
+    with TemporaryDirectory(prefix="metad-") as folder:
+        connection = ProgramConnection([program, *words, *class_words(classes, folder)])
+        try:
+            connection.open()
+            answer = connection.ask_first()
+            if not answer.wait(timeout):
+                raise NotAnswered(f"the server has not answered its first line in {timeout} seconds")
+            connection.started(answer)
+        except BaseException:
+            connection.kill()
+            raise
+    return Server.of(connection)
+
+
+def connect(path: Word) -> Server:
+    """Connects with the Unix-domain socket of a front. `OSError` where nobody listens there.
+
+    A front gives each connection one session, whatever names are asked for: take one `Session` of it. Its `known_as` is
+    the name by which other clients join it.
+    """
+    connection = SocketConnection(path)
+    connection.open()
+    return Server.of(connection)

@@ -1,0 +1,82 @@
+"""The codes of refusals and warnings: what they mean, and what to do about them."""
+
+from __future__ import annotations
+
+MEANINGS = {
+    "E01": "the line is no JSON, no UTF-8 or too long",
+    "E02": "the line is no command",
+    "E03": "no such class",
+    "E04": "no such object",
+    "E05": "no such method",
+    "E06": "no signature or type",
+    "E07": "signal and method do not fit",
+    "E08": "connected already",
+    "E09": "unique with a functor",
+    "E10": "no such functor",
+    "E11": "no such property",
+    "E12": "a cycle of parents",
+    "E13": "the object is dying",
+    "E14": "a limit",
+    "E15": "the name is taken",
+    "E16": "the own session",
+    "E17": "no group",
+    "E18": "not bindable",
+    "E19": "numbers used up",
+    "E20": "the session has failed",
+    "E21": "want of memory",
+    "E22": "the value, its kind or its form",
+    "E23": "the turns are used up",
+}
+"""What the codes of refusals and warnings mean."""
+
+ADVICE = {
+    "E01": (
+        "mend what writes the line. The answer is for the session `-`: only its place among the answers tells"
+        " which line it was"
+    ),
+    "E02": "compare it with the row of its command in PROTOCOL.md; a key too many is a fault too",
+    "E03": "see that the server runs with the class file that is meant; `meta` tells of a class",
+    "E04": "forget the number; it never means another object",
+    "E05": "look it up with `meta`",
+    "E06": "write it as `meta` does: a name and types in brackets",
+    "E07": "connect to a slot that takes fewer arguments, or the same types",
+    "E08": "nothing, as a rule: what was wanted is there",
+    "E09": "leave `unique` out, and keep the number of the connection that was made",
+    "E10": "look at the table of functors",
+    "E11": "see with `meta` what the class declares; mend the class file",
+    "E12": "move the parent out first",
+    "E13": "in slots that hear `destroyed()`, do not tie the sender to anything new",
+    "E14": (
+        "make room: delete, disconnect, `unbind`, `end`, `unpublish`, `leave`, `spin`; shorten the text or "
+        "the expression. For the warning look for a ring of signals"
+    ),
+    "E15": "`unpublish` that first, or take another name",
+    "E16": "connect the signal within the session",
+    "E17": "match each `end` with a `begin`; their replies say how many are open",
+    "E18": 'say `"bindable":true` in the class file',
+    "E19": "`reset`, or go on in a new session",
+    "E20": "`reset` the session, and make its objects anew; other sessions go on",
+    "E21": (
+        "`reset` the session where it has failed, as a `status` tells, and make its objects anew; for the "
+        "session `-` send the line again"
+    ),
+    "E22": "give a value of the type; numbers in quotes are texts. A binding has no `arg`, and its `of` is a number",
+    "E23": "look for a slot that calls itself; `spin` once more; else start with more `--turns`",
+}
+"""What to do about each code, as the guide has it."""
+
+BINDING_ERRORS = {
+    "BindingLoop": "the value of the property depends on itself",
+    "EvaluationError": "the binding of the property has no value",
+}
+"""What the errors of properties mean, of which warnings tell."""
+
+
+def meaning_of(code: str) -> str:
+    """What a code, or an error of a property, means; one that is not known here has the meaning `unknown`."""
+    return {**MEANINGS, **BINDING_ERRORS}.get(code, "unknown")
+
+
+def advice_on(code: str) -> str:
+    """What to do about a code; empty where nothing is known."""
+    return ADVICE.get(code, "")

@@ -1,0 +1,116 @@
+"""What goes wrong between a client and a server."""
+
+from __future__ import annotations
+
+import json
+from typing import Any, Dict, Optional
+
+from .codes import advice_on, meaning_of
+
+SHOWN_MOST = 200  # characters of a command's keys, or bytes of a line, that a text shows
+
+
+class MetadError(Exception):
+    """What goes wrong between a client and a server."""
+
+
+class Refused(MetadError):
+    """A command was refused, and has changed nothing (but for `E21`, see the protocol)."""
+
+    def __init__(self, do: str, code: str, keys: Optional[Dict[str, Any]] = None) -> None:
+        super().__init__(do, code, keys)
+        self.do = do
+        """The word of the command."""
+        self.code = code
+        """The code of the refusal, as `E04`."""
+        self.keys = {} if keys is None else keys
+        """The keys of the command, beside `do` and `session`."""
+        self.meaning = meaning_of(code)
+        """What the code means."""
+        self.advice = advice_on(code)
+        """What to do about it, as the guide has it."""
+
+    def __str__(self) -> str:
+        said = f"{self.do} {_shown(self.keys)}: {self.code}, {self.meaning}"
+        return f"{said}. What to do: {self.advice}" if self.advice else said
+
+
+class NotAnswered(MetadError, TimeoutError):
+    """What was waited for did not come in time. A command is still under way then, and its answer can be had later."""
+
+
+class ServerGone(MetadError):
+    """The server has ended, or cannot be reached any more. Commands that were under way end with it."""
+
+    def __init__(self, status: Optional[int], stderr: str) -> None:
+        super().__init__(status, stderr)
+        self.status = status
+        """Its exit status, or the negative number of the signal that ended it; None where it was not started here."""
+        self.stderr = stderr
+        """What it wrote on standard error; empty where it was not started here."""
+
+    def __str__(self) -> str:
+        said = self.stderr.strip()
+        return f"{self._ended()}: {said}" if said else self._ended()
+
+    def _ended(self) -> str:
+        """How the server has ended, in words."""
+        if self.status is None:
+            return "the server has gone"
+        if self.status < 0:
+            return f"the server was ended by signal {-self.status}"
+        return f"the server has ended with status {self.status}"
+
+
+class ConnectionClosed(ServerGone):
+    """The connection was closed, by this side or the other one. What became of the server is not known.
+
+    A new connection through a front is a new session; to make one is up to the caller.
+    """
+
+    def __init__(self, status: Optional[int] = None, stderr: str = "") -> None:
+        super().__init__(status, stderr)
+
+    def _ended(self) -> str:
+        return "the connection was closed"
+
+
+class NotStarted(ServerGone):
+    """The server has ended before it answered anything: the words of its command line mean nothing, for one."""
+
+
+class ClassFileRefused(NotStarted):
+    """The server has refused its class file; `stderr` has the first fault."""
+
+
+class StrangeLine(MetadError):
+    """A line came that no server of this protocol writes. Nothing can be told from what comes behind it.
+
+    Commands that are under way, and later ones, end with it, and the server's input is ended.
+    """
+
+    def __init__(self, line: bytes) -> None:
+        super().__init__(line)
+        self.line = line
+        """The line as it came."""
+
+    def __str__(self) -> str:
+        return f"no line of the protocol: {self.line[:SHOWN_MOST]!r}"
+
+
+class Ambiguous(MetadError, TypeError):
+    """A class has no method that these arguments or parameters fit, or more than one."""
+
+
+class OtherSession(MetadError, ValueError):
+    """Objects of two sessions were to be tied to each other, of which each has numbers of its own."""
+
+
+class NoRelay(MetadError):
+    """A function cannot be called for a signal: the server has no slot that would tell of it, see `with_relay`."""
+
+
+def _shown(keys: Dict[str, Any]) -> str:
+    """The keys of a command, as JSON that is cut where it is long."""
+    text = json.dumps(keys, ensure_ascii=False, separators=(",", ":"), default=repr)
+    return text if len(text) <= SHOWN_MOST else text[:SHOWN_MOST] + ".."

@@ -1,0 +1,76 @@
+"""What a session hears: calls of slots and functors, and warnings; and who is told of them."""
+
+from __future__ import annotations
+
+from operator import index
+from typing import Callable, Dict, List, Optional, Sequence, Tuple
+
+from .lines import Call, Told, Warned
+
+OnCall = Callable[[Call], object]
+"""Is told of calls."""
+
+OnWarning = Callable[[Warned], object]
+"""Is told of warnings."""
+
+Listening = Callable[..., object]
+"""Is told of calls, or of warnings."""
+
+
+class Listener:
+    """A function that is told of the calls of one slot of one object. It is made by `on` of a session."""
+
+    def __init__(self, listeners: Listeners, object: int, method: str, told: OnCall) -> None:
+        self._listeners = listeners
+        self._of = (object, method)
+        self.told = told
+
+    def stop(self) -> None:
+        """It is told no more. Stopping again does nothing."""
+        left = [it for it in self._listeners.get(self._of, []) if it is not self]
+        if left:
+            self._listeners[self._of] = left
+        else:
+            self._listeners.pop(self._of, None)
+
+
+Listeners = Dict[Tuple[int, str], List[Listener]]
+"""Those that listen, by the slot that they listen to."""
+
+
+class Hearing:
+    """A session by its name, as far as it is told of something."""
+
+    def __init__(self, name: str) -> None:
+        self.name = name
+        """The name that the commands of this session are given by."""
+        self.known_as: Optional[str] = None
+        """The name that its lines have, and by which others join it: behind a front the one that the front gave. None
+        before its first answer."""
+        self.on_call: Optional[OnCall] = None
+        """Told of the calls of the session's slots and functors; may be set at any time."""
+        self.on_warning: Optional[OnWarning] = None
+        """Told of the session's warnings; may be set at any time."""
+        self._listeners: Listeners = {}
+
+    def on(self, object: int, method: str, told: OnCall) -> Listener:
+        """Has a function told of the calls of a slot of an object, or of a functor for it, until that is stopped.
+
+        The method is given as `meta` writes it, in its normal text. The function is told after `on_call`, and after
+        those that have listened for longer.
+        """
+        listener = Listener(self._listeners, index(object), method, told)
+        of = (index(object), method)
+        self._listeners[of] = [*self._listeners.get(of, []), listener]
+        return listener
+
+    def listening_to(self, what: Told) -> Sequence[Listening]:
+        """Who is to be told of a call or a warning, in this order."""
+        if isinstance(what, Warned):
+            return () if self.on_warning is None else (self.on_warning,)
+        first = () if self.on_call is None else (self.on_call,)
+        return (*first, *(it.told for it in self._listeners.get((what.object, what.method), [])))
+
+    def _forget_listeners(self) -> None:
+        """Nobody listens to slots of single objects any more."""
+        self._listeners.clear()

@@ -1,0 +1,47 @@
+"""Who holds a connection, and has to close it."""
+
+from __future__ import annotations
+
+import json
+import warnings
+from os import fspath
+from pathlib import Path
+from typing import Dict, List, Optional
+
+from .connection import Connection, Word
+from .lines import Value
+from .proxies import Shape
+
+START_SECONDS = 30.0  # in which a server has to answer its first line
+
+
+class Holder:
+    """Holds a connection that is open. Where it is not closed, it warns when nobody holds it any more, and hangs up."""
+
+    _is_closed = True  # up to its first connection
+
+    def _hold(self, connection: Connection) -> None:
+        self.connection = connection
+        """The connection with the server."""
+        self.shapes: Dict[str, Shape] = {}
+        """What there is in classes that were asked for."""
+        self._is_closed = False
+
+    def __del__(self) -> None:
+        if not self._is_closed:
+            self._hang_up()
+            warnings.warn(f"{self!r} was not closed", ResourceWarning, source=self)
+
+    def _hang_up(self) -> None:
+        """Ends the server's input behind all that was given."""
+        self._is_closed = True
+        self.connection.hang_up()
+
+
+def class_words(classes: Optional[Dict[str, Value]], folder: str) -> List[Word]:
+    """The words that name a class file with these classes, which is put into a folder; none without classes."""
+    if classes is None:
+        return []
+    path = Path(folder, "classes.json")
+    path.write_text(json.dumps(classes))
+    return [fspath(path)]

@@ -1,0 +1,135 @@
+"""The lines between a client and a server: what is written, and what is read."""
+
+from __future__ import annotations
+
+import json
+from dataclasses import dataclass
+from operator import index
+from typing import Any, Dict, List, Optional, TypedDict, Union
+
+from .codes import meaning_of
+from .errors import StrangeLine
+
+Value = Any
+"""Whatever JSON can say."""
+
+NOBODY = "-"
+"""The session of the answer to a line of which nobody can say whose it was."""
+
+NO_COMMAND = b"{}\n"
+"""A line that is no command: it is answered by `E02` for nobody, and enters no session."""
+
+
+@dataclass(frozen=True)
+class Call:
+    """A slot of an object was called, or a functor for it."""
+
+    object: int
+    """The number of the object that the slot belongs to, or that is the functor's context."""
+    method: str
+    """The signature of the slot, or the name of the functor."""
+    args: List[Value]
+    """What it was called with."""
+    sender: int
+    """The number of the object whose signal called it; 0 where a command or another session's post called the slot."""
+
+
+@dataclass(frozen=True)
+class Warned:
+    """An action was refused, a signal was nested too deep, the turns are used up, or a bound property is in error."""
+
+    code: str
+    """The code of the warning, as `E04`, or the error of the property, as `BindingLoop`."""
+    object: Optional[int]
+    """The number of the object; None for `E23`."""
+    property_name: Optional[str]
+    """The name of the property that is in error; None where the warning has a code."""
+    line: Dict[str, Value]
+    """The whole line, with keys that have no field here."""
+
+    @property
+    def meaning(self) -> str:
+        """What the code or the error means."""
+        return meaning_of(self.code)
+
+
+Told = Union[Call, Warned]
+"""What a session is told beside answers."""
+
+
+class Spun(TypedDict):
+    """What came of `spin`."""
+
+    events: int
+    left: int
+    lost: int
+    mismatched: int
+
+
+class Status(TypedDict):
+    """How much there is in a session."""
+
+    bindings: int
+    connections: int
+    group: int
+    joins: int
+    lost: int
+    mismatched: int
+    objects: int
+    publications: int
+    queued: int
+
+
+Meta = TypedDict(
+    "Meta",
+    {
+        "class": str,
+        "methodOffset": int,
+        "methods": List[str],
+        "properties": List[str],
+        "propertyOffset": int,
+        "super": Optional[str],
+    },
+)
+"""What there is in a class."""
+
+
+def named(keys: Dict[str, Value]) -> Dict[str, Value]:
+    """The keys of a command by their names in the protocol: those that are words of Python have an underscore behind
+    them in Python."""
+    return {key[:-1] if key.endswith("_") else key: value for key, value in keys.items()}
+
+
+def command_line(session: str, do: str, keys: Dict[str, Value]) -> bytes:
+    """The line of a command, in which a value that is no JSON and has an `__index__`, as a proxy, is that number."""
+    whole = {**named(keys), "do": do, "session": session}
+    text = json.dumps(whole, ensure_ascii=False, separators=(",", ":"), default=index)
+    return text.encode("utf-8", "surrogatepass") + b"\n"
+
+
+def line_of(text: bytes) -> Dict[str, Value]:
+    """A line that the server wrote."""
+    try:
+        line = json.loads(text)
+    except (ValueError, RecursionError):
+        raise StrangeLine(text) from None
+    if not isinstance(line, dict) or not isinstance(line.get("session"), str):
+        raise StrangeLine(text)
+    return line
+
+
+def is_answer(line: Dict[str, Value]) -> bool:
+    """Whether a line answers a command."""
+    return "reply" in line or "error" in line
+
+
+def told_by(line: Dict[str, Value], text: bytes) -> Optional[Told]:
+    """The call or warning that a line tells of; None of a line that is of another kind than these."""
+    try:
+        if "call" in line:
+            return Call(line["object"], line["call"], line["args"], line["sender"])
+        if "warning" in line:
+            return Warned(line["warning"], line.get("object"), line.get("property"), line)
+    except KeyError:
+        raise StrangeLine(text) from None
+    return None
