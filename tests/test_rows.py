@@ -71,14 +71,14 @@ class Examples(ProgramCases):
 
 
 def worked_rows():
-    """The worked examples by name, each a folder with a class file `classes.json`, an input `session`, and in `expected`
-    what the program has to write."""
+    """The worked examples by name: the folders with an input `session`, each with a class file `classes.json` and, in
+    `expected`, what the program has to write."""
 
     def row_of(folder):
         given, wanted = (folder / "session").read_bytes(), (folder / "expected").read_bytes()
         return Row(folder.name, given, wanted, words=("classes.json",), folder=folder)
 
-    return {folder.name: row_of(folder) for folder in sorted(EXAMPLES.iterdir())}
+    return {path.parent.name: row_of(path.parent) for path in sorted(EXAMPLES.glob("*/session"))}
 
 
 @dataclass

@@ -1,5 +1,6 @@
 """How tests start servers and fronts, and clients that talk with a front by lines as they are."""
 
+import json
 import socket
 import subprocess
 import sys
@@ -9,21 +10,38 @@ from pathlib import Path
 from tempfile import TemporaryDirectory
 
 from tests.support.cases import ProgramCases
+from tests.support.lines import text_of
 from tests.support.program import SECONDS
 
-from . import PYTHON
+from . import CLIENTS
 
-FRONT = PYTHON / "front.py"
-PATIENCE = 10  # seconds in which a front has to listen, to answer and to end
+FRONT = CLIENTS / "front"
+PATIENCE = 30  # seconds in which a front has to listen, to answer and to end
+STATUS = '{"do":"status"}'
+NEW = '{"class":"Probe","do":"new"}'
+
+
+def reply(value, session):
+    return text_of({"reply": value, "session": session})
+
+
+def error(code, session):
+    return text_of({"error": code, "session": session})
+
+
+def classes_in(room, classes):
+    path = Path(room, "classes.json")
+    path.write_text(text_of({"classes": classes}))
+    return str(path)
 
 
 class Client:
-    """A client of a front that writes and reads lines as they are."""
+    """A client of a front, or a monitor, that writes and reads lines as they are."""
 
     def __init__(self, path):
         self.link = socket.socket(socket.AF_UNIX)
+        self.link.connect(str(path))  # waits where many others do
         self.link.settimeout(PATIENCE)
-        self.link.connect(str(path))
         self.reader = self.link.makefile("rb")
 
     def __enter__(self):
@@ -43,6 +61,10 @@ class Client:
         self.say(line)
         return self.hear()
 
+    def name(self):
+        """The name that the front gave to the session of a client that nothing is told but answers."""
+        return json.loads(self.ask(STATUS))["session"]
+
     def rest(self):
         """All lines until the end, when it writes no more."""
         self.link.shutdown(socket.SHUT_WR)
@@ -60,9 +82,9 @@ class Client:
         self.link.close()
 
 
-def front_of(path, program, *words, **how):
+def front_of(*words, **how):
     pipe = subprocess.PIPE
-    return subprocess.Popen([sys.executable, FRONT, path, program, *words], stdout=pipe, stderr=pipe, text=True, **how)
+    return subprocess.Popen([sys.executable, FRONT, *words], stdout=pipe, stderr=pipe, text=True, **how)
 
 
 def listens(path):
@@ -72,11 +94,13 @@ def listens(path):
 
 
 class ClientCases(ProgramCases):
-    """Tests that have a folder of their own, and have to end in a minute."""
+    """Tests that have a folder of their own, and have to end in a time."""
+
+    seconds = SECONDS
 
     def setUp(self):
         self.room = self.enterContext(TemporaryDirectory(prefix="metad-clients-"))
-        self.enterContext(self.within(SECONDS))
+        self.enterContext(self.within(self.seconds))
 
     def raised(self, what, kind, call, *args, **keys):
         """The exception of this kind that a call has to raise."""
@@ -85,8 +109,29 @@ class ClientCases(ProgramCases):
         return caught.exception
 
 
+class Log:
+    """What a front says on standard error, which goes to a file."""
+
+    def __init__(self, path):
+        self.path = path
+        self.path.touch()
+
+    def lines(self):
+        return self.path.read_text().splitlines()
+
+    def wait_for(self, test, line, process=None):
+        """Waits until a line is said."""
+        until = time.monotonic() + PATIENCE
+        while line not in self.lines():
+            if time.monotonic() > until or (process and process.poll() is not None):
+                test.fail(f"{line!r} is not said, but {self.lines()}")
+            time.sleep(0.01)
+
+
 class FrontCases(ClientCases):
-    """Tests of a front."""
+    """Tests of a front, with many clients and servers at once."""
+
+    seconds = 3 * SECONDS
 
     def wait_for(self, path, process):
         """Waits until a front listens."""
@@ -98,16 +143,20 @@ class FrontCases(ClientCases):
             time.sleep(0.01)
 
     @contextmanager
-    def front(self, *words):
-        """The path of a front, and its process. At the end it is asked to end, and has to with nothing to say."""
-        path = Path(self.room, "socket")
-        process = front_of(path, self.program, *words)
-        try:
-            self.wait_for(path, process)
-            yield path, process
-            process.terminate()
-            said = process.communicate(timeout=PATIENCE)
-            self.assertEqual((process.returncode, *said, path.exists()), (0, "", "", False), "the front's end")
-        finally:
-            process.kill()
-            process.communicate()
+    def front(self, *words, options=("--quiet",), server=None):
+        """The path of a front, and its process, whose log is `log`. At the end it is asked to end, and has to; where it
+        is quiet, with nothing to say."""
+        path, log = Path(self.room, "socket"), Log(Path(self.room, "log"))
+        given = [sys.executable, FRONT, *options, path, *(server or [self.program]), *words]
+        with log.path.open("wb") as stderr, subprocess.Popen(given, stdout=subprocess.PIPE, stderr=stderr) as process:
+            process.log = log
+            try:
+                log.wait_for(self, f"metad-front: listening at {path}", process)
+                yield path, process
+                process.terminate()
+                said = process.communicate(timeout=PATIENCE)[0]
+                self.assertEqual((process.returncode, said, path.exists()), (0, b"", False), f"the front's end: {log.lines()}")
+                if options == ("--quiet",):
+                    self.assertEqual(log.lines(), [f"metad-front: listening at {path}"], "what the front says")
+            finally:
+                process.kill()

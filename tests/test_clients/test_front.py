@@ -1,5 +1,5 @@
-"""The front (clients/python/front.py): many clients at once, each compared with a server of its own, and clients that write
-rubbish, write without end, do not read or go away.
+"""The front (clients/front): many clients at once, each compared with a server of its own, and clients that write rubbish,
+write without end, do not read or go away.
 
 What a client has to be told is taken from docs/PROTOCOL.md.
 """
@@ -9,7 +9,6 @@ import os
 import random
 import re
 import select
-import signal
 import subprocess
 import sys
 import time
@@ -17,14 +16,16 @@ from concurrent.futures import ThreadPoolExecutor
 from pathlib import Path
 
 import metad
-from front import with_session
+from fronting.lines import with_session
 
 from tests.generators.sessions import CLASSES, life_of
 from tests.support.lines import text_of
-from tests.support.program import library
+from tests.support.program import lay_out
 
-from .fronts import FRONT, PATIENCE, Client, FrontCases, front_of
+from .fronts import FRONT, NEW, PATIENCE, STATUS, Client, FrontCases, classes_in, error, reply
+from .pages import check_page
 
+PAGE = FRONT.parent / "fronting" / "README.md"
 QUIET = 0.4
 CLIENTS = 50
 LINE_MOST = 65_536
@@ -33,24 +34,8 @@ MEMORY_MOST = 64 * 1024 * 1024
 UNREAD_MOST = 16 * 1024 * 1024
 TEXT_MOST = 4_096
 NO_JSON, NO_COMMAND = (text_of({"error": code, "session": "-"}) for code in ("E01", "E02"))
-STATUS = '{"do":"status"}'
-NEW = '{"class":"Probe","do":"new"}'
 HEAR = {"sig": "hear(QString)", "body": []}
 EAR = {"name": "Ear", "super": "QObject", "signals": ["told(QString)"], "slots": [HEAR]}
-
-
-def reply(value, session):
-    return text_of({"reply": value, "session": session})
-
-
-def error(code, session):
-    return text_of({"error": code, "session": session})
-
-
-def classes_in(room, classes):
-    path = Path(room, "classes.json")
-    path.write_text(text_of({"classes": classes}))
-    return str(path)
 
 
 def live(path, commands):
@@ -136,6 +121,25 @@ def processor_seconds(process):
     """What a process has taken of the processor."""
     fields = Path(f"/proc/{process.pid}/stat").read_text().rsplit(")", 1)[1].split()
     return (int(fields[11]) + int(fields[12])) / os.sysconf("SC_CLK_TCK")
+
+
+class Page(FrontCases):
+    """The page of the front."""
+
+    def test_page(self):
+        """The programs of the page print what it says, where a front was started as it says."""
+        monitor = Path(self.room, "metad.monitor")
+        with self.front(options=("--quiet", "--share", "team", "--monitor", monitor)) as (path, _):
+            lay_out(self.room, {"metad.sock": path})
+            self.assertEqual(check_page(self, PAGE), 4, "programs of the page")
+
+    def test_words(self):
+        """The page tells of each option that there is, and its line of usage is that of the help."""
+        page = PAGE.read_text()
+        shown = subprocess.run([sys.executable, FRONT, "--help"], capture_output=True, text=True, timeout=PATIENCE).stdout
+        options = re.findall(r"^  (?:-h, )?(--\S+(?: [A-Z]+)?)  ", shown, re.MULTILINE)
+        self.assertEqual(sorted(re.findall(r"^\| `(--.*?)` \|", page, re.MULTILINE)), sorted(options), "the options")
+        self.assertIn(shown.splitlines()[0].replace("usage: metad-front", "clients/front"), page.splitlines(), "the usage")
 
 
 class Lines(FrontCases):
@@ -324,7 +328,7 @@ class Clients(FrontCases):
     def test_full(self):
         """A front that can have no more files takes no more clients until others go, and is quiet meanwhile."""
         path = Path(self.room, "socket")
-        words = ["sh", "-c", 'ulimit -n 32; exec "$@"', "sh", sys.executable, FRONT, path, self.program]
+        words = ["sh", "-c", 'ulimit -n 32; exec "$@"', "sh", sys.executable, FRONT, "--quiet", path, self.program]
         with subprocess.Popen(words, stderr=subprocess.PIPE, text=True) as process:
             try:
                 self.wait_for(path, process)
@@ -342,61 +346,5 @@ class Clients(FrontCases):
                     client.leave()
             finally:
                 process.terminate()
-            self.assertEqual((process.wait(), process.stderr.read()), (0, ""), "the front's end")
-
-
-class Ends(FrontCases):
-    """The ends of a front."""
-
-    def test_server_ends(self):
-        """The server's end ends the front, which says how, and its clients."""
-        path, note = Path(self.room, "socket"), Path(self.room, "pid")
-        process = front_of(path, "sh", "-c", f'echo $$ > "{note}"; exec "{self.program}"')
-        self.wait_for(path, process)
-        with Client(path) as client:
-            self.assertEqual(json.loads(client.ask(NEW))["reply"], 1, "an object")
-            os.kill(int(note.read_text()), signal.SIGSTOP)
-            client.say(NEW)
-            os.kill(int(note.read_text()), signal.SIGKILL)
-            self.assertEqual(client.until_closed(), b"", "the end for a client")
-        said = process.communicate(timeout=PATIENCE)
-        self.assertEqual(process.returncode, 1, "the front's status")
-        self.assertEqual(said, ("", "front: the server was ended by signal 9\n"), "what it says")
-        self.assertFalse(path.exists(), "its socket is there")
-
-    def test_asked_early(self):
-        """The front ends too where it is asked to right before it waits: the third time, when the connection by which
-        it is found to listen has come and gone."""
-        path = Path(self.room, "socket")
-        process = front_of(path, self.program, env={**os.environ, "LD_PRELOAD": library("early_signal")})
-        try:
-            self.wait_for(path, process)
-            said = process.communicate(timeout=PATIENCE)
-            self.assertEqual((process.returncode, *said, path.exists()), (0, "", "", False), "the front's end")
-        finally:
-            process.kill()
-            process.wait()
-
-    def test_words(self):
-        """Words that mean nothing end the front with status 2, and what cannot be had with status 1."""
-        path, taken = Path(self.room, "socket"), Path(self.room, "taken")
-        taken.write_text("")
-        refused = "metad: class file refused: C01 at class 0\nfront: the server has ended with status 1\n"
-        strange = "front: the server wrote no line of the protocol: b'hello'\n"
-        for given, status, wanted in (
-            ([], 2, None),
-            ([path], 2, None),
-            (["--slow", path, self.program], 2, None),
-            ([path, Path(self.room, "nothing")], 1, f"front: {self.room}/nothing cannot be started: No such file or directory\n"),
-            ([taken, self.program], 1, f"front: {taken} cannot be bound: Address already in use\n"),
-            ([Path(self.room, "no", "way"), self.program], 1, f"front: {self.room}/no/way cannot be bound: No such file or directory\n"),
-            ([Path(self.room, 200 * "x"), self.program], 1, None),
-            ([path, self.program, "/dev/null"], 1, refused),
-            ([path, self.program, "--turns", "0"], 1, None),
-            ([path, "echo", "hello"], 1, strange),
-        ):
-            ran = subprocess.run([sys.executable, FRONT, *given], capture_output=True, text=True, timeout=PATIENCE)
-            self.assertEqual((ran.returncode, ran.stdout, path.exists()), (status, "", False), f"the status of {given}")
-            self.assertNotIn("Traceback", ran.stderr, f"what {given} says")
-            self.assertEqual(ran.stderr if wanted else bool(ran.stderr), wanted or True, f"what {given} says")
-        self.assertTrue(taken.exists(), "what stood there is gone")
+            said = f"metad-front: listening at {path}\n"
+            self.assertEqual((process.wait(PATIENCE), process.stderr.read()), (0, said), "the front's end")

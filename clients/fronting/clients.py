@@ -1,0 +1,116 @@
+"""What is known of a connection, and of the session that it speaks for."""
+
+from __future__ import annotations
+
+import socket
+from collections import deque
+from dataclasses import dataclass, field
+from typing import Deque, List
+
+from .lines import CHUNK, WHITE, Lines
+from .watch import READ, WRITE
+
+UNREAD_SLOW = 65_536  # bytes that a client has not read, above which its commands wait
+UNREAD_MOST = 16 * 1024 * 1024  # bytes that a connection has not read, above which it is closed
+EXPECTED_AT_FIRST = 1_024  # bytes of an answer, of a client that was not answered yet
+
+
+@dataclass(eq=False)
+class Connection:
+    """The other side of a connection: it is told lines, and nobody waits for it."""
+
+    name: str
+    link: socket.socket
+    lines: Lines = field(default_factory=Lines)
+    unread: bytearray = field(default_factory=bytearray)  # what it is told and has not taken
+    has_spoken: bool = False  # its first line was read
+    has_ended: bool = False  # it writes no more, or is not read any more
+    is_broken: bool = False  # its connection is
+    is_gone: bool = False
+    fault: str = ""  # why it is to be closed when it has taken what it is told
+
+    def read(self) -> List[bytes]:
+        """The lines that it has written, without those of white space, which ask for nothing."""
+        try:
+            data = self.link.recv(CHUNK)
+        except BlockingIOError:
+            return []
+        except OSError:
+            self.is_broken = True
+            return []
+        self.has_ended = not data
+        lines = self.lines.feed(data) if data else [self.lines.take()]
+        return [line for line in lines if line.strip(WHITE)]
+
+    def write(self) -> None:
+        """Gives it as much of what it is told as it takes."""
+        if not self.unread:
+            return
+        try:
+            del self.unread[: self.link.send(self.unread)]
+        except BlockingIOError:
+            pass
+        except OSError:
+            self.is_broken = True
+
+    def refuse(self, fault: str) -> None:
+        """Reads no more of it, and closes it when it has taken what it is told."""
+        self.fault = fault
+        self.has_ended = True
+
+    def awaits(self) -> bool:
+        """Whether it is still to be told something that it has asked for."""
+        return False
+
+    def is_done(self) -> bool:
+        """Whether it is to be let go."""
+        has_all = self.has_ended and not (self.unread or self.awaits())
+        return has_all or self.is_broken or len(self.unread) > UNREAD_MOST
+
+    def how_done(self) -> str:
+        """How it came to be let go, in words."""
+        if len(self.unread) > UNREAD_MOST:
+            return f"is closed: it has left more than {UNREAD_MOST} bytes unread"
+        if self.is_broken:
+            return "has gone, without having read all"
+        return f"is closed: {self.fault}" if self.fault else "has gone"
+
+    def events(self) -> int:
+        """What its connection is watched for."""
+        return (0 if self.has_ended else READ) | (WRITE if self.unread else 0)
+
+
+@dataclass(eq=False)
+class Session:
+    """A session of the server, and those who speak for it."""
+
+    name: str
+    is_shared: bool
+    members: List[Client] = field(default_factory=list)
+    is_begun: bool = False  # the server was given a command of it
+
+
+@dataclass(eq=False)
+class Client(Connection):
+    """Somebody who speaks for a session."""
+
+    session: Session = field(default_factory=lambda: Session("", False))
+    waiting: Deque[bytes] = field(default_factory=deque)  # lines that the server has not been given
+    under_way: int = 0  # commands that the server has been given and has not answered
+    served: int = 0  # what it has had of the server, in bytes
+    expected: int = EXPECTED_AT_FIRST  # bytes of its next answer, by those of the last ones
+    has_turn: bool = False  # it waits for its turn
+    turn: int = -1  # how many turns it had when it began to wait for this one
+    place: int = 0  # among those that had as many
+
+    def may_give(self) -> bool:
+        """Whether the server may be given its next line."""
+        return bool(self.waiting) and len(self.unread) <= UNREAD_SLOW
+
+    def awaits(self) -> bool:
+        return bool(self.waiting or self.under_way)
+
+    def events(self) -> int:
+        """What its connection is watched for. It is not read while what it has written waits."""
+        is_read = not self.has_ended and not self.waiting and len(self.unread) <= UNREAD_SLOW
+        return (READ if is_read else 0) | (WRITE if self.unread else 0)

@@ -1,0 +1,191 @@
+"""How a front ends: by its server, by signals, and by words that mean nothing or ask for what cannot be had."""
+
+import json
+import os
+import signal
+import subprocess
+import sys
+from contextlib import contextmanager
+from pathlib import Path
+
+from tests.support.program import library
+
+from .fronts import FRONT, NEW, PATIENCE, STATUS, Client, FrontCases, front_of, reply
+
+USAGE = "usage: metad-front [options] SOCKET PROGRAM [ARGS...]\n"
+HELLO = "metad-front: the server wrote no line of the protocol: b'hello'\n"
+REFUSED = "metad: class file refused: C01 at class 0\nmetad-front: the server has ended with status 1\n"
+TAKING_ITS_TIME = "import signal, time; signal.signal(signal.SIGTERM, signal.SIG_IGN); time.sleep(100)"
+
+
+class Ends(FrontCases):
+    """The ends of a front."""
+
+    @contextmanager
+    def served(self):
+        """A front, a client of it that was answered, and the number of its server."""
+        note = Path(self.room, "pid")
+        path = Path(self.room, "socket")
+        process = front_of("--quiet", path, "sh", "-c", f'echo $$ > "{note}"; exec "{self.program}"')
+        try:
+            self.wait_for(path, process)
+            with Client(path) as client:
+                self.assertEqual(json.loads(client.ask(NEW))["reply"], 1, "an object")
+                yield process, client, int(note.read_text())
+        finally:
+            process.kill()
+            process.communicate()
+
+    def said(self, *words):
+        """What a front says that listened, and of its end."""
+        listening = f"metad-front: listening at {self.room}/socket\n"
+        return "".join([listening, *(f"metad-front: {it}\n" for it in words)])
+
+    def test_server_ends(self):
+        """The server's end ends the front, which says how, and its clients."""
+        with self.served() as (process, client, number):
+            os.kill(number, signal.SIGSTOP)
+            client.say(NEW)
+            os.kill(number, signal.SIGKILL)
+            self.assertEqual(client.until_closed(), b"", "the end for a client")
+            said = process.communicate(timeout=PATIENCE)
+            self.assertEqual(said, ("", self.said("the server was ended by signal 9")), "what it says")
+            self.assertEqual(process.returncode, 1, "the front's status")
+            self.assertFalse(Path(self.room, "socket").exists(), "its socket is there")
+
+    def test_signals(self):
+        """An interrupt, SIGTERM and SIGHUP end the front in order, and its server with it."""
+        for number in (signal.SIGINT, signal.SIGTERM, signal.SIGHUP):
+            with self.subTest(signal=number), self.served() as (process, client, server):
+                process.send_signal(number)
+                said = process.communicate(timeout=PATIENCE)
+                self.assertEqual((process.returncode, *said), (0, "", self.said()), "the front's end")
+                self.assertFalse(Path(self.room, "socket").exists(), "its socket is there")
+                self.assertFalse(Path(f"/proc/{server}").exists(), "its server is there")
+                self.assertEqual(client.until_closed(), b"", "the end for a client")
+        self.tell("cases: 3")
+
+    def test_hangup_passed_over(self):
+        """A front that was started to pass over hangups, as by nohup, does."""
+        path = Path(self.room, "socket")
+        words = ["sh", "-c", 'trap "" HUP; exec "$@"', "sh", sys.executable, FRONT, "--quiet", path, self.program]
+        with subprocess.Popen(words, stderr=subprocess.DEVNULL) as process:
+            try:
+                self.wait_for(path, process)
+                process.send_signal(signal.SIGHUP)
+                with Client(path) as client:
+                    self.assertEqual(json.loads(client.ask(NEW))["reply"], 1, "an object")
+            finally:
+                process.terminate()
+            self.assertEqual(process.wait(PATIENCE), 0, "the front's end")
+
+    def test_server_that_stays(self):
+        """A server that does not end when it is asked to is killed."""
+        path, note = Path(self.room, "socket"), Path(self.room, "pid")
+        script = f"import os; open({str(note)!r}, 'w').write(str(os.getpid())); {TAKING_ITS_TIME}"
+        process = front_of("--quiet", path, sys.executable, "-c", script)
+        try:
+            self.wait_for(path, process)
+            while not (note.exists() and note.read_text()):
+                self.assertIsNone(process.poll(), "the front has ended")
+            process.terminate()
+            self.assertEqual((*process.communicate(timeout=PATIENCE), process.returncode), ("", self.said(), 0), "its end")
+            self.assertFalse(Path(f"/proc/{note.read_text()}").exists(), "its server is there")
+        finally:
+            process.kill()
+            process.communicate()
+
+    def test_asked_early(self):
+        """The front ends too where it is asked to right before it waits: the third time, when the connection by which
+        it is found to listen has come and gone."""
+        path = Path(self.room, "socket")
+        process = front_of("--quiet", path, self.program, env={**os.environ, "LD_PRELOAD": library("early_signal")})
+        try:
+            self.wait_for(path, process)
+            said = process.communicate(timeout=PATIENCE)
+            self.assertEqual((process.returncode, *said), (0, "", self.said()), "the front's end")
+            self.assertFalse(path.exists(), "its socket is there")
+        finally:
+            process.kill()
+            process.wait()
+
+    def test_words(self):
+        """Words that mean nothing end the front with status 2 and a line of usage."""
+        path = Path(self.room, "socket")
+        server = (path, self.program)
+        for given, wanted in (
+            ((), "metad-front: error: the following arguments are required: SOCKET, PROGRAM\n"),
+            ((path,), "metad-front: error: the following arguments are required: PROGRAM\n"),
+            (("--slow", *server), None),
+            (("--qui", *server), None),
+            (("", self.program), None),
+            (("--mode", "888", *server), None),
+            (("--mode", "", *server), None),
+            (("--mode", "1777", *server), None),
+            (("--mode", "-1", *server), None),
+            (("--mode", "660", "-", self.program), None),
+            (("--monitor-mode", "660", *server), None),
+            (("--share", "a b", *server), None),
+            (("--share", "", *server), None),
+            (("--share", "c7", *server), None),
+            (("--share", "n" * 65, *server), None),
+            (("--record", "", *server), None),
+            (("--monitor",), None),
+        ):
+            with self.subTest(words=given):
+                ran = subprocess.run([sys.executable, FRONT, *given], capture_output=True, text=True, timeout=PATIENCE)
+                self.assertEqual((ran.returncode, ran.stdout, path.exists()), (2, "", False), "its status")
+                self.assertTrue(ran.stderr.startswith(USAGE + "metad-front: error: "), ran.stderr)
+                self.assertNotIn("Traceback", ran.stderr, "what it says")
+                self.assertIn(wanted or "", ran.stderr, "what it says")
+
+    def test_what_cannot_be_had(self):
+        """What cannot be bound, started or opened, and a server that is none, end the front with status 1."""
+        path, taken, room = Path(self.room, "socket"), Path(self.room, "taken"), self.room
+        taken.write_text("")
+        for given, wanted in (
+            ((path, f"{room}/nothing"), f"metad-front: {room}/nothing cannot be started: No such file or directory\n"),
+            ((taken, self.program), f"metad-front: {taken} cannot be bound: Address already in use\n"),
+            ((f"{room}/no/way", self.program), f"metad-front: {room}/no/way cannot be bound: No such file or directory\n"),
+            ((Path(room, 200 * "x"), self.program), None),
+            (("--monitor", path, path, self.program), f"metad-front: {path} cannot be bound: somebody answers there\n"),
+            (("--record", room, path, self.program), f"metad-front: {room} cannot be written: Is a directory\n"),
+            (("--quiet", path, self.program, "/dev/null"), self.said() + REFUSED),
+            (("--quiet", path, self.program, "--turns", "0"), None),
+            (("--quiet", path, "echo", "hello"), self.said() + HELLO),
+        ):
+            with self.subTest(words=given):
+                ran = subprocess.run([sys.executable, FRONT, *given], capture_output=True, text=True, timeout=PATIENCE)
+                self.assertEqual((ran.returncode, ran.stdout, path.exists()), (1, "", False), f"its status: {ran.stderr}")
+                self.assertNotIn("Traceback", ran.stderr, "what it says")
+                wanted_lines = sorted((wanted or ran.stderr).splitlines())
+                self.assertEqual(sorted(ran.stderr.splitlines()), wanted_lines, "what it says")
+                self.assertTrue(ran.stderr, "it says nothing")
+        self.assertTrue(taken.exists(), "what stood there is gone")
+
+    def test_help(self):
+        """The help comes on standard output, wherever it is asked for; where that cannot be written, it is told."""
+        with open("/dev/full", "wb") as full:
+            for words, where, wanted in (
+                (("--help",), subprocess.PIPE, (0, "")),
+                (("--quiet", "-h"), subprocess.PIPE, (0, "")),
+                (("--help",), full, (1, "metad-front: standard output cannot be written: No space left on device\n")),
+            ):
+                run = [sys.executable, FRONT, *words]
+                ran = subprocess.run(run, stdout=where, stderr=subprocess.PIPE, text=True, timeout=PATIENCE)
+                self.assertEqual((ran.returncode, ran.stderr), wanted, f"the end of {words}")
+                self.assertTrue(where is full or ran.stdout.startswith(USAGE), "the help")
+        reader, writer = os.pipe()
+        os.close(reader)
+        ran = subprocess.run([sys.executable, FRONT, "--help"], stdout=writer, stderr=subprocess.PIPE, timeout=PATIENCE)
+        os.close(writer)
+        self.assertEqual((ran.returncode, ran.stderr), (0, b""), "where nobody reads it")
+
+    def test_words_of_the_server(self):
+        """Words behind PROGRAM are the server's, also those that the front has itself; it may have none."""
+        path = Path(self.room, "socket")
+        show = 'import json, sys; print(json.dumps({"reply": sys.argv[1:], "session": "c1"}, separators=(",", ":")), flush=True); input()'
+        for words in ((), ("--quiet", "-h", "--", "x y", "--share", "")):
+            script = f"import sys; sys.stdin.readline()\n{show}"
+            with self.front("-c", script, *words, server=[sys.executable]) as (path, _), Client(path) as client:
+                self.assertEqual(client.ask(STATUS), reply(list(words), "c1"), "its words")

@@ -1,0 +1,163 @@
+"""What becomes of the sessions of clients that have gone, and sessions that several clients share."""
+
+import json
+import time
+from pathlib import Path
+
+from tests.support.lines import text_of
+
+from .fronts import NEW, PATIENCE, STATUS, Client, FrontCases, error, reply
+
+TEE = 'tee "$0" | "$@"'
+GONE = 20
+SHARE, SHARED = '{"front":"share","session":"team"}', reply(True, "team")
+NOT_KNOWN, NOT_SHARED = error("F01", "-"), error("F02", "-")
+SPIN = text_of({"do": "spin"})
+CONNECT = {"do": "connect", "sender": 1, "signal": "ping()", "receiver": 1}
+PING = text_of({"do": "invoke", "object": 1, "method": "ping()", "args": []})
+CALLED = text_of({"args": [], "call": "note()", "object": 1, "sender": 1, "session": "team"})
+TEAM = ("--quiet", "--share", "team", "--share", "other")
+
+
+def reset_of(name):
+    return f'{{"do":"reset","session":"{name}"}}'
+
+
+class Departed(FrontCases):
+    """Clients that go away. Their server is given its lines through a file, in which these can be read."""
+
+    def through(self, given):
+        return ["sh", "-c", TEE, given, self.program]
+
+    def wait_until_given(self, given, lines):
+        """Waits until the server was given all these lines."""
+        lines, until = list(lines), time.monotonic() + PATIENCE
+        while not set(lines) <= set(given.read_text().splitlines()):
+            if time.monotonic() > until:
+                self.fail(f"{lines} are not given, but {given.read_text()[-500:]}")
+            time.sleep(0.01)
+
+    def test_reset(self):
+        """The session of a client that has gone is reset, once and as its last command, and nobody is told."""
+        given = Path(self.room, "given")
+        names = [f"c{number}" for number in range(2, GONE + 2)]
+        with self.front(server=self.through(given)) as (path, _), Client(path) as stays:
+            self.assertEqual(stays.ask(NEW), reply(1, "c1"), "one that stays")
+            for name in names:
+                with Client(path) as client:
+                    self.assertEqual(client.ask(NEW), reply(1, name), "one that goes")
+                    client.say(*[NEW] * 40)
+            self.wait_until_given(given, map(reset_of, names))
+            self.assertEqual(stays.ask(NEW), reply(2, "c1"), "what the one that stays is told")
+            lines = given.read_text().splitlines()
+        for name in names:
+            own = [line for line in lines if f'"{name}"' in line]
+            self.assertEqual((own[-1], own.count(reset_of(name))), (reset_of(name), 1), f"the lines of {name}")
+        self.assertFalse(reset_of("c1") in lines, "a reset of the one that stays")
+
+    def test_nothing_to_reset(self):
+        """Nothing is given for clients that have asked for nothing."""
+        given = Path(self.room, "given")
+        with self.front(server=self.through(given)) as (path, _):
+            for _ in range(3):
+                Client(path).leave()
+            with Client(path) as last:
+                self.assertEqual(last.ask(NEW), reply(1, "c4"), "an object")
+                self.assertEqual(given.read_text(), '{"class":"Probe","do":"new","session":"c4"}\n', "what the server is given")
+
+    def test_who_listens(self):
+        """Who has joined a client that has gone hears nothing more, and its join stays; who it had joined goes on."""
+        cell = text_of({"do": "new", "class": "Cell"})
+        publish = text_of({"do": "publish", "object": 1, "signal": "xChanged(int)", "name": "level"})
+        join = {"do": "join", "name": "level", "types": ["int"], "object": 1, "method": "seen(int)"}
+        given = Path(self.room, "given")
+        with self.front(server=self.through(given)) as (path, _), Client(path) as stays:
+            self.assertEqual(stays.ask(cell), reply(1, "c1"), "its object")
+            self.assertEqual(stays.ask(publish), reply(True, "c1"), "its publication")
+            with Client(path) as goes:
+                self.assertEqual(goes.ask(cell), reply(1, "c2"), "the other's object")
+                self.assertEqual(goes.ask(publish), reply(True, "c2"), "the other's publication")
+                self.assertEqual(goes.ask(text_of({**join, "from": "c1"})), reply(True, "c2"), "its join")
+                self.assertEqual(stays.ask(text_of({**join, "from": "c2"})), reply(True, "c1"), "the join that stays")
+            self.wait_until_given(given, [reset_of("c2")])
+            set_x = text_of({"do": "set", "object": 1, "property": "x", "value": 7})
+            self.assertEqual(stays.ask(set_x), reply(True, "c1"), "what is told to nobody")
+            self.assertEqual(json.loads(stays.ask(STATUS))["reply"]["joins"], 1, "its joins")
+            self.assertEqual(json.loads(stays.ask(SPIN))["reply"]["events"], 0, "what it hears")
+
+
+class Shared(FrontCases):
+    """Several clients that speak for one session."""
+
+    def test_shared(self):
+        """Each is told the answers to its own commands, and all are told of calls and warnings; who has not asked is not."""
+        with self.front(options=TEAM) as (path, _), Client(path) as one, Client(path) as two, Client(path) as apart:
+            for client in (one, two):
+                self.assertEqual(client.ask(SHARE), SHARED, "whether it is shared")
+            self.assertEqual(apart.ask(NEW), reply(1, "c3"), "one that does not share")
+            self.assertEqual([one.ask(NEW), two.ask(NEW)], [reply(1, "team"), reply(2, "team")], "their objects")
+            self.assertEqual(one.ask(text_of({**CONNECT, "method": "note()"})), reply(1, "team"), "a connection")
+            for client, other in ((one, two), (two, one)):
+                client.say(PING)
+                self.assertEqual([client.hear(), client.hear()], [CALLED, reply(True, "team")], "who asked")
+                self.assertEqual(other.hear(), CALLED, "who did not ask")
+            two.say("nonsense", '{"do":"jump"}', PING)
+            refused = [error("E01", "-"), error("E02", "team")]
+            self.assertEqual([two.hear() for _ in range(4)], [*refused, CALLED, reply(True, "team")], "who asked")
+            self.assertEqual(one.hear(), CALLED, "who did not ask")
+            self.assertEqual(json.loads(one.ask('{"do":"children"}'))["reply"], [1, 2], "the objects of both")
+            self.assertEqual(apart.ask(NEW), reply(2, "c3"), "one that does not share, later")
+
+    def test_warnings(self):
+        """All are told of warnings."""
+        bind = text_of({"do": "bind", "object": 1, "property": "x", "to": {"prop": "x"}})
+        loop = text_of({"object": 1, "property": "x", "session": "team", "warning": "BindingLoop"})
+        with self.front(options=TEAM) as (path, _), Client(path) as one, Client(path) as two:
+            self.assertEqual([one.ask(SHARE), two.ask(SHARE)], [SHARED] * 2, "whether it is shared")
+            self.assertEqual(one.ask(text_of({"do": "new", "class": "Cell"})), reply(1, "team"), "an object")
+            one.say(bind)
+            self.assertEqual([one.hear(), one.hear(), two.hear()], [loop, reply(True, "team"), loop], "what is told")
+
+    def test_stays(self):
+        """A shared session stays when all have gone, with what they left in it, and a reset is theirs to ask for."""
+        with self.front(options=TEAM) as (path, _):
+            for number in (1, 2, 3):
+                with Client(path) as client:
+                    client.say(SHARE, NEW)
+                    self.assertEqual([client.hear(), client.hear()], [SHARED, reply(number, "team")], "its object")
+            with Client(path) as client, Client(path) as other:
+                client.say(SHARE, '{"do":"reset"}', NEW)
+                wanted = [SHARED, reply(True, "team"), reply(1, "team")]
+                self.assertEqual([client.hear() for _ in wanted], wanted, "behind a reset")
+                other.say('{"front":"share","session":"other"}', NEW)
+                self.assertEqual([other.hear(), other.hear()], [reply(True, "other"), reply(1, "other")], "another one")
+
+    def test_first_lines(self):
+        """What else a first line may be: what asks the front for nothing that there is, is refused and ends the
+        connection; commands are no such lines, and neither is what comes later."""
+        with self.front(options=TEAM) as (path, _):
+            for line, wanted in (
+                ('{"front":"share","session":"nobody"}', NOT_SHARED),
+                ('{"front":"share","session":"c1"}', NOT_SHARED),
+                ('{"front":"share","session":5}', NOT_SHARED),
+                ('{"front":"share","session":["team"]}', NOT_SHARED),
+                ('{"front":"share"}', NOT_KNOWN),
+                ('{"front":"share","session":"team","more":1}', NOT_KNOWN),
+                ('{"front":"monitor","session":"team"}', NOT_KNOWN),
+                ('{"front":null}', NOT_KNOWN),
+            ):
+                with self.subTest(line=line), Client(path) as client:
+                    client.say("", line, NEW)
+                    self.assertEqual(client.until_closed().decode(), f"{wanted}\n", "all that is told")
+            for line in ('{"front":"share","do":"status"}', '["front"]', "front", '{"front":' * 5_000):
+                with self.subTest(line=line[:20]), Client(path) as client:
+                    code = json.loads(client.ask(line))["error"]
+                    self.assertEqual(code, "E01" if line.startswith(("front", '{"front":{')) else "E02", "its code")
+                    self.assertEqual(json.loads(client.ask(NEW))["reply"], 1, "its own object")
+                    self.assertEqual(json.loads(client.ask(SHARE))["error"], "E02", "a later line")
+
+    def test_nothing_shared(self):
+        """Where no session is shared, none can be had."""
+        with self.front() as (path, _), Client(path) as client:
+            self.assertEqual(client.ask(SHARE), NOT_SHARED, "the session")
+            self.assertEqual(client.hear(), "", "the connection")
