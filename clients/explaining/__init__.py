@@ -2,6 +2,7 @@
 
 `held` says what may stand at a key, `words` how sentences are put together, `replies` what replies mean, `commands`
 which commands there are, `lines` which lines the program writes, `objects` and `drawing` what is known of a
-session's objects and how it is drawn, `knowledge` what each command makes known, `telling` how a transcript is told,
-and `program` what the words of the command line ask for.
+session's objects and how it is drawn, `slots` what the slots of a class file do, `following` what their calls have done,
+`knowledge` what each command makes known, `telling` how a transcript is told, and `program` what the words of the
+command line ask for.
 """

@@ -3,11 +3,12 @@
 from __future__ import annotations
 
 from dataclasses import dataclass, field
-from typing import Callable
+from typing import Any, Callable, Iterable, Iterator
 
 from . import replies as said
 from .expressions import objects_of
-from .held import are, has, is_any, is_list, is_number, is_text, is_true, is_truth, is_whole, json_object, or_null
+from .held import Holds, are, has, is_any, is_list, is_number, is_text, is_true, is_truth, is_whole, json_object, or_null
+from .replies import Asked
 from .words import ERRORS, misfit
 
 
@@ -15,13 +16,13 @@ from .words import ERRORS, misfit
 class Form:
     """A command: what it holds at its keys, what it replies, and what that means."""
 
-    said: Callable
-    reply: Callable
-    keys: dict = field(default_factory=dict)
-    optional: dict = field(default_factory=dict)
-    refused: dict = field(default_factory=dict)  # a code in the words of this command
+    said: Callable[[Asked, Any], str]
+    reply: Holds
+    keys: dict[str, Holds] = field(default_factory=dict)
+    optional: dict[str, Holds] = field(default_factory=dict)
+    refused: dict[str, str] = field(default_factory=dict)  # a code in the words of this command
 
-    def is_of(self, asked: dict) -> bool:
+    def is_of(self, asked: Asked) -> bool:
         held = {key: holds for key, holds in self.optional.items() if key in asked}
         return has(**self.keys, **held)(asked)
 
@@ -169,10 +170,10 @@ class Command:
 
     number: int
     raw: bytes
-    asked: dict
+    asked: Asked
 
     @property
-    def session(self):
+    def session(self) -> Any:
         return self.asked.get("session")
 
     @property
@@ -197,7 +198,7 @@ class Command:
         return sorted({*self.own_objects(), *objects_of(self.asked.get("to"))})
 
 
-def commands_in(file):
+def commands_in(file: Iterable[bytes]) -> Iterator[Command]:
     """The commands of an input: all lines but blank ones."""
     for number, raw in enumerate(file, 1):
         if raw.strip(b" \t\r\n"):

@@ -1,12 +1,16 @@
 """How what is known of the objects of a session is drawn."""
 
+from __future__ import annotations
+
+from typing import Iterator
+
 from .objects import ROOT, Objects
 from .words import plain, shown
 
 MARKS = {"?": "it may be gone", "...": "there may be more below it"}  # what stands behind an object that is drawn
 
 
-def node(objects: Objects, number, may_have_more) -> str:
+def node(objects: Objects, number: int, may_have_more: bool) -> str:
     """An object with its class, its name and its marks."""
     name = objects.names.get(number)
     parts = [str(number), plain(objects.classes[number]), shown(name) if name else None]
@@ -15,7 +19,7 @@ def node(objects: Objects, number, may_have_more) -> str:
     return " ".join(filter(None, parts))
 
 
-def branches(objects: Objects, number, may_have_more, front=""):
+def branches(objects: Objects, number: int, may_have_more: bool, front: str = "") -> Iterator[str]:
     """The lines below an object."""
     children = objects.below.get(number, [])
     for it in children:
@@ -24,7 +28,7 @@ def branches(objects: Objects, number, may_have_more, front=""):
         yield from branches(objects, it, may_have_more, front + ("    " if is_last else "|   "))
 
 
-def tree(objects: Objects, root) -> list[str]:
+def tree(objects: Objects, root: int) -> list[str]:
     """The lines of a tree, in which further objects may stand where it is not known of others where they do."""
     may_have_more = any(it != root for it in objects.adrift())
     return [node(objects, root, may_have_more), *branches(objects, root, may_have_more)]

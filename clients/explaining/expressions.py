@@ -1,22 +1,26 @@
 """Expressions of bindings, in words."""
 
+from __future__ import annotations
+
+from typing import Any
+
 from .held import is_list, is_number, is_text
 from .words import misfit, plain, shown
 
 OPERATORS = {"+": "+", "-": "-", "<": "<", "=": "=", "cat": "followed by"}
 
 
-def objects_of(form) -> set:
+def objects_of(form: Any) -> set[int]:
     """The numbers of the objects that an expression reads, whatever else it is."""
     if is_list(form):
         return set().union(*map(objects_of, form))
     if not isinstance(form, dict):
         return set()
-    own = {form["of"]} if "prop" in form and is_number(form.get("of")) else set()
+    own: set[int] = {form["of"]} if "prop" in form and is_number(form.get("of")) else set()
     return own.union(*(objects_of(form[key]) for key in (*OPERATORS, "if") if key in form))
 
 
-def spelled(form) -> str:
+def spelled(form: Any) -> str:
     """An expression as one would say it."""
     if not isinstance(form, dict):
         return misfit()
@@ -33,11 +37,11 @@ def spelled(form) -> str:
     return misfit()
 
 
-def operands(forms, count):
+def operands(forms: Any, count: int) -> list[Any]:
     return forms if is_list(forms) and len(forms) == count else misfit()
 
 
-def part(form) -> str:
+def part(form: Any) -> str:
     """An expression within another one, in brackets where it is made of others."""
     said = spelled(form)
     return said if form.keys() & {"prop", "const"} else f"({said})"

@@ -2,37 +2,49 @@
 
 from __future__ import annotations
 
+from typing import Any, Iterator
+
 from . import drawing
 from .commands import FORMS, Command
+from .following import DELETE_LATER, followed, move, post
 from .held import is_text
-from .lines import NO_SESSION, Call, Error, Line, Warned
+from .lines import NO_SESSION, Call, Error, Line, Reply, Warned
 from .objects import ROOT, Objects
-from .replies import OBJECT_NAME
+from .replies import OBJECT_NAME, Asked
+from .slots import Deed, Slots
 from .words import LINE_CODES, plain
-
-DELETE_LATER = "deleteLater()"  # the slot that every object has, and no class can declare another of this name
 
 
 class Knowledge:
-    """What is known of each session, and what was called and warned of in the command that is being done."""
+    """What is known of each session, and what was called and warned of in the command that is being done. `slots` says what
+    slots do, where it is known."""
 
-    def __init__(self):
+    def __init__(self, slots: Slots | None = None) -> None:
+        self.slots = slots
         self.sessions: dict[str, Objects] = {}
         self.calls: list[Call] = []
         self.warned: set[int] = set()
 
-    def hear(self, line: Line):
+    def hear(self, line: Line) -> None:
         """A call or a warning of the command that is being done."""
         if isinstance(line, Call):
             self.calls.append(line)
         elif isinstance(line, Warned) and line.object:
             self.warned.add(line.object)
 
-    def settle(self, session: Objects) -> bool:
-        """Leaves of what was known what the command's calls leave; answers whether they may have changed anything."""
-        may_change = any(call.call != DELETE_LATER for call in self.calls)
-        if may_change:
+    def deeds(self, session: Objects, word: str) -> list[Deed] | None:
+        """What the command's calls did, where it is known."""
+        if all(call.call == DELETE_LATER for call in self.calls):
+            return []
+        return followed(self.slots, session, word, self.calls, self.warned) if self.slots else None
+
+    def settle(self, session: Objects, word: str) -> list[Deed] | None:
+        """Leaves of what was known what the command's calls leave, but for what they are known to have moved; answers that,
+        or None where they may have changed anything."""
+        deeds = self.deeds(session, word)
+        if deeds is None:
             session.shake()
+        post(session, deeds or (), self.warned)
         session.meet(call.object for call in self.calls)
         for call in self.calls:
             if call.call == DELETE_LATER and call.object in self.warned:
@@ -40,30 +52,31 @@ class Knowledge:
             elif call.call == DELETE_LATER:
                 session.posted.add(call.object)
         self.calls, self.warned = [], set()
-        return may_change
+        return deeds
 
-    def end(self, command: Command, line: Line):
+    def end(self, command: Command, line: Line) -> None:
         """The command is done or refused."""
         if line.session == NO_SESSION:
             return
         session = self.sessions.setdefault(line.session, Objects())
-        was_shaken = self.settle(session)
+        deeds = self.settle(session, command.word)
         if isinstance(line, Error):
             refuse(session, command, line.error)
         elif command.word == "reset":
             self.sessions[line.session] = Objects()
         elif command.word not in FORMS:
             session.shake()  # nothing is known of what it does
-        else:
-            do(session, command, line.reply, was_shaken)
+        elif isinstance(line, Reply):
+            do(session, command, line.reply, deeds is None)
+            move(session, deeds or [])
 
-    def drawn(self):
+    def drawn(self) -> Iterator[str]:
         for name in sorted(self.sessions):
             yield f"objects of session {plain(name)}:"
             yield from (f"    {line}" for line in drawing.drawn(self.sessions[name]))
 
 
-def refuse(session: Objects, command: Command, code: str):
+def refuse(session: Objects, command: Command, code: str) -> None:
     """What a refusal tells."""
     named = command.objects()
     if code in ("E20", "E21"):
@@ -74,7 +87,7 @@ def refuse(session: Objects, command: Command, code: str):
         session.stand(command.own_objects())
 
 
-def do(session: Objects, command: Command, reply, was_shaken: bool):
+def do(session: Objects, command: Command, reply: Any, was_shaken: bool) -> None:
     """What a command did that was not refused."""
     word, asked, target = command.word, command.asked, command.asked.get("object", ROOT)
     if asked.get("property") == OBJECT_NAME:
@@ -92,7 +105,7 @@ def do(session: Objects, command: Command, reply, was_shaken: bool):
         tell(session, word, asked, target, reply)
 
 
-def tie(session: Objects, word: str, target: int, reply):
+def tie(session: Objects, word: str, target: int, reply: Any) -> None:
     """What a command did to the binding of an object's name."""
     if word == "bind":
         session.bind(target)
@@ -100,7 +113,7 @@ def tie(session: Objects, word: str, target: int, reply):
         session.unbind(target)
 
 
-def tell(session: Objects, word: str, asked: dict, target: int, reply):
+def tell(session: Objects, word: str, asked: Asked, target: int, reply: Any) -> None:
     """What a command did, or tells, that stands where it stood."""
     if word == "setParent":
         session.put(target, asked["parent"] or ROOT)

@@ -3,10 +3,11 @@
 from __future__ import annotations
 
 from dataclasses import dataclass
+from typing import Any, Dict, NoReturn
 
 from . import replies
 from .commands import IS_META, IS_SPIN, IS_STATUS, Command
-from .held import has, is_any, is_list, is_number, is_text, is_whole, json_object
+from .held import Holds, has, is_any, is_list, is_number, is_text, is_whole, json_object
 from .words import LINE_CODES, Misfit, arguments, coded, in_error, listed, misfit, plain, shown
 
 NO_SESSION = "-"  # what a line names where its command names no session
@@ -22,10 +23,18 @@ class Line:
 
     ends = False  # whether its command ends with it
 
+    def said(self) -> str:
+        """What it means, whichever command it answers."""
+        raise NotImplementedError
+
+    def said_to(self, command: Command) -> str:
+        """What it means where it answers this command."""
+        return self.said()
+
 
 @dataclass(frozen=True)
 class Reply(Line):
-    reply: object
+    reply: Any
 
     ends = True
 
@@ -58,7 +67,8 @@ class Error(Line):
     def said_to(self, command: Command) -> str:
         if self.error in LINE_CODES:
             return self.said()
-        form, meaning = command.form(), None
+        form = command.form()
+        meaning: str | None = None
         if form and self.error in form.refused:
             meaning = form.refused[self.error].format_map(Asked(command.asked))
         elif form and self.error == "E04":
@@ -66,14 +76,14 @@ class Error(Line):
         return f"{plain(command.word)} is refused, {coded(self.error, meaning)}"
 
 
-class Asked(dict):
+class Asked(Dict[str, Any]):
     """What a command holds, for sentences about it."""
 
-    def __getitem__(self, key):
+    def __getitem__(self, key: str) -> Any:
         held = super().__getitem__(key)
         return plain(held) if is_text(held) else held
 
-    def __missing__(self, key):
+    def __missing__(self, key: str) -> NoReturn:
         raise Misfit
 
 
@@ -82,7 +92,7 @@ class Call(Line):
     call: str
     object: int
     sender: int
-    args: list
+    args: list[Any]
 
     def said(self) -> str:
         by = f"object {self.sender}" if self.sender else "a command or a post"
@@ -119,7 +129,7 @@ class InError(Line):
         return f"{plain(self.property)} of object {self.object} is in error, {in_error(self.warning)}"
 
 
-LINES = [
+LINES: list[tuple[type[Line], dict[str, Holds]]] = [
     (Reply, {"reply": is_any, "session": is_text}),
     (Error, {"error": is_text, "session": is_text}),
     (Call, {"args": is_list, "call": is_text, "object": is_number, "sender": is_whole, "session": is_text}),

@@ -2,6 +2,8 @@
 
 from __future__ import annotations
 
+from typing import Collection, Iterable
+
 from .words import Misfit
 
 ROOT = 0  # stands for the parent of a root; no object has this number
@@ -14,7 +16,7 @@ class Objects:
     that stand are known, in their order.
     """
 
-    def __init__(self):
+    def __init__(self) -> None:
         self.classes: dict[int, str] = {}
         self.names: dict[int, str] = {}
         self.bound: set[int] = set()  # those whose names are bound, so that they change with other properties
@@ -30,22 +32,29 @@ class Objects:
 
     # ---- their names ----
 
-    def name(self, number, name):
+    def name(self, number: int, name: str) -> None:
         """An object has this name, which stays where it is not bound."""
         if number not in self.bound:
             self.names[number] = name
 
-    def bind(self, number):
+    def forget_name(self, number: int | None) -> None:
+        """The name of an object is not known any more; without its number that of any."""
+        if number is None:
+            self.names = {}
+        else:
+            self.names.pop(number, None)
+
+    def bind(self, number: int) -> None:
         """The name of an object is bound. No slot binds one."""
         self.bound.add(number)
         self.names.pop(number, None)
 
-    def unbind(self, number):
+    def unbind(self, number: int) -> None:
         self.bound.discard(number)
 
     # ---- where they stand ----
 
-    def put(self, number, parent):
+    def put(self, number: int, parent: int) -> None:
         """An object, if it stands, is a child of this one, its newest where it was not before."""
         if self.parents.get(number) == parent:
             return
@@ -55,39 +64,51 @@ class Objects:
         self.parents[number] = parent
         self.below.setdefault(parent, []).append(number)
 
-    def take(self, number):
+    def take(self, number: int) -> None:
         if number in self.parents:
             self.below[self.parents.pop(number)].remove(number)
 
-    def tree_above(self, number):
+    def tree_above(self, number: int) -> list[int]:
         """An object and those that are known to stand above it."""
         above = [number]
         while above[-1] in self.parents:
             above.append(self.parents[above[-1]])
         return above
 
-    def tree_below(self, number):
+    def tree_below(self, number: int) -> list[int]:
         """An object and those that are known to be below it."""
         found = [number]
         for it in found:
             found += self.below.get(it, [])
         return found
 
-    def all(self):
+    def child(self, number: int, name: str) -> int | None:
+        """The object of this name that stands below another one for certain, where it is known which that is, or None."""
+        level = [number]
+        while level and self.whole.issuperset(level):
+            level = [it for above in level for it in self.below.get(above, [])]
+            if not self.names.keys() >= set(level):
+                return None
+            named = [it for it in level if self.names[it] == name]
+            if named:
+                return named[0] if named[0] in self.sure else None
+        return None
+
+    def all(self) -> list[int]:
         """The objects that may stand, by number."""
         return sorted(self.classes.keys() - self.gone)
 
-    def adrift(self):
+    def adrift(self) -> list[int]:
         """The objects that may stand, it is not known where."""
         return [it for it in self.all() if it not in self.parents]
 
     # ---- whether they stand ----
 
-    def meet(self, numbers):
+    def meet(self, numbers: Iterable[int]) -> None:
         """These objects are named, and so were made before."""
         self.has_earlier = self.has_earlier or not self.classes.keys() >= set(numbers)
 
-    def stand(self, numbers):
+    def stand(self, numbers: Collection[int]) -> None:
         self.meet(numbers)
         for number in numbers:
             above = [it for it in self.tree_above(number) if it != ROOT]
@@ -95,14 +116,14 @@ class Objects:
                 raise Misfit
             self.sure.update(above)
 
-    def make(self, number, class_name, parent):
+    def make(self, number: int, class_name: str, parent: int) -> None:
         self.has_earlier = self.has_earlier or number != len(self.classes) + 1
         self.classes[number], self.names[number] = class_name, ""
         self.put(number, parent)
         self.whole.add(number)
         self.stand([number])
 
-    def remove(self, number):
+    def remove(self, number: int) -> None:
         """An object is gone, and what is known to have been below it."""
         for it in self.tree_below(number):
             self.gone.add(it)
@@ -110,24 +131,24 @@ class Objects:
             self.whole.discard(it)
         self.take(number)
 
-    def delete(self, number):
+    def delete(self, number: int) -> None:
         """An object was deleted, with all below it, and nothing else was done."""
         self.remove(number)
         self.doubt(self.adrift())
 
-    def doubt(self, numbers):
+    def doubt(self, numbers: Iterable[int]) -> None:
         """It is not known any more that these stand, and what is below them."""
         for number in numbers:
             self.sure.difference_update(self.tree_below(number))
 
     # ---- what is told of them ----
 
-    def shake(self):
+    def shake(self) -> None:
         """Slots may have moved, named and deleted any object, and asked for deletions."""
         self.parents, self.below, self.names = {}, {}, {}
         self.whole, self.sure, self.may_wait = set(), set(), True
 
-    def list_below(self, parent, numbers):
+    def list_below(self, parent: int, numbers: Collection[int]) -> None:
         """The children of an object, or the roots, are exactly these."""
         for number in set(self.below.get(parent, [])).difference(numbers):
             self.remove(number)
@@ -140,7 +161,7 @@ class Objects:
             for number in self.adrift():
                 self.remove(number)
 
-    def spin(self, left):
+    def spin(self, left: int) -> None:
         """Events were taken, until so many were left."""
         if self.may_wait:
             self.sure.clear()
@@ -151,10 +172,10 @@ class Objects:
             self.delete(number)
         self.forget_events()
 
-    def forget_events(self):
+    def forget_events(self) -> None:
         self.posted, self.may_wait = set(), False
 
-    def count(self, objects, queued):
+    def count(self, objects: int, queued: int) -> None:
         """So many objects stand, and so many events wait."""
         if queued == 0:
             self.forget_events()
@@ -165,7 +186,7 @@ class Objects:
             self.stand(self.all())
         self.has_earlier = self.has_earlier or objects > len(self.all())
 
-    def fail(self, is_certain):
+    def fail(self, is_certain: bool) -> None:
         """All is gone. Without objects before, it may be that the session was not entered, and has not failed."""
         self.failed = is_certain or bool(self.classes)
         for number in self.all():

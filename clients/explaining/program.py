@@ -5,9 +5,12 @@ from __future__ import annotations
 import argparse
 import os
 import sys
+from typing import BinaryIO, Callable, Iterator
 
 from .commands import commands_in
-from .telling import Telling
+from .knowledge import Knowledge
+from .slots import Refused, Slots
+from .telling import Said, Telling
 
 NAME = os.path.basename(sys.argv[0])
 
@@ -22,6 +25,9 @@ whose change a slot is told of, it is not known where the objects stand, nor whe
 later replies tell it. Only `deleteLater()`, which every object has, is known to do nothing before the
 next `spin`. So the tree of a session whose slots were called is whole again after a `children` for the
 roots and one for each object.
+With --classes it is known what slots do. Those that move and delete nothing leave the tree as it is, and others
+are followed where it is sure what they have done: where no action of theirs was refused, none that moves or
+deletes stands in a branch of `when`, and the lines say in which order they were done.
 Objects are drawn in the order of `children`, each with its class and its name where these are known. A name
 that is bound is not, as it changes with other properties.
 A `?` behind an object says that it may be gone, a `...` that there may be more below it.
@@ -34,7 +40,16 @@ class Stop(Exception):
     """The end of a run that cannot go on: what is to be said on standard error."""
 
 
-def words():
+class Words(argparse.Namespace):
+    """The words of the command line; `help` is the text of the help where they ask for it."""
+
+    commands: str | None
+    classes: str | None
+    tree: bool
+    help: str | None
+
+
+def words() -> Words:
     """The words of the command line; the text of the help where they ask for it."""
     parser = argparse.ArgumentParser(
         prog=NAME,
@@ -48,14 +63,18 @@ def words():
     parser.add_argument("--commands", metavar="FILE", help="the input that the lines answer, as it was given to metad")
     drawn = "draw at the end what is known of the objects of each session; needs --commands"
     parser.add_argument("--tree", action="store_true", help=drawn)
-    given = parser.parse_args()
+    slots = "the class file that metad was given, by which the tree is known better; needs --tree"
+    parser.add_argument("--classes", metavar="FILE", help=slots)
+    given = parser.parse_args(namespace=Words())
     if given.tree and given.commands is None:
         parser.error("--tree needs --commands, since replies alone do not say which objects were made")
+    if given.classes is not None and not given.tree:
+        parser.error("--classes needs --tree, since it is for the tree alone")
     given.help = parser.format_help().rstrip("\n") if given.help else None
     return given
 
 
-def lines_of(file, name):
+def lines_of(file: BinaryIO, name: str) -> Iterator[bytes]:
     """The lines of a file, as they come."""
     try:
         yield from iter(file.readline, b"")
@@ -63,24 +82,34 @@ def lines_of(file, name):
         raise Stop(f"{name} cannot be read: {error.strerror}") from None
 
 
-def opened(path):
+def opened(path: str) -> BinaryIO:
     try:
         return open(path, "rb")
     except (OSError, ValueError) as error:
         raise Stop(f"{path} cannot be opened: {getattr(error, 'strerror', None) or error}") from None
 
 
-def writer(stream):
+def slots_of(path: str) -> Slots:
+    """The slots of a class file."""
+    with opened(path) as file:
+        raw = b"".join(lines_of(file, path))
+    try:
+        return Slots(raw)
+    except Refused as why:
+        raise Stop(f"{path} is no class file that metad takes: {why}") from None
+
+
+def writer(stream: BinaryIO) -> Callable[[Said], None]:
     """What writes a line, of bytes as they are or of words, and holds nothing back."""
 
-    def say(line):
+    def say(line: Said) -> None:
         stream.write((line if isinstance(line, bytes) else line.encode("utf-8", "backslashreplace")) + b"\n")
         stream.flush()
 
     return say
 
 
-def told(given) -> int:
+def told(given: Words) -> int:
     """Tells the whole of standard input, or shows the help; answers the exit status."""
     if sys.stdin is None or sys.stdout is None:
         raise Stop("standard input and standard output have to be open")
@@ -88,7 +117,7 @@ def told(given) -> int:
     if given.help:
         say(given.help)
         return 0
-    telling = Telling(say)
+    telling = Telling(say, knowledge=Knowledge(None if given.classes is None else slots_of(given.classes)))
     if given.commands is not None:
         telling.commands = commands_in(lines_of(opened(given.commands), given.commands))
     for raw in lines_of(sys.stdin.buffer, "standard input"):
@@ -99,7 +128,7 @@ def told(given) -> int:
     return 1 if telling.misfits else 0
 
 
-def leave_output():
+def leave_output() -> None:
     """Nothing more is written, at the end of Python neither."""
     if sys.stdout is not None:
         os.dup2(os.open(os.devnull, os.O_WRONLY), sys.stdout.fileno())
@@ -116,8 +145,6 @@ def main() -> int:
     except OSError as error:
         leave_output()
         message = f"standard output cannot be written: {error.strerror}"
-    except KeyboardInterrupt:
-        return 130
     if sys.stderr is not None:
         print(f"{NAME}: {message}", file=sys.stderr)
     return 1

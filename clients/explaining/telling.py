@@ -3,7 +3,7 @@
 from __future__ import annotations
 
 from dataclasses import dataclass, field
-from typing import Callable, Iterator
+from typing import Callable, Iterator, Union
 
 from .commands import Command
 from .drawing import MARKS
@@ -11,18 +11,20 @@ from .knowledge import Knowledge
 from .lines import NO_SESSION, Error, Line, line_of
 from .words import Misfit, counted, plain
 
+Said = Union[bytes, str]  # a line as it is, or what is said of it
+
 
 @dataclass
 class Telling:
     """A transcript that is told, and the commands that it answers."""
 
-    say: Callable
+    say: Callable[[Said], None]
     commands: Iterator[Command] | None = None
     command: Command | None = None
     knowledge: Knowledge = field(default_factory=Knowledge)
     misfits: bool = False
 
-    def tell(self, raw: bytes):
+    def tell(self, raw: bytes) -> None:
         """Says a line and what it means."""
         line = line_of(raw)
         if line is not None and self.commands and self.command is None:
@@ -32,24 +34,24 @@ class Telling:
             return self.mean("not a line of metad")
         name = "no session" if line.session == NO_SESSION else f"session {plain(line.session)}"
         try:
-            said = self.paired(line) if self.command else line.said()
+            said = self.paired(self.command, line) if self.command else line.said()
         except Misfit:
             return self.give_up(f"{name}: {line.said()}")
         self.mean(f"{name}: {said}")
 
-    def mean(self, words: str):
+    def mean(self, words: str) -> None:
         self.say(f"    {words}")
 
-    def begin(self):
-        self.command = next(self.commands, None)
+    def begin(self) -> None:
+        self.command = next(self.commands, None) if self.commands else None
         if self.command:
             self.say(b"> " + self.command.raw.rstrip(b"\n"))
         else:
             self.give_up()
 
-    def give_up(self, said: str | None = None):
+    def give_up(self, said: str | None = None) -> None:
         """Goes on without commands, as they are not those of the transcript."""
-        if said:
+        if said and self.command:
             self.mean(said)
             number = self.command.number
             self.mean(f"this does not answer line {number} of the commands, which are left aside from here on")
@@ -57,9 +59,8 @@ class Telling:
             self.mean("there is no command left that the next line could answer")
         self.commands, self.command, self.misfits = None, None, True
 
-    def paired(self, line: Line) -> str:
+    def paired(self, command: Command, line: Line) -> str:
         """What a line means where it belongs to the command, which it may end."""
-        command = self.command
         if line.session != command.session and not (line.session == NO_SESSION and isinstance(line, Error)):
             raise Misfit
         if not line.ends:
@@ -70,7 +71,7 @@ class Telling:
         self.command = None
         return said
 
-    def end(self):
+    def end(self) -> None:
         """What is left without an answer."""
         if self.commands is None:
             return
@@ -80,7 +81,7 @@ class Telling:
             behind = f", and behind it {counted(further, 'line')} without one" if further else ""
             self.mean(f"line {first.number} of the commands has no answer{behind}")
 
-    def draw(self):
+    def draw(self) -> None:
         """Says what is known of the objects of each session, and what the marks there mean."""
         if self.misfits:
             return self.say("no tree: the commands are not those of this transcript")

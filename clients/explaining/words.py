@@ -1,6 +1,9 @@
 """How sentences about lines are put together, and what the codes mean."""
 
+from __future__ import annotations
+
 import json
+from typing import Any, Iterable, NoReturn
 
 CODES = {
     "E01": "the line is no JSON, no UTF-8, or too long",
@@ -38,11 +41,11 @@ class Misfit(Exception):
     """A line that is no answer to the command that it stands for."""
 
 
-def misfit():
+def misfit() -> NoReturn:
     raise Misfit
 
 
-def shown(value) -> str:
+def shown(value: Any) -> str:
     """A value as JSON."""
     return json.dumps(value, ensure_ascii=False)
 
@@ -52,10 +55,10 @@ def plain(text: str) -> str:
     return text if text.isprintable() else shown(text)
 
 
-def listed(words) -> str:
+def listed(words: Iterable[Any]) -> str:
     """Words as a sentence has them: `1, 2 and 3`."""
-    words = [str(it) for it in words]
-    return f"{', '.join(words[:-1])} and {words[-1]}" if len(words) > 1 else "".join(words)
+    said = [str(it) for it in words]
+    return f"{', '.join(said[:-1])} and {said[-1]}" if len(said) > 1 else "".join(said)
 
 
 def counted(number: int, word: str) -> str:
@@ -63,7 +66,7 @@ def counted(number: int, word: str) -> str:
     return f"{number or 'no'} {word}{'s' if number > 1 else ''}"
 
 
-def arguments(values: list) -> str:
+def arguments(values: list[Any]) -> str:
     if not values:
         return "no arguments"
     return f"{'arguments' if len(values) > 1 else 'argument'} {listed(map(shown, values))}"

@@ -13,6 +13,8 @@ from tempfile import TemporaryDirectory
 from explaining import objects
 from explaining.commands import FORMS, Command, commands_in
 from explaining.drawing import MARKS
+from explaining.knowledge import Knowledge as Known
+from explaining.slots import Slots
 from explaining.telling import Telling
 from explaining.words import CODES
 
@@ -123,17 +125,19 @@ class Protocol(Cases):
 
 class Transcripts(ProgramCases):
     """The worked transcripts of tests/explained: `commands`, and `explained` by hand, with the tree. Where the program
-    cannot be made to write them `lines` has them, and `alone` what is said to them without their commands."""
+    cannot be made to write them `lines` has them, and `alone` what is said to them without their commands. Of some there is
+    also the class file, `classes.json`, which both tools are given."""
 
     def rows(self):
         """The runs of the tool."""
         for folder in sorted(WORKED.iterdir()):
-            lines = folder / "lines"
+            lines, classes = folder / "lines", folder / "classes.json"
             if lines.exists():
                 given = lines.read_bytes()
             else:
-                given = Row(folder.name, (folder / "commands").read_bytes(), None).run(self.program).stdout
-            words = ("--commands", "commands", "--tree")
+                files = (str(classes),) if classes.exists() else ()
+                given = Row(folder.name, (folder / "commands").read_bytes(), None, words=files).run(self.program).stdout
+            words = ("--commands", "commands", "--tree", *(("--classes", "classes.json") if classes.exists() else ()))
             yield Row(folder.name, given, (folder / "explained").read_bytes(), words=words, folder=folder)
             if (folder / "alone").exists():
                 yield Row(f"{folder.name} alone", given, (folder / "alone").read_bytes())
@@ -182,11 +186,14 @@ class Followed:
     fault: str | None = None
 
 
-def knowledge_of(seed):
-    """Follows sessions by chance, up to what is held for known of one and is not so."""
+def knowledge_of(case):
+    """Follows sessions by chance, with their class file or without, up to what is held for known of one and is not so."""
+    seed, has_classes = case
     chance, followed = Chance(seed), Followed()
-    server, commands = Server(Classes(list(chance.classes())), chance.choice(TURNS)), []
-    telling = Telling(lambda line: None, iter(lambda: commands.pop(), None))
+    declared = list(chance.classes())
+    server, commands = Server(Classes(declared), chance.choice(TURNS)), []
+    slots = Slots(text_of({"classes": declared}).encode()) if has_classes else None
+    telling = Telling(lambda line: None, iter(lambda: commands.pop(), None), knowledge=Known(slots))
     for at in range(COMMANDS):
         name = chance.choice(NAMES)
         command = {**command_of(chance, server, name, at), "session": name}
@@ -206,13 +213,21 @@ def knowledge_of(seed):
 class Knowledge(Cases):
     """What is held for known of the objects of sessions by chance, beside the plain program."""
 
-    def test_knowledge(self):
-        """After no command something is held for known that is not so, and after many all is known."""
-        cases = [(f"by chance, {seed}", seed) for seed in range(SESSIONS)]
+    def check_knowledge(self, has_classes, share):
+        """After no command something is held for known that is not so, and after this share of them all is known."""
+        cases = [(f"by chance, {seed}", (seed, has_classes)) for seed in range(SESSIONS)]
         followed = self.check_each(cases, knowledge_of, lambda it: it.fault, ProcessPoolExecutor)
         states, whole = sum(it.states for it in followed), sum(it.whole for it in followed)
-        self.assertTrue(CASE or whole * 10 >= states, f"all objects are known after {whole} of {states} commands alone")
+        self.assertTrue(CASE or whole >= share * states, f"all objects are known after {whole} of {states} commands alone")
         self.tell(f"commands: {states:,}, after which all is known: {whole:,}")
+
+    def test_knowledge(self):
+        """What is held for known is so, and after many commands that is all."""
+        self.check_knowledge(False, 0.1)
+
+    def test_knowledge_by_classes(self):
+        """It is so where the class file is known too, and after most commands that is all."""
+        self.check_knowledge(True, 0.75)
 
 
 @dataclass
@@ -255,7 +270,10 @@ MISFITS = (
     *(b'{"do":{},"session":"a"}\n', b'{"class":[],"do":"new","session":"a"}\n', b"[1]\n"),
     b'{"class":"A","do":"new","parent":"x","session":"a"}\n',
 )
-STATUS_2 = [("--tree",), ("--nope",), ("file",), ("--commands",), ("--comm", "/dev/null"), ("--tree", "--commands")]
+STATUS_2 = [
+    *(("--tree",), ("--nope",), ("file",), ("--commands",), ("--comm", "/dev/null"), ("--tree", "--commands")),
+    *(("--classes", "/dev/null"), ("--classes", "/dev/null", "--commands", "/dev/null"), ("--classes",)),
+]
 
 
 def ends(room):
@@ -268,6 +286,10 @@ def ends(room):
     yield End("commands that are not there", words=("--commands", "/nonexistent"), status=1, said="cannot be opened")
     yield End("commands that are a folder", ONE, words=("--commands", "/"), status=1, said="explain: / cannot be ")
     yield End("commands of a name that is none", ONE, words=("--commands", ""), status=1, said="cannot be opened")
+    tree = (*pairing, "--tree", "--classes")
+    yield End("classes that are not there", ONE, words=(*tree, "/nonexistent"), status=1, said="cannot be opened")
+    yield End("classes that are a folder", ONE, words=(*tree, "/"), status=1, said="explain: / cannot be ")
+    yield End("classes that are refused", ONE, words=(*tree, "/dev/null"), status=1, said="metad takes: C01 at class 0")
     yield End("nothing", stdout=b"")
     lines = [line + b"\n" for line in not_lines()]
     yield End("no lines of metad", given=b"".join(lines), stdout=b"".join(line + UNKNOWN for line in lines))
@@ -296,7 +318,7 @@ class Ends(Cases):
     def test_help(self):
         """The help tells of the words of the command line, the marks and the ends."""
         said = subprocess.run([EXPLAIN, "--help"], capture_output=True, text=True, timeout=SECONDS).stdout
-        for it in ("--commands", "--tree", *MARKS, "Exit status: 0", "1 where", "2 after"):
+        for it in ("--commands", "--tree", "--classes", *MARKS, "Exit status: 0", "1 where", "2 after"):
             self.assertIn(it, said)
 
     def test_misfits(self):
