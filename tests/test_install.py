@@ -15,15 +15,18 @@ from .support.program import ROOT, SECONDS, lay_out, make, run_shell
 
 SHARED = {"bin", "share", "share/man", "share/man/man1", "share/doc"}  # folders that are not the program's own
 DOC = "share/doc/metad"
-LINK, EXPLAIN = "bin/metad-explain", "share/metad/explain"
-LINK_TO = f"../{EXPLAIN}"
-PROGRAMS = {"bin/metad", LINK, EXPLAIN}
-DOCUMENTS = ("README.md", "docs/PROTOCOL.md", "clients/python/metad.py", "examples/traffic_light/session")
+TOOLS = ("explain", "check", "shell", "front")
+LINKS = {f"bin/metad-{tool}": f"share/metad/{tool}" for tool in TOOLS}
+PROGRAMS = {"bin/metad", *LINKS, *LINKS.values()}
+DOCUMENTS = ("README.md", "docs/PROTOCOL.md", "clients/python/metad/__init__.py", "examples/traffic_light/session")
 ALWAYS = PROGRAMS | {"share/man/man1/metad.1", *(f"{DOC}/{it}" for it in DOCUMENTS)}
-OF_DOCUMENTS = ("README.md", "docs/*.md", "docs/*.json", "clients/python/*.md", "clients/python/*.py", "examples/*/*")
+OF_CLIENTS = ("python/README.md", "python/pyproject.toml", "python/metad/*.py", "python/metad/py.typed", "fronting/*.md")
+OF_DOCUMENTS = ("README.md", "docs/*.md", "docs/*.json", *(f"clients/{it}" for it in OF_CLIENTS), "examples/*/*")
 RELATIVE = re.compile(r"\]\((?!#|\w+:)([^)#]+)[^)]*\)")  # a link of a document to another file or folder
 LINE = b'{"error":"E12","session":"a"}\n'
 SAID = b"    session a: E12: the parent would be the object itself or below it\n"
+CHECKED = b"<standard input>: no fault, no warning; metad takes it\n"
+MADE = b"object 1 is made, of class QObject, a root; it is p\n"
 OF_PYTHON = ("PYTHONDONTWRITEBYTECODE", "PYTHONPYCACHEPREFIX")  # with either, Python leaves nothing beside the files
 
 
@@ -35,8 +38,9 @@ def files_in(top):
 def wanted_files():
     """What is to be installed, each with the file that it is made of."""
     made = {"bin/metad": ROOT / "bin" / "metad", "share/man/man1/metad.1": ROOT / "man" / "metad.1"}
-    made |= {name: ROOT / "clients" / "explain" for name in (LINK, EXPLAIN)}
-    made |= {f"share/metad/explaining/{path.name}": path for path in (ROOT / "clients" / "explaining").glob("*.py")}
+    for tool in TOOLS:
+        made |= {name: ROOT / "clients" / tool for name in (f"bin/metad-{tool}", f"share/metad/{tool}")}
+        made |= {f"share/metad/{tool}ing/{path.name}": path for path in (ROOT / "clients" / f"{tool}ing").glob("*.py")}
     documents = [path for pattern in OF_DOCUMENTS for path in ROOT.glob(pattern)]
     return made | {f"{DOC}/{path.relative_to(ROOT)}": path for path in documents}
 
@@ -59,8 +63,9 @@ class Install(Cases):
         for name, path in found.items():
             self.assertEqual(path.read_bytes(), wanted[name].read_bytes(), f"{name} is another file")
             self.assertEqual(oct(path.stat().st_mode & 0o777), oct(0o755 if name in PROGRAMS else 0o644), f"the mode of {name}")
-        self.assertTrue(found[LINK].is_symlink(), LINK)
-        self.assertEqual(os.readlink(found[LINK]), LINK_TO)
+        for link, to in LINKS.items():
+            self.assertTrue(found[link].is_symlink(), link)
+            self.assertEqual(os.readlink(found[link]), f"../{to}")
 
     def check_links(self, top):
         """The links of the installed documents lead to what is installed."""
@@ -81,12 +86,15 @@ class Install(Cases):
         self.assertEqual((ran.returncode, ran.stderr, ran.stdout), (0, b"", wanted), words)
 
     def check_use(self, top):
-        """`explain` and the client are used where they are installed."""
-        self.check_run([top / LINK], top, LINE, LINE + SAID)
-        client = str(top / DOC / "clients" / "python" / "metad.py")
+        """The tools and the client are used where they are installed."""
+        self.check_run([top / "bin/metad-explain"], top, LINE, LINE + SAID)
+        self.check_run([top / "bin/metad-check", "-"], top, b'{"classes":[]}', CHECKED)
+        self.check_run([top / "bin/metad-shell", top / "bin/metad"], top, b"new QObject as p\n", MADE)
+        client = str(top / DOC / "clients" / "python" / "metad" / "__init__.py")
         self.check_run(["python3", "-c", "import metad; print(metad.__file__)"], top, b"", f"{client}\n".encode())
         left = {str(path.parent.relative_to(top)) for path in top.rglob("__pycache__")}
-        self.assertEqual(left, {"share/metad/explaining", f"{DOC}/clients/python"}, "where Python has left its folders")
+        wanted = {"share/metad/explaining", "share/metad/checking", "share/metad/shelling", f"{DOC}/clients/python/metad"}
+        self.assertLessEqual(wanted, left, "where Python has left its folders")
 
     def check_stage(self, stage, prefix, kept=None):
         """Installs below a folder and takes all away again, twice each; a file that was there before has to stay."""

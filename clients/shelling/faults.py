@@ -1,0 +1,122 @@
+"""What is wrong with a refused command, by the table of commands, and what to do about a refusal."""
+
+from __future__ import annotations
+
+import difflib
+import re
+from typing import Any, Callable, Dict, List, Mapping, Set, Tuple
+
+from explaining.commands import FORMS
+
+from .reading import NAME
+
+NAME_BYTES, NUMBER_MOST = 64, 2**32 - 1
+WAYS = ("auto", "direct", "queued")
+OF_ALL = {"do", "session"}  # the keys of every command
+
+Check = Tuple[str, Callable[[Any], bool]]
+
+
+def is_name(value: Any) -> bool:
+    return isinstance(value, str) and len(value) <= NAME_BYTES and re.fullmatch(NAME, value) is not None
+
+
+def is_number(value: Any) -> bool:
+    return isinstance(value, int) and not isinstance(value, bool) and 1 <= value <= NUMBER_MOST
+
+
+def is_text(value: Any) -> bool:
+    return isinstance(value, str)
+
+
+def is_truth(value: Any) -> bool:
+    return isinstance(value, bool)
+
+
+def are_texts(value: Any) -> bool:
+    return isinstance(value, list) and all(map(is_text, value))
+
+
+A_NAME: Check = ("a name: a letter or _, then letters, digits and _, at most 64", is_name)
+A_NUMBER: Check = (f"a whole number from 1 to {NUMBER_MOST}", is_number)
+A_TEXT: Check = ("a text", is_text)
+A_TRUTH: Check = ("true or false", is_truth)
+
+CHECKS: Dict[str, Check] = {
+    **dict.fromkeys(("session", "class", "property", "functor", "from", "name"), A_NAME),
+    **dict.fromkeys(("object", "parent", "sender", "receiver", "context", "connection"), A_NUMBER),
+    **dict.fromkeys(("signal", "method"), A_TEXT),
+    **dict.fromkeys(("on", "unique", "single"), A_TRUTH),
+    "args": ("an array", lambda value: isinstance(value, list)),
+    "types": ("an array of texts", are_texts),
+    "type": ('"auto", "direct" or "queued"', lambda value: value in WAYS),
+}
+OTHERWISE: Dict[Tuple[str, str], Check] = {
+    ("find", "name"): A_TEXT,
+    ("setParent", "parent"): (f"null or {A_NUMBER[0]}", lambda value: value is None or is_number(value)),
+}
+
+TO_DO = {
+    "E01": "mend the line; it is one JSON object of at most 65,536 bytes",
+    "E02": "compare it with `help`, or with the row of its command in PROTOCOL",
+    "E03": "see that the server runs with the class file that is meant; `meta CLASS` tells of a class",
+    "E04": "forget the number, which never means another object; `children` lists what there is",
+    "E05": "look it up with `meta CLASS`; a slot is no signal",
+    "E06": "write it as `meta CLASS` does: a name and types in brackets",
+    "E07": "connect to a method that takes fewer arguments, or the same types",
+    "E08": "nothing, as a rule: what was wanted is there",
+    "E09": "leave `unique` out, and keep the number of the connection",
+    "E10": "look at the table of functors in PROTOCOL",
+    "E11": "see with `meta CLASS` what the class declares",
+    "E12": "move the parent out first",
+    "E13": "in slots that hear destroyed(), tie the sender to nothing new",
+    "E14": "make room: delete, disconnect, unbind, end, unpublish, leave, spin; shorten the text or the expression",
+    "E15": "`unpublish` that first, or take another name",
+    "E16": "connect the signal within the session",
+    "E17": "match each `end` with a `begin`",
+    "E18": 'say "bindable":true in the class file',
+    "E19": "`reset`, or go on in a new session",
+    "E20": "`reset`, and make the objects anew",
+    "E21": "`reset`, and make the objects anew; other sessions go on",
+    "E22": "give a value of the type; numbers in quotes are texts",
+    "E23": "look for a slot that calls itself; `spin` once more; else start with more --turns",
+}
+
+
+def faults_of(asked: Any) -> List[str]:
+    """What is wrong with a line that is JSON and no command, as texts for people."""
+    if not isinstance(asked, dict):
+        return ["a command is a JSON object"]
+    faults = [f"the key {key} is missing" for key in ("session", "do") if key not in asked]
+    if "session" in asked:
+        faults += fault_at("", "session", asked)
+    do = asked.get("do")
+    if isinstance(do, str) and do in FORMS:
+        return faults + faults_of_form(do, asked)
+    return faults + ([no_command(do)] if "do" in asked else [])
+
+
+def no_command(do: Any) -> str:
+    """That a word is none, and which was meant."""
+    near = difflib.get_close_matches(do, FORMS, 1) if isinstance(do, str) else []
+    return "the key do holds no command" + (f"; is {near[0]} meant?" if near else "")
+
+
+def faults_of_form(do: str, asked: Mapping[str, Any]) -> List[str]:
+    """What is wrong with the keys of a command, by that of its forms that is nearest."""
+    keys = asked.keys() - OF_ALL
+    forms: List[Tuple[Set[str], Set[str]]] = [(set(it.keys), set(it.optional)) for it in FORMS[do]]
+    required, optional = max(forms, key=lambda it: len(keys & (it[0] | it[1])))
+    faults = [f"{do} has to have the key {key}" for key in sorted(required - keys)]
+    faults += [f"{do} has no key {key}" for key in sorted(keys - required - optional)]
+    if do == "disconnect" and "method" in keys and "receiver" not in keys:
+        faults.append("disconnect has the key method only beside the key receiver")
+    for key in sorted(keys & (required | optional)):
+        faults += fault_at(do, key, asked)
+    return faults
+
+
+def fault_at(do: str, key: str, asked: Mapping[str, Any]) -> List[str]:
+    """What is wrong with what stands at a key."""
+    words, holds = OTHERWISE.get((do, key)) or CHECKS.get(key) or ("any JSON", lambda value: True)
+    return [] if holds(asked[key]) else [f"the key {key} has to hold {words}"]

@@ -1,0 +1,171 @@
+"""What the words of the command line ask for, and how a run ends."""
+
+from __future__ import annotations
+
+import argparse
+import io
+import os
+import sys
+from typing import IO, Optional
+
+import metad
+
+from .completing import keep_history, prepare
+from .faults import is_name
+from .link import Link, Unreachable, connected, ended, started
+from .saying import Speaker
+from .shell import Shell
+
+NAME = os.path.basename(sys.argv[0])
+USAGE = f"""{NAME} [--session NAME] [--strict] PROGRAM [ARGS..]
+       {NAME} [--session NAME] [--strict] --socket SOCKET"""
+
+HELP = f"""\
+Lines are short forms of commands, as `new Probe as p`, `p.ping()`, `p.x = 5`, `p.x` and
+`connect p.ping() -> c.note()`, of which `help` tells all. A line that begins with a brace is sent as it is.
+Where input and output are a terminal, lines are edited, completed by the tabulator and kept in
+$XDG_STATE_HOME/metad/history. An interrupt cancels a line, and the end of the input ends the shell.
+Nothing is coloured where NO_COLOR is set.
+
+Exit status: 0 at the end of the input, 1 where the server has ended before or with another status than 0,
+where it cannot be reached, and with --strict after a refusal, 2 after a mistake in the command line."""
+
+
+class Stop(Exception):
+    """The end of a run that cannot go on: what is to be said on standard error."""
+
+
+def words() -> argparse.Namespace:
+    """The words of the command line; the text of the help where they ask for it."""
+    parser = argparse.ArgumentParser(
+        prog=NAME,
+        usage=USAGE,
+        description="A line editor over a metad: short forms of commands, and answers in words.",
+        epilog=HELP,
+        formatter_class=argparse.RawDescriptionHelpFormatter,
+        allow_abbrev=False,
+        add_help=False,
+    )
+    parser.add_argument("-h", "--help", action="store_true", help="show this help and exit")
+    parser.add_argument("--session", metavar="NAME", default="a", help="the session that is spoken for, a without it")
+    parser.add_argument("--strict", action="store_true", help="end at the first refusal")
+    parser.add_argument("--socket", metavar="SOCKET", help="where a front listens")
+    parser.add_argument("words", metavar="PROGRAM [ARGS..]", nargs=argparse.REMAINDER, help="the server, and its words")
+    given = parser.parse_args()
+    given.text = parser.format_help().rstrip("\n") if given.help else None
+    given.words = given.words[1:] if given.words[:1] == ["--"] else given.words
+    if given.text is None:
+        check(parser, given)
+    return given
+
+
+def check(parser: argparse.ArgumentParser, given: argparse.Namespace) -> None:
+    """Says what is wrong with the words together."""
+    if not is_name(given.session):
+        parser.error(f"{given.session!r} cannot be the name of a session")
+    if bool(given.words) == (given.socket is not None):
+        parser.error("wanted is either a program or --socket")
+
+
+def linked(given: argparse.Namespace) -> Link:
+    """The server that the words ask for."""
+    try:
+        return started(given.words) if given.socket is None else connected(given.socket)
+    except Unreachable as unreachable:
+        raise Stop(str(unreachable)) from None
+
+
+def is_coloured(stream: IO[str]) -> bool:
+    """Whether colours are wanted."""
+    return stream.isatty() and not os.environ.get("NO_COLOR") and os.environ.get("TERM") != "dumb"
+
+
+def converse(shell: Shell) -> None:
+    """Does the lines that are typed, in which an interrupt cancels one."""
+    prepare(shell)
+    if isinstance(sys.stdin, io.TextIOWrapper):
+        sys.stdin.reconfigure(errors="surrogateescape")
+    try:
+        while not shell.is_over:
+            try:
+                line = input(f"{shell.name}> ")
+                shell.do(line.encode(sys.stdin.encoding, "surrogateescape"))
+            except KeyboardInterrupt:
+                end_line()
+            except EOFError:
+                end_line()
+                return
+    finally:
+        keep_history()
+
+
+def end_line() -> None:
+    """Leaves a line that was begun on the terminal."""
+    sys.stdout.write("\n")
+    sys.stdout.flush()
+
+
+def read_through(shell: Shell) -> None:
+    """Does the lines of an input that is no terminal."""
+    while not shell.is_over:
+        try:
+            line = sys.stdin.buffer.readline()
+        except OSError as error:
+            raise Stop(f"standard input cannot be read: {error.strerror}") from None
+        if not line:
+            return
+        shell.do(line[:-1] if line.endswith(b"\n") else line)
+
+
+def run(given: argparse.Namespace) -> int:
+    """Does all lines; answers the exit status."""
+    speaker = Speaker(sys.stdout.buffer, is_coloured(sys.stdout))
+    link = linked(given)
+    status: Optional[int] = 0
+    try:
+        shell = Shell(link, speaker, given.session, given.strict)
+        (converse if sys.stdin.isatty() and sys.stdout.isatty() else read_through)(shell)
+    except metad.ServerGone:
+        raise Stop(ended(link.end())) from None
+    except metad.StrangeLine as strange:
+        raise Stop(str(strange)) from None
+    finally:
+        status = link.end()
+    if status:
+        raise Stop(ended(status))
+    return 1 if given.strict and shell.was_refused else 0
+
+
+def leave_output() -> None:
+    """Nothing more is written, at the end of Python neither."""
+    if sys.stdout is not None:
+        os.dup2(os.open(os.devnull, os.O_WRONLY), sys.stdout.fileno())
+
+
+def told(given: argparse.Namespace) -> int:
+    """Runs the shell, or shows the help."""
+    if sys.stdin is None or sys.stdout is None:
+        raise Stop("standard input and standard output have to be open")
+    if given.text is None:
+        return run(given)
+    sys.stdout.write(f"{given.text}\n")
+    sys.stdout.flush()
+    return 0
+
+
+def main() -> int:
+    try:
+        return told(words())
+    except Stop as stop:
+        message = str(stop)
+    except BrokenPipeError:
+        leave_output()
+        return 0
+    except OSError as error:
+        leave_output()
+        message = f"standard output cannot be written: {error.strerror}"
+    except KeyboardInterrupt:
+        return 130
+    if sys.stderr is not None:
+        print(f"{NAME}: {message}", file=sys.stderr)
+    return 1

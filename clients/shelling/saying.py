@@ -1,0 +1,95 @@
+"""How answers are said: replies, calls, warnings and refusals, with the names that objects were given."""
+
+from __future__ import annotations
+
+import json
+from typing import IO, Any, Dict, List, Mapping
+
+import metad
+from explaining.commands import FORMS
+from explaining.words import CODES, ERRORS, Misfit, plain, shown
+
+from .faults import TO_DO
+from .known import OBJECT_KEYS, Known
+
+COLOURS = {"reply": "32", "call": "36", "warning": "33", "refusal": "31", "note": "2"}
+
+
+class Speaker:
+    """Writes lines for people, in colours where these are wanted."""
+
+    def __init__(self, stream: IO[bytes], is_coloured: bool) -> None:
+        self.stream = stream
+        self.is_coloured = is_coloured
+
+    def say(self, kind: str, text: str) -> None:
+        """Says something, of which nothing moves the cursor but the end of its line."""
+        seen = "".join(it if it.isprintable() else ascii(it)[1:-1] for it in text)
+        said = f"\x1b[{COLOURS[kind]}m{seen}\x1b[0m" if self.is_coloured else seen
+        self.stream.write(said.encode("utf-8", "backslashreplace") + b"\n")
+        self.stream.flush()
+
+
+def compact(value: Any) -> str:
+    """A value as JSON, in the form in which the server writes it."""
+    return json.dumps(value, ensure_ascii=False, separators=(",", ":"))
+
+
+def call_said(call: metad.Call, known: Known) -> str:
+    """A call of a slot or a functor."""
+    by = known.label(call.sender) if call.sender else "a command or a post"
+    target = known.label(call.object)
+    called = f"{target}.{plain(call.method)} called" if "(" in call.method else f"{plain(call.method)} called for {target}"
+    return f"{called} with {compact(call.args)} by {by}"
+
+
+def warning_said(warned: metad.Warned, known: Known) -> str:
+    """A warning: of an action, of a signal, of the turns, or of a property in error."""
+    label = known.label(warned.object)
+    if warned.property_name is not None:
+        meaning = ERRORS.get(warned.code, metad.meaning_of(warned.code))
+        return f"warning: {label}.{plain(warned.property_name)} is in error, {plain(warned.code)}: {meaning}"
+    meaning = CODES.get(warned.code, metad.meaning_of(warned.code))
+    about = "" if warned.object is None else f" of {label}"
+    return f"warning{about}, {plain(warned.code)}: {meaning}; {TO_DO.get(warned.code, 'see PROTOCOL')}"
+
+
+def labelled(asked: Mapping[str, Any], known: Known) -> Dict[str, Any]:
+    """A command with the names of its objects in place of their numbers."""
+    named = {key: known.label(asked[key]) for key in OBJECT_KEYS if asked.get(key) is not None}
+    return {**asked, **named}
+
+
+def reply_said(asked: Mapping[str, Any], reply: Any, known: Known) -> str:
+    """What the reply to a command means."""
+    do = asked.get("do")
+    named: Any = reply
+    if do == "children":
+        named = [known.label(it) for it in reply]
+    elif do == "find" and reply is not None:
+        named = known.label(reply)
+    for form in FORMS.get(str(do), []):
+        try:
+            if form.is_of(dict(asked)) and form.reply(reply):
+                return str(form.said(labelled(asked, known), named))
+        except (Misfit, LookupError, TypeError, AttributeError, ValueError):
+            continue
+    return f"done, and the reply is {shown(reply)}"
+
+
+def refusal_said(asked: Mapping[str, Any], code: str, known: Known) -> str:
+    """What a refusal means, in the words of its command where it has its own."""
+    for form in FORMS.get(str(asked.get("do")), []):
+        try:
+            if form.is_of(dict(asked)) and code in form.refused:
+                said = form.refused[code].format_map({key: plain(str(it)) for key, it in labelled(asked, known).items()})
+                return f"refused, {plain(code)}: {said}"
+        except (Misfit, LookupError, TypeError, AttributeError, ValueError):
+            continue
+    return f"refused, {plain(code)}: {CODES.get(code, metad.meaning_of(code))}"
+
+
+def advice(code: str, faults: List[str]) -> List[str]:
+    """What is wrong, where that is known, and what to do."""
+    to_do = TO_DO.get(code)
+    return [*faults, *([] if to_do is None else [f"to do: {to_do}"])]
