@@ -4,7 +4,7 @@
 # make tests  runs every test on bin/metad as it is; make rows, random, program, memory, classes, clients and test_install
 #             run those of tests/test_rows and so on
 # make bench  counts the program's instructions; with LAST=PROGRAM also beside an earlier one; STANDS=1 writes down the counts
-# make install, make uninstall   bin/metad, its manual page, the documents, the client, the examples and explain, below PREFIX
+# make install, make uninstall   bin/metad, its manual page, the documents, the client, the examples and the tools, below PREFIX
 
 PROGRAM = meta_main
 CRATE = crates/$(PROGRAM)
@@ -61,27 +61,34 @@ MAN = $(DESTDIR)$(PREFIX)/share/man/man1
 DOC = $(DESTDIR)$(PREFIX)/share/doc/metad
 SHARE = $(DESTDIR)$(PREFIX)/share/metad
 # the documents and what they lead to, which stands below DOC as it stands here
-DOCUMENTS = README.md $(wildcard docs/*.md docs/*.json clients/python/*.md clients/python/*.py examples/*/*)
-FOLDERS = $(filter-out ./,$(sort $(dir $(DOCUMENTS)))) clients examples
-EXPLAINING = $(wildcard clients/explaining/*.py)
+PYTHON = clients/python
+OF_PYTHON = README.md pyproject.toml metad/py.typed metad/*.py
+DOCUMENTS = README.md $(wildcard docs/*.md docs/*.json $(OF_PYTHON:%=$(PYTHON)/%) clients/fronting/*.md examples/*/*)
+FOLDERS = $(PYTHON)/metad $(filter-out ./ $(PYTHON)/metad/,$(sort $(dir $(DOCUMENTS)))) clients examples
+# each is installed as metad-TOOL; what it is made of stands in clients/TOOLing
+TOOLS = explain check shell front
+OF_TOOLS = $(TOOLS) $(patsubst clients/%,%,$(wildcard $(TOOLS:%=clients/%ing/*.py)))
 
 # takes bin/metad as it is
 install:
 	@test -f bin/metad || { echo "bin/metad is not there yet: make builds it"; exit 1; }
-	install -d "$(BIN)" "$(MAN)" "$(DOC)" "$(SHARE)/explaining"
+	install -d "$(BIN)" "$(MAN)" "$(DOC)" "$(SHARE)"
 	install bin/metad "$(BIN)/metad"
 	install -m 644 man/metad.1 "$(MAN)/metad.1"
 	for it in $(DOCUMENTS); do install -D -m 644 "$$it" "$(DOC)/$$it" || exit; done
-	install clients/explain "$(SHARE)/explain"
-	install -m 644 $(EXPLAINING) "$(SHARE)/explaining"
-	ln -sf ../share/metad/explain "$(BIN)/metad-explain"
+	for it in $(TOOLS); do \
+		install -d "$(SHARE)/$${it}ing" && \
+		install clients/$$it "$(SHARE)/$$it" && \
+		install -m 644 clients/$${it}ing/*.py "$(SHARE)/$${it}ing" && \
+		ln -sf ../share/metad/$$it "$(BIN)/metad-$$it" || exit; \
+	done
 
 # takes away all that install puts there, what Python has left beside it, and the folders that hold nothing else
 uninstall:
-	rm -f "$(BIN)/metad" "$(BIN)/metad-explain" "$(MAN)/metad.1" "$(SHARE)/explain"
-	rm -f $(patsubst %,"$(DOC)/%",$(DOCUMENTS)) $(patsubst clients/%,"$(SHARE)/%",$(EXPLAINING))
-	rm -rf "$(DOC)/clients/python/__pycache__" "$(SHARE)/explaining/__pycache__"
-	for it in $(patsubst %,"$(DOC)/%",$(FOLDERS)) "$(DOC)" "$(SHARE)/explaining" "$(SHARE)"; do \
+	rm -f "$(BIN)/metad" $(TOOLS:%="$(BIN)/metad-%") "$(MAN)/metad.1"
+	rm -f $(DOCUMENTS:%="$(DOC)/%") $(OF_TOOLS:%="$(SHARE)/%")
+	rm -rf "$(DOC)/$(PYTHON)/metad/__pycache__" $(TOOLS:%="$(SHARE)/%ing/__pycache__")
+	for it in $(FOLDERS:%="$(DOC)/%") "$(DOC)" $(TOOLS:%="$(SHARE)/%ing") "$(SHARE)"; do \
 		test ! -d "$$it" || rmdir --ignore-fail-on-non-empty "$$it"; \
 	done
 
