@@ -27,13 +27,28 @@ class Terminal:
 
     def wait(self, text):
         """Waits until a text is shown; answers what came before it."""
-        until = time.monotonic() + PATIENCE
+        if not self.comes(text, PATIENCE):
+            self.test.fail(f"{text!r} is not shown, but {self.shown!r}")
+        before, self.shown = self.shown.split(text, 1)
+        return before
+
+    def interrupt(self, text):
+        """Presses Ctrl-C until a text is shown, as one would: a line editor that has just shown its prompt, and does not
+        wait for a key yet, sees the interrupt when the next key comes."""
+        for _ in range(PATIENCE):
+            self.type("\x03")
+            if self.comes(text, 1):
+                break
+        self.wait(text)
+
+    def comes(self, text, seconds):
+        """Whether a text is shown in that time."""
+        until = time.monotonic() + seconds
         while text not in self.shown:
             ready, _, _ = select.select([self.master], [], [], max(0, until - time.monotonic()))
             if not ready or not self.read():
-                self.test.fail(f"{text!r} is not shown, but {self.shown!r}")
-        before, self.shown = self.shown.split(text, 1)
-        return before
+                return False
+        return True
 
     def read(self):
         """Takes what is shown; answers whether there was anything before the end."""
