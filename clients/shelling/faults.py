@@ -1,4 +1,4 @@
-"""What is wrong with a refused command, by the table of commands, and what to do about a refusal."""
+"""What is wrong with a refused command, by the table of commands."""
 
 from __future__ import annotations
 
@@ -54,32 +54,6 @@ CHECKS: Dict[str, Check] = {
 OTHERWISE: Dict[Tuple[str, str], Check] = {
     ("find", "name"): A_TEXT,
     ("setParent", "parent"): (f"null or {A_NUMBER[0]}", lambda value: value is None or is_number(value)),
-}
-
-TO_DO = {
-    "E01": "mend the line; it is one JSON object of at most 65,536 bytes",
-    "E02": "compare it with `help`, or with the row of its command in PROTOCOL",
-    "E03": "see that the server runs with the class file that is meant; `meta CLASS` tells of a class",
-    "E04": "forget the number, which never means another object; `children` lists what there is",
-    "E05": "look it up with `meta CLASS`; a slot is no signal",
-    "E06": "write it as `meta CLASS` does: a name and types in brackets",
-    "E07": "connect to a method that takes fewer arguments, or the same types",
-    "E08": "nothing, as a rule: what was wanted is there",
-    "E09": "leave `unique` out, and keep the number of the connection",
-    "E10": "look at the table of functors in PROTOCOL",
-    "E11": "see with `meta CLASS` what the class declares",
-    "E12": "move the parent out first",
-    "E13": "in slots that hear destroyed(), tie the sender to nothing new",
-    "E14": "make room: delete, disconnect, unbind, end, unpublish, leave, spin; shorten the text or the expression",
-    "E15": "`unpublish` that first, or take another name",
-    "E16": "connect the signal within the session",
-    "E17": "match each `end` with a `begin`",
-    "E18": 'say "bindable":true in the class file',
-    "E19": "`reset`, or go on in a new session",
-    "E20": "`reset`, and make the objects anew",
-    "E21": "`reset`, and make the objects anew; other sessions go on",
-    "E22": "give a value of the type; numbers in quotes are texts",
-    "E23": "look for a slot that calls itself; `spin` once more; else start with more --turns",
 }
 
 

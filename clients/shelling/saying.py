@@ -9,7 +9,6 @@ import metad
 from explaining.commands import FORMS
 from explaining.words import CODES, ERRORS, Misfit, plain, shown
 
-from .faults import TO_DO
 from .known import OBJECT_KEYS, Known
 
 COLOURS = {"reply": "32", "call": "36", "warning": "33", "refusal": "31", "note": "2"}
@@ -51,7 +50,7 @@ def warning_said(warned: metad.Warned, known: Known) -> str:
         return f"warning: {label}.{plain(warned.property_name)} is in error, {plain(warned.code)}: {meaning}"
     meaning = CODES.get(warned.code, metad.meaning_of(warned.code))
     about = "" if warned.object is None else f" of {label}"
-    return f"warning{about}, {plain(warned.code)}: {meaning}; {TO_DO.get(warned.code, 'see PROTOCOL')}"
+    return f"warning{about}, {plain(warned.code)}: {meaning}; {metad.advice_on(warned.code) or 'see PROTOCOL'}"
 
 
 def labelled(asked: Mapping[str, Any], known: Known) -> Dict[str, Any]:
@@ -91,5 +90,5 @@ def refusal_said(asked: Mapping[str, Any], code: str, known: Known) -> str:
 
 def advice(code: str, faults: List[str]) -> List[str]:
     """What is wrong, where that is known, and what to do."""
-    to_do = TO_DO.get(code)
-    return [*faults, *([] if to_do is None else [f"to do: {to_do}"])]
+    to_do = metad.advice_on(code)
+    return [*faults, *([f"to do: {to_do}"] if to_do else [])]

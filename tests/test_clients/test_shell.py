@@ -16,10 +16,11 @@ import time
 from contextlib import contextmanager
 from pathlib import Path
 
-from shelling.faults import TO_DO, faults_of
+import metad
+from shelling.faults import faults_of
 from shelling.infix import expression_of
 from shelling.reading import Mistake
-from shelling.saying import Speaker
+from shelling.saying import Speaker, advice
 
 from tests.plain.lines import is_command
 from tests.plain.values import is_name as is_known_name
@@ -190,7 +191,8 @@ class Words(ShellCases):
 
     def test_codes(self):
         """Each code of the protocol says what to do."""
-        self.assertEqual(TO_DO.keys(), protocol.codes().keys())
+        for code in protocol.codes():
+            self.assertEqual(advice(code, []), [f"to do: {metad.ADVICE[code]}"], code)
 
     def test_faults(self):
         """Of a line that is no command it is said which key is missing, unknown, or holds what it may not."""
@@ -300,7 +302,7 @@ class Words(ShellCases):
         server = ("sh", "-c", f"read line; echo '{made}'; read line; echo '{failed}'; cat > /dev/null")
         said = self.said("new Probe as p\nstatus\np.ping()\n", server=server).splitlines()
         self.assertTrue(said[1].startswith("refused, E20: the session has failed"), said)
-        self.assertEqual(said[2:], ["    to do: `reset`, and make the objects anew", "not sent: p is gone: object 1 was deleted"])
+        self.assertEqual(said[2:], ["    to do: `reset` the session, and make its objects anew; other sessions go on", "not sent: p is gone: object 1 was deleted"])
 
     def test_sessions(self):
         """Names are those of their session; lines of another one say of which they are."""
