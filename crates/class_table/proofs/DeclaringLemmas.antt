@@ -210,6 +210,7 @@ fits_behind classes base name method_offset property_offset new written own_meth
     let two = both_true _ _ once in
     record {
       is_new = free;
+      below = refl;
       base_is_there = λ b e. (let is : base ≡ b = cc in let P : ℕ → Type 0 = λ n. n < length classes in subst P is there);
       method_offset = m_is;
       property_offset = p_is;

@@ -1,5 +1,5 @@
 -- What the classes of a table have.
-use Rattle.std.proofs.Common.{◌≡◌, ◌⊎◌, inl, inr, ℕ, zero, suc, ◌+◌, ◌<◌, ◌≤◌, Bool, List, [], ◌∷◌, ◌++◌, length, reverse, slice_get, Option, Some, None, true, IsTrue, codes, refl, sym, ap, ◌∙◌, subst, arith, length-append, position, bytes_eq}
+use Rattle.std.proofs.Common.{◌≡◌, ◌⊎◌, inl, inr, ℕ, zero, suc, ◌+◌, ◌<◌, ◌≤◌, Bool, List, [], ◌∷◌, ◌++◌, length, reverse, slice_get, Option, Some, None, true, IfSome, IsTrue, codes, is_some, refl, sym, ap, ◌∙◌, subst, arith, length-append, position, bytes_eq}
 use Rattle.std.specs.List.{All}
 use Rattle.std.specs.Option.{option_map, option_map_or, option_or, ForSome}
 use Rattle.std.proofs.lemmas.List.{reverse-append, length-reverse}
@@ -109,12 +109,21 @@ pub IsTable-push : (classes : List Class) (new : Class) → IsTable classes → 
 IsTable-push classes new table room fits = record {
   few = omega (arith, length-append classes (new ∷ []));
   first = still classes table.first;
+  below = λ index. below index (slice_get (classes ++ new ∷ []) (suc index)) refl;
   each = λ index class e. by index class (seam classes new index class e);
 }
   where
     still : (classes : List Class) → slice_get classes 0 ≡ Some q_object → slice_get (classes ++ new ∷ []) 0 ≡ Some q_object
     still [] e = absurd (cc)
     still (class ∷ rest) e = e
+
+    based : (index : ℕ) (class : Class) → ((suc index < length classes) × (slice_get classes (suc index) ≡ Some class)) ⊎ ((suc index ≡ length classes) × (new ≡ class)) → IsTrue (is_some class.superclass)
+    based index class (inl p) = subst (λ found. IfSome found (λ (class : Class). IsTrue (is_some class.superclass))) p.1 (table.below index)
+    based index class (inr p) = subst (λ (class : Class). IsTrue (is_some class.superclass)) p.1 fits.below
+
+    below : (index : ℕ) (found : Option Class) → slice_get (classes ++ new ∷ []) (suc index) ≡ found → IfSome found (λ class. IsTrue (is_some class.superclass))
+    below index None e = tt
+    below index (Some class) e = based index class (seam classes new (suc index) class e)
 
     by : (index : ℕ) (class : Class) → ((index < length classes) × (slice_get classes index ≡ Some class)) ⊎ ((index ≡ length classes) × (new ≡ class)) → IsClassAt (classes ++ new ∷ []) index class
     by index class (inl p) = kept classes new index class p.0 (table.each index class p.1)
@@ -137,10 +146,12 @@ three a b c first second third = All-cons IsMethod a (b ∷ c ∷ []) first (All
 one : (P : Property → Type 0) (property : Property) → P property → All P (property ∷ [])
 one P property h = All-cons P property [] h (All-nil P)
 
-first_fits : FitsBehind [] q_object
-first_fits = record {
-  is_new = refl;
-  base_is_there = λ b e. absurd (cc);
+first_class : IsClassAt (q_object ∷ []) 0 q_object
+first_class = record {
+  base_is_earlier = λ b e. absurd (cc);
+  its_line = of_class-new (λ at c. at ∷ []) [] q_object;
+  its_methods = of_class-new (λ at c. c.methods) [] q_object;
+  its_properties = of_class-new (λ at c. c.properties) [] q_object;
   method_offset = refl;
   property_offset = refl;
   few_methods = omega arith;
@@ -152,13 +163,13 @@ first_fits = record {
 }
 
 pub first_table : IsTable (q_object ∷ [])
-first_table = record { few = omega arith; first = refl; each = at }
+first_table = record { few = omega arith; first = refl; below = λ index. tt; each = at }
   where
     at : (index : ℕ) (class : Class) → slice_get (q_object ∷ []) index ≡ Some class → IsClassAt (q_object ∷ []) index class
     at zero class e =
         let is : q_object ≡ class = cc in
         let P : Class → Type 0 = λ c. IsClassAt (q_object ∷ []) 0 c in
-        subst P is (joined [] q_object first_fits)
+        subst P is first_class
     at (suc index) class e = absurd (cc)
 
 -- a property's signal, where more methods stand behind

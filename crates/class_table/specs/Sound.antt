@@ -1,5 +1,5 @@
 -- What holds of every table of classes.
-use Rattle.std.specs.Prelude.{◌≡◌, ◌<◌, ◌≤◌, ◌+◌, ◌&&◌, ℕ, Bool, true, false, List, [], ◌∷◌, ◌++◌, Some, None, IsTrue, slice_get, length}
+use Rattle.std.specs.Prelude.{◌≡◌, ◌<◌, ◌≤◌, ◌+◌, ◌&&◌, ℕ, suc, Bool, true, false, List, [], ◌∷◌, ◌++◌, Some, None, IfSome, IsTrue, is_some, slice_get, length}
 use Rattle.std.specs.List.{All}
 use Rattle.std.specs.Option.{option_map_or, ForSome}
 use Rattle.signature_core.specs.declared.kind.Kind.{Kind}
@@ -45,6 +45,7 @@ pub record IsClassAt (classes : List Class) (index : ℕ) (class : Class) : Type
 -- nothing twice or too often, and sound methods and properties
 pub record FitsBehind (classes : List Class) (class : Class) : Type 0 where
   pub is_new : index_of class.name classes ≡ None
+  pub below : IsTrue (is_some class.superclass)
   pub base_is_there : ForSome class.superclass (λ base. base < length classes)
   pub method_offset : class.method_offset ≡ length (inherited (methods classes) class.superclass)
   pub property_offset : class.property_offset ≡ length (inherited (properties classes) class.superclass)
@@ -59,4 +60,6 @@ pub record FitsBehind (classes : List Class) (class : Class) : Type 0 where
 pub record IsTable (classes : List Class) : Type 0 where
   pub few : length classes ≤ CLASSES + 1
   pub first : slice_get classes 0 ≡ Some q_object
+  -- each class but the first has a superclass
+  pub below : (index : ℕ) → IfSome (slice_get classes (suc index)) (λ class. IsTrue (is_some class.superclass))
   pub each : (index : ℕ) (class : Class) → slice_get classes index ≡ Some class → IsClassAt classes index class

@@ -1,4 +1,6 @@
 //! How it is called.
+ghost use Rattle.std.specs.Prelude.{◌≡◌};
+ghost use Rattle.connection_types.specs.Modes.{mode_named};
 
 /// How a connection's callee is called (`Qt::ConnectionType`).
 #[derive(Clone, Copy, PartialEq, Eq)]
@@ -9,4 +11,18 @@ pub enum ConnectionType {
     Direct,
     /// By an event that is posted to the session's queue.
     Queued,
+}
+
+impl ConnectionType {
+    /// The type of this name, as class files and commands spell it.
+    pub fn from_name(name: &str) -> Option<ConnectionType>
+        ensures { result ≡ mode_named name.now }
+    {
+        match name {
+            "auto" => Some(ConnectionType::Auto),
+            "direct" => Some(ConnectionType::Direct),
+            "queued" => Some(ConnectionType::Queued),
+            _ => None,
+        }
+    }
 }

@@ -1,5 +1,5 @@
 -- The forms of actions in JSON that do one thing.
-use Rattle.std.specs.Prelude.{◌&&◌, ◌||◌, ℕ, Bool, false, List, [], ◌∷◌, Option, Some, None, Ok, Err, codes, bytes_eq, if◌then◌else◌, is_none, is_some, option_and_then}
+use Rattle.std.specs.Prelude.{◌&&◌, ◌||◌, ℕ, Bool, false, List, [], ◌∷◌, Option, Some, None, Ok, Err, codes, is_none, is_some, option_and_then}
 use Rattle.std.specs.Option.{option_map_or}
 use Rattle.serde_json.specs.Data.{Data, null, Items, no_items, item}
 use Rattle.serde_json.specs.Find.{get, as_array, as_bool, as_str}
@@ -10,6 +10,7 @@ use Rattle.term_core.specs.declared.action.Effect.{Effect}
 use Rattle.term_core.specs.declared.action.Effect.TheVariants as e
 use Rattle.connection_types.specs.declared.connection_type.ConnectionType.{ConnectionType}
 use Rattle.connection_types.specs.declared.connection_type.ConnectionType.TheVariants as mode
+use Rattle.connection_types.specs.Modes.{mode_named}
 use Rattle.term_core.specs.declared.scope.Scope.{Scope}
 use Rattle.term_core.specs.Term.{Term}
 use Rattle.term_core.specs.Json.{Read, ◌>>=◌, formed, where_holds, has_only, where_only, at_key, name_in, target_in}
@@ -33,12 +34,6 @@ abbrev pub flag_in : List ℕ → Data → Read Bool
 flag_in key json = option_map_or (λ there. formed (as_bool there)) (get key json) (Ok false)
 
 -- how calls are made
-abbrev pub mode_named : List ℕ → Option ConnectionType
-mode_named word =
-    if bytes_eq word (codes "auto") then Some mode.Auto else (
-    if bytes_eq word (codes "direct") then Some mode.Direct else (
-    if bytes_eq word (codes "queued") then Some mode.Queued else None))
-
 abbrev pub mode_in : Data → Read ConnectionType
 mode_in json = option_map_or (λ there. formed (option_and_then mode_named (as_str there))) (get (codes "type") json) (Ok mode.Auto)
 

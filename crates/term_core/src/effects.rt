@@ -3,7 +3,7 @@ ghost use Rattle.std.specs.Prelude.{◌≡◌, codes};
 ghost use Rattle.serde_json.specs.View.{view, items_view};
 ghost use Rattle.refusals.specs.Answers.{Answers};
 ghost use Rattle.term_core.specs.Json.{target_in};
-ghost use Rattle.term_core.specs.Effects.{signature_in, unless_null, optional, flag_in, mode_in, mode_named, terms_in, set_in, emit_in, connect_in, has_receiver, disconnect_in, delete_in, delete_later_in, block_in, set_parent_in, effect_in};
+ghost use Rattle.term_core.specs.Effects.{signature_in, unless_null, optional, flag_in, mode_in, terms_in, set_in, emit_in, connect_in, has_receiver, disconnect_in, delete_in, delete_later_in, block_in, set_parent_in, effect_in};
 
 use crate::action::Effect;
 use crate::expr::Expr;
@@ -62,23 +62,12 @@ fn flag(json: &Json, key: &str) -> Result<bool, Fault>
     }
 }
 
-fn mode_from_name(name: &str) -> Option<ConnectionType>
-    ensures { result ≡ mode_named name.now }
-{
-    match name {
-        "auto" => Some(ConnectionType::Auto),
-        "direct" => Some(ConnectionType::Direct),
-        "queued" => Some(ConnectionType::Queued),
-        _ => None,
-    }
-}
-
 /// The mode behind the key `type`.
 fn mode(json: &Json) -> Result<ConnectionType, Fault>
     ensures { Answers result (mode_in (view json.now)) }
 {
     match json.get("type") {
-        Some(name) => name.as_str().and_then(mode_from_name).ok_or(BAD),
+        Some(name) => name.as_str().and_then(ConnectionType::from_name).ok_or(BAD),
         None => Ok(ConnectionType::Auto),
     }
 }

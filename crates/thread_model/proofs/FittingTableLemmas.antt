@@ -8,7 +8,6 @@ use Rattle.std.proofs.lemmas.List.Elements.{All-append, All-nil, All-weaker}
 use Rattle.std.proofs.lemmas.Option.{get_or_from_slice_get, slice_get-get_or, slice_get_past, slice_get_within}
 use Rattle.term_core.specs.declared.limits.TheConstants.{ACTIONS}
 use Rattle.term_core.specs.Act.{acts_of, are_limited, counts}
-use Rattle.term_core.specs.Bodies.{is_body_limited}
 use Rattle.class_table.specs.declared.class.Class.{Class}
 use Rattle.class_table.specs.declared.class.Method.{Method}
 use Rattle.class_table.specs.declared.class.Property.{Property}
@@ -17,6 +16,7 @@ use Rattle.class_table.specs.Lookup.{inherited, methods, properties}
 use Rattle.class_table.specs.Sound.{IsClassAt, IsMethod, IsTable, is_told}
 use Rattle.class_table.proofs.TableLemmas.{of_class-none, told_behind}
 use Rattle.stored_slots.specs.declared.functor.Functor.{Functor}
+use Rattle.stored_slots.specs.Functors.{IsFunctor}
 use Rattle.thread_model.specs.Fitting.{AreSettings}
 use Rattle.thread_model.specs.Settings.{Settings}
 
@@ -100,7 +100,7 @@ module _ (settings : Settings) (are : AreSettings settings) where
       by zero class is None so has handed =
           let same : q_object ≡ class = (let both : Some q_object ≡ Some class = sym are.table.first ∙ is in cc) in
           subst (λ (class : Class). slice_get class.methods 0 ≡ Some destroyed) same refl
-      by (suc index) class is None so has handed = absurd (no_base (slice_get classes (suc index)) is (are.below index))
+      by (suc index) class is None so has handed = absurd (no_base (slice_get classes (suc index)) is (are.table.below index))
         where
           no_base : (found : Option Class) → found ≡ Some class → IfSome found (λ class. IsTrue (is_some class.superclass)) → ⊥
           no_base None e some = absurd (cc)
@@ -113,4 +113,4 @@ module _ (settings : Settings) (are : AreSettings settings) where
   method_limited index number method is = (and_parts _ _ (of_slice IsMethod (methods classes index) number method is (each_method classes are.table index)).body.limited).1
 
   pub functor_limited : (number : ℕ) (functor : Functor) → slice_get settings.functors number ≡ Some functor → are_limited (acts_of functor.body.actions) ≡ true
-  functor_limited number functor is = (and_parts (nat_le (counts (acts_of functor.body.actions)) ACTIONS) _ (of_slice (λ (functor : Functor). is_body_limited functor.body.actions ≡ true) settings.functors number functor is are.limited)).1
+  functor_limited number functor is = (and_parts (nat_le (counts (acts_of functor.body.actions)) ACTIONS) _ (of_slice IsFunctor settings.functors number functor is are.functors).keeps.limited).1

@@ -52,3 +52,4 @@ pub mod FittingCallLemmas
 pub mod FittingItemLemmas
 pub mod FittingRunLemmas
 pub mod FittingCommandLemmas
+pub mod FittingAskedLemmas

@@ -8,6 +8,7 @@ use Rattle.thread_model.specs.declared.command.Command.{Command}
 use Rattle.thread_model.specs.declared.command.Command.TheVariants as c
 use Rattle.thread_model.specs.declared.command.Tagged.{Tagged}
 use Rattle.thread_model.specs.declared.deed.Deed.{Deed}
+use Rattle.thread_model.specs.declared.deed.Deed.TheVariants.{Block, DeleteLater, SetParent}
 
 -- what is asked of a session
 pub data Asked : Type 0 where
@@ -68,6 +69,7 @@ pub data Asked : Type 0 where
 abbrev pub asked : Command → Asked
 asked (c.New class parent) = New class parent
 asked (c.Delete target) = Delete target
+asked (c.SetParent target parent) = Do (SetParent target parent)
 asked (c.Children target) = Children target
 asked (c.Find target title class) = Find target title class
 asked (c.Set target property value) = Set target property (view value)
@@ -80,7 +82,8 @@ asked (c.DisconnectOne connection) = DisconnectOne connection
 asked (c.Disconnect sender signal receiver method) = Disconnect sender signal receiver method
 asked (c.Invoke target method args mode) = Invoke target method (map view args) mode
 asked c.Spin = Spin
-asked (c.Do deed) = Do deed
+asked (c.DeleteLater target) = Do (DeleteLater target)
+asked (c.Block target on) = Do (Block target on)
 asked (c.Publish target signal name) = Publish target signal name
 asked (c.Unpublish name) = Unpublish name
 asked (c.Join from name types target method) = Join from name types target method

@@ -1,12 +1,11 @@
 -- What a session holds fits the classes and the functors of the server.
-use Rattle.std.specs.Prelude.{◌≡◌, ◌≤◌, ℕ, suc, List, IfSome, IsTrue, is_some, slice_get}
+use Rattle.std.specs.Prelude.{◌≡◌, ◌≤◌, ℕ, List, IsTrue, is_some, slice_get}
 use Rattle.std.specs.List.{All}
 use Rattle.signature_core.specs.declared.kind.Kind.{Kind}
 use Rattle.signature_core.specs.Kinds.{fits}
 use Rattle.variant_value.specs.declared.value.Value.{Value}
 use Rattle.variant_value.specs.Values.{IsShort}
 use Rattle.term_core.specs.Act.{is_limited}
-use Rattle.term_core.specs.Bodies.{is_body_limited}
 use Rattle.class_table.specs.Sound.{IsTable}
 use Rattle.connection_types.specs.declared.callee.Callee.{Callee}
 use Rattle.connection_types.specs.declared.callee.Callee.TheVariants as callee
@@ -17,7 +16,7 @@ use Rattle.object_tree.specs.declared.row.Row.{Row}
 use Rattle.object_tree.specs.Rows.{is_there}
 use Rattle.publish_board.specs.declared.join.Join.{Join}
 use Rattle.publish_board.specs.declared.publication.Publication.{Publication}
-use Rattle.stored_slots.specs.Functors.{AreArguments}
+use Rattle.stored_slots.specs.Functors.{AreArguments, IsFunctor}
 use Rattle.thread_model.specs.declared.deed.Deed.{Deed}
 use Rattle.thread_model.specs.declared.deed.Deed.TheVariants.{Connect}
 use Rattle.thread_model.specs.declared.post.Post.{Post}
@@ -34,10 +33,7 @@ use Rattle.thread_model.specs.UnderWay.{IsUnderWay}
 -- what holds of what is fixed for a server
 pub record AreSettings (settings : Settings) : Type 0 where
   pub table : IsTable settings.classes
-  -- each class but the first has a superclass, and so the signal `destroyed()` as its first method
-  pub below : (index : ℕ) → IfSome (slice_get settings.classes (suc index)) (λ class. IsTrue (is_some class.superclass))
-  -- what a functor does keeps to the limits, so that no text in it is too long
-  pub limited : All (λ functor. IsTrue (is_body_limited functor.body.actions)) settings.functors
+  pub functors : All IsFunctor settings.functors
 
 -- what is called at one of these objects is there: a method of its class, or a functor of the server
 abbrev pub IsCallee : Settings → List Row → ℕ → Callee → Type 0
@@ -79,7 +75,7 @@ abbrev pub IsFittingDeed : Settings → List Row → Deed → Type 0
 IsFittingDeed settings rows (Connect new unique) = MayBeConnected settings rows new.sender new.signal new.receiver new.callee
 IsFittingDeed settings rows _ = Unit {0}
 
--- a command that names a deed outright, with the indices of signals and methods, names such a one
+-- a deed that is asked for outright, with the indices of signals and methods, is such a one
 abbrev pub IsFittingAsked : Settings → State → Asked → Type 0
 IsFittingAsked settings state (Do deed) = IsFittingDeed settings state.forest.rows deed
 IsFittingAsked settings state _ = Unit {0}

@@ -1,5 +1,4 @@
 //! What clients ask.
-use crate::deed::Deed;
 use connection_types::ConnectionType;
 use plain_types::{Items, Text};
 
@@ -14,6 +13,11 @@ pub enum Command {
     /// Deletes an object and all below it.
     Delete {
         object: u32,
+    },
+    /// Gives an object another parent, or makes it a root.
+    SetParent {
+        object: u32,
+        parent: Option<u32>,
     },
     /// Lists the children of an object, or the roots.
     Children {
@@ -97,8 +101,16 @@ pub enum Command {
     /// Takes events until there is none or the turns are used up, and replies how many, how many are left,
     /// and how many calls were ever lost.
     Spin,
-    /// Does a deed, whose objects it names by their numbers, and replies what that answers.
-    Do(Deed),
+    /// Posts the deletion of an object (`QObject::deleteLater`).
+    DeleteLater {
+        object: u32,
+    },
+    /// Blocks the signals of an object, or lets them through, and replies whether they were blocked
+    /// (`QObject::blockSignals`).
+    Block {
+        object: u32,
+        on: bool,
+    },
     /// Publishes a signal of an object under a name: each time it is sent, every other session gets it that
     /// has joined this name.
     Publish {

@@ -6,7 +6,8 @@ use Rattle.plain_types.specs.Names.{is_name}
 use Rattle.serde_json.specs.Data.{Data}
 use Rattle.serde_json.specs.Find.{get, as_array, as_bool, as_null, as_object, as_str, as_number, as_u64}
 use Rattle.connection_types.specs.declared.connection_type.ConnectionType.{ConnectionType}
-use Rattle.connection_types.specs.declared.connection_type.ConnectionType.TheVariants.{Auto, Direct, Queued}
+use Rattle.connection_types.specs.declared.connection_type.ConnectionType.TheVariants.{Auto}
+use Rattle.connection_types.specs.Modes.{mode_named}
 use Rattle.json_reading.specs.Fields.{◌>>=◌, when, all_keys, elements_of}
 use Rattle.json_reading.specs.Members.{data_of}
 use Rattle.wire_commands.specs.declared.held.Held.{Held as HeldInCode}
@@ -72,13 +73,6 @@ number_in json = do
   figure ← as_number json
   n ← as_u64 figure
   when (nat_le 1 n && nat_le n (2 ^ 32 - 1)) n
-
--- how calls are made, by its name
-abbrev pub mode_named : List ℕ → Option ConnectionType
-mode_named name =
-    if bytes_eq name (codes "auto") then Some Auto
-    else (if bytes_eq name (codes "direct") then Some Direct
-    else (if bytes_eq name (codes "queued") then Some Queued else None))
 
 -- a value, as a key holds it
 abbrev pub reads : Holds → Data → Option Held

@@ -6,7 +6,7 @@ ghost use Rattle.wire_commands.specs.Events.{block_of, delete_later_of, spin_of,
 
 use crate::held::Held;
 use crate::keys::{Holds, Key};
-use thread_model::{Command, Deed};
+use thread_model::Command;
 
 pub(crate) const SPIN: [Key; 0] = [];
 
@@ -30,7 +30,7 @@ pub(crate) fn delete_later_of(held: &[Held<'_, '_>]) -> Option<Command>
         return None;
     };
     let object = object.number()?;
-    Some(Command::Do(Deed::DeleteLater { object }))
+    Some(Command::DeleteLater { object })
 }
 
 pub(crate) const BLOCK: [Key; 2] = [
@@ -47,7 +47,7 @@ pub(crate) fn block_of(held: &[Held<'_, '_>]) -> Option<Command>
     };
     let object = object.number()?;
     let on = on.truth();
-    Some(Command::Do(Deed::Block { object, on }))
+    Some(Command::Block { object, on })
 }
 
 pub(crate) const STATUS: [Key; 0] = [];

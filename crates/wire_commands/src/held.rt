@@ -5,7 +5,7 @@ ghost use Rattle.serde_json.specs.Data.{object};
 ghost use Rattle.serde_json.specs.View.{view};
 ghost use Rattle.json_reading.specs.Members.{data_of, members_in};
 ghost use Rattle.wire_commands.specs.Keys.{Key, key_seen, key_word};
-ghost use Rattle.wire_commands.specs.Held.{held_at, held_by, held_seen, has_only, is_known, json_of, list_of, mode_named, mode_of, number_in, number_of, reads, text_of, truth_of};
+ghost use Rattle.wire_commands.specs.Held.{held_at, held_by, held_seen, has_only, is_known, json_of, list_of, mode_of, number_in, number_of, reads, text_of, truth_of};
 
 use crate::keys::{Holds, Key};
 use connection_types::ConnectionType;
@@ -140,22 +140,10 @@ fn read<'m, 'a>(holds: Holds, field: &'m Field<'a>) -> Option<Held<'m, 'a>>
         Holds::NumberOrNull if field.is_null() => Some(Held::Null),
         Holds::NumberOrNull => Some(Held::Number(number_in(field)?)),
         Holds::Truth => Some(Held::Truth(field.as_truth()?)),
-        Holds::Mode => Some(Held::Mode(mode_named(field.as_text()?)?)),
+        Holds::Mode => Some(Held::Mode(ConnectionType::from_name(field.as_text()?)?)),
         Holds::List if field.is_list() => Some(Held::List(field)),
         Holds::List => None,
         Holds::Any => Some(Held::Any(field)),
-    }
-}
-
-/// How calls are made, by its name.
-fn mode_named(name: &str) -> Option<ConnectionType>
-    ensures { result ≡ mode_named name.now }
-{
-    match name {
-        "auto" => Some(ConnectionType::Auto),
-        "direct" => Some(ConnectionType::Direct),
-        "queued" => Some(ConnectionType::Queued),
-        _ => None,
     }
 }
 

@@ -7,7 +7,7 @@ ghost use Rattle.wire_commands.specs.Trees.{new_of, delete_of, set_parent_of, ch
 use crate::held::Held;
 use crate::keys::{Holds, Key};
 use std::alloc::{AllocError, Global};
-use thread_model::{Command, Deed};
+use thread_model::Command;
 
 pub(crate) const NEW: [Key; 2] = [
     Key::Needed("class", Holds::Name),
@@ -55,7 +55,7 @@ pub(crate) fn set_parent_of(held: &[Held<'_, '_>]) -> Option<Command>
     };
     let object = object.number()?;
     let parent = parent.number();
-    Some(Command::Do(Deed::SetParent { object, parent }))
+    Some(Command::SetParent { object, parent })
 }
 
 pub(crate) const CHILDREN: [Key; 1] = [Key::Optional("object", Holds::Number)];

@@ -7,7 +7,7 @@ use Rattle.event_queue.proofs.order.take_first.Goals as goal
 
 pub remove-requires-clause-stands : goal.remove-requires-clause-stands
 remove-requires-clause-stands c =
-    some_at (rows_at c.args.rows.now c.args.place) 0 c.at-key.result.0 c.at-key.result.1.now (omega (arith, c.len.ensures.len, c.if-len-eq0.false)) c.at-key.ensures
+    some_at (rows_at c.args.rows.now c.args.place) _ c.at-key.result.0 c.at-key.result.1.now (omega (arith, c.len.ensures.len, c.if-len-eq0.false)) c.at-key.ensures
 
 pub returns-clause-first : goal.returns-clause-first
 returns-clause-first c =
