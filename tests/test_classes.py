@@ -2,7 +2,6 @@
 says the same."""
 
 import json
-import resource
 import subprocess
 import sys
 from collections import Counter
@@ -12,7 +11,7 @@ from tempfile import TemporaryDirectory
 from .generators import signals
 from .generators.class_faults import all_files
 from .generators.class_files import Changes, right_files, wrong_files
-from .support.cases import CASE, ProgramCases
+from .support.cases import CASE, ProgramCases, processor_seconds
 from .support.differences import cut
 from .support.documents import all_examples
 from .support.json_schema import Schema
@@ -24,12 +23,6 @@ CHANGED = 150  # class files that are changed by chance
 SEED = 1
 NESTED = 10_000  # calls in one another, which the deepest class file takes of the schema's reader
 SHOWN = 1_000
-
-
-def processor_seconds():
-    """What all runs so far have taken of the processor."""
-    used = resource.getrusage(resource.RUSAGE_CHILDREN)
-    return used.ru_utime + used.ru_stime
 
 
 class ClassFiles(ProgramCases):

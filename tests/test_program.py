@@ -1,5 +1,5 @@
-"""The program as a process: its ends and the words of its command line, what it says over pipes, and its limits on a stack
-of 8 MiB."""
+"""The program as a process: its ends and the words of its command line, what it says over pipes, its limits on a stack of
+8 MiB, and names that are chosen to make it slow."""
 
 import os
 import resource
@@ -12,8 +12,8 @@ from dataclasses import dataclass, replace
 from pathlib import Path
 from tempfile import TemporaryDirectory
 
-from .generators import limits
-from .support.cases import ProgramCases
+from .generators import colliding, limits
+from .support.cases import ProgramCases, processor_seconds
 from .support.documents import version
 from .support.lines import lines_of, text_of
 from .support.program import SECONDS, Row
@@ -283,3 +283,64 @@ class Limits(ProgramCases):
 
         for it in self.check_each(self.cases(limits.deep_rows()), try_row, lambda it: it.fault, at_once=1):
             self.tell(f"\n    {it.name}: on a stack of {it.kib} KiB")
+
+
+NAMES = 20_000
+JOINS = 1_000  # of each session
+TRIES = 3  # runs of each input, of which the quickest counts
+MOST = 4  # times as long as other names
+
+
+def session_row(names):
+    """A run in which sessions have these names."""
+    given = lines_of({"do": "children", "session": name} for name in names)
+    return Row("sessions", given, lines_of({"reply": [], "session": name} for name in names))
+
+
+def join_row(names):
+    """A run in which a few sessions join sessions of these names."""
+    given, wanted = [], []
+    for at, name in enumerate(names):
+        session = {"session": f"s{at // JOINS}"}
+        if at % JOINS == 0:
+            given.append({"do": "new", "class": "QObject", **session})
+            wanted.append({"reply": 1, **session})
+        given.append({"do": "join", "from": name, "name": "n", "types": [], "object": 1, "method": "deleteLater()", **session})
+        wanted.append({"reply": True, **session})
+    return Row("joins", lines_of(given), lines_of(wanted))
+
+
+def class_row(signals, path):
+    """A run with a class that has these signals, which are too many."""
+    path.write_text(text_of({"classes": [{"name": "A", "super": "QObject", "signals": signals}]}))
+    return Row("signals", b"", b"", b"metad: class file refused: C09 at class 1\n", 1, words=(str(path),))
+
+
+class Names(ProgramCases):
+    """Names that are chosen so that they collide under a hash whose seed is known."""
+
+    def rows(self, make, folder):
+        """Runs with names that this makes."""
+        names = make(NAMES)
+        return session_row(names), join_row(names), class_row(make(NAMES, "()"), Path(folder, f"{make.__name__}.json"))
+
+    def fault_of(self, pair):
+        """What is wrong where the names of the first run take so much longer than those of the second."""
+        least = []
+        for row in pair:
+            seconds = []
+            for _ in range(TRIES):
+                start = processor_seconds()
+                fault = row.fault(row.run(self.program))
+                seconds.append(processor_seconds() - start)
+                if fault:
+                    return fault
+            least.append(min(seconds))
+        slow, quick = least
+        return f"{slow:.2f} seconds of the processor, and {quick:.2f} with other names" if slow > MOST * quick else None
+
+    def test_chosen_names(self):
+        """They take at most four times as long as other names, of sessions, in joins and in class files."""
+        with TemporaryDirectory(prefix="metad-names-") as folder:
+            pairs = zip(self.rows(colliding.colliding, folder), self.rows(colliding.others, folder))
+            self.check_each([(pair[0].name, pair) for pair in pairs], self.fault_of, at_once=1)

@@ -1,6 +1,7 @@
 """Tests of many cases, each of which is reported by its name."""
 
 import os
+import resource
 import signal
 import unittest
 from concurrent.futures import ThreadPoolExecutor
@@ -10,6 +11,12 @@ from .program import program_under_test
 
 AT_ONCE = os.cpu_count() or 1
 CASE = os.environ.get("CASE", "")  # only the cases that have it in their name are tried
+
+
+def processor_seconds():
+    """What all runs so far have taken of the processor."""
+    used = resource.getrusage(resource.RUSAGE_CHILDREN)
+    return used.ru_utime + used.ru_stime
 
 
 class Cases(unittest.TestCase):

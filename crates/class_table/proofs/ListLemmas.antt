@@ -90,7 +90,7 @@ slice_get-own before own all offset number whole at past =
     let split : length before + (number - offset) ≡ number = omega (arith, at, past) in
     sym (slice_get-behind before own (number - offset)) ∙ (ap (λ n. slice_get (before ++ own) n) split ∙ ap (λ l. slice_get l number) (sym whole))
 
-taken : {X : Type 0} (xs : List X) (i : ℕ) (x : X) → Some x ≡ slice_get xs i → take (i + 1) xs ≡ take i xs ++ x ∷ []
+pub taken : {X : Type 0} (xs : List X) (i : ℕ) (x : X) → Some x ≡ slice_get xs i → take (i + 1) xs ≡ take i xs ++ x ∷ []
 taken [] i x e = absurd (cc)
 taken (z ∷ zs) zero x e = let same : z ≡ x = cc in λ j. same j ∷ []
 taken (z ∷ zs) (suc i) x e = let moved : suc i + 1 ≡ suc (i + 1) = omega arith in rw moved (λ j. z ∷ taken zs i x e j)

@@ -1,11 +1,14 @@
 -- Methods and properties that are declared once.
-use Rattle.std.proofs.Common.{◌≡◌, ◌∙◌, ℕ, ◌+◌, Bool, true, false, not, cond, ◌&&◌, ◌||◌, List, [], ◌∷◌, ◌++◌, Some, Ok, map, position, bytes_eq, is_none, refl, sym, ap, subst, IsTrue, Decides}
-use Rattle.std.specs.Cmp.Lexicographic.{pointwise, pointwise_decides}
+use Rattle.std.proofs.Common.{Ordering, ◌≡◌, ◌∙◌, ℕ, zero, suc, ◌+◌, Bool, true, false, not, cond, ◌&&◌, ◌||◌, List, [], ◌∷◌, ◌++◌, Some, Ok, map, position, bytes_eq, is_none, slice_get, take, refl, sym, ap, subst, IsTrue, Decides}
+use Rattle.std.specs.Cmp.Lexicographic.{pointwise, pointwise_decides, slice_cmp}
 use Rattle.std.specs.List.{All, list_all, list_any, position_from}
+use Rattle.std.specs.BTreeSet.{BTreeSet, Updates, contains}
+use Rattle.std.specs.Ordering.{nat_cmp}
 use Rattle.std.proofs.lemmas.Bool.Decides.{same_from_decides}
 use Rattle.std.proofs.lemmas.Iterator.Adapters.{position_from-zero}
 use Rattle.std.proofs.lemmas.List.Elements.{All-nil, All-cons, All-head, All-tail}
 use Rattle.std.proofs.lemmas.List.Folds.{list_any-append}
+use Rattle.std.proofs.lemmas.Map.Text.{is_eq-slice_cmp}
 use Rattle.std.proofs.lemmas.Slice.Eq.{bytes_eq-Decides}
 use Rattle.signature_core.specs.declared.signature.Signature.{Signature}
 use Rattle.signature_core.specs.Kinds.{is_same_kind}
@@ -154,11 +157,42 @@ any_turned : (text : List ℕ) (done : List (List ℕ)) → list_any (λ x. byte
 any_turned text [] = refl
 any_turned text (x ∷ xs) = λ i. turned x text i || any_turned text xs i
 
-pub found_again : (done : List (List ℕ)) (text : List ℕ) (rest : List (List ℕ)) → IsTrue (is_distinct bytes_eq done) → list_any (bytes_eq text) done ≡ true → is_distinct bytes_eq (done ++ text ∷ rest) ≡ false
+found_again : (done : List (List ℕ)) (text : List ℕ) (rest : List (List ℕ)) → IsTrue (is_distinct bytes_eq done) → list_any (bytes_eq text) done ≡ true → is_distinct bytes_eq (done ++ text ∷ rest) ≡ false
 found_again done text rest once found = rw (distinct-append bytes_eq done (text ∷ rest) once, any_turned text done, found)
 
 pub once_more : (done : List (List ℕ)) (text : List ℕ) → IsTrue (is_distinct bytes_eq done) → list_any (bytes_eq text) done ≡ false → IsTrue (is_distinct bytes_eq (done ++ text ∷ []))
 once_more done text once new = rw (distinct-append bytes_eq done (text ∷ []) once, any_turned text done, new)
+
+-- one text after another, as a set keeps them
+
+module _ {K : Type 0} (bytes : K → List ℕ) where
+  abbrev pub in_order : K → K → Ordering
+  in_order x y = slice_cmp nat_cmp (bytes x) (bytes y)
+
+  -- the set has these texts and no other
+  abbrev pub HasSeen : BTreeSet K → List (List ℕ) → Type 0
+  HasSeen seen done = (key : K) → contains in_order seen key ≡ list_any (bytes_eq (bytes key)) done
+
+  pub seen_more : (old new : BTreeSet K) (done : List (List ℕ)) (key : K) → HasSeen old done → Updates in_order old new key true → HasSeen new (done ++ bytes key ∷ [])
+  seen_more old new done key seen updates other =
+      updates.0 other ∙ ((λ i. cond ((is_eq-slice_cmp (bytes key) (bytes other) ∙ turned (bytes key) (bytes other)) i) true (seen other i))
+      ∙ (by (bytes_eq (bytes other) (bytes key)) (list_any (bytes_eq (bytes other)) done) ∙ sym (list_any-append (bytes_eq (bytes other)) done (bytes key ∷ []))))
+    where
+      by : (b c : Bool) → cond b true c ≡ (c || (b || false))
+      by true true = refl
+      by true false = refl
+      by false true = refl
+      by false false = refl
+
+split : {X : Type 0} (xs : List X) (i : ℕ) (x : X) → Some x ≡ slice_get xs i → (rest : List X) × (xs ≡ take i xs ++ x ∷ rest)
+split [] i x e = absurd (cc)
+split (z ∷ zs) zero x e = let same : z ≡ x = cc in (zs, λ j. same j ∷ zs)
+split (z ∷ zs) (suc i) x e = let behind = split zs i x e in (behind.0, λ j. z ∷ behind.1 j)
+
+pub seen_twice : (texts : List (List ℕ)) (i : ℕ) (text : List ℕ) → Some text ≡ slice_get texts i → IsTrue (is_distinct bytes_eq (take i texts)) → list_any (bytes_eq text) (take i texts) ≡ true → is_distinct bytes_eq texts ≡ false
+seen_twice texts i text at once found =
+    let whole = split texts i text at in
+    ap (is_distinct bytes_eq) whole.1 ∙ found_again (take i texts) text whole.0 once found
 
 -- two values that one reading gives
 pub same_value : {A : Type 0} (x y : A) (read : Read A) → read ≡ Ok x → read ≡ Ok y → x ≡ y

@@ -17,12 +17,12 @@ use crate::class::{Class, METHODS, Method, PROPERTIES, Property, is_same, normal
 use crate::fault::{ClassFaultKind, Stop};
 use crate::form::{ClassForm, MethodForm, PropertyForm};
 use crate::table::ClassTable;
-use indexmap::IndexSet;
 use plain_types::{Items, Text};
 use refusals::{Code, Fault};
 use serde_json::Value;
 use signature_core::{Kind, Signature};
 use std::alloc::Global;
+use std::collections::BTreeSet;
 use term_core::Body;
 
 /// A method with its signature, and with its body as it is written.
@@ -77,7 +77,8 @@ fn are_new_methods(
     if !are_not_inherited(table, base, signed) {
         return Ok(false);
     }
-    are_distinct(alloc, normal_texts(alloc, signed)?)
+    let texts = normal_texts(alloc, signed)?;
+    are_distinct(alloc, texts.as_slice())
 }
 
 fn are_not_inherited(table: &ClassTable, base: u32, signed: &[Signed]) -> bool
@@ -100,13 +101,14 @@ fn normal_texts(alloc: Global, signed: &[Signed]) -> Result<Vec<Text>, Stop>
     Ok(texts)
 }
 
-/// Whether no two of the texts are the same.
-fn are_distinct(alloc: Global, texts: Vec<Text>) -> Result<bool, Stop>
-    ensures { Gives (λ b. b) result (Ok (is_distinct bytes_eq texts.items)) }
+/// Whether no two of the texts are the same. They are kept in order and not hashed, so that none can be
+/// chosen to make this slow.
+fn are_distinct(alloc: Global, texts: &[Text]) -> Result<bool, Stop>
+    ensures { Gives (λ b. b) result (Ok (is_distinct bytes_eq texts.now)) }
 {
-    let mut seen = IndexSet::new(alloc);
+    let mut seen = BTreeSet::new(alloc);
     for text in texts {
-        if !seen.insert(text)? {
+        if !seen.insert(text.as_str())? {
             return Ok(false);
         }
     }
@@ -128,7 +130,8 @@ fn are_new_properties(
     if !names_are_not_inherited(table, base, forms) {
         return Ok(false);
     }
-    are_distinct(alloc, name_texts(alloc, forms)?)
+    let texts = name_texts(alloc, forms)?;
+    are_distinct(alloc, texts.as_slice())
 }
 
 fn names_are_not_inherited(table: &ClassTable, base: u32, forms: &[PropertyForm]) -> bool

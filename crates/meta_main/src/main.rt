@@ -11,6 +11,7 @@ ghost use Rattle.program_start.specs.Clamp.{clamp_body};
 use program_start::{Beginning, clamped, start, with_clamp};
 use server_world::Server;
 use std::alloc::{AllocError, Global};
+use std::hash::RandomState;
 use std::process::ExitCode;
 use term_core::{Action, Expr, Node};
 use variant_value::Value;
@@ -47,7 +48,11 @@ fn serve(rt: &HostRuntime, beginning: Beginning) -> Result<Summary, RunFault> {
     let Ok(functors) = with_clamp(rt.alloc(), least, most, clamp) else {
         return Err(RunFault::Memory);
     };
-    let Ok(mut server) = Server::new(rt.alloc(), classes, functors, turns) else {
+    // Without random keys there is no server: a client could choose names that make it slow.
+    let Ok(hashing) = RandomState::new(rt) else {
+        return Err(RunFault::Read);
+    };
+    let Ok(mut server) = Server::new(rt.alloc(), classes, functors, turns, hashing) else {
         return Err(RunFault::Memory);
     };
     let mut reader = Counted::new(rt.stdin());

@@ -18,6 +18,7 @@ use plain_types::{Items, Text};
 use refusals::Fault;
 use signature_core::Kind;
 use std::alloc::{AllocError, Global};
+use std::hash::RandomState;
 use std::marker::Model;
 
 /// What the session of each place publishes and what it joins. A place is opened by `ready` and then
@@ -43,13 +44,14 @@ impl Model for Board {
 }
 
 impl Board {
-    /// A table with no place, which takes no memory yet.
-    pub fn new(alloc: Global) -> Board
+    /// A table with no place, which takes no memory yet. The names of sessions are hashed with these
+    /// keys.
+    pub fn new(alloc: Global, hashing: RandomState) -> Board
         ensures { result.places ≡ [] }
     {
         Board {
             desks: Places::new(alloc),
-            joiners: Joiners::new(alloc),
+            joiners: Joiners::new(alloc, hashing),
             alloc,
         }
     }

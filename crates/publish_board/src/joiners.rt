@@ -6,12 +6,13 @@ use indexmap::IndexMap;
 use plain_types::Text;
 use shared_rows::Links;
 use std::alloc::{AllocError, Global};
+use std::hash::RandomState;
 
-/// For each name that any place joins, these places by rising number. The names are hashed without a
-/// secret, so that a session may choose names for which a look-up takes long.
+/// For each name that any place joins, these places by rising number. Clients choose the names, so
+/// they are hashed with keys that no client knows.
 #[derive(Drop)]
 pub(crate) struct Joiners {
-    lists: IndexMap<Text, Links<usize>>,
+    lists: IndexMap<Text, Links<usize>, RandomState>,
     alloc: Global,
     ghost filled: { AreFilled lists },
 }
@@ -19,11 +20,11 @@ pub(crate) struct Joiners {
 impl Joiners {
     ghost use Rattle.publish_board.specs.Joiners.{IsFirstOf, is_listed, is_pair};
 
-    pub(crate) fn new(alloc: Global) -> Joiners
+    pub(crate) fn new(alloc: Global, hashing: RandomState) -> Joiners
         ensures { (name : List ℕ) (place : ℕ) → is_listed result name place ≡ false }
     {
         Joiners {
-            lists: IndexMap::new(alloc),
+            lists: IndexMap::with_hasher(alloc, hashing),
             alloc,
         }
     }

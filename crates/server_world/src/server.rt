@@ -18,6 +18,7 @@ use class_table::ClassTable;
 use plain_types::{Items, Text};
 use session_engine::Engine;
 use std::alloc::{AllocError, Global};
+use std::hash::RandomState;
 use stored_slots::Functors;
 use thread_model::{Line, Tagged};
 
@@ -41,13 +42,16 @@ impl Drop for Server {
 
 impl Server {
     /// A server with no session. Its objects may have the classes of the table, its signals may be
-    /// connected to the functors, and each command has so many turns for the calls that it causes.
+    /// connected to the functors, and each command has so many turns for the calls that it causes. The
+    /// names of sessions are hashed with these keys: whoever does not know them cannot choose names for
+    /// which a look-up takes long.
     #[tactic(auto, unfolding(crate::specs::Server::was_refused))]
     pub fn new(
         alloc: Global,
         classes: ClassTable,
         functors: Functors,
         turns: u32,
+        hashing: RandomState,
     ) -> Result<Server, AllocError>
         ensures states { IfOk result (λ server. (name : List ℕ) → states (seen_as server) name ≡ empty) }
         ensures failed { IfOk result (λ server. (name : List ℕ) → IsFalse (failed (seen_as server) name)) }
@@ -57,7 +61,7 @@ impl Server {
         let rows = functors.rows()?;
         Ok(Server {
             alloc,
-            engine: Engine::new(alloc, classes, functors, rows, turns)?,
+            engine: Engine::new(alloc, classes, functors, rows, turns, hashing)?,
             memory_refused: false,
         })
     }

@@ -12,6 +12,7 @@ use class_table::ClassTable;
 use plain_types::{Items, Text};
 use refusals::Fault;
 use std::alloc::{AllocError, Global};
+use std::hash::RandomState;
 use stored_slots::{Functor, Functors};
 use thread_model::{Command, Line, Post};
 
@@ -49,13 +50,14 @@ impl Engine {
 
     /// An engine with no session. Its objects may have these classes, its signals may be connected to
     /// these functors, whose rows are copied for it, and each command has so many turns for the calls
-    /// that it causes.
+    /// that it causes. The names of sessions are hashed with these keys.
     pub fn new(
         alloc: Global,
         classes: ClassTable,
         functors: Functors,
         rows: Items<Functor>,
         turns: u32,
+        hashing: RandomState,
     ) -> Result<Engine, AllocError>
         requires rows { rows ≡ functors_of functors }
         requires few { length rows ≤ FUNCTORS }
@@ -65,7 +67,7 @@ impl Engine {
         ensures refused { IfOk result (λ engine. IsFalse (was_refused (held engine))) }
     {
         Ok(Engine {
-            core: Core::new(alloc, classes, rows, turns)?,
+            core: Core::new(alloc, classes, rows, turns, hashing)?,
             functors,
         })
     }

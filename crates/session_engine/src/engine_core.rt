@@ -24,6 +24,7 @@ use refusals::{Code, Fault};
 use session_effects::{Caller, Setup};
 use session_tables::Tables;
 use std::alloc::{AllocError, Global};
+use std::hash::RandomState;
 use std::marker::Model;
 use stored_slots::Functor;
 use thread_model::{Command, Line, Post};
@@ -33,7 +34,7 @@ use thread_model::{Command, Line, Post};
 #[derive(Drop)]
 pub(crate) struct Core {
     setup: Setup,
-    names: IndexSet<Text>,
+    names: IndexSet<Text, RandomState>,
     tables: Tables,
     memory_refused: bool,
 }
@@ -62,6 +63,7 @@ impl Core {
         classes: ClassTable,
         functors: Items<Functor>,
         turns: u32,
+        hashing: RandomState,
     ) -> Result<Core, AllocError>
         requires few { length functors ≤ FUNCTORS }
         ensures sessions { IfOk result (λ engine. (name : List ℕ) → sessions engine name ≡ fresh) }
@@ -71,8 +73,8 @@ impl Core {
     {
         let layouts = layouts(alloc, &classes)?;
         Ok(Core {
-            names: IndexSet::new(alloc),
-            tables: Tables::new(alloc, layouts),
+            names: IndexSet::with_hasher(alloc, hashing),
+            tables: Tables::new(alloc, layouts, hashing),
             memory_refused: false,
             setup: Setup {
                 alloc,

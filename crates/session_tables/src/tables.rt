@@ -13,6 +13,7 @@ use plain_types::Items;
 use property_store::Field;
 use publish_board::Board;
 use std::alloc::{AllocError, Global};
+use std::hash::RandomState;
 
 /// What a server keeps of each session.
 pub struct Tables {
@@ -41,8 +42,8 @@ impl Drop for Tables {
 
 impl Tables {
     /// Tables with no place, which take no memory yet. An object of a class has the properties that
-    /// stand here at the class's number.
-    pub fn new(alloc: Global, layouts: Items<Items<Field>>) -> Tables
+    /// stand here at the class's number. The names of sessions are hashed with these keys.
+    pub fn new(alloc: Global, layouts: Items<Items<Field>>, hashing: RandomState) -> Tables
         ensures forests { result.forests.places ≡ [] }
         ensures layouts { result.stores.shelves.layouts ≡ layouts }
         ensures stores { result.stores.shelves.table.places ≡ [] }
@@ -57,7 +58,7 @@ impl Tables {
             stores: BoundStores::new(alloc, layouts),
             connections: Connections::new(alloc),
             queues: Queues::new(alloc),
-            desks: Board::new(alloc),
+            desks: Board::new(alloc, hashing),
             failed: Places::new(alloc),
         }
     }

@@ -6,6 +6,7 @@ use publish_board::{Board, JOINS, PUBLICATIONS, Publication};
 use refusals::{Code, Fault};
 use signature_core::Kind;
 use std::alloc::{AllocError, Global};
+use std::hash::RandomState;
 use std::test::Fail;
 
 /// What is asked of a board.
@@ -47,8 +48,8 @@ struct Bench {
 }
 
 impl Bench {
-    fn new(alloc: Global) -> Result<Bench, AllocError> {
-        let mut board = Board::new(alloc);
+    fn new(alloc: Global, hashing: RandomState) -> Result<Bench, AllocError> {
+        let mut board = Board::new(alloc, hashing);
         board.ready()?;
         board.open();
         board.ready()?;
@@ -335,14 +336,14 @@ const IN_ORDER: [Case; 58] = [
     (0, NextJoiner("a", 0), 0),
 ];
 
-fn ask_in_order(alloc: Global) -> Result<bool, AllocError> {
-    let mut bench = Bench::new(alloc)?;
+fn ask_in_order(alloc: Global, hashing: RandomState) -> Result<bool, AllocError> {
+    let mut bench = Bench::new(alloc, hashing)?;
     bench.answers(&IN_ORDER)
 }
 
 #[test]
 fn joins_are_found_by_the_session_that_they_name(rt: HostRuntime) -> Result<(), Fail> {
-    assert!(rt; ask_in_order(rt.alloc())?);
+    assert!(rt; ask_in_order(rt.alloc(), RandomState::new(&rt)?)?);
     Ok(())
 }
 
@@ -360,13 +361,13 @@ const FULL: [Case; 10] = [
     (0, NextJoiner("b", 0), 0),
 ];
 
-fn take_so_many(alloc: Global) -> Result<bool, AllocError> {
-    let mut bench = Bench::new(alloc)?;
+fn take_so_many(alloc: Global, hashing: RandomState) -> Result<bool, AllocError> {
+    let mut bench = Bench::new(alloc, hashing)?;
     bench.is_full_behind(JOINS, PUBLICATIONS)
 }
 
 #[test]
 fn a_place_joins_and_publishes_so_often(rt: HostRuntime) -> Result<(), Fail> {
-    assert!(rt; take_so_many(rt.alloc())?);
+    assert!(rt; take_so_many(rt.alloc(), RandomState::new(&rt)?)?);
     Ok(())
 }

@@ -3,6 +3,7 @@ ghost use Rattle.std.specs.Prelude.{◌≡◌, Some, IfOk};
 ghost use Rattle.session_engine.specs.Core.{place};
 ghost use Rattle.session_engine.specs.Engine.{held};
 
+use crate::fakes::hashing;
 use crate::lines::{classes_of, given, text_of};
 use plain_types::{Items, Text};
 use program_start::DEMONSTRATION;
@@ -33,6 +34,7 @@ fn engine(alloc: Global) -> Result<Engine, AllocError> {
         functors,
         rows,
         10_000,
+        hashing()?,
     )
 }
 
@@ -335,7 +337,7 @@ fn is_told_alone(
 
 fn ring_is_told_alone(alloc: Global) -> Result<bool, AllocError> {
     let classes = classes_of(alloc, DEMONSTRATION)?;
-    let mut server = Server::new(alloc, classes, Functors::new(alloc), 10_000)?;
+    let mut server = Server::new(alloc, classes, Functors::new(alloc), 10_000, hashing()?)?;
     let list = all_given(alloc)?;
     let report = server.run(list.as_slice());
     if report.memory_refused {

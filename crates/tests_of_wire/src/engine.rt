@@ -3,6 +3,7 @@ ghost use Rattle.std.specs.Prelude.{◌≡◌, Some, IfOk};
 ghost use Rattle.session_engine.specs.Core.{place};
 ghost use Rattle.session_engine.specs.Engine.{held};
 
+use crate::fakes::hashing;
 use crate::lines::{given, lamps};
 use refusals::{Code, Fault};
 use session_engine::Engine;
@@ -14,7 +15,7 @@ use thread_model::Tagged;
 fn fresh(alloc: Global) -> Result<Engine, AllocError> {
     let functors = Functors::new(alloc);
     let rows = functors.rows()?;
-    Engine::new(alloc, lamps(alloc)?, functors, rows, 10)
+    Engine::new(alloc, lamps(alloc)?, functors, rows, 10, hashing()?)
 }
 
 /// The place of the session that gives a command, which is opened where it is not there.

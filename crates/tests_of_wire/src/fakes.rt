@@ -1,9 +1,11 @@
-//! Sources, sinks and readers that give, take or fail as they are told.
+//! Sources, sinks and readers that give, take or fail as they are told, and keys to hash with.
 ghost use Rattle.std.specs.Prelude.{Some};
 
-use std::alloc::Global;
+use std::alloc::{AllocError, Global};
+use std::hash::RandomState;
 use std::io;
 use std::io::{ErrorKind, Read, Write};
+use std::random::RandomSource;
 use wire_devices::{Failed, Sink, Source};
 
 /// Gives the bytes of a slice, a few a call, and fails at one of its calls.
@@ -124,5 +126,23 @@ impl<'a> Write for Troubled<'a> {
 
     fn flush(&mut self) -> io::Result<()> {
         Ok(())
+    }
+}
+
+/// Gives the same bytes in every run.
+struct Sevens;
+
+impl RandomSource for Sevens {
+    fn fill_bytes(&self, buffer: &mut [u8]) -> io::Result<()> {
+        buffer.fill(7);
+        Ok(())
+    }
+}
+
+/// Keys to hash the names of sessions with.
+pub fn hashing() -> Result<RandomState, AllocError> {
+    match RandomState::new(&Sevens) {
+        Ok(hashing) => Ok(hashing),
+        Err(_) => Err(AllocError),
     }
 }

@@ -1,6 +1,7 @@
 //! A functor whose closure finds no memory.
 ghost use Rattle.std.specs.Prelude.{◌≡◌, [], IfOk};
 
+use crate::fakes::hashing;
 use crate::lines::lamps;
 use crate::served::{Host, TURNS, answers};
 use plain_types::{Items, Text};
@@ -51,7 +52,7 @@ fn starving(alloc: Global) -> Result<Functors, AllocError> {
 }
 
 pub fn starving_server(alloc: Global) -> Result<Server, AllocError> {
-    Server::new(alloc, lamps(alloc)?, starving(alloc)?, TURNS)
+    Server::new(alloc, lamps(alloc)?, starving(alloc)?, TURNS, hashing()?)
 }
 
 /// Whether these lines are answered so, and memory is refused.

@@ -1,6 +1,6 @@
 //! Whole runs, each over a server of its own, with devices that give, take or fail as they are told. What the
 //! calls ensure is left behind here, since the tests look only at what they did.
-use crate::fakes::{SlowSink, SlowSource};
+use crate::fakes::{SlowSink, SlowSource, hashing};
 use crate::functors::starving_server;
 use crate::lines::lamps;
 use crate::sessions::clamping_server;
@@ -22,7 +22,13 @@ pub enum Host {
 
 fn server_of(alloc: Global, host: Host) -> Result<Server, AllocError> {
     match host {
-        Host::Lamps => Server::new(alloc, lamps(alloc)?, Functors::new(alloc), TURNS),
+        Host::Lamps => Server::new(
+            alloc,
+            lamps(alloc)?,
+            Functors::new(alloc),
+            TURNS,
+            hashing()?,
+        ),
         Host::Program => clamping_server(alloc),
         Host::Starving => starving_server(alloc),
     }

@@ -1,4 +1,5 @@
 //! The server.
+use crate::fakes::hashing;
 use crate::lines::{given, lamps, text_of};
 use plain_types::Text;
 use server_world::{
@@ -14,7 +15,7 @@ use thread_model::{
 use wire_format::sessions_are_isolated;
 
 fn fresh(alloc: Global) -> Result<Server, AllocError> {
-    Server::new(alloc, lamps(alloc)?, Functors::new(alloc), 1000)
+    Server::new(alloc, lamps(alloc)?, Functors::new(alloc), 1000, hashing()?)
 }
 
 /// What a server reports. No clause says here what that is, so that the tests look only at it.

@@ -5,6 +5,7 @@ ghost use Rattle.stored_slots.specs.Functors.{AreArguments};
 ghost use Rattle.term_evaluation.specs.Unfolding.{unfolded_body};
 ghost use Rattle.program_start.specs.Clamp.{clamp_body};
 
+use crate::fakes::hashing;
 use crate::lines::classes_of;
 use crate::served::{Host, TURNS, answers};
 use program_start::{DEMONSTRATION, clamped, with_clamp};
@@ -376,6 +377,7 @@ pub fn clamping_server(alloc: Global) -> Result<Server, AllocError> {
         classes_of(alloc, DEMONSTRATION)?,
         clamps(alloc)?,
         TURNS,
+        hashing()?,
     )
 }
 
