@@ -233,30 +233,34 @@ class Pipes(ProgramCases):
 
 KIB = 1024
 STACK = 8 * KIB * KIB
+ADDRESSES = 20 * KIB * KIB
 
 
-def fault_on_stack(program, row, stack=STACK):
-    """What is wrong with a run on a stack of so many bytes, or None."""
-    hard = resource.getrlimit(resource.RLIMIT_STACK)[1]
-    return row.fault(row.run(program, env={}, preexec_fn=lambda: resource.setrlimit(resource.RLIMIT_STACK, (stack, hard))))
-
-
-def least_stack(program, row):
-    """The least stack, in KiB, on which a row passes that passes on the whole."""
-    least, most = 0, STACK // KIB
-    while most - least > 4:
-        middle = (least + most) // 2
-        least, most = (middle, most) if fault_on_stack(program, row, middle * KIB) else (least, middle)
-    return most
+def fault_within(program, row, resources, most):
+    """What is wrong with a run that has at most so many bytes of these resources, or None."""
+    hard = resource.getrlimit(resources)[1]
+    return row.fault(row.run(program, env={}, preexec_fn=lambda: resource.setrlimit(resources, (most, hard))))
 
 
 @dataclass
-class Stack:
-    """The least stack, in KiB, on which a row passes, or what is wrong with it on the whole."""
+class Need:
+    """The least, in KiB, with which a row passes, or what is wrong with it where it has the most."""
 
     name: str
     fault: str | None
     kib: int = 0
+
+
+def need_of(program, row, resources, most):
+    """How much a row needs of these resources, of which it has at most so many bytes."""
+    fault = fault_within(program, row, resources, most)
+    if fault:
+        return Need(row.name, fault)
+    least, most = 0, most // KIB
+    while most - least > 4:
+        middle = (least + most) // 2
+        least, most = (middle, most) if fault_within(program, row, resources, middle * KIB) else (least, middle)
+    return Need(row.name, None, most)
 
 
 class Limits(ProgramCases):
@@ -270,19 +274,22 @@ class Limits(ProgramCases):
     def cases(self, rows):
         return [(row.name, replace(row, folder=self.folder)) for row in rows]
 
+    def check_needs(self, rows, resources, most, words):
+        for it in self.check_each(self.cases(rows), lambda row: need_of(self.program, row, resources, most), lambda it: it.fault, at_once=1):
+            self.tell(f"\n    {it.name}: {words} {it.kib} KiB")
+
     def test_wide(self):
         """As many objects, connections, events, properties, publications and joins, and texts as long as may be."""
-        self.check_each(self.cases(limits.wide_rows()), lambda row: fault_on_stack(self.program, row), at_once=1)
+        wide = lambda row: fault_within(self.program, row, resource.RLIMIT_STACK, STACK)
+        self.check_each(self.cases(limits.wide_rows()), wide, at_once=1)
 
     def test_deep(self):
         """Signals, changes and deletions that nest as deep as they may; it is told how much stack they need."""
+        self.check_needs(limits.deep_rows(), resource.RLIMIT_STACK, STACK, "on a stack of")
 
-        def try_row(row):
-            fault = fault_on_stack(self.program, row)
-            return Stack(row.name, fault, 0 if fault else least_stack(self.program, row))
-
-        for it in self.check_each(self.cases(limits.deep_rows()), try_row, lambda it: it.fault, at_once=1):
-            self.tell(f"\n    {it.name}: on a stack of {it.kib} KiB")
+    def test_shared(self):
+        """As many events as there may be, whose texts are those of two emissions; it is told in how much memory."""
+        self.check_needs(limits.shared_rows(), resource.RLIMIT_AS, ADDRESSES, "in an address space of")
 
 
 NAMES = 20_000

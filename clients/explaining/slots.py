@@ -14,7 +14,7 @@ from .lines import Call
 OBJECT_NAME = "objectName"
 MOVES = ("delete", "setParent")
 CALLS = ("delete", "name", "call")  # what may call further slots before it is done
-FUNCTORS = ("clamp",)  # those that are known to write nothing but x
+FUNCTORS = ("clamp", "count")  # those that are known to write nothing but x or y
 WRITES = ("emit", "set")
 
 

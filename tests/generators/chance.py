@@ -56,7 +56,7 @@ SLOTS = (
     *("setX(int)", "setX(int)", "seen(int)"),
     *("not\\u0065()", "note ( void ) ", "nothing()", "note(int)", ""),
 )
-FUNCTORS = (*('"clamp"',) * 16, '"cl\\u0061mp"', '"\\u0063lamp"', '"clam"', '"Clamp"', '"clamp(int)"', '""', "0")
+FUNCTORS = (*('"clamp"',) * 10, *('"count"',) * 10, '"c\\u006funt"', '"cl\\u0061mp"', '"\\u0063lamp"', '"clam"', '"Clamp"', '"clamp(int)"', '""', "0")
 TYPES = (*('"auto"', '"direct"', '"queued"') * 4, '"dir\\u0065ct"', '"Queued"', '"blocking"', "0")
 TRUTHS = ("true", "false")
 JOINED = (*('"note()"',) * 9, *('"setX(int)"',) * 2, '"ping()"', '"late()"', '"seen(int)"')

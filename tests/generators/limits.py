@@ -13,6 +13,7 @@ GROUPS = 1_000
 TURNS = 10_000
 LEVELS = 64
 TEXT_BYTES = 4_096
+PARAMETERS = 10
 DYNAMIC_PROPERTIES = 64
 E07, E08, E09, E10, E14 = ({"error": code} for code in ("E07", "E08", "E09", "E10", "E14"))
 E04, E05, E15, E16, E17, E22 = ({"error": code} for code in ("E04", "E05", "E15", "E16", "E17", "E22"))
@@ -134,11 +135,14 @@ NEXT = [{"set": "x", "to": {"+": [{"arg": 0}, {"const": 1}]}}]
 MORE = [{"connect": "down()", "to": "self", "method": it, "unique": it == "fall()"} for it in ("hear(QString,int)", "fall()", "note()")]
 SLOTS = {"note()": [], "hear(QString,int)": [], "more()": MORE, "fall()": FALL, "fallDeep()": behind_choices(FALL, 30)}
 SLOTS |= {"keep(int)": [{"set": "x", "to": {"arg": 0}}], "sink(int)": NEXT + DROP, "sinkDeep(int)": behind_choices(NEXT + DROP, 30)}
+TEXTS = ",".join(["QString"] * PARAMETERS)
+SAID, HEED = f"said({TEXTS})", f"heed({TEXTS})"
+SLOTS |= {HEED: [], "double(QString)": [{"emit": SAID, "args": [{"cat": [{"arg": 0}, {"arg": 0}]}] * PARAMETERS}]}
 SLOTS |= {"drop()": DROP, "dropDeep()": behind_choices(DROP, 31), "dropFirst()": [{"delete": 1}], "ask()": [{"deleteLater": "self"}]}
 CLASS = {
     "name": "A",
     "super": "QObject",
-    "signals": ["down()", "told(QString,int)", "xChanged(int)", "yChanged(int)"],
+    "signals": ["down()", "told(QString,int)", "xChanged(int)", "yChanged(int)", SAID],
     "slots": [{"sig": slot, "body": body} for slot, body in SLOTS.items()],
     "properties": [{"name": it, "type": "int", "notify": f"{it}Changed(int)", "bindable": True} for it in "xy"],
 }
@@ -564,6 +568,27 @@ def lost_calls():
     yield STATUS, counted(connections=turns - 1, lost=2 * turns - 1, objects=2, queued=EVENTS)
     yield SPIN, *[call("note()", 2, 1)] * turns, spent, spun(turns, 1, 2 * turns - 1)
     yield SPIN, call("note()", 2, 1), spun(1, 0, 2 * turns - 1)
+
+
+def shared_texts():
+    """As many events as there may be, of two emissions, each with as many texts as may be, and these as long as may be.
+
+    All but two are gone with their receiver before they are taken.
+    """
+    half = EVENTS // 2
+    first, second = "x" * TEXT_BYTES, "y" * (TEXT_BYTES // 2)
+    yield from ((new(), reply(number)) for number in (1, 2))
+    yield from ((connect(1, SAID, 1, HEED, type="queued"), reply(number)) for number in range(1, half))
+    yield connect(1, SAID, 2, HEED, type="queued"), reply(half)
+    yield invoke(1, SAID, *[first] * PARAMETERS), reply(True)
+    yield invoke(1, "double(QString)", second), call("double(QString)", 1, 0, second), reply(True)
+    yield STATUS, counted(connections=half, objects=2, queued=EVENTS)
+    yield delete(1), reply(True)
+    yield SPIN, *(call(HEED, 2, 1, *[text] * PARAMETERS) for text in (first, 2 * second)), spun(2)
+
+
+def shared_rows():
+    yield row_of(f"{EVENTS} events with {PARAMETERS} texts of {TEXT_BYTES} bytes each", shared_texts())
 
 
 def wide_rows():

@@ -229,7 +229,8 @@ class Chance(random.Random):
         """A connection to the functor, most times of a signal that fits it."""
         signal = self.choice(TOLD_NUMBERS) if self.is_so(0.9) else self.signal(0.25)
         flags = {key: True for key, share in (("unique", 0.05), ("single", 0.25)) if self.is_so(share)}
-        ends = {"sender": one, "signal": signal, "context": other, "functor": "clamp" if self.is_so(0.95) else "clam"}
+        functor = self.choice(("clamp", "count")) if self.is_so(0.95) else "clam"
+        ends = {"sender": one, "signal": signal, "context": other, "functor": functor}
         return {"do": "connectFunctor", **ends, **flags, **self.type(0.4)}
 
     def disconnect_command(self, one, other):

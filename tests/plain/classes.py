@@ -26,11 +26,13 @@ def method_of(text, is_signal, body=()):
 
 @dataclass
 class Functor:
-    """What a signal may be connected to beside methods: its body is done with its context object as `self`."""
+    """What a signal may be connected to beside methods: its body is done with its context object as `self`, over the state
+    that its connection keeps, and `next` gives it another."""
 
     text: str
     kinds: list
     body: list
+    next: dict
     is_signal: bool = False
 
 
@@ -42,7 +44,12 @@ def clamped(low, high):
     return [{"when": {"<": [given, low]}, "then": at_low, "else": unless_low}]
 
 
-FUNCTORS = {it.text: it for it in (Functor("clamp", ["int"], clamped(0, 100)),)}
+STATE = {"state": True}
+ONE_MORE = {"+": [STATE, {"const": 1}]}
+
+CLAMP = Functor("clamp", ["int"], clamped(0, 100), STATE)
+COUNT = Functor("count", ["int"], [{"set": "y", "to": ONE_MORE}], ONE_MORE)
+FUNCTORS = {it.text: it for it in (CLAMP, COUNT)}
 
 
 @dataclass
@@ -139,6 +146,7 @@ class Connection:
     callee: int | str
     queued: bool
     single: bool
+    state: int = 0
 
     def ends(self):
         return self.sender, self.signal, self.receiver, self.callee
@@ -152,6 +160,7 @@ class Event:
     callee: int | str | None = None
     sender: int = 0
     args: list = field(default_factory=list)
+    connection: Connection | None = None
 
 
 @dataclass
@@ -188,9 +197,11 @@ class Post:
 
 @dataclass
 class Frame:
-    """A slot or functor that is run: its object, who sent the signal, its arguments, and how deep what it sends is."""
+    """A slot or functor that is run: its object, who sent the signal, its arguments, how deep what it sends is, and the state
+    of a functor."""
 
     self_number: int
     sender: int
     args: list
     depth: int
+    state: int | None = None

@@ -1,6 +1,6 @@
 """Expressions: their form in a binding, what they read, and what they come to."""
 
-from .values import NUMBERS, is_known_by, is_long, is_name, is_number, is_text, is_value, refuse
+from .values import NUMBERS, Refused, is_known_by, is_long, is_name, is_number, is_text, is_value, refuse
 
 NODES = 64
 OPERANDS = {"+": 2, "-": 2, "<": 2, "=": 2, "cat": 2, "if": 3}
@@ -53,20 +53,32 @@ def reads_of(form):
 # Value.
 
 
-def evaluated(form, args, read):
-    """What an expression comes to over these arguments, where `read` answers what a property is, from left to right. The
-    first fault ends it; of `if` only the branch that is chosen counts."""
+def evaluated(form, args, read, state=None):
+    """What an expression comes to over these arguments and the state of a functor, where `read` answers what a property
+    is, from left to right. The first fault ends it; of `if` only the branch that is chosen counts."""
     if "const" in form:
         return form["const"]
     if "arg" in form:
         return args[form["arg"]]
+    if "state" in form:
+        return refuse("E22") if state is None else state
     if "prop" in form:
         return read(form.get("of", "self"), form["prop"])
     [(operator, parts)] = form.items()
     if operator == "if":
-        test = evaluated(parts[0], args, read)
-        return evaluated(parts[1 if test else 2], args, read) if isinstance(test, bool) else refuse("E22")
-    return computed(operator, *[evaluated(part, args, read) for part in parts])
+        test = evaluated(parts[0], args, read, state)
+        return evaluated(parts[1 if test else 2], args, read, state) if isinstance(test, bool) else refuse("E22")
+    return computed(operator, *[evaluated(part, args, read, state) for part in parts])
+
+
+def next_state(form, args, state):
+    """The state of a functor behind a call: what its expression comes to, where that is a whole number of 64 bits without
+    sign, and else the same."""
+    try:
+        found = evaluated(form, args, lambda target, name: refuse("E04"), state)
+    except Refused:
+        return state
+    return found if is_number(found) and 0 <= found <= NUMBERS[1] else state
 
 
 def computed(operator, a, b):

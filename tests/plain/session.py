@@ -5,7 +5,7 @@ Nothing here is quick, and nothing is kept beside the rows: whatever is asked is
 
 from .bindings import At, Binding, Scene, Shown
 from .classes import DESTROYED, FUNCTORS, Classes, Connection, Event, Frame, Post, Publication, Row
-from .expressions import binding_of, evaluated, reads_of
+from .expressions import binding_of, evaluated, next_state, reads_of
 from .values import Refused, is_long, is_of_kind, is_value, normal, refuse
 
 OBJECTS = 4_096
@@ -308,7 +308,7 @@ class Session:
             return [("delete", event.number, 0)]
         if self.called(event.number, event.callee).is_signal:
             return [("emit", event.number, event.callee, event.args, 0)]
-        return [("run", event.number, event.callee, event.sender, event.args, 0)]
+        return [("run", event.number, event.callee, event.sender, event.args, 0, event.connection)]
 
     # Publications and joins.
 
@@ -370,7 +370,7 @@ class Session:
 
     def value(self, frame, form):
         """The value of an expression of a body."""
-        return evaluated(form, frame.args, lambda target, name: self.value_read(frame, target, name))
+        return evaluated(form, frame.args, lambda target, name: self.value_read(frame, target, name), frame.state)
 
     def value_read(self, frame, target, name):
         """The value of a property that a body reads."""
@@ -423,19 +423,27 @@ class Session:
         called = self.called(connection.receiver, connection.callee)
         given = args[: len(called.kinds)]
         if connection.queued:
-            self.lost += not self.post(Event(connection.receiver, connection.callee, connection.sender, given))
+            self.lost += not self.post(Event(connection.receiver, connection.callee, connection.sender, given, connection))
             return None
         if called.is_signal:
             return [("emit", connection.receiver, connection.callee, given, depth + 1)]
-        return [("run", connection.receiver, connection.callee, connection.sender, given, depth)]
+        return [("run", connection.receiver, connection.callee, connection.sender, given, depth, connection)]
 
-    def do_run(self, number, callee, sender, args, depth):
-        """Runs a slot of an object, or a functor for it."""
+    def do_run(self, number, callee, sender, args, depth, connection=None):
+        """Runs a slot of an object, or a functor for it over the state that its connection keeps."""
         if self.row(number) is None:
             return None
         called = self.called(number, callee)
         self.lines.append({"args": args, "call": called.text, "object": number, "sender": sender})
-        return self.acts(called.body, Frame(number, sender, args, depth + 1))
+        state = self.stepped(called, args, connection) if callee in FUNCTORS else None
+        return self.acts(called.body, Frame(number, sender, args, depth + 1, state))
+
+    def stepped(self, functor, args, connection):
+        """The state that a functor is run over, 0 where its connection has gone; the next one is kept in its place."""
+        if connection not in self.connections:
+            return 0
+        state, connection.state = connection.state, next_state(functor.next, args, connection.state)
+        return state
 
     def acts(self, body, frame):
         return [("act", action, frame) for action in body]

@@ -31,12 +31,12 @@ fn error_before(last: &Showing, shown: &Shown) -> Option<BindingError>
 }
 
 /// Whether a property showed this value before.
-fn is_value_before(alloc: Global, last: &Showing, shown: &Shown) -> bool
+fn is_value_before(last: &Showing, shown: &Shown) -> bool
     ensures { result ≡ is_same (before last.now shown.now).value shown.now.value }
 {
     match last.at(shown.at) {
         Some(then) => then.value.is_same(&shown.value),
-        None => default_of(alloc, shown.kind).is_same(&shown.value),
+        None => default_of(shown.kind).is_same(&shown.value),
     }
 }
 
@@ -60,7 +60,7 @@ fn warning(last: &Showing, shown: &Shown) -> Option<Change>
 fn notice(alloc: Global, last: &Showing, shown: &Shown) -> Result<Option<Change>, AllocError>
     ensures { IfOk result (λ change. change ≡ notice last.now shown.now) }
 {
-    if is_value_before(alloc, last, shown) {
+    if is_value_before(last, shown) {
         return Ok(None);
     }
     Ok(Some(Change {

@@ -134,7 +134,7 @@ impl Web {
     {
         match self.last.at(at) {
             Some(then) => then.copy(alloc),
-            None => Ok(shown_as(alloc, at, kind, Ok(default_of(alloc, kind)))),
+            None => Ok(shown_as(at, kind, Ok(default_of(kind)))),
         }
     }
 

@@ -21,12 +21,7 @@ use std::alloc::{AllocError, Global};
 use variant_value::Value;
 
 /// What a property of a kind shows.
-pub(crate) fn shown_as(
-    alloc: Global,
-    at: Property,
-    kind: Kind,
-    outcome: Result<Value, BindingError>,
-) -> Shown
+pub(crate) fn shown_as(at: Property, kind: Kind, outcome: Result<Value, BindingError>) -> Shown
     ensures { result ≡ shown_as at kind outcome }
 {
     match outcome {
@@ -39,7 +34,7 @@ pub(crate) fn shown_as(
         Err(error) => Shown {
             at,
             kind,
-            value: default_of(alloc, kind),
+            value: default_of(kind),
             error: Some(error),
         },
     }
@@ -61,7 +56,7 @@ pub(crate) fn show(
     };
     let mut done = Memory::new(alloc);
     let outcome = outcome(alloc, stores, place, bindings, &mut done, at)?;
-    Ok(Some(shown_as(alloc, at, kind, outcome)))
+    Ok(Some(shown_as(at, kind, outcome)))
 }
 
 /// What is kept of a property, or else what it stores.
@@ -100,7 +95,7 @@ pub(crate) fn show_kept(
         return Ok(None);
     };
     let outcome = known(alloc, kept, at, stored)?;
-    Ok(Some(shown_as(alloc, at, kind, outcome)))
+    Ok(Some(shown_as(at, kind, outcome)))
 }
 
 /// Puts what a property shows behind the others, where it is there.

@@ -32,7 +32,7 @@ pub(crate) fn meet(
 {
     match &expr.node {
         Node::Const(value) => Ok(value.copy(alloc)?),
-        Node::Arg(_) => Err(Halt::Refused(Code::BadValue)),
+        Node::Arg(_) | Node::State => Err(Halt::Refused(Code::BadValue)),
         Node::Prop(target, name) => {
             let Some(at) = named(known.stores, known.place, object, target, name) else {
                 return Err(Halt::Refused(Code::NoSuchProperty));

@@ -7,3 +7,5 @@ pub mod GoneLemmas
 pub mod SeenLemmas
 pub mod AddedLemmas
 pub mod LazyLemmas
+pub mod StateLemmas
+pub mod SteppedLemmas

@@ -29,7 +29,7 @@ pub record IsSeen (rows : Table (List (Keyed Connection))) (routes : Table Route
   pub shows : rows_at table place ≡ place_of (shared.rows_at rows place) at
 
 -- what a look past the places gives
-abbrev blank : Routes
+abbrev pub blank : Routes
 blank = record { last_number = 0; sent = record { links = []; capacity = 0 }; received = record { links = []; capacity = 0 } }
 
 module _ (rows : Table (List (Keyed Connection))) (routes : Table Routes) (table : Table Rows) (kept : AreKept rows.places routes.places) (view_is : joined_tables place_of rows routes ≡ table) (place : ℕ) (is_place : IsPlace table place) where

@@ -23,6 +23,11 @@ allows_method None callee = true
 allows_method (Some wanted) (Method index) = wanted == index
 allows_method (Some wanted) (Functor index) = false
 
+-- is it a functor
+abbrev pub calls_functor : Callee → Bool
+calls_functor (Method index) = false
+calls_functor (Functor index) = true
+
 -- is it a wanted receiver and method, or is none wanted
 abbrev pub allows_receiver : Option Receiver → Connection → Bool
 allows_receiver None row = true

@@ -1,12 +1,12 @@
 -- What contracts see of the connections of a place.
-use Rattle.std.specs.Prelude.{ℕ, ◌+◌, ◌-◌, ◌^◌, ◌<◌, ◌≤◌, Bool, not, nat_lt, nat_le, ◌==◌, ◌&&◌, if◌then◌else◌, List, [], ◌∷◌, ◌++◌, length, filter, All, AllPairs, Option, Some, None}
+use Rattle.std.specs.Prelude.{ℕ, ◌+◌, ◌-◌, ◌^◌, ◌<◌, ◌≤◌, Bool, not, nat_lt, nat_le, ◌==◌, ◌&&◌, if◌then◌else◌, List, [], ◌∷◌, ◌++◌, length, filter, find, map, All, AllPairs, Option, Some, None, option_and_then}
 use Rattle.std.specs.List.{list_any}
 use Rattle.refusals.specs.declared.code.Code.{Code}
 use Rattle.refusals.specs.declared.code.Code.TheVariants.{ConnectedAlready, Limit, NumbersUsedUp}
 use Rattle.connection_list.specs.declared.connection.Connection.{Connection}
 use Rattle.connection_list.specs.declared.connection.NewConnection.{NewConnection}
 use Rattle.connection_list.specs.declared.limit.TheConstants.{CONNECTIONS}
-use Rattle.connection_list.specs.Ends.{same_ends, calls}
+use Rattle.connection_list.specs.Ends.{same_ends, calls, calls_functor}
 
 pub record Rows : Type 0 where
   -- the connections that stand, by rising number
@@ -38,9 +38,9 @@ connect_refusal place new unique =
     else (if nat_le (2 ^ 32 - 1) place.last_number then Some NumbersUsedUp
     else None))
 
--- the new connection under its number
+-- the new connection under its number, whose functor has the state 0
 abbrev pub numbered : ℕ → NewConnection → Connection
-numbered number new = record { number = number; sender = new.sender; signal = new.signal; receiver = new.receiver; callee = new.callee; mode = new.mode; single = new.single }
+numbered number new = record { number = number; sender = new.sender; signal = new.signal; receiver = new.receiver; callee = new.callee; mode = new.mode; single = new.single; state = 0 }
 
 -- the place with one more connection, which has the next number
 abbrev pub connected : Rows → NewConnection → Rows
@@ -53,6 +53,18 @@ without test place = record { rows = filter (λ row. not (test row)) place.rows;
 -- is this its number
 abbrev pub has_number : ℕ → Connection → Bool
 has_number number row = row.number == number
+
+-- is this its number, and does it call a functor
+abbrev pub is_of_functor : ℕ → Connection → Bool
+is_of_functor number row = has_number number row && calls_functor row.callee
+
+-- the place where the functor of the connection with this number has another state, if one stands
+abbrev pub with_state : ℕ → ℕ → Rows → Rows
+with_state number state place = record place { rows = map (λ row. if is_of_functor number row then record row { state = state } else row) place.rows }
+
+-- the state of the functor that the connection with this number calls; none where no such one stands
+abbrev pub state_of : ℕ → Rows → Option ℕ
+state_of number place = option_and_then (λ row. if calls_functor row.callee then Some row.state else None) (find (has_number number) place.rows)
 
 -- does this signal of this object call the connection's callee, and is its number at most `up_to`
 abbrev pub is_sent : ℕ → ℕ → ℕ → Connection → Bool

@@ -1,6 +1,6 @@
 //! What is asked of a connection's two ends.
 ghost use Rattle.std.specs.Prelude.{◌≡◌};
-ghost use Rattle.connection_list.specs.Ends.{allows, allows_method, allows_receiver, same_ends, matches, calls};
+ghost use Rattle.connection_list.specs.Ends.{allows, allows_method, allows_receiver, same_ends, matches, calls, calls_functor};
 
 use crate::connection::{Connection, NewConnection};
 use crate::pattern::{Pattern, Receiver};
@@ -52,6 +52,16 @@ fn allows_method(wanted: Option<u32>, callee: Callee) -> bool
         (None, _) => true,
         (Some(wanted), Callee::Method(index)) => wanted == index,
         (Some(_), Callee::Functor(_)) => false,
+    }
+}
+
+/// Whether the callee is a functor.
+pub(crate) fn calls_functor(callee: Callee) -> bool
+    ensures { result ≡ calls_functor callee }
+{
+    match callee {
+        Callee::Method(_) => false,
+        Callee::Functor(_) => true,
     }
 }
 

@@ -1,14 +1,14 @@
 //! The connections of all places.
-ghost use Rattle.std.specs.Prelude.{◌≡◌, ◌+◌, ◌≤◌, [], Contains, IfOk, IfSome, OnOk, OnErr, count_by, find, is_some, length};
+ghost use Rattle.std.specs.Prelude.{◌≡◌, ◌+◌, ◌≤◌, [], false, Contains, IfOk, IfSome, OnOk, OnErr, count_by, find, is_some, length};
 ghost use Rattle.std.specs.List.{list_any};
 ghost use Rattle.places.specs.Table.{IsPlace, opened};
 ghost use Rattle.refusals.specs.Answers.{RefusedBy};
 ghost use Rattle.connection_list.specs.Ends.{matches, same_ends, touches};
-ghost use Rattle.connection_list.specs.Rows.{IsSound, no_rows, connect_refusal, connected, numbered, without, has_number, is_next};
+ghost use Rattle.connection_list.specs.Rows.{IsSound, no_rows, connect_refusal, connected, numbered, without, has_number, is_next, state_of, with_state};
 ghost use Rattle.connection_list.specs.Table.{rows_at, with_rows};
 
 use crate::connection::{Connection, NewConnection};
-use crate::ends::{calls, same_ends};
+use crate::ends::{calls, calls_functor, same_ends};
 use crate::lazy_routes::LazyRoutes;
 use crate::limit::CONNECTIONS;
 use crate::pattern::Pattern;
@@ -237,6 +237,39 @@ impl Connections {
         Some(*self.rows.get(place, key))
     }
 
+    /// Gives the functor of the connection with a number another state, which takes no memory, and
+    /// returns whether such a connection stands. Where none does, nothing is changed.
+    pub fn set_state(&mut self, place: usize, number: u32, state: u64) -> bool
+        requires { IsPlace self.old place }
+        ensures stood { result ≡ is_some (state_of number (rows_at self.old place)) }
+        ensures state { self.new ≡ with_rows self.old place (with_state number state (rows_at self.old place)) }
+        ensures absent { result ≡ false → self.new ≡ self.old }
+    {
+        let Some(key) = self.rows.find(place, number as u64) else {
+            return false;
+        };
+        let row = *self.rows.get(place, key);
+        if !calls_functor(row.callee) {
+            return false;
+        }
+        self.rows.replace(place, key, Connection { state, ..row });
+        true
+    }
+
+    /// The state of the functor that the connection with a number calls; nothing where it has gone, or
+    /// calls a method.
+    pub fn state(&self, place: usize, number: u32) -> Option<u64>
+        requires { IsPlace self.now place }
+        ensures { result ≡ state_of number (rows_at self.now place) }
+    {
+        let row = self.row(place, number)?;
+        if calls_functor(row.callee) {
+            Some(row.state)
+        } else {
+            None
+        }
+    }
+
     /// The number that was given last, or 0.
     pub fn last_number(&self, place: usize) -> u32
         requires { IsPlace self.now place }
@@ -267,5 +300,6 @@ fn numbered(number: u32, new: &NewConnection) -> Connection
         callee: new.callee,
         mode: new.mode,
         single: new.single,
+        state: 0,
     }
 }

@@ -13,6 +13,8 @@ pub struct QueuedCall {
     pub callee: Callee,
     /// The object that sent the signal, or 0 where none did. It may go before the call is made.
     pub sender: u32,
+    /// The connection that called, or 0 where none did. It may be broken before the call is made.
+    pub connection: u32,
     pub args: Args,
 }
 
@@ -22,6 +24,7 @@ impl Drop for QueuedCall {
             object: _,
             callee: _,
             sender: _,
+            connection: _,
             args: _,
         } = self;
     }

@@ -5,10 +5,15 @@
 ghost use Rattle.std.specs.Prelude.{◌≡◌, ◌∷◌, [], IfOk};
 ghost use Rattle.signature_core.specs.declared.kind.Kind.TheVariants.{Int};
 ghost use Rattle.stored_slots.specs.Functors.{AreArguments};
+ghost use Rattle.term_core.specs.Term.{state};
+ghost use Rattle.term_evaluation.specs.Stating.{after, with_state};
 ghost use Rattle.term_evaluation.specs.Unfolding.{unfolded_body};
 ghost use Rattle.program_start.specs.Clamp.{clamp_body};
+ghost use Rattle.program_start.specs.Count.{count_body, one_more};
 
-use program_start::{Beginning, clamped, start, with_clamp};
+use program_start::{
+    Beginning, add_count, clamped, count_actions, count_state, kept_state, start, with_clamp,
+};
 use server_world::Server;
 use std::alloc::{AllocError, Global};
 use std::hash::RandomState;
@@ -28,26 +33,43 @@ fn main(rt: HostRuntime) -> ExitCode {
     }
 }
 
-/// Answers standard input on standard output, to its end, with these classes and turns, and with the functor
-/// `clamp`, whose closure captures the bounds that it keeps a number between.
+/// Answers standard input on standard output, to its end, with these classes and turns, and with the functors
+/// `clamp`, whose closure captures the bounds that it keeps a number between, and `count`.
 fn serve(rt: &HostRuntime, beginning: Beginning) -> Result<Summary, RunFault> {
     let Beginning { classes, turns } = beginning;
     let (least, most) = (0, 100);
     let Ok(clamp) = Box::new(
         rt.alloc(),
-        move |alloc: Global, args: &[Value]| -> Result<Vec<Action>, AllocError>
+        move |alloc: Global, found: u64, args: &[Value]| -> Result<(Vec<Action>, u64), AllocError>
             requires { AreArguments (Int ∷ []) args.now }
-            ensures { IfOk result (λ actions. actions.items ≡ unfolded_body args.now (clamp_body least most)) }
+            ensures { IfOk result (λ answer. (answer.0.items ≡ unfolded_body args.now (with_state found (clamp_body least most)))
+                × (answer.1 ≡ after state found args.now)) }
         {
             let node = Node::Const(args[0].copy(alloc)?);
-            clamped(alloc, least, most, &Expr { node })
+            let actions = clamped(alloc, least, most, &Expr { node })?;
+            Ok((actions, kept_state(found)))
         },
     ) else {
         return Err(RunFault::Memory);
     };
-    let Ok(functors) = with_clamp(rt.alloc(), least, most, clamp) else {
+    let Ok(mut functors) = with_clamp(rt.alloc(), least, most, clamp) else {
         return Err(RunFault::Memory);
     };
+    let Ok(count) = Box::new(
+        rt.alloc(),
+        |alloc: Global, found: u64, args: &[Value]| -> Result<(Vec<Action>, u64), AllocError>
+            ensures { IfOk result (λ answer. (answer.0.items ≡ unfolded_body args.now (with_state found count_body))
+                × (answer.1 ≡ after (one_more state) found args.now)) }
+        {
+            let actions = count_actions(alloc, found)?;
+            Ok((actions, count_state(found)))
+        },
+    ) else {
+        return Err(RunFault::Memory);
+    };
+    if add_count(rt.alloc(), &mut functors, least, most, count).is_err() {
+        return Err(RunFault::Memory);
+    }
     // Without random keys there is no server: a client could choose names that make it slow.
     let Ok(hashing) = RandomState::new(rt) else {
         return Err(RunFault::Read);

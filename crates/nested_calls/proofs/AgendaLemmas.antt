@@ -418,7 +418,7 @@ module _ (caller : Caller) (connection : Connection) (args : List Value) (depth 
         -- the event that a queued connection posts
         module _ (given : List Value) where
           abbrev pub posted_call : QueuedCall
-          posted_call = record { object = connection.receiver; callee = connection.callee; sender = connection.sender; args = given }
+          posted_call = record { object = connection.receiver; callee = connection.callee; sender = connection.sender; connection = connection.number; args = given }
 
         module _ (method : class.Method) (has : Some method ≡ method_at its_settings (state_at new caller.place) connection.receiver index) (given : List Value) (cut : given ≡ take (length method.signature.kinds) args) where
           abbrev its_call : QueuedCall
@@ -427,9 +427,9 @@ module _ (caller : Caller) (connection : Connection) (args : List Value) (depth 
           abbrev pub its_later : Bool → State
           its_later room = if room then with_event (state_at new caller.place) (event.Call its_call) else with_lost (state_at new caller.place)
 
-          later_is : record { object = connection.receiver; callee = Method index; sender = connection.sender; args = take (length method.signature.kinds) args } ≡ its_call
-          later_is = ap (λ (called : Callee). record { object = connection.receiver; callee = called; sender = connection.sender; args = take (length method.signature.kinds) args }) (sym is)
-              ∙ ap (λ (values : List Value). record { object = connection.receiver; callee = connection.callee; sender = connection.sender; args = values }) (sym cut)
+          later_is : record { object = connection.receiver; callee = Method index; sender = connection.sender; connection = connection.number; args = take (length method.signature.kinds) args } ≡ its_call
+          later_is = ap (λ (called : Callee). record { object = connection.receiver; callee = called; sender = connection.sender; connection = connection.number; args = take (length method.signature.kinds) args }) (sym is)
+              ∙ ap (λ (values : List Value). record { object = connection.receiver; callee = connection.callee; sender = connection.sender; connection = connection.number; args = values }) (sym cut)
 
           posted_is : (final : Tables) → IsPlaced new caller.place → final ≡ with_state new caller.place (with_event (state_at new caller.place) (event.Call its_call)) → posted (doing_at caller.place new taken earlier) (event.Call its_call) ≡ doing_at caller.place final taken earlier
           unfolding posted

@@ -1,5 +1,5 @@
 -- What was posted stays the front of all that is posted.
-use Rattle.std.proofs.Common.{◌≡◌, true, List, [], ◌∷◌, ◌++◌, None, refl, sym, ap, subst, ◌∙◌, append_assoc}
+use Rattle.std.proofs.Common.{◌≡◌, ℕ, true, List, [], ◌∷◌, ◌++◌, None, refl, sym, ap, subst, ◌∙◌, append_assoc}
 use Rattle.std.proofs.lemmas.Bool.{cond_both}
 use Rattle.std.proofs.lemmas.List.{append-nil}
 use Rattle.refusals.specs.declared.code.Code.TheVariants.{TurnsUsedUp}
@@ -9,7 +9,7 @@ use Rattle.thread_model.specs.declared.line.Line.TheVariants.{Warning}
 use Rattle.thread_model.specs.declared.post.Post.{Post}
 use Rattle.thread_model.specs.Agenda.{step}
 use Rattle.thread_model.specs.Deeds.{deed_done}
-use Rattle.thread_model.specs.Doing.{Doing, dying, first_taken, in_state, lost, posted, posting, severed, shot, told, turn_taken, used_up}
+use Rattle.thread_model.specs.Doing.{Doing, dying, first_taken, in_state, lost, posted, posting, severed, shot, stepped, told, turn_taken, used_up}
 use Rattle.thread_model.specs.Items.{Item, Next}
 use Rattle.thread_model.specs.Run.{run}
 use Rattle.thread_model.specs.Settings.{Settings}
@@ -44,6 +44,11 @@ pub told_front : (doing : Doing) (said : Line) → PostsBehind doing (told doing
 unfolding told
 told_front doing said = same doing
 
+-- nor does another state of a functor
+pub stepped_front : (doing : Doing) (number next : ℕ) → PostsBehind doing (stepped doing number next)
+unfolding stepped
+stepped_front doing number next = same doing
+
 -- what each change posts
 holds : Holds PostsBehind
 unfolding posting turn_taken used_up shot posted lost first_taken dying severed deed_done
@@ -63,6 +68,7 @@ holds = record {
   marks = λ doing target. same doing;
   severs = λ doing target. same doing;
   goes = λ doing target. same doing;
+  steps = stepped_front;
 }
 
 module _ (settings : Settings) where

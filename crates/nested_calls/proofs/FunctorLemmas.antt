@@ -1,12 +1,14 @@
 -- Functors that are called: what a connection's call of one comes to, and that a closure's actions do what
 -- its body does.
-use Rattle.std.proofs.Common.{◌≡◌, ◌+◌, ◌≤◌, ℕ, Bool, true, false, cond, List, [], ◌∷◌, Option, Some, None, length, take, refl, sym, ap, ◌∙◌}
+use Rattle.std.proofs.Common.{◌≡◌, ◌+◌, ◌≤◌, ℕ, Bool, true, false, cond, List, [], ◌∷◌, Option, Some, None, length, take, refl, sym, ap, ◌∙◌, arith}
 use Rattle.std.specs.Option.{option_map_or}
 use Rattle.std.proofs.lemmas.Bool.{cond-false, cond-true, cond_both}
 use Rattle.variant_value.specs.declared.value.Value.{Value}
 use Rattle.term_core.specs.Act.{Act, acts_of, counts}
-use Rattle.term_evaluation.specs.Unfolding.{unfolded_body}
-use Rattle.term_evaluation.proofs.Branches.{branch_unfolded}
+use Rattle.term_evaluation.specs.Unfolding.{unfolded_body, unfolded_term}
+use Rattle.term_evaluation.specs.Stating.{after, with_state}
+use Rattle.term_evaluation.proofs.Branches.{branch_changed}
+use Rattle.term_evaluation.proofs.StatingLemmas.{state_counts}
 use Rattle.term_evaluation.proofs.SubstitutionLemmas.{actions_kept}
 use Rattle.connection_types.specs.declared.callee.Callee.{Callee}
 use Rattle.connection_types.specs.declared.callee.Callee.TheVariants.{Functor}
@@ -18,26 +20,29 @@ use Rattle.stored_slots.specs.declared.functor.Functor as stored
 use Rattle.thread_model.specs.Acts as model
 use Rattle.thread_model.specs.Agenda.{callee_called, functor_called, functor_line, queued}
 use Rattle.thread_model.specs.declared.post.Post.{Post}
-use Rattle.thread_model.specs.Doing.{Doing, in_state, lost, posted, told}
+use Rattle.thread_model.specs.Doing.{Doing, in_state, lost, posted, stepped, told}
 use Rattle.thread_model.specs.Functors.{functor_at}
 use Rattle.thread_model.specs.Items.{Item, Next, RunFunctor, puts}
 use Rattle.thread_model.specs.Posting.{is_queued}
 use Rattle.thread_model.specs.Run.{longest_functor, run}
 use Rattle.thread_model.specs.Settings.{Settings}
-use Rattle.thread_model.specs.State.{State, with_call, with_event, with_lost}
+use Rattle.thread_model.specs.State.{State, functor_state, with_call, with_event, with_functor_state, with_lost}
 use Rattle.thread_model.proofs.EmissionLemmas as rule
 use Rattle.thread_model.proofs.InPlaceLemmas.{acts-put_in}
 use Rattle.thread_model.proofs.RunLemmas.{at_end, by_change, by_step}
 use Rattle.thread_model.proofs.WeightLemmas.{functor-size}
 use Rattle.session_tables.specs.declared.tables.Tables.{Tables}
-use Rattle.session_tables.specs.Tables.{IsPlaced, state_at, with_state}
+use Rattle.session_tables.specs.Tables as tables
+use Rattle.session_tables.specs.Tables.{IsPlaced, state_at}
 use Rattle.session_tables.proofs.TablesLemmas.{state_with}
 use Rattle.nested_calls.specs.declared.telling.Telling.{Telling}
 use Rattle.nested_calls.specs.Telling.{doing_at}
-use Rattle.nested_calls.proofs.FrontLemmas.{PostsBehind, front_same}
+use Rattle.thread_model.proofs.LivingLemmas.{living_rows}
+use Rattle.nested_calls.proofs.AgendaLemmas.{left_at}
+use Rattle.nested_calls.proofs.FrontLemmas.{PostsBehind, front_both, front_same, stepped_front, told_front}
 
 -- a call that is posted, or lost where there is no room for it
-pub queued_is : (place : ℕ) (old new : Tables) (telling : Telling) (earlier : List Post) (call : QueuedCall) → IsPlaced old place → new ≡ with_state old place (with_call (state_at old place) call) → queued (doing_at place old telling earlier) call ≡ doing_at place new telling earlier
+pub queued_is : (place : ℕ) (old new : Tables) (telling : Telling) (earlier : List Post) (call : QueuedCall) → IsPlaced old place → new ≡ tables.with_state old place (with_call (state_at old place) call) → queued (doing_at place old telling earlier) call ≡ doing_at place new telling earlier
 unfolding posted lost
 queued_is place old new telling earlier call placed e =
     by (has_room (state_at old place).queue)
@@ -48,15 +53,22 @@ queued_is place old new telling earlier call placed e =
     by true = refl
     by false = refl
 
+-- what a functor comes to, where its actions are done at this depth
+abbrev pub ran_at : Doing → ℕ → ℕ → ℕ → List Value → ℕ → stored.Functor → Next
+ran_at doing target sender connection args depth functor =
+    let state = functor_state doing.state connection in
+    puts (model.acts (acts_of (with_state state functor.body).actions) args target sender depth)
+    (stepped (told doing (functor_line functor target sender args)) connection (after functor.next state args))
+
 -- what a functor's run comes to
-module _ (settings : Settings) (target index sender : ℕ) (args : List Value) (depth : ℕ) (doing : Doing) where
-  pub runs_none : None ≡ functor_at settings index → run settings (RunFunctor target index sender args depth ∷ []) doing ≡ doing
-  runs_none has = by_change settings (RunFunctor target index sender args depth) doing doing (rule.run_functor_absent settings target index sender args depth doing (sym has))
+module _ (settings : Settings) (target index sender connection : ℕ) (args : List Value) (depth : ℕ) (doing : Doing) where
+  pub runs_none : None ≡ functor_at settings index → run settings (RunFunctor target index sender connection args depth ∷ []) doing ≡ doing
+  runs_none has = by_change settings (RunFunctor target index sender connection args depth) doing doing (rule.run_functor_absent settings target index sender connection args depth doing (sym has))
 
   pub runs_functor : (functor : stored.Functor) → Some functor ≡ functor_at settings index → (done : Doing)
-      → run settings (model.acts (acts_of functor.body.actions) args target sender (depth + 1)) (told doing (functor_line functor target sender args)) ≡ done
-      → run settings (RunFunctor target index sender args depth ∷ []) doing ≡ done
-  runs_functor functor has done does = by_step settings (RunFunctor target index sender args depth) doing _ (rule.run_functor settings target index sender args depth doing functor (sym has)) ∙ does
+      → (let next = ran_at doing target sender connection args (depth + 1) functor in run settings next.items next.doing) ≡ done
+      → run settings (RunFunctor target index sender connection args depth ∷ []) doing ≡ done
+  runs_functor functor has done does = by_step settings (RunFunctor target index sender connection args depth) doing _ (rule.run_functor settings target index sender connection args depth doing functor (sym has)) ∙ does
 
 -- what a connection's call of a functor comes to, when its turn is taken
 module _ (settings : Settings) (connection : Connection) (index : ℕ) (args : List Value) (depth : ℕ) (doing : Doing) where
@@ -75,7 +87,7 @@ module _ (settings : Settings) (connection : Connection) (index : ℕ) (args : L
 
   module _ (functor : stored.Functor) (has : Some functor ≡ functor_at settings index) (given : List Value) (cut : given ≡ take (length functor.params) args) where
     abbrev later_call : Callee → List Value → QueuedCall
-    later_call called values = record { object = connection.receiver; callee = called; sender = connection.sender; args = values }
+    later_call called values = record { object = connection.receiver; callee = called; sender = connection.sender; connection = connection.number; args = values }
 
     -- a queued connection calls it later
     pub functor_queued : (done : Doing) → connection.callee ≡ Functor index → is_queued connection.mode ≡ true → queued doing (later_call connection.callee given) ≡ done → ran its_next ≡ done
@@ -89,13 +101,13 @@ module _ (settings : Settings) (connection : Connection) (index : ℕ) (args : L
 
     -- and another one at once
     pub functor_run : (done : Doing) → is_queued connection.mode ≡ false
-        → run settings (model.acts (acts_of functor.body.actions) given connection.receiver connection.sender (depth + 1)) (told doing (functor_line functor connection.receiver connection.sender given)) ≡ done
+        → ran (ran_at doing connection.receiver connection.sender connection.number given (depth + 1) functor) ≡ done
         → ran its_next ≡ done
     functor_run done at_once does =
         by_functor (Some functor) has
         ∙ ap ran (cond-false (is_queued connection.mode) _ _ at_once)
-        ∙ ap (λ (values : List Value). run settings (RunFunctor connection.receiver index connection.sender values depth ∷ []) doing) (sym cut)
-        ∙ runs_functor settings connection.receiver index connection.sender given depth doing functor has done does
+        ∙ ap (λ (values : List Value). run settings (RunFunctor connection.receiver index connection.sender connection.number values depth ∷ []) doing) (sym cut)
+        ∙ runs_functor settings connection.receiver index connection.sender connection.number given depth doing functor has done does
 
 -- it posts nothing to other sessions before that is run
 module _ (settings : Settings) (connection : Connection) (index : ℕ) (args : List Value) (depth : ℕ) (doing : Doing) where
@@ -119,15 +131,45 @@ module _ (settings : Settings) (index : ℕ) (functor : stored.Functor) (has : S
   pub functor_short : counts (acts_of functor.body.actions) ≤ longest_functor settings.functors
   functor_short = functor-size settings index functor (sym has)
 
-  module _ (args : List Value) (answered : List Act) (is : answered ≡ unfolded_body args functor.body) where
+  module _ (state : ℕ) (args : List Value) (answered : List Act) (is : answered ≡ unfolded_body args (with_state state functor.body)) where
     pub answered_short : counts (acts_of answered) ≡ counts (acts_of functor.body.actions)
-    answered_short = ap (λ (actions : List Act). counts (acts_of actions)) is ∙ actions_kept functor.body args
+    answered_short = ap (λ (actions : List Act). counts (acts_of actions)) is ∙ actions_kept (with_state state functor.body) args ∙ state_counts functor.body state
 
     -- so its actions do what the body does over the arguments
     pub answered_does : (target sender depth : ℕ) (doing done : Doing) → run settings (model.acts (acts_of answered) [] target sender depth) doing ≡ done
-        → run settings (model.acts (acts_of functor.body.actions) args target sender depth) doing ≡ done
+        → run settings (model.acts (acts_of (with_state state functor.body).actions) args target sender depth) doing ≡ done
     answered_does target sender depth doing done does =
-        acts-put_in settings target sender args (acts_of functor.body.actions) depth doing
-        ∙ ap (λ body. run settings (model.acts body [] target sender depth) doing) (sym (branch_unfolded args functor.body.actions))
+        acts-put_in settings target sender args (acts_of (with_state state functor.body).actions) depth doing
+        ∙ ap (λ body. run settings (model.acts body [] target sender depth) doing) (sym (branch_changed (unfolded_term args) (with_state state functor.body).actions))
         ∙ ap (λ (actions : List Act). run settings (model.acts (acts_of actions) [] target sender depth) doing) (sym is)
         ∙ does
+
+-- a functor is told of, and its connection has another state
+pub stepped_is : (place : ℕ) (old new : Tables) (telling : Telling) (earlier : List Post) (number next : ℕ) → IsPlaced old place → new ≡ tables.with_state old place (with_functor_state (state_at old place) number next)
+    → stepped (doing_at place old telling earlier) number next ≡ doing_at place new telling earlier
+unfolding stepped
+stepped_is place old new telling earlier number next placed e =
+    ap (λ (state : State). in_state (doing_at place old telling earlier) state) (sym (state_with old new place (with_functor_state (state_at old place) number next) placed e))
+
+-- that leaves as much to do
+pub left_functor : (place : ℕ) (old new : Tables) (telling : Telling) (number next : ℕ) → IsPlaced old place → new ≡ tables.with_state old place (with_functor_state (state_at old place) number next) → left_at place new telling ≤ left_at place old telling
+left_functor place old new telling number next placed e =
+    let there : living_rows (state_at new place).forest.rows ≡ living_rows (state_at old place).forest.rows = ap (λ (state : State). living_rows state.forest.rows) (state_with old new place (with_functor_state (state_at old place) number next) placed e) in
+    omega (arith, there)
+
+-- what a functor answers over the state of its connection, done behind the change of that, is what it comes to
+module _ (settings : Settings) (index : ℕ) (functor : stored.Functor) (has : Some functor ≡ functor_at settings index) (target sender connection : ℕ) (args : List Value) (depth : ℕ) where
+  pub functor_does : (doing middle done : Doing) (state next : ℕ) (answered : List Act) → state ≡ functor_state doing.state connection → answered ≡ unfolded_body args (with_state state functor.body) → next ≡ after functor.next state args
+      → stepped (told doing (functor_line functor target sender args)) connection next ≡ middle → run settings (model.acts (acts_of answered) [] target sender depth) middle ≡ done
+      → (let its = ran_at doing target sender connection args depth functor in run settings its.items its.doing) ≡ done
+  functor_does doing middle done state next answered state_is answered_is next_is middle_is does =
+      ap (λ n. run settings (model.acts (acts_of (with_state n functor.body).actions) args target sender depth) (stepped (told doing (functor_line functor target sender args)) connection (after functor.next n args))) (sym state_is)
+      ∙ ap (λ n. run settings (model.acts (acts_of (with_state state functor.body).actions) args target sender depth) (stepped (told doing (functor_line functor target sender args)) connection n)) (sym next_is)
+      ∙ ap (run settings (model.acts (acts_of (with_state state functor.body).actions) args target sender depth)) middle_is
+      ∙ answered_does settings index functor has state args answered answered_is target sender depth middle done does
+
+  pub functor_front : (doing : Doing) → PostsBehind doing (ran_at doing target sender connection args depth functor).doing
+  functor_front doing =
+      let line = functor_line functor target sender args in
+      let next = after functor.next (functor_state doing.state connection) args in
+      front_both doing.posts (told doing line).posts (stepped (told doing line) connection next).posts (told_front doing line) (stepped_front (told doing line) connection next)

@@ -1,9 +1,9 @@
 //! The session for which nested calls are made, and what answers the functors that they call.
 ghost use Rattle.std.proofs.Props.{props};
 ghost use Rattle.std.specs.Coded.{codes};
-ghost use Rattle.std.specs.Prelude.{◌≡◌, ◌↔◌, IfOk, IfSome, Some, IsTrue, is_some};
+ghost use Rattle.std.specs.Prelude.{◌≡◌, IfOk, Some};
 ghost use Rattle.stored_slots.specs.contracts.functor.Functor as functor;
-ghost use Rattle.stored_slots.specs.Functors.{AreArguments};
+ghost use Rattle.term_evaluation.specs.Stating.{after, with_state};
 ghost use Rattle.term_evaluation.specs.Unfolding.{unfolded_body};
 ghost use Rattle.thread_model.specs.Functors.{functor_at};
 ghost use Rattle.session_effects.specs.Setup.{settings_of};
@@ -13,6 +13,7 @@ use session_effects::{Caller, are_arguments};
 use std::alloc::AllocError;
 use stored_slots::Functor;
 use term_core::Action;
+use term_evaluation::{after, unfold};
 use variant_value::Value;
 
 /// A caller, and what answers the functors that it knows.
@@ -33,19 +34,26 @@ impl<'a, F: Answering> Actor<'a, F> {
     }
 }
 
-/// What the closure of a functor answers to these arguments, or nothing where they may not be given to it.
+/// What a functor does over a state and with these arguments, and the state that follows. Its closure answers
+/// that where these may be given to it; with others it is what its body says, which is the same.
 pub fn answered<F: Answering>(
     actor: &Actor<F>,
     index: u32,
     functor: &Functor,
+    state: u64,
     args: &[Value],
-) -> Result<Option<Vec<Action>>, AllocError>
+) -> Result<(Vec<Action>, u64), AllocError>
     requires { Some functor.now ≡ functor_at (settings_of actor.now.caller.setup.now) index }
-    ensures asked { IfOk result (λ answer. IsTrue (is_some answer) ↔ AreArguments functor.now.params args.now) }
-    ensures answer { IfOk result (λ answer. IfSome answer (λ actions. actions.items ≡ unfolded_body args.now functor.now.body)) }
+    ensures actions { IfOk result (λ answer. answer.0.items ≡ unfolded_body args.now (with_state state functor.now.body)) }
+    ensures next { IfOk result (λ answer. answer.1 ≡ after functor.now.next state args.now) }
 {
-    if !are_arguments(functor.params.as_slice(), args) {
-        return Ok(None);
+    if are_arguments(functor.params.as_slice(), args) {
+        return actor.answering.answer(index, state, args);
     }
-    Ok(Some(actor.answering.answer(index, args)?))
+    let alloc = actor.caller.setup.alloc;
+    let actions = unfold(alloc, &functor.body, state, args)?;
+    Ok((
+        actions.into_vec(),
+        after(alloc, &functor.next, state, args)?,
+    ))
 }

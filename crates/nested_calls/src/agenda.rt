@@ -8,13 +8,15 @@ ghost use Rattle.term_core.specs.Act.{acts_of, effect};
 ghost use Rattle.thread_model.specs.declared.call.TheConstants.{NESTED_SIGNALS};
 ghost use Rattle.thread_model.specs.Acts as model;
 ghost use Rattle.thread_model.specs.Agenda.{call_line, callee_called, connection_of, functor_line};
-ghost use Rattle.thread_model.specs.Doing.{told};
+ghost use Rattle.term_evaluation.specs.Stating.{after, with_state};
+ghost use Rattle.thread_model.specs.Doing.{stepped, told};
 ghost use Rattle.thread_model.specs.Items.{Call, Emit, puts};
 ghost use Rattle.thread_model.specs.Functors.{functor_at};
 ghost use Rattle.thread_model.specs.Posting.{is_queued};
-ghost use Rattle.thread_model.specs.State.{with_call};
+ghost use Rattle.thread_model.specs.State.{functor_state, with_call};
 ghost use Rattle.class_table.specs.Sound.{IsMethod};
-ghost use Rattle.session_tables.specs.Tables.{IsPlaced, state_at, with_state};
+ghost use Rattle.session_tables.specs.Tables as session;
+ghost use Rattle.session_tables.specs.Tables.{IsPlaced, state_at};
 ghost use Rattle.session_effects.specs.Actions.{Keeps, act_of};
 ghost use Rattle.session_effects.specs.Setup.{settings_of};
 ghost use Rattle.nested_calls.specs.Agenda.{Does, DoesNext};
@@ -166,7 +168,15 @@ fn call_functor<F: Answering>(
         args: given,
         depth: its_depth,
     };
-    run_functor(actor, tables, telling, index, functor, &slot)
+    run_functor(
+        actor,
+        tables,
+        telling,
+        index,
+        functor,
+        connection.number,
+        &slot,
+    )
 }
 
 /// Posts the call of what a connection calls, or counts it as lost where the queue is full.
@@ -177,14 +187,15 @@ fn call_later(
     args: &[Value],
 ) -> Result<(), AllocError>
     requires { IsPlaced tables.old caller.now.place }
-    ensures ok { OnOk result (tables.new ≡ with_state tables.old caller.now.place (with_call (state_at tables.old caller.now.place)
-        (record { object = connection.now.receiver; callee = connection.now.callee; sender = connection.now.sender; args = args.now }))) }
+    ensures ok { OnOk result (tables.new ≡ session.with_state tables.old caller.now.place (with_call (state_at tables.old caller.now.place)
+        (record { object = connection.now.receiver; callee = connection.now.callee; sender = connection.now.sender; connection = connection.now.number; args = args.now }))) }
     ensures err { OnErr result (tables.new ≡ tables.old) }
 {
     let call = QueuedCall {
         object: connection.receiver,
         callee: connection.callee,
         sender: connection.sender,
+        connection: connection.number,
         args: Args::copied(caller.setup.alloc, args)?,
     };
     tables.post_call(caller.place, call)
@@ -209,9 +220,9 @@ pub fn run_slot<F: Answering>(
     acts(actor, tables, telling, slot, method.body.actions.as_slice())
 }
 
-/// Tells of a functor that is called, and does what its closure answers. Its closure is called with no
-/// other arguments than those that may be given to it; with others it does what its body says, which is
-/// the same.
+/// Tells of a functor that is called, and does what it answers over the state that its connection keeps. The
+/// state that follows is kept there before that. Where the connection has gone, the state is 0, and the
+/// one that follows is kept nowhere.
 #[cycle(agenda)]
 pub fn run_functor<F: Answering>(
     actor: &Actor<F>,
@@ -219,25 +230,21 @@ pub fn run_functor<F: Answering>(
     telling: &mut Telling,
     index: u32,
     functor: &Functor,
+    connection: u32,
     slot: &Slot,
 ) -> Result<(), AllocError>
     requires placed { IsPlaced tables.old actor.now.caller.place }
     requires depth { slot.now.depth ≤ NESTED_SIGNALS }
     requires found { Some functor.now ≡ functor_at (settings_of actor.now.caller.setup.now) index }
-    ensures { DoesNext actor.now.caller (λ earlier. puts (model.acts (acts_of functor.now.body.actions) slot.now.args.now slot.now.object slot.now.sender slot.now.depth)
-        (told (doing_at actor.now.caller.place tables.old telling.old earlier) (functor_line functor.now slot.now.object slot.now.sender slot.now.args.now))) tables.old tables.new telling.old telling.new result }
+    ensures { DoesNext actor.now.caller (λ earlier. let state = functor_state (state_at tables.old actor.now.caller.place) connection in
+        puts (model.acts (acts_of (with_state state functor.now.body).actions) slot.now.args.now slot.now.object slot.now.sender slot.now.depth)
+        (stepped (told (doing_at actor.now.caller.place tables.old telling.old earlier) (functor_line functor.now slot.now.object slot.now.sender slot.now.args.now))
+        connection (after functor.now.next state slot.now.args.now))) tables.old tables.new telling.old telling.new result }
 {
     telling.call_functor(actor.caller.setup.alloc, functor, slot)?;
-    let answer = answered(actor, index, functor, slot.args)?;
-    let Some(actions) = answer else {
-        return acts(
-            actor,
-            tables,
-            telling,
-            slot,
-            functor.body.actions.as_slice(),
-        );
-    };
+    let state = tables.functor_state(actor.caller.place, connection);
+    let (actions, next) = answered(actor, index, functor, state, slot.args)?;
+    tables.step_functor(actor.caller.place, connection, next);
     let put_in = Slot {
         object: slot.object,
         sender: slot.sender,

@@ -1,7 +1,7 @@
 //! What answers the calls of functors.
 ghost use Rattle.std.specs.Prelude.{◌≡◌, List, Some, IfOk};
 ghost use Rattle.stored_slots.specs.declared.functor.Functor.{Functor};
-ghost use Rattle.stored_slots.specs.Functors.{IsCall, actions_of};
+ghost use Rattle.stored_slots.specs.Functors.{IsCall, actions_of, next_of};
 
 use std::alloc::AllocError;
 use stored_slots::Functors;
@@ -13,10 +13,17 @@ use variant_value::Value;
 pub trait Answering {
     ghost functors: { Self → List Functor };
 
-    /// What the functor at this index answers to these arguments.
-    fn answer(&self, index: u32, args: &[Value]) -> Result<Vec<Action>, AllocError>
+    /// What the functor at this index answers over a state to these arguments: its actions, and the state
+    /// that follows.
+    fn answer(
+        &self,
+        index: u32,
+        state: u64,
+        args: &[Value],
+    ) -> Result<(Vec<Action>, u64), AllocError>
         requires { IsCall (functors self.now) index args.now }
-        ensures { IfOk result (λ actions. Some actions.items ≡ actions_of (functors self.now) index args.now) };
+        ensures actions { IfOk result (λ answer. Some answer.0.items ≡ actions_of (functors self.now) index state args.now) }
+        ensures next { IfOk result (λ answer. Some answer.1 ≡ next_of (functors self.now) index state args.now) };
 }
 
 impl Answering for Functors {
@@ -24,7 +31,12 @@ impl Answering for Functors {
 
     ghost functors = { functors_of };
 
-    fn answer(&self, index: u32, args: &[Value]) -> Result<Vec<Action>, AllocError> {
-        self.call(index, args)
+    fn answer(
+        &self,
+        index: u32,
+        state: u64,
+        args: &[Value],
+    ) -> Result<(Vec<Action>, u64), AllocError> {
+        self.call(index, state, args)
     }
 }

@@ -5,14 +5,16 @@ use arrayvec::ArrayString;
 use std::alloc::{AllocError, Global};
 use std::hash::{Hash, Hasher};
 use std::marker::Model;
+use std::rc::RcStr;
 
 /// A text of so many bytes, or fewer, is kept in the value itself and takes no memory.
-const INLINE: usize = 22;
+const SHORT_BYTES: usize = 22;
 
+/// A short text lies in the value itself. A longer one is shared by its copies.
 #[derive(Drop)]
 enum Kept {
-    Inline(ArrayString<INLINE>),
-    Heap(String),
+    Short(ArrayString<SHORT_BYTES>),
+    Shared(RcStr),
 }
 
 /// A string that contracts see as the list of its bytes.
@@ -37,32 +39,43 @@ impl Model for Text {
 }
 
 impl Text {
+    /// An empty text.
+    pub fn new() -> Text
+        ensures { result ≡ [] }
+    {
+        Text {
+            kept: Kept::Short(ArrayString::new()),
+        }
+    }
+
     /// The same text in a value of its own.
     pub fn from_str(alloc: Global, text: &str) -> Result<Text, AllocError>
         ensures { IfOk result (λ t. t ≡ text.now) }
     {
         let kept = match ArrayString::from(text) {
-            Ok(inline) => Kept::Inline(inline),
-            Err(_) => Kept::Heap(String::from_str(alloc, text)?),
+            Ok(short) => Kept::Short(short),
+            Err(_) => Kept::Shared(RcStr::from_str(alloc, text)?),
         };
         Ok(Text { kept })
     }
 
-    /// The text that the string holds; this takes no memory.
-    pub fn from_string(text: String) -> Text
-        ensures { result ≡ string_bytes text }
+    /// The text that the string holds, whose bytes stay where they are unless they are few.
+    pub fn from_string(text: String) -> Result<Text, AllocError>
+        ensures { IfOk result (λ t. t ≡ string_bytes text) }
     {
-        Text {
-            kept: Kept::Heap(text),
-        }
+        let kept = match ArrayString::from(text.as_str()) {
+            Ok(short) => Kept::Short(short),
+            Err(_) => Kept::Shared(RcStr::from_string(text)?),
+        };
+        Ok(Text { kept })
     }
 
     pub fn as_str(&self) -> &str
         ensures { result.now ≡ self.now }
     {
         match &self.kept {
-            Kept::Inline(text) => text.as_str(),
-            Kept::Heap(text) => text.as_str(),
+            Kept::Short(text) => text.as_str(),
+            Kept::Shared(text) => text.as_str(),
         }
     }
 
@@ -79,10 +92,18 @@ impl Text {
         self.as_str().is_empty()
     }
 
-    /// An equal text in a value of its own.
+    /// An equal text. A short one is copied; a longer one is shared, and is copied only where its owners
+    /// are too many to be counted.
     pub fn copy(&self, alloc: Global) -> Result<Text, AllocError>
         ensures { IfOk result (λ t. t ≡ self.now) }
     {
+        if let Kept::Shared(text) = &self.kept {
+            if let Ok(kept) = text.clone() {
+                return Ok(Text {
+                    kept: Kept::Shared(kept),
+                });
+            }
+        }
         Text::from_str(alloc, self.as_str())
     }
 }

@@ -1,4 +1,6 @@
+mod StateLemmas
 mod ClampLemmas
+mod CountLemmas
 mod NumberLemmas
 mod WordLemmas
 mod WalkLemmas

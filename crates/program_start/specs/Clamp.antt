@@ -8,7 +8,7 @@ use Rattle.term_core.specs.declared.body.Body.{Body}
 use Rattle.term_core.specs.declared.operator.Operator.TheVariants.{Less}
 use Rattle.term_core.specs.declared.target.Target.TheVariants.{Itself}
 use Rattle.term_core.specs.Act.{Act, Acts, effect, when, nothing, more}
-use Rattle.term_core.specs.Term.{Term, const, arg, binary}
+use Rattle.term_core.specs.Term.{Term, const, arg, state, binary}
 
 -- its context object's `x` is set to a value
 abbrev pub sets_x : Term → Acts
@@ -26,6 +26,6 @@ clamped least most number = when (binary Less number (const (v.Int least))) (set
 abbrev pub clamp_body : ℤ → ℤ → Body
 clamp_body least most = record { params = 1; actions = clamped least most (arg 0) }
 
--- the functor itself
+-- the functor itself, whose state stays as it is
 abbrev pub clamp : ℤ → ℤ → Functor
-clamp least most = record { name = codes "clamp"; params = Int ∷ []; body = clamp_body least most }
+clamp least most = record { name = codes "clamp"; params = Int ∷ []; body = clamp_body least most; next = state }

@@ -1,19 +1,16 @@
 //! The functor `clamp`, which sets its context object's `x` to its argument, kept between two bounds.
-ghost use Rattle.std.specs.Prelude.{◌≡◌, ◌∷◌, [], IfOk};
-ghost use Rattle.signature_core.specs.declared.kind.Kind.TheVariants.{Int};
-ghost use Rattle.stored_slots.specs.Closures.{GivesBody, MayBeCalled};
-ghost use Rattle.stored_slots.specs.Table.{functors_of};
+ghost use Rattle.std.specs.Prelude.{◌≡◌, ◌∷◌, [], List, IfOk};
 ghost use Rattle.variant_value.specs.declared.value.Value.TheVariants as v;
 ghost use Rattle.term_core.specs.Act.{acts_of, when};
+ghost use Rattle.term_core.specs.Term as term;
 ghost use Rattle.term_core.specs.Term.{const, binary};
+ghost use Rattle.term_evaluation.specs.Stating.{after};
+ghost use Rattle.variant_value.specs.declared.value.Value.{Value as ValueSeen};
 ghost use Rattle.term_core.specs.declared.operator.Operator.TheVariants.{Less};
-ghost use Rattle.program_start.specs.Clamp.{at_most, clamp, clamped, clamp_body, sets_x};
+ghost use Rattle.program_start.specs.Clamp.{at_most, clamped, clamp_body, sets_x};
 
 use plain_types::{Items, Text};
-use refusals::Fault;
-use signature_core::Kind;
 use std::alloc::{AllocError, Global};
-use stored_slots::{Closure, Functors};
 use term_core::{Action, Body, Effect, Expr, Node, Operator, Step, Target};
 use variant_value::Value;
 
@@ -114,18 +111,17 @@ pub fn clamp_body(alloc: Global, least: i32, most: i32) -> Result<Body, AllocErr
     })
 }
 
-/// A table with `clamp` alone, whose closure is handed in.
-#[tactic(auto, using(crate::proofs::ClampLemmas::clamp_is_body))]
-pub fn with_clamp(alloc: Global, least: i32, most: i32, run: Closure) -> Result<Functors, Fault>
-    requires callable { MayBeCalled (Closure.pre run) (Int ∷ []) }
-    requires gives_body { GivesBody (Closure.post run) (Int ∷ []) (clamp_body least most) }
-    ensures { IfOk result (λ functors. functors_of functors ≡ clamp least most ∷ []) }
+/// What gives `clamp` its next state: the state itself.
+pub(crate) fn clamp_next() -> Expr
+    ensures { result ≡ term.state }
 {
-    let mut params = Items::new(alloc);
-    params.push(Kind::Int)?;
-    let name = Text::from_str(alloc, "clamp")?;
-    let body = clamp_body(alloc, least, most)?;
-    let mut functors = Functors::new(alloc);
-    functors.add(name, params, body, run)?;
-    Ok(functors)
+    Expr { node: Node::State }
+}
+
+/// The state that follows where a functor, as `clamp`, keeps the one that it finds.
+#[tactic(auto, using(crate::proofs::StateLemmas::state_stays))]
+pub fn kept_state(state: u64) -> u64
+    ensures { (args : List ValueSeen) → result ≡ after term.state state args }
+{
+    state
 }

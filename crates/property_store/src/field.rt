@@ -63,7 +63,7 @@ pub(crate) fn defaults(alloc: Global, fields: &[Field]) -> Result<Args, AllocErr
     ensures { IfOk result (λ values. values ≡ map (λ field. default_of field.kind) fields.now) }
 {
     Ok(match fields {
-        [field] => Args::one(default_of(alloc, field.kind)),
+        [field] => Args::one(default_of(field.kind)),
         _ => Args::from_vec(all_defaults(alloc, fields)?),
     })
 }
@@ -73,13 +73,13 @@ fn all_defaults(alloc: Global, fields: &[Field]) -> Result<Vec<Value>, AllocErro
 {
     let mut values = Vec::with_capacity(alloc, fields.len())?;
     for field in fields {
-        values.push(default_of(alloc, field.kind))?;
+        values.push(default_of(field.kind))?;
     }
     Ok(values)
 }
 
 /// What a property of a kind is until it is written. This takes no memory.
-pub fn default_of(alloc: Global, kind: Kind) -> Value
+pub fn default_of(kind: Kind) -> Value
     ensures { result ≡ default_of kind }
 {
     match kind {
@@ -88,7 +88,7 @@ pub fn default_of(alloc: Global, kind: Kind) -> Value
         Kind::Uint => Value::Uint(0),
         Kind::Longlong => Value::Longlong(0),
         Kind::Ulonglong => Value::Ulonglong(0),
-        Kind::Text => Value::Text(Text::from_string(String::new(alloc))),
+        Kind::Text => Value::Text(Text::new()),
     }
 }
 

@@ -194,6 +194,6 @@ pub fn property_name(caller: &Caller, tables: &Tables, at: At) -> Result<Text, A
 {
     match property_at(caller, tables, at) {
         Some(property) => property.name.copy(caller.setup.alloc),
-        None => Ok(Text::from_string(String::new(caller.setup.alloc))),
+        None => Ok(Text::new()),
     }
 }

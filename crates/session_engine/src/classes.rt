@@ -53,7 +53,7 @@ fn texts(alloc: Global, strings: Vec<String>) -> Result<Items<Text>, AllocError>
 {
     let mut texts = Items::new(alloc);
     for text in strings {
-        texts.push(Text::from_string(text))?;
+        texts.push(Text::from_string(text)?)?;
     }
     Ok(texts)
 }

@@ -136,7 +136,15 @@ fn deliver_to_functor<F: Answering>(
         args: call.args.as_slice(),
         depth: 1,
     };
-    run_functor(actor, tables, telling, index, functor, &slot)
+    run_functor(
+        actor,
+        tables,
+        telling,
+        index,
+        functor,
+        call.connection,
+        &slot,
+    )
 }
 
 /// Replies how much there is in the session.

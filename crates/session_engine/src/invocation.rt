@@ -68,7 +68,7 @@ fn post(
     requires { IsPlaced tables.old caller.now.place }
     ensures refusal { RefusedBy (post_refusal (state_at tables.old caller.now.place).queue) result }
     ensures ok { OnOk result (tables.new ≡ with_state tables.old caller.now.place
-        (with_event (state_at tables.old caller.now.place) (Call (record { object = object; callee = Method index; sender = 0; args = values.now })))) }
+        (with_event (state_at tables.old caller.now.place) (Call (record { object = object; callee = Method index; sender = 0; connection = 0; args = values.now })))) }
     ensures err { OnErr result (tables.new ≡ tables.old) }
 {
     tables.check_room(caller.place)?;
@@ -76,6 +76,7 @@ fn post(
         object,
         callee: Callee::Method(index),
         sender: 0,
+        connection: 0,
         args: Args::copied(caller.setup.alloc, values)?,
     };
     tables.post(caller.place, Event::Call(call))?;

@@ -220,6 +220,7 @@ fn arrive_by(
         object: join.object,
         callee: Callee::Method(join.method),
         sender: 0,
+        connection: 0,
         args: Args::copied(posting.alloc, first(posting.args, wanted))?,
     };
     post_call(queues, at, call)

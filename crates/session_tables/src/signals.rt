@@ -4,7 +4,7 @@ ghost use Rattle.std.specs.List.{list_any};
 ghost use Rattle.refusals.specs.Answers.{RefusedBy};
 ghost use Rattle.connection_list.specs.Ends.{matches};
 ghost use Rattle.connection_list.specs.Rows.{IsSound, connect_refusal, has_number, is_next};
-ghost use Rattle.thread_model.specs.State.{with_connection, without_connections};
+ghost use Rattle.thread_model.specs.State.{functor_state, with_connection, with_functor_state, without_connections};
 ghost use Rattle.session_tables.specs.Tables.{IsPlaced, state_at, with_state};
 
 use crate::tables::Tables;
@@ -83,6 +83,22 @@ impl Tables {
         if connection.single {
             self.connections.disconnect_one(place, connection.number);
         }
+    }
+
+    /// The state of the functor of the connection with this number, or 0 where that has gone.
+    pub fn functor_state(&self, place: usize, number: u32) -> u64
+        requires { IsPlaced self.now place }
+        ensures { result ≡ functor_state (state_at self.now place) number }
+    {
+        self.connections.state(place, number).unwrap_or(0)
+    }
+
+    /// Gives the functor of the connection with this number another state, where that stands.
+    pub fn step_functor(&mut self, place: usize, number: u32, next: u64)
+        requires { IsPlaced self.old place }
+        ensures { self.new ≡ with_state self.old place (with_functor_state (state_at self.old place) number next) }
+    {
+        self.connections.set_state(place, number, next);
     }
 
     /// The number that was given last to a connection, or 0.

@@ -1,4 +1,4 @@
--- What is said of a functor's body is proved in one way at most, so a functor can be kept with it.
+-- What is said of a functor is proved in one way at most, so it can be kept with it.
 use Rattle.std.proofs.Props.{props}
 use Rattle.signature_core.specs.declared.kind.Kind.{Kind}
 use Rattle.std.specs.Prelude.{ℕ, List}
@@ -8,12 +8,15 @@ use Rattle.term_core.specs.declared.action.Effect.TheVariants as e
 use Rattle.term_core.specs.declared.body.Body.{Body}
 use Rattle.term_core.specs.Act.{Act, Acts, effect, when, nothing, more}
 use Rattle.term_core.specs.Arguments.{ActTakesAtMost, ActsTakeAtMost, EffectTakesAtMost, TakesAtMost}
-use Rattle.term_core.specs.Term.{Term, const, arg, prop, binary, choice}
-use Rattle.stored_slots.specs.Functors.{IsBodyFor}
+use Rattle.term_core.specs.Bodies.{IsNext}
+use Rattle.term_core.specs.Term.{Term, const, arg, state, prop, binary, choice}
+use Rattle.stored_slots.specs.declared.functor.Functor.{Functor}
+use Rattle.stored_slots.specs.Functors.{IsBodyFor, IsFunctor}
 
 TakesAtMost-prop : (n : ℕ) (term : Term) → IsProp (TakesAtMost n term)
 TakesAtMost-prop n (const value) = Unit-prop
 TakesAtMost-prop n (arg place) = hlevel props
+TakesAtMost-prop n state = Unit-prop
 TakesAtMost-prop n (prop target name) = Unit-prop
 TakesAtMost-prop n (binary operator a b) = ×_prop (TakesAtMost-prop n a) (TakesAtMost-prop n b)
 TakesAtMost-prop n (choice test a b) = ×_prop (TakesAtMost-prop n test) (×_prop (TakesAtMost-prop n a) (TakesAtMost-prop n b))
@@ -37,5 +40,11 @@ mutual
   ActsTakeAtMost-prop n nothing = Unit-prop
   ActsTakeAtMost-prop n (more action rest) = ×_prop (ActTakesAtMost-prop n action) (ActsTakeAtMost-prop n rest)
 
-pub IsBodyFor-prop : (kinds : List Kind) (body : Body) → IsProp (IsBodyFor kinds body)
+IsBodyFor-prop : (kinds : List Kind) (body : Body) → IsProp (IsBodyFor kinds body)
 IsBodyFor-prop kinds body = hlevel (props, ActsTakeAtMost-prop)
+
+IsNext-prop : (params : ℕ) (next : Term) → IsProp (IsNext params next)
+IsNext-prop params next = hlevel (props, TakesAtMost-prop)
+
+pub IsFunctor-prop : (functor : Functor) → IsProp (IsFunctor functor)
+IsFunctor-prop functor = hlevel (props, IsBodyFor-prop, IsNext-prop)

@@ -4,8 +4,8 @@ ghost use Rattle.std.specs.Prelude.{◌≡◌, IfOk};
 use plain_types::{Items, Text};
 use signature_core::Kind;
 use std::alloc::{AllocError, Global};
-use term_core::Body;
-use term_evaluation::unfold;
+use term_core::{Body, Expr};
+use term_evaluation::copied_body;
 
 /// A functor as it is shown: plain data, by which two functors can be compared.
 pub struct Functor {
@@ -14,8 +14,11 @@ pub struct Functor {
     /// The kinds of its parameters. A signal may be connected to it whose first parameters are of these
     /// kinds.
     pub params: Items<Kind>,
-    /// What it does, as a slot's body says what a slot does; `self` is its context object.
+    /// What it does, as a slot's body says what a slot does; `self` is its context object, and `state` is
+    /// what its connection keeps.
     pub body: Body,
+    /// What gives its connection the next state, over the state and the arguments.
+    pub next: Expr,
 }
 
 impl Drop for Functor {
@@ -24,6 +27,7 @@ impl Drop for Functor {
             name: _,
             params: _,
             body: _,
+            next: _,
         } = self;
     }
 }
@@ -36,16 +40,7 @@ impl Functor {
             name: self.name.copy(alloc)?,
             params: Items::from_vec(Vec::from_slice(alloc, self.params.as_slice())?),
             body: copied_body(alloc, &self.body)?,
+            next: self.next.copy(alloc)?,
         })
     }
-}
-
-/// A body with no arguments put in, which is the body itself.
-fn copied_body(alloc: Global, body: &Body) -> Result<Body, AllocError>
-    ensures { IfOk result (λ copy. copy ≡ body.now) }
-{
-    Ok(Body {
-        params: body.params,
-        actions: unfold(alloc, body, &[])?,
-    })
 }

@@ -1,5 +1,5 @@
 //! Functors: callables that the program hands to the server before it runs, each with the fact that what
-//! it answers is its body with the arguments put in. A signal is connected to one by its name.
+//! it answers is its body with the state and the arguments put in, and the state that follows. A signal is connected to one by its name.
 #![tactic(auto)]
 
 mod functor;

@@ -3,29 +3,31 @@ ghost use Rattle.std.proofs.Props.{props};
 ghost use Rattle.std.specs.Coded.{Coded-set};
 ghost use Rattle.term_core.specs.CodedAct.{coded_act};
 ghost use Rattle.std.specs.Prelude.{◌≡◌, IfOk, bytes_eq};
+ghost use Rattle.term_evaluation.specs.Stating.{after, with_state};
 ghost use Rattle.term_evaluation.specs.Unfolding.{unfolded_body};
-ghost use Rattle.stored_slots.specs.Closures.{MayBeCalled, GivesBody};
-ghost use Rattle.stored_slots.specs.Functors.{AreArguments, IsBodyFor};
-ghost use Rattle.stored_slots.specs.Proved.{IsBodyFor-prop};
+ghost use Rattle.stored_slots.specs.Closures.{MayBeCalled, GivesBody, GivesNext};
+ghost use Rattle.stored_slots.specs.Functors.{AreArguments, IsFunctor};
+ghost use Rattle.stored_slots.specs.Proved.{IsFunctor-prop};
 
 use crate::functor::Functor;
 use std::alloc::{AllocError, Global};
 use term_core::Action;
 use variant_value::Value;
 
-/// The actions of a functor that is called with these arguments. It takes memory of the allocator that
-/// it is given, and its error is want of that.
-pub type Closure = Box<dyn Fn(Global, &[Value]) -> Result<Vec<Action>, AllocError>>;
+/// The actions of a functor that is called over a state and with arguments, and the state that follows. It
+/// takes memory of the allocator that it is given, and its error is want of that.
+pub type Closure = Box<dyn Fn(Global, u64, &[Value]) -> Result<(Vec<Action>, u64), AllocError>>;
 
-/// A functor beside its closure. What whoever handed the two in has proved: the first two facts are all that
-/// is known of the closure, and the third is known of the body.
+/// A functor beside its closure. What whoever handed the two in has proved: the first three facts are all
+/// that is known of the closure, and the last is known of the functor.
 #[derive(Drop)]
 pub(crate) struct StoredFunctor {
     pub(crate) functor: Functor,
     pub(crate) run: Closure,
     ghost callable: { MayBeCalled (Closure.pre run) functor.params },
     ghost gives_body: { GivesBody (Closure.post run) functor.params functor.body } by { Prim.hlevel (props, Coded-set coded_act) },
-    ghost is_body: { IsBodyFor functor.params functor.body } by { IsBodyFor-prop functor.params functor.body },
+    ghost gives_next: { GivesNext (Closure.post run) functor.params functor.next } by { Prim.hlevel props },
+    ghost is_functor: { IsFunctor functor } by { IsFunctor-prop functor },
 }
 
 impl StoredFunctor {
@@ -37,10 +39,16 @@ impl StoredFunctor {
     }
 
     /// What the closure answers.
-    pub(crate) fn answer(&self, alloc: Global, args: &[Value]) -> Result<Vec<Action>, AllocError>
+    pub(crate) fn answer(
+        &self,
+        alloc: Global,
+        state: u64,
+        args: &[Value],
+    ) -> Result<(Vec<Action>, u64), AllocError>
         requires { AreArguments self.now.functor.params args.now }
-        ensures { IfOk result (λ actions. actions.items ≡ unfolded_body args.now self.now.functor.body) }
+        ensures actions { IfOk result (λ answer. answer.0.items ≡ unfolded_body args.now (with_state state self.now.functor.body)) }
+        ensures next { IfOk result (λ answer. answer.1 ≡ after self.now.functor.next state args.now) }
     {
-        (self.run)(alloc, args)
+        (self.run)(alloc, state, args)
     }
 }

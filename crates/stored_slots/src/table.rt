@@ -9,7 +9,7 @@ use plain_types::{Items, Text};
 use refusals::{Code, Fault};
 use signature_core::Kind;
 use std::alloc::{AllocError, Global};
-use term_core::{Action, Body};
+use term_core::{Action, Body, Expr};
 use variant_value::Value;
 
 /// The functors that were handed in, each by its index: the first has index 0. None is ever taken out.
@@ -44,8 +44,9 @@ impl Functors {
     ghost use Rattle.std.specs.Prelude.{◌++◌, ◌∷◌, [], All, Some, None, IfOk, OnOk, OnErr, slice_get};
     ghost use Rattle.std.specs.Option.{option_copied};
     ghost use Rattle.refusals.specs.Answers.{RefusedBy};
-    ghost use Rattle.stored_slots.specs.Closures.{MayBeCalled, GivesBody};
-    ghost use Rattle.stored_slots.specs.Functors.{IsBodyFor, IsCall, IsFunctor, actions_of, add_refusal, index_of};
+    ghost use Rattle.term_core.specs.Bodies.{IsNext};
+    ghost use Rattle.stored_slots.specs.Closures.{MayBeCalled, GivesBody, GivesNext};
+    ghost use Rattle.stored_slots.specs.Functors.{IsBodyFor, IsCall, IsFunctor, actions_of, add_refusal, index_of, next_of};
     ghost use Rattle.stored_slots.specs.Table.{functors_of};
 
     /// A table without functors, which takes no memory yet.
@@ -61,32 +62,41 @@ impl Functors {
     /// Puts a functor behind the others. A name that another one has is `NameTaken`, and one more than
     /// [`FUNCTORS`] is `Limit`.
     ///
-    /// Who hands the closure in owes two facts of it, proved where it is made: with arguments that are
-    /// as many as the parameters and of their kinds it may be called, whatever allocator it is given,
-    /// and an `Ok` of it is the body with those arguments put in. So a closure whose answer depends on
-    /// anything else, as on how often it was called, cannot be handed in.
+    /// Who hands the closure in owes facts of it, proved where it is made: with every state, and with
+    /// arguments that are as many as the parameters and of their kinds, it may be called, whatever
+    /// allocator it is given; and an `Ok` of it is the body with those put in, and the state that follows.
+    /// So a closure whose answer depends on anything else, as on how often it was called, cannot be
+    /// handed in.
     ///
-    /// Of the body a fact is owed too: it keeps to the limits of bodies in class files, and takes no
-    /// argument but the parameters.
+    /// Of the body and of what gives the next state facts are owed too: they keep to the limits of
+    /// bodies and bindings, and take no argument but the parameters; and the next state reads no property.
     pub fn add(
         &mut self,
         name: Text,
         params: Items<Kind>,
         body: Body,
+        next: Expr,
         run: Closure,
     ) -> Result<(), Fault>
         requires callable { MayBeCalled (Closure.pre run) params }
         requires gives_body { GivesBody (Closure.post run) params body }
+        requires gives_next { GivesNext (Closure.post run) params next }
         requires is_body { IsBodyFor params body }
+        requires is_next { IsNext (length params) next }
         ensures refusal { RefusedBy (add_refusal (functors_of self.old) name) result }
         ensures ok { OnOk result (functors_of self.new
-            ≡ functors_of self.old ++ record { name = name; params = params; body = body } ∷ []) }
+            ≡ functors_of self.old ++ record { name = name; params = params; body = body; next = next } ∷ []) }
         ensures err { OnErr result (functors_of self.new ≡ functors_of self.old) }
     {
         if let Some(code) = self.refusal(name.as_str()) {
             return Err(Fault::Refused(code));
         }
-        let functor = Functor { name, params, body };
+        let functor = Functor {
+            name,
+            params,
+            body,
+            next,
+        };
         self.stored.push(StoredFunctor { functor, run })?;
         Ok(())
     }
@@ -113,16 +123,23 @@ impl Functors {
         Some(index as u32)
     }
 
-    /// What the functor at this index answers to these arguments: the actions of its body with the
-    /// arguments put in. That is known of its closure by what `add` was promised, and by nothing else.
-    /// An error is want of memory, the closure's own among it.
-    pub fn call(&self, index: u32, args: &[Value]) -> Result<Vec<Action>, AllocError>
+    /// What the functor at this index answers over a state to these arguments: the actions of its body
+    /// with both put in, and the state that follows. That is known of its closure by what `add` was
+    /// promised, and by nothing else. An error is want of memory, the closure's own among it.
+    pub fn call(
+        &self,
+        index: u32,
+        state: u64,
+        args: &[Value],
+    ) -> Result<(Vec<Action>, u64), AllocError>
         requires { IsCall (functors_of self.now) index args.now }
-        ensures { IfOk result (λ actions.
-            Some actions.items ≡ actions_of (functors_of self.now) index args.now) }
+        ensures actions { IfOk result (λ answer.
+            Some answer.0.items ≡ actions_of (functors_of self.now) index state args.now) }
+        ensures next { IfOk result (λ answer.
+            Some answer.1 ≡ next_of (functors_of self.now) index state args.now) }
     {
         let stored = &self.stored[index as usize];
-        stored.answer(self.alloc, args)
+        stored.answer(self.alloc, state, args)
     }
 
     /// The functors without their closures, once more.

@@ -1,5 +1,5 @@
 -- Every argument of a body that was read for so many parameters is one of theirs.
-use Rattle.std.proofs.Common.{◌≡◌, ℕ, List, [], Bool, true, false, Option, Some, None, Ok, Err, refl, subst, codes, bytes_eq, nat_lt, is_some, arith}
+use Rattle.std.proofs.Common.{◌≡◌, ℕ, ◌&&◌, List, [], Bool, true, false, Option, Some, None, Ok, Err, IsTrue, Result, refl, subst, codes, bytes_eq, nat_lt, is_some, arith}
 use Rattle.std.specs.Prelude.{IfOk, if◌then◌else◌, unwrap_or}
 use Rattle.std.specs.List.{All}
 use Rattle.std.specs.Option.{option_map_or}
@@ -8,18 +8,22 @@ use Rattle.std.proofs.lemmas.List.Elements.{All-nil, All-cons}
 use Rattle.serde_json.specs.Data.{Data, null, boolean, number, string, array, object, Items, no_items, item, Members, no_members, member}
 use Rattle.serde_json.specs.Find.{get, as_array, as_bool}
 use Rattle.refusals.specs.declared.code.Code.TheVariants.{BadValue, Limit}
+use Rattle.refusals.specs.Answers.{Answers}
+use Rattle.refusals.specs.declared.fault.Fault.{Fault}
+use Rattle.variant_value.specs.declared.value.Value.{Value}
+use Rattle.term_core.specs.declared.target.Target.{Target}
 use Rattle.term_core.specs.declared.action.Effect.{Effect}
 use Rattle.term_core.specs.declared.body.Body.{Body}
 use Rattle.term_core.specs.declared.operator.Operator.{Operator}
 use Rattle.term_core.specs.declared.operator.Operator.TheVariants.{Sum, Difference, Less, Equal, Joined}
 use Rattle.term_core.specs.Act.{Act, acts_of}
-use Rattle.term_core.specs.declared.scope.Scope.TheVariants.{Slot}
+use Rattle.term_core.specs.declared.scope.Scope.TheVariants.{Slot, Functor, Next}
 use Rattle.term_core.specs.Arguments.{TakesAtMost, EffectTakesAtMost, ActTakesAtMost, ActsTakeAtMost}
 use Rattle.term_core.specs.Bodies as bodies
 use Rattle.term_core.specs.Effects.{signature_in, unless_null, optional, flag_in, mode_in, terms_in, set_in, emit_in, connect_in, disconnect_in, delete_in, delete_later_in, block_in, set_parent_in, effect_in}
 use Rattle.term_core.specs.Forms as forms
 use Rattle.term_core.specs.Json.{Read, ◌>>=◌, formed, provided, where_holds, at_key, name_in, natural_in, constant_in, target_in}
-use Rattle.term_core.specs.Term.{Term, const, arg}
+use Rattle.term_core.specs.Term.{Term, const, arg, state, prop, binary, choice, reads_nothing}
 
 -- what holds of whatever is read in the end
 
@@ -63,59 +67,108 @@ Scope = Domain forms.params
 abbrev Term_ok : Scope → Term → Type 0
 Term_ok scope = TakesAtMost (forms.params scope)
 
-argument_read : (scope : Scope) (json : Data) → IfOk (forms.argument_in scope json) (Term_ok scope)
-argument_read scope json = always (Term_ok scope) (natural_in json) _ (λ place. if_provided (Term_ok scope) (nat_lt place (forms.params scope)) (arg place) (λ e. grind (arith, nat_tests)))
+-- what holds of every expression that stands there, by what holds of its parts
+record IsKept (scope : Scope) (P : Term → Type 0) : Type 0 where
+  constants : (value : Value) → P (const value)
+  arguments : (place : ℕ) → nat_lt place (forms.params scope) ≡ true → P (arg place)
+  states : P state
+  properties : (target : Target) (name : List ℕ) → forms.has_target scope target ≡ true → P (prop target name)
+  pairs : (operator : Operator) (a b : Term) → P a → P b → P (binary operator a b)
+  choices : (test a b : Term) → P test → P a → P b → P (choice test a b)
 
-property_read : (scope : Scope) (json : Data) → IfOk (forms.property_in scope json) (Term_ok scope)
-property_read scope json = always (Term_ok scope) (at_key (codes "prop") json) _ (λ property. always (Term_ok scope) (name_in property) _ (λ name. always (Term_ok scope) (forms.subject_in json) _ (λ target. if_provided (Term_ok scope) _ _ (λ e. tt))))
+both_true : (a b : Bool) → (a && b) ≡ true → a ≡ true
+both_true true b e = refl
+both_true false b e = e
 
-constant_read : (scope : Scope) (json : Data) → IfOk (constant_in json >>= λ value. Ok (const value)) (Term_ok scope)
-constant_read scope json = always (Term_ok scope) (constant_in json) _ (λ value. tt)
+module _ (scope : Scope) (P : Term → Type 0) (is : IsKept scope P) where
+  argument_read : (json : Data) → IfOk (forms.argument_in scope json) P
+  argument_read json = always P (natural_in json) _ (λ place. if_provided P (nat_lt place (forms.params scope)) (arg place) (is.arguments place))
 
-mutual
-  term_read : (scope : Scope) (json : Data) → IfOk (forms.term_in scope json) (Term_ok scope)
-  term_read scope null = tt
-  term_read scope (boolean b) = tt
-  term_read scope (number n) = tt
-  term_read scope (string text) = tt
-  term_read scope (array items) = tt
-  term_read scope (object inside) = either (Term_ok scope) (is_some (get (codes "prop") (object inside))) _ _ (property_read scope (object inside)) (only_member_read scope inside)
+  state_read : (json : Data) → IfOk (forms.state_in scope json) P
+  state_read json = if_provided P _ state (λ e. is.states)
 
-  only_member_read : (scope : Scope) (inside : Members) → IfOk (forms.only_member scope inside) (Term_ok scope)
-  only_member_read scope no_members = tt
-  only_member_read scope (member key json no_members) =
-      found (Term_ok scope) _ (bytes_eq key (codes "const")) _ _ _ (constant_read scope json) (
-      found (Term_ok scope) _ (bytes_eq key (codes "arg")) _ _ _ (argument_read scope json) (
-      found (Term_ok scope) _ (bytes_eq key (codes "+")) _ _ _ (binary_read scope Sum json) (
-      found (Term_ok scope) _ (bytes_eq key (codes "-")) _ _ _ (binary_read scope Difference json) (
-      found (Term_ok scope) _ (bytes_eq key (codes "<")) _ _ _ (binary_read scope Less json) (
-      found (Term_ok scope) _ (bytes_eq key (codes "=")) _ _ _ (binary_read scope Equal json) (
-      found (Term_ok scope) _ (bytes_eq key (codes "cat")) _ _ _ (binary_read scope Joined json) (
-      found (Term_ok scope) _ (bytes_eq key (codes "if")) _ _ _ (choice_read scope json) tt)))))))
-  only_member_read scope (member key json (member other more rest)) = tt
+  property_read : (json : Data) → IfOk (forms.property_in scope json) P
+  property_read json = always P (at_key (codes "prop") json) _ (λ property. always P (name_in property) _ (λ name. always P (forms.subject_in json) _ (λ target. if_provided P _ (prop target name) (λ e. is.properties target name (both_true (forms.has_target scope target) _ e)))))
 
-  binary_read : (scope : Scope) (operator : Operator) (json : Data) → IfOk (forms.binary_in scope operator json) (Term_ok scope)
-  binary_read scope operator null = tt
-  binary_read scope operator (boolean b) = tt
-  binary_read scope operator (number n) = tt
-  binary_read scope operator (string text) = tt
-  binary_read scope operator (object inside) = tt
-  binary_read scope operator (array no_items) = tt
-  binary_read scope operator (array (item a no_items)) = tt
-  binary_read scope operator (array (item a (item b no_items))) = kept (Term_ok scope) (Term_ok scope) (forms.term_in scope a) _ (term_read scope a) (λ x hx. kept (Term_ok scope) (Term_ok scope) (forms.term_in scope b) _ (term_read scope b) (λ y hy. (hx, hy)))
-  binary_read scope operator (array (item a (item b (item c rest)))) = tt
+  constant_read : (json : Data) → IfOk (constant_in json >>= λ value. Ok (const value)) P
+  constant_read json = always P (constant_in json) _ is.constants
 
-  choice_read : (scope : Scope) (json : Data) → IfOk (forms.choice_in scope json) (Term_ok scope)
-  choice_read scope null = tt
-  choice_read scope (boolean b) = tt
-  choice_read scope (number n) = tt
-  choice_read scope (string text) = tt
-  choice_read scope (object inside) = tt
-  choice_read scope (array no_items) = tt
-  choice_read scope (array (item t no_items)) = tt
-  choice_read scope (array (item t (item a no_items))) = tt
-  choice_read scope (array (item t (item a (item b no_items)))) = kept (Term_ok scope) (Term_ok scope) (forms.term_in scope t) _ (term_read scope t) (λ w hw. kept (Term_ok scope) (Term_ok scope) (forms.term_in scope a) _ (term_read scope a) (λ x hx. kept (Term_ok scope) (Term_ok scope) (forms.term_in scope b) _ (term_read scope b) (λ y hy. (hw, (hx, hy)))))
-  choice_read scope (array (item t (item a (item b (item c rest))))) = tt
+  mutual
+    term_holds : (json : Data) → IfOk (forms.term_in scope json) P
+    term_holds null = tt
+    term_holds (boolean b) = tt
+    term_holds (number n) = tt
+    term_holds (string text) = tt
+    term_holds (array items) = tt
+    term_holds (object inside) = either P (is_some (get (codes "prop") (object inside))) _ _ (property_read (object inside)) (only_member_read inside)
+
+    only_member_read : (inside : Members) → IfOk (forms.only_member scope inside) P
+    only_member_read no_members = tt
+    only_member_read (member key json no_members) =
+        found P _ (bytes_eq key (codes "const")) _ _ _ (constant_read json) (
+        found P _ (bytes_eq key (codes "arg")) _ _ _ (argument_read json) (
+        found P _ (bytes_eq key (codes "state")) _ _ _ (state_read json) (
+        found P _ (bytes_eq key (codes "+")) _ _ _ (binary_read Sum json) (
+        found P _ (bytes_eq key (codes "-")) _ _ _ (binary_read Difference json) (
+        found P _ (bytes_eq key (codes "<")) _ _ _ (binary_read Less json) (
+        found P _ (bytes_eq key (codes "=")) _ _ _ (binary_read Equal json) (
+        found P _ (bytes_eq key (codes "cat")) _ _ _ (binary_read Joined json) (
+        found P _ (bytes_eq key (codes "if")) _ _ _ (choice_read json) tt))))))))
+    only_member_read (member key json (member other more rest)) = tt
+
+    binary_read : (operator : Operator) (json : Data) → IfOk (forms.binary_in scope operator json) P
+    binary_read operator null = tt
+    binary_read operator (boolean b) = tt
+    binary_read operator (number n) = tt
+    binary_read operator (string text) = tt
+    binary_read operator (object inside) = tt
+    binary_read operator (array no_items) = tt
+    binary_read operator (array (item a no_items)) = tt
+    binary_read operator (array (item a (item b no_items))) = kept P P (forms.term_in scope a) _ (term_holds a) (λ x hx. kept P P (forms.term_in scope b) _ (term_holds b) (λ y hy. is.pairs operator x y hx hy))
+    binary_read operator (array (item a (item b (item c rest)))) = tt
+
+    choice_read : (json : Data) → IfOk (forms.choice_in scope json) P
+    choice_read null = tt
+    choice_read (boolean b) = tt
+    choice_read (number n) = tt
+    choice_read (string text) = tt
+    choice_read (object inside) = tt
+    choice_read (array no_items) = tt
+    choice_read (array (item t no_items)) = tt
+    choice_read (array (item t (item a no_items))) = tt
+    choice_read (array (item t (item a (item b no_items)))) = kept P P (forms.term_in scope t) _ (term_holds t) (λ w hw. kept P P (forms.term_in scope a) _ (term_holds a) (λ x hx. kept P P (forms.term_in scope b) _ (term_holds b) (λ y hy. is.choices w x y hw hx hy)))
+    choice_read (array (item t (item a (item b (item c rest))))) = tt
+
+term_read : (scope : Scope) (json : Data) → IfOk (forms.term_in scope json) (Term_ok scope)
+term_read scope json = term_holds scope (Term_ok scope) (record {
+  constants = λ value. tt;
+  arguments = λ place e. grind (arith, nat_tests);
+  states = tt;
+  properties = λ target name e. tt;
+  pairs = λ operator a b ha hb. (ha, hb);
+  choices = λ test a b ht ha hb. (ht, (ha, hb));
+}) json
+
+and_true : (a b : Bool) → IsTrue a → IsTrue b → IsTrue (a && b)
+and_true true b h k = k
+and_true false b h k = absurd (cc)
+
+unread : (n : ℕ) (json : Data) → IfOk (forms.term_in (Next n) json) (λ term. IsTrue (reads_nothing term))
+unread n json = term_holds (Next n) (λ term. IsTrue (reads_nothing term)) (record {
+  constants = λ value. refl;
+  arguments = λ place e. refl;
+  states = refl;
+  properties = λ target name e. absurd (cc);
+  pairs = λ operator a b ha hb. and_true (reads_nothing a) (reads_nothing b) ha hb;
+  choices = λ test a b ht ha hb. and_true (reads_nothing test) (reads_nothing a && reads_nothing b) ht (and_true (reads_nothing a) (reads_nothing b) ha hb);
+}) json
+
+-- what was read as the next state of a functor
+pub next_read : (n : ℕ) (json : Data) (term : Term) → forms.term_in (Next n) json ≡ Ok term → TakesAtMost n term × IsTrue (reads_nothing term)
+next_read n json term e =
+    let P : Read Term → Type 0 = λ r. IfOk r (TakesAtMost n) in
+    let Q : Read Term → Type 0 = λ r. IfOk r (λ term. IsTrue (reads_nothing term)) in
+    (subst P e (term_read (Next n) json), subst Q e (unread n json))
 
 terms_read : (scope : Scope) (items : Items) → IfOk (terms_in scope items) (All (Term_ok scope))
 terms_read scope no_items = All-nil (Term_ok scope)
@@ -204,9 +257,6 @@ mutual
   acts_read scope no_items = tt
   acts_read scope (item json rest) = kept (Act_ok scope) (Acts_ok scope) (bodies.act_in scope json) _ (act_read scope json) (λ x hx. kept (Acts_ok scope) (Acts_ok scope) (bodies.acts_in scope rest) _ (acts_read scope rest) (λ xs hxs. (hx, hxs)))
 
-pub arguments_read : (n : ℕ) (json : Data) (actions : List Act) → bodies.actions_in (Slot n) json ≡ Ok actions → ActsTakeAtMost n (acts_of actions)
-arguments_read n json actions e = let P : Read (List Act) → Type 0 = λ r. IfOk r (Acts_ok (Slot n)) in subst P e (actions_read (Slot n) json)
-
 -- a body that was read for so many parameters
 abbrev pub IsReadFor : ℕ → Body → Type 0
 IsReadFor n body = (body.params ≡ n) × bodies.IsBody body
@@ -215,5 +265,27 @@ kept_to : (n : ℕ) (actions : List Act) (b : Bool) → bodies.is_body_limited a
 kept_to n actions true e h = (refl, record { limited = e; arguments = h })
 kept_to n actions false e h = tt
 
+limited_read : (scope : Scope) (json : Data) → IfOk (bodies.actions_in scope json >>= bodies.limited_body (forms.params scope)) (IsReadFor (forms.params scope))
+limited_read scope json = kept (Acts_ok scope) (IsReadFor (forms.params scope)) _ (bodies.limited_body (forms.params scope)) (actions_read scope json) (λ actions h. kept_to (forms.params scope) actions (bodies.is_body_limited actions) refl h)
+
 pub body_read : (n : ℕ) (json : Data) → IfOk (bodies.body_of n json) (IsReadFor n)
-body_read n json = kept (λ actions. ActsTakeAtMost n (acts_of actions)) (IsReadFor n) _ (bodies.limited_body n) (actions_read _ json) (λ actions h. kept_to n actions (bodies.is_body_limited actions) refl h)
+body_read n json = limited_read (Slot n) json
+
+pub functor_body_read : (n : ℕ) (json : Data) → IfOk (bodies.functor_body_of n json) (IsReadFor n)
+functor_body_read n json = limited_read (Functor n) json
+
+-- what a call answers of what was read
+pub answered : {A : Type 0} (P : A → Type 0) (result : Result A Fault) (read : Read A) → Answers result read → IfOk read P → IfOk result P
+answered P (Ok value) read is h = let Q : Read _ → Type 0 = λ r. IfOk r P in subst Q is h
+answered P (Err fault) read is h = tt
+
+pub answers_next : {A B : Type 0} (result : Result B Fault) (read : Read A) (value : A) (next : A → Read B) → read ≡ Ok value → Answers result (next value) → Answers result (read >>= next)
+answers_next result read value next is h = rw is h
+
+pub read_params : (n : ℕ) (result : Result Body Fault) → IfOk result (IsReadFor n) → IfOk result (λ body. body.params ≡ n)
+read_params n (Ok body) h = h.0
+read_params n (Err fault) h = tt
+
+pub read_body : (n : ℕ) (result : Result Body Fault) → IfOk result (IsReadFor n) → IfOk result bodies.IsBody
+read_body n (Ok body) h = h.1
+read_body n (Err fault) h = tt

@@ -4,12 +4,13 @@ use Rattle.std.specs.List.{All}
 use Rattle.term_core.specs.declared.action.Effect.{Effect}
 use Rattle.term_core.specs.declared.action.Effect.TheVariants as e
 use Rattle.term_core.specs.Act.{Act, Acts, effect, when, nothing, more}
-use Rattle.term_core.specs.Term.{Term, const, arg, prop, binary, choice}
+use Rattle.term_core.specs.Term.{Term, const, arg, state, prop, binary, choice}
 
 -- every argument of an expression is among the first so many
 abbrev pub TakesAtMost : ℕ → Term → Type 0
 TakesAtMost n (const value) = Unit {0}
 TakesAtMost n (arg place) = place < n
+TakesAtMost n state = Unit {0}
 TakesAtMost n (prop target name) = Unit {0}
 TakesAtMost n (binary operator a b) = TakesAtMost n a × TakesAtMost n b
 TakesAtMost n (choice test a b) = TakesAtMost n test × (TakesAtMost n a × TakesAtMost n b)

@@ -6,11 +6,12 @@ use Rattle.refusals.specs.declared.code.Code.TheVariants.{BadValue, Limit}
 use Rattle.term_core.specs.declared.body.Body.{Body}
 use Rattle.term_core.specs.declared.limits.TheConstants.{ACTIONS}
 use Rattle.term_core.specs.declared.scope.Scope.{Scope}
-use Rattle.term_core.specs.declared.scope.Scope.TheVariants.{Slot}
+use Rattle.term_core.specs.declared.scope.Scope.TheVariants.{Slot, Functor}
 use Rattle.term_core.specs.Act.{Act, effect, when, acts_of, counts, are_limited}
-use Rattle.term_core.specs.Arguments.{ActsTakeAtMost}
+use Rattle.term_core.specs.Arguments.{ActsTakeAtMost, TakesAtMost}
 use Rattle.term_core.specs.Effects.{effect_in}
-use Rattle.term_core.specs.Forms.{term_in}
+use Rattle.term_core.specs.Forms.{is_within_limits, term_in}
+use Rattle.term_core.specs.Term.{Term, reads_nothing}
 use Rattle.term_core.specs.Json.{Read, ◌>>=◌, where_only, at_key}
 
 -- a choice between two lists of actions, by what stands behind `then` and `else`
@@ -61,7 +62,18 @@ limited_body params actions = if is_body_limited actions then Ok (record { param
 abbrev pub body_of : ℕ → Data → Read Body
 body_of params json = actions_in (Slot params) json >>= limited_body params
 
+-- the body of a functor with so many parameters, which may speak of the functor's state
+abbrev pub functor_body_of : ℕ → Data → Read Body
+functor_body_of params json = actions_in (Functor params) json >>= limited_body params
+
 -- a body keeps to the limits, and takes no argument but its parameters
 pub record IsBody (body : Body) : Type 0 where
   pub limited : IsTrue (is_body_limited body.actions)
   pub arguments : ActsTakeAtMost body.params (acts_of body.actions)
+
+-- what gives a functor with so many parameters its next state keeps to the limits, takes no argument but its
+-- parameters, and reads no property
+pub record IsNext (params : ℕ) (next : Term) : Type 0 where
+  pub limited : IsTrue (is_within_limits next)
+  pub arguments : TakesAtMost params next
+  pub unread : IsTrue (reads_nothing next)

@@ -1,8 +1,8 @@
 -- The forms of expressions in JSON.
-use Rattle.std.specs.Prelude.{◌&&◌, ℕ, Bool, true, false, List, [], ◌∷◌, Option, Some, None, Ok, Err, codes, bytes_eq, if◌then◌else◌, nat_le, nat_lt, is_some}
+use Rattle.std.specs.Prelude.{◌&&◌, ℕ, Bool, true, false, List, [], ◌∷◌, Option, Some, None, Ok, Err, codes, bytes_eq, if◌then◌else◌, nat_le, nat_lt, is_some, unwrap_or}
 use Rattle.std.specs.Option.{option_map_or}
 use Rattle.serde_json.specs.Data.{Data, array, object, no_items, item, Members, no_members, member}
-use Rattle.serde_json.specs.Find.{get}
+use Rattle.serde_json.specs.Find.{get, as_bool}
 use Rattle.refusals.specs.declared.code.Code.TheVariants.{BadValue, Limit}
 use Rattle.term_core.specs.declared.limits.TheConstants.{NODES}
 use Rattle.term_core.specs.declared.target.Target.{Target}
@@ -12,40 +12,56 @@ use Rattle.term_core.specs.declared.operator.Operator.TheVariants.{Sum, Differen
 use Rattle.term_core.specs.declared.operator.Form.{Form}
 use Rattle.term_core.specs.declared.operator.Form.TheVariants as form
 use Rattle.term_core.specs.declared.scope.Scope.{Scope}
-use Rattle.term_core.specs.declared.scope.Scope.TheVariants.{Binding, Slot}
-use Rattle.term_core.specs.Term.{Term, const, arg, prop, binary, choice, nodes, has_short_texts}
+use Rattle.term_core.specs.declared.scope.Scope.TheVariants.{Binding, Slot, Functor, Next}
+use Rattle.term_core.specs.Term.{Term, const, arg, state, prop, binary, choice, nodes, has_short_texts}
 use Rattle.term_core.specs.Json.{Read, ◌>>=◌, provided, has_only, at_key, name_in, natural_in, constant_in, target_in}
 
 -- how many parameters there are where the expression stands
 abbrev pub params : Scope → ℕ
 params Binding = 0
 params (Slot count) = count
+params (Functor count) = count
+params (Next count) = count
 
--- only the body of a slot has a sender, and looks for children
+-- only bodies have a sender and look for children; the next state of a functor speaks of no object
 abbrev pub has_target : Scope → Target → Bool
 has_target Binding Itself = true
 has_target Binding Sender = false
 has_target Binding (Child name) = false
 has_target Binding (Object n) = true
 has_target (Slot count) target = true
+has_target (Functor count) target = true
+has_target (Next count) target = false
+
+-- only a functor has a state
+abbrev pub has_state : Scope → Bool
+has_state Binding = false
+has_state (Slot count) = false
+has_state (Functor count) = true
+has_state (Next count) = true
 
 -- the form that a key stands for; `prop` is not among them, since it may have a second key
 abbrev pub form_named : List ℕ → Option Form
 form_named key =
     if bytes_eq key (codes "const") then Some form.Const else (
     if bytes_eq key (codes "arg") then Some form.Arg else (
+    if bytes_eq key (codes "state") then Some form.State else (
     if bytes_eq key (codes "+") then Some (form.Binary Sum) else (
     if bytes_eq key (codes "-") then Some (form.Binary Difference) else (
     if bytes_eq key (codes "<") then Some (form.Binary Less) else (
     if bytes_eq key (codes "=") then Some (form.Binary Equal) else (
     if bytes_eq key (codes "cat") then Some (form.Binary Joined) else (
-    if bytes_eq key (codes "if") then Some form.Choice else None)))))))
+    if bytes_eq key (codes "if") then Some form.Choice else None))))))))
 
 -- an argument of the slot
 abbrev pub argument_in : Scope → Data → Read Term
 argument_in scope json = do
   place ← natural_in json
   provided (nat_lt place (params scope)) (arg place)
+
+-- the state of the functor, where it has one; behind the key stands true
+abbrev pub state_in : Scope → Data → Read Term
+state_in scope json = provided (has_state scope && unwrap_or (as_bool json) false) state
 
 -- the object that a form is about: this object itself, unless the key `of` says another
 abbrev pub subject_in : Data → Read Target
@@ -59,13 +75,14 @@ property_in scope json = do
   target ← subject_in json
   provided (has_target scope target && has_only (codes "prop" ∷ codes "of" ∷ []) json) (prop target name)
 
--- an expression by the key of its form and by what stands behind it: as a constant or an argument, as
--- two operands, as three
+-- an expression by the key of its form and by what stands behind it: as a constant, an argument or a
+-- state, as two operands, as three
 abbrev pub made : Scope → Form → Data → (Operator → Read Term) → Read Term → Read Term
 made scope form.Const json two three = do
   value ← constant_in json
   Ok (const value)
 made scope form.Arg json two three = argument_in scope json
+made scope form.State json two three = state_in scope json
 made scope (form.Binary operator) json two three = two operator
 made scope form.Choice json two three = three
 
@@ -100,3 +117,7 @@ within_limits term = if is_within_limits term then Ok term else Err Limit
 -- the expression of a binding
 abbrev pub binding_term_of : Data → Read Term
 binding_term_of json = term_in Binding json >>= within_limits
+
+-- the next state of a functor with so many parameters
+abbrev pub next_term_of : ℕ → Data → Read Term
+next_term_of params json = term_in (Next params) json >>= within_limits

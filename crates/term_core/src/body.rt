@@ -1,8 +1,8 @@
-//! Bodies of slots.
+//! Bodies of slots and functors.
 ghost use Rattle.std.specs.Prelude.{◌≡◌, IfOk};
 ghost use Rattle.serde_json.specs.View.{view, items_view};
 ghost use Rattle.refusals.specs.Answers.{Answers};
-ghost use Rattle.term_core.specs.Bodies.{IsBody, body_of, action_in, actions_in, acts_in};
+ghost use Rattle.term_core.specs.Bodies.{IsBody, body_of, functor_body_of, limited_body, action_in, actions_in, acts_in};
 
 use crate::action::{Action, are_limited, count_all};
 use crate::effects::effect;
@@ -15,9 +15,9 @@ use refusals::{Code, Fault};
 use serde_json::Value as Json;
 use std::alloc::Global;
 
-/// What a slot does when it is run: its actions, one after another.
+/// What a slot or a functor does when it is run: its actions, one after another.
 pub struct Body {
-    /// How many parameters the slot has.
+    /// How many parameters it has.
     pub params: usize,
     pub actions: Items<Action>,
 }
@@ -33,7 +33,8 @@ impl Drop for Body {
 
 impl Body {
     /// The body of a slot with `params` parameters. JSON that is none is `BadValue`; so is an argument
-    /// beyond the parameters, and a text that is no signature where one is asked. More than
+    /// beyond the parameters, a state, which a slot does not have, and a text that is no signature where
+    /// one is asked. More than
     /// [`ACTIONS`] actions, or an expression of more than [`NODES`](crate::NODES) forms or with a
     /// text of more than `TEXT_BYTES`, is `Limit`, but only where nothing is `BadValue`.
     pub fn from_json(alloc: Global, json: &Json, params: usize) -> Result<Body, Fault>
@@ -42,12 +43,30 @@ impl Body {
         ensures sound { IfOk result IsBody }
     {
         let actions = actions(alloc, Scope::Slot(params), json)?;
-        let list = actions.as_slice();
-        if count_all(list) > ACTIONS || !are_limited(list) {
-            return Err(Fault::Refused(Code::Limit));
-        }
-        Ok(Body { params, actions })
+        limited(params, actions)
     }
+
+    /// The body of a functor with `params` parameters, which may speak of the functor's state. It is
+    /// refused as that of a slot is.
+    pub fn from_json_state(alloc: Global, json: &Json, params: usize) -> Result<Body, Fault>
+        ensures answers { Answers result (functor_body_of params (view json.now)) }
+        ensures params { IfOk result (λ body. body.params ≡ params) }
+        ensures sound { IfOk result IsBody }
+    {
+        let actions = actions(alloc, Scope::Functor(params), json)?;
+        limited(params, actions)
+    }
+}
+
+/// The body of these actions, where they keep to the limits.
+fn limited(params: usize, actions: Items<Action>) -> Result<Body, Fault>
+    ensures { Answers result (limited_body params actions) }
+{
+    let list = actions.as_slice();
+    if count_all(list) > ACTIONS || !are_limited(list) {
+        return Err(Fault::Refused(Code::Limit));
+    }
+    Ok(Body { params, actions })
 }
 
 /// The action that the JSON is, however large. What is none is `BadValue`.

@@ -2,8 +2,9 @@
 ghost use Rattle.std.specs.Prelude.{◌≡◌, ◌^◌, ◌-◌, min, IfOk, IsTrue};
 ghost use Rattle.refusals.specs.Answers.{Answers};
 ghost use Rattle.serde_json.specs.View.{view};
-ghost use Rattle.term_core.specs.Term.{const, arg, prop, binary, choice, nodes, is_short, has_short_texts};
-ghost use Rattle.term_core.specs.Forms.{binding_term_of, is_within_limits};
+ghost use Rattle.term_core.specs.Term.{const, arg, state, prop, binary, choice, nodes, is_short, has_short_texts};
+ghost use Rattle.term_core.specs.Bodies.{IsNext};
+ghost use Rattle.term_core.specs.Forms.{binding_term_of, next_term_of, is_within_limits};
 
 use crate::forms;
 use crate::limits::NODES;
@@ -16,7 +17,7 @@ use std::alloc::{AllocError, Global};
 use std::marker::Model;
 use variant_value::{TEXT_BYTES, Value};
 
-/// An expression of a binding or of a slot's body.
+/// An expression of a binding, of a body, or of what gives a functor its next state.
 #[cycle(expr)]
 pub struct Expr {
     pub node: Node,
@@ -34,8 +35,10 @@ impl Drop for Expr {
 #[derive(Drop)]
 pub enum Node {
     Const(Value),
-    /// An argument of the slot, from 0.
+    /// An argument of the slot or functor, from 0.
     Arg(usize),
+    /// The state of the functor.
+    State,
     /// A property of an object, declared or dynamic.
     Prop(Target, Text),
     Binary(Operator, Box<Expr>, Box<Expr>),
@@ -59,14 +62,33 @@ impl Model for Expr {
 }
 
 impl Expr {
-    /// The expression of a binding. JSON that has none of the forms is `BadValue`; so are arguments, the
-    /// sender and children, which a binding does not have. More than [`NODES`] forms, or a text of
+    /// The expression of a binding. JSON that has none of the forms is `BadValue`; so are arguments, a
+    /// state, the sender and children, which a binding does not have. More than [`NODES`] forms, or a text of
     /// more than `TEXT_BYTES`, is `Limit`, but only where nothing is `BadValue`.
     pub fn from_json(alloc: Global, json: &serde_json::Value) -> Result<Expr, Fault>
         ensures answers { Answers result (binding_term_of (view json.now)) }
         ensures limited { IfOk result (λ expr. IsTrue (is_within_limits expr)) }
     {
         let expr = forms::expression(alloc, Scope::Binding, json)?;
+        if !expr.is_within_limits() {
+            return Err(Fault::Refused(Code::Limit));
+        }
+        Ok(expr)
+    }
+
+    /// What gives a functor with `params` parameters its next state, over its state and its arguments.
+    /// JSON that has none of the forms is `BadValue`; so are properties, and an argument beyond the
+    /// parameters. More than [`NODES`] forms, or a text of more than `TEXT_BYTES`, is `Limit`, but only
+    /// where nothing is `BadValue`.
+    pub fn next_from_json(
+        alloc: Global,
+        json: &serde_json::Value,
+        params: usize,
+    ) -> Result<Expr, Fault>
+        ensures answers { Answers result (next_term_of params (view json.now)) }
+        ensures sound { IfOk result (IsNext params) }
+    {
+        let expr = forms::expression(alloc, Scope::Next(params), json)?;
         if !expr.is_within_limits() {
             return Err(Fault::Refused(Code::Limit));
         }
@@ -87,6 +109,12 @@ impl Expr {
         Expr {
             node: Node::Arg(place),
         }
+    }
+
+    pub(crate) fn state() -> Expr
+        ensures { result ≡ state }
+    {
+        Expr { node: Node::State }
     }
 
     pub(crate) fn property(target: Target, name: Text) -> Expr
@@ -129,6 +157,7 @@ impl Expr {
         match &self.node {
             Node::Const(value) => Ok(Expr::constant(value.copy(alloc)?)),
             Node::Arg(place) => Ok(Expr::argument(*place)),
+            Node::State => Ok(Expr::state()),
             Node::Prop(target, name) => {
                 Ok(Expr::property(target.copy(alloc)?, name.copy(alloc)?))
             }
@@ -142,7 +171,7 @@ impl Expr {
         ensures { result ≡ min (nodes self.now) (2 ^ 64 - 1) }
     {
         match &self.node {
-            Node::Const(_) | Node::Arg(_) | Node::Prop(_, _) => 1,
+            Node::Const(_) | Node::Arg(_) | Node::State | Node::Prop(_, _) => 1,
             Node::Binary(_, a, b) => a.nodes().saturating_add(b.nodes()).saturating_add(1),
             Node::Choice(test, a, b) => test
                 .nodes()
@@ -157,7 +186,7 @@ impl Expr {
     {
         match &self.node {
             Node::Const(value) => is_short(value),
-            Node::Arg(_) | Node::Prop(_, _) => true,
+            Node::Arg(_) | Node::State | Node::Prop(_, _) => true,
             Node::Binary(_, a, b) => a.has_short_texts() && b.has_short_texts(),
             Node::Choice(test, a, b) => {
                 test.has_short_texts() && a.has_short_texts() && b.has_short_texts()

@@ -3,7 +3,7 @@ ghost use Rattle.std.specs.Prelude.{◌≡◌, Some, IfSome, IfNone};
 ghost use Rattle.serde_json.specs.Data.{Data, array, item, no_items, object, member, no_members};
 ghost use Rattle.serde_json.specs.View.{view};
 ghost use Rattle.refusals.specs.Answers.{Answers};
-ghost use Rattle.term_core.specs.Forms.{term_in, argument_in, subject_in, property_in, binary_in, choice_in};
+ghost use Rattle.term_core.specs.Forms.{term_in, argument_in, state_in, subject_in, property_in, binary_in, choice_in};
 
 use crate::expr::Expr;
 use crate::json::{BAD, constant, has_only, name, natural, target};
@@ -32,6 +32,15 @@ fn argument(scope: Scope, json: &Json) -> Result<Expr, Fault>
         return Err(BAD);
     }
     Ok(Expr::argument(place))
+}
+
+fn state(scope: Scope, json: &Json) -> Result<Expr, Fault>
+    ensures { Answers result (state_in scope (view json.now)) }
+{
+    if !scope.has_state() || !json.as_bool().unwrap_or(false) {
+        return Err(BAD);
+    }
+    Ok(Expr::state())
 }
 
 fn property(alloc: Global, scope: Scope, json: &Json) -> Result<Expr, Fault>
@@ -76,6 +85,7 @@ pub(crate) fn expression(alloc: Global, scope: Scope, json: &Json) -> Result<Exp
     match Form::from_key(key) {
         Some(Form::Const) => Ok(Expr::constant(constant(alloc, operand)?)),
         Some(Form::Arg) => argument(scope, operand),
+        Some(Form::State) => state(scope, operand),
         Some(Form::Binary(operator)) => binary(alloc, scope, operator, operand),
         Some(Form::Choice) => choice(alloc, scope, operand),
         None => Err(BAD),

@@ -22,6 +22,7 @@ pub enum Operator {
 pub(crate) enum Form {
     Const,
     Arg,
+    State,
     Binary(Operator),
     Choice,
 }
@@ -34,6 +35,7 @@ impl Form {
         Some(match key {
             "const" => Form::Const,
             "arg" => Form::Arg,
+            "state" => Form::State,
             "+" => Form::Binary(Operator::Sum),
             "-" => Form::Binary(Operator::Difference),
             "<" => Form::Binary(Operator::Less),

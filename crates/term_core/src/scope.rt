@@ -1,6 +1,6 @@
 //! Where an expression stands.
 ghost use Rattle.std.specs.Prelude.{◌≡◌};
-ghost use Rattle.term_core.specs.Forms.{params, has_target};
+ghost use Rattle.term_core.specs.Forms.{params, has_target, has_state};
 
 use crate::target::Target;
 
@@ -10,6 +10,10 @@ pub(crate) enum Scope {
     Binding,
     /// The body of a slot with so many parameters.
     Slot(usize),
+    /// The body of a functor with so many parameters.
+    Functor(usize),
+    /// What gives a functor with so many parameters its next state.
+    Next(usize),
 }
 
 impl Scope {
@@ -19,7 +23,7 @@ impl Scope {
     {
         match self {
             Scope::Binding => 0,
-            Scope::Slot(count) => count,
+            Scope::Slot(count) | Scope::Functor(count) | Scope::Next(count) => count,
         }
     }
 
@@ -29,7 +33,18 @@ impl Scope {
     {
         match self {
             Scope::Binding => matches!(target, Target::Itself | Target::Object(_)),
-            Scope::Slot(_) => true,
+            Scope::Slot(_) | Scope::Functor(_) => true,
+            Scope::Next(_) => false,
+        }
+    }
+
+    /// Whether there is a state to speak of.
+    pub(crate) fn has_state(self) -> bool
+        ensures { result ≡ has_state self }
+    {
+        match self {
+            Scope::Binding | Scope::Slot(_) => false,
+            Scope::Functor(_) | Scope::Next(_) => true,
         }
     }
 }

@@ -1,9 +1,9 @@
--- A branch with its arguments put in.
+-- A branch with each of its expressions changed.
 use Rattle.std.proofs.Common.{◌≡◌, List, [], ◌∷◌, map, refl, ap}
-use Rattle.variant_value.specs.declared.value.Value.{Value}
 use Rattle.term_core.specs.Act.{Act, more, acts_of}
-use Rattle.term_evaluation.specs.Unfolding.{unfolded, unfolded_acts}
+use Rattle.term_core.specs.Term.{Term}
+use Rattle.term_evaluation.specs.Unfolding.{act_by, acts_by}
 
-pub branch_unfolded : (args : List Value) (actions : List Act) → acts_of (map (unfolded args) actions) ≡ unfolded_acts args (acts_of actions)
-branch_unfolded args [] = refl
-branch_unfolded args (action ∷ rest) = ap (more (unfolded args action)) (branch_unfolded args rest)
+pub branch_changed : (change : Term → Term) (actions : List Act) → acts_of (map (act_by change) actions) ≡ acts_by change (acts_of actions)
+branch_changed change [] = refl
+branch_changed change (action ∷ rest) = ap (more (act_by change action)) (branch_changed change rest)

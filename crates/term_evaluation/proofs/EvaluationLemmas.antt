@@ -15,7 +15,7 @@ use Rattle.variant_value.specs.Values.{IsShort, is_within, number_of, truth_in, 
 use Rattle.term_core.specs.declared.operator.Operator.{Operator}
 use Rattle.term_core.specs.declared.operator.Operator.TheVariants.{Sum, Difference, Less, Equal, Joined}
 use Rattle.term_core.specs.declared.target.Target.{Target}
-use Rattle.term_core.specs.Term.{Term, const, arg, prop, binary, choice, is_short, has_short_texts}
+use Rattle.term_core.specs.Term.{Term, const, arg, state, prop, binary, choice, is_short, has_short_texts}
 use Rattle.term_evaluation.specs.declared.reading.Read.{Read}
 use Rattle.term_evaluation.specs.Evaluation.{eval_by, chosen, standing}
 use Rattle.term_evaluation.specs.Laws.{AgreeOn}
@@ -34,6 +34,7 @@ last_part P xs ys h k d lt = subst P (get_or-append-add xs ys k d) (h (length xs
 pub stands : {O : Type 0} (args : List Value) (read : Target → List ℕ → Answer O) (term : Term) (value : Value) → standing args term ≡ Some value → eval_by args read term ≡ Ok value
 stands args read (const v) value is = cc
 stands args read (arg place) value is = ap (λ (found : Option Value). answer (ok_or found BadValue)) is
+stands args read state value is = absurd (cc)
 stands args read (prop target name) value is = absurd (cc)
 stands args read (binary operator a b) value is = absurd (cc)
 stands args read (choice test a b) value is = absurd (cc)
@@ -45,6 +46,7 @@ Agreed one other read = one read.target read.name ≡ other read.target read.nam
 pub same_value : {O : Type 0} (term : Term) (args : List Value) (one other : Target → List ℕ → Answer O) → AgreeOn (reads_of term) one other → eval_by args one term ≡ eval_by args other term
 same_value (const value) args one other h = refl
 same_value (arg place) args one other h = refl
+same_value state args one other h = refl
 same_value (prop target name) args one other h = h 0 (record { target = target; name = name }) (omega arith)
 same_value (binary operator a b) args one other h =
     let first = same_value a args one other (first_part (Agreed one other) (reads_of a) (reads_of b) h) in
@@ -69,6 +71,7 @@ given read (Some value) place = refl
 pub in_place : {O : Type 0} (term : Term) (args : List Value) (read : Target → List ℕ → Answer O) → eval_by args read term ≡ eval_by [] read (unfolded_term args term)
 in_place (const value) args read = refl
 in_place (arg place) args read = given read (slice_get args place) place
+in_place state args read = refl
 in_place (prop target name) args read = refl
 in_place (binary operator a b) args read =
     ap (λ r. r >>= λ x. eval_by args read b >>= λ y. answer (applied operator x y)) (in_place a args read)
@@ -150,6 +153,7 @@ both false b e = absurd (cc)
 pub short_value : {O : Type 0} (term : Term) (args : List Value) (read : Target → List ℕ → Answer O) → IsTrue (has_short_texts term) → All IsShort args → ((target : Target) (name : List ℕ) → IfOk (read target name) IsShort) → IfOk (eval_by args read term) IsShort
 short_value (const value) args read h all reads = constant_short value h
 short_value (arg place) args read h all reads = short_answer _ (slice_get args place) (argument_short args place all)
+short_value state args read h all reads = tt
 short_value (prop target name) args read h all reads = reads target name
 short_value (binary operator a b) args read h all reads = always (eval_by args read a) _ (λ x. always (eval_by args read b) _ (λ y. applied_short _ operator x y))
 short_value (choice test a b) args read h all reads =

@@ -1,12 +1,12 @@
 -- An evaluation over two readers: it goes the same way as far as the other answers the same.
-use Rattle.std.proofs.Common.{◌≡◌, ◌∙◌, ◌⊎◌, ℕ, zero, suc, ◌+◌, ◌-◌, ◌≤◌, Bool, true, false, List, [], ◌∷◌, ◌++◌, Option, Some, None, Ok, Err, IfSome, length, get_or, All, Contains, refl, sym, ap, subst, inl, inr, ⊎_elim, append_assoc, append-nil, length-append, arith}
+use Rattle.std.proofs.Common.{◌≡◌, ◌∙◌, ◌⊎◌, ℕ, zero, suc, ◌+◌, ◌-◌, ◌≤◌, Bool, true, false, List, [], ◌∷◌, ◌++◌, Option, Some, None, Ok, Err, length, get_or, All, Contains, refl, sym, ap, subst, inl, inr, ⊎_elim, append_assoc, append-nil, length-append, arith}
 use Rattle.std.proofs.lemmas.List.{get_or_append_left, get_or-append-add}
 use Rattle.std.proofs.lemmas.List.Elements.{Contains-append_cases, Contains-get_or}
 use Rattle.std.proofs.lemmas.Bool.{cases_lt}
 use Rattle.variant_value.specs.declared.value.Value.{Value}
 use Rattle.variant_value.specs.Values.{truth_in}
 use Rattle.term_core.specs.declared.target.Target.{Target}
-use Rattle.term_core.specs.Term.{Term, const, arg, prop, binary, choice}
+use Rattle.term_core.specs.Term.{Term, const, arg, state, prop, binary, choice}
 use Rattle.term_evaluation.specs.declared.reading.Read.{Read}
 use Rattle.term_evaluation.specs.Evaluation.{eval_by, chosen}
 use Rattle.term_evaluation.specs.Laws.{AgreeOn}
@@ -62,6 +62,7 @@ at_branch E P (Some false) a a' b b' m m' n n' f g h = g h
 pub follows : {O : Type 0} (E : Cause O → Type 0) (term : Term) (args : List Value) (one other : Target → List ℕ → Answer O) → All (Turn E one other) (met_by args one term) → Follows E (eval_by args one term) (met_by args one term) (eval_by args other term) (met_by args other term)
 follows E (const value) args one other h = inl (refl, refl)
 follows E (arg place) args one other h = inl (refl, refl)
+follows E state args one other h = inl (refl, refl)
 follows E (prop target name) args one other h = at_once (h 0 (record { target = target; name = name }) (omega arith))
   where
     at_once : Turn E one other (record { target = target; name = name }) → Follows E (one target name) (record { target = target; name = name } ∷ []) (other target name) (record { target = target; name = name } ∷ [])
@@ -104,6 +105,7 @@ fault_at_branch cause read (Some false) a b m n f g h = g h
 pub fault_met : {O : Type 0} (cause : Cause O) (read : Read) (term : Term) (args : List Value) (one : Target → List ℕ → Answer O) → one read.target read.name ≡ Err cause → Contains (met_by args one term) read → eval_by args one term ≡ Err cause
 fault_met cause read (const value) args one e h = absurd (nothing read h)
 fault_met cause read (arg place) args one e h = absurd (nothing read h)
+fault_met cause read state args one e h = absurd (nothing read h)
 fault_met cause read (prop target name) args one e h = ap (λ (r : Read). one r.target r.name) (alone _ read h) ∙ e
 fault_met cause read (binary operator a b) args one e h =
     fault_in_turn cause read (eval_by args one a) (met_by args one a) _ _
@@ -151,6 +153,7 @@ goes_at_branch P (Some false) m n f g = g
 pub goes_on : {O : Type 0} (term : Term) (args : List Value) (one : Target → List ℕ → Answer O) → EachButLast (λ read. IsValue (one read.target read.name)) (met_by args one term)
 goes_on (const value) args one = λ k d lt. absurd (omega arith)
 goes_on (arg place) args one = λ k d lt. absurd (omega arith)
+goes_on state args one = λ k d lt. absurd (omega arith)
 goes_on (prop target name) args one = λ k d lt. absurd (omega arith)
 goes_on (binary operator a b) args one = goes_in_turn (λ read. IsValue (one read.target read.name)) (eval_by args one a) (met_by args one a) _ (goes_on a args one) (λ x is. (values_met a args one x is, goes_on b args one))
 goes_on (choice test a b) args one = goes_in_turn (λ read. IsValue (one read.target read.name)) (eval_by args one test) (met_by args one test) _ (goes_on test args one) (λ t is. (values_met test args one t is, goes_at_branch (λ read. IsValue (one read.target read.name)) (truth_in t) _ _ (goes_on a args one) (goes_on b args one)))
@@ -175,6 +178,7 @@ back_at_branch E P (Some false) a a' b b' m m' n n' f g h = g h
 pub follows_back : {O : Type 0} (E : Cause O → Type 0) (term : Term) (args : List Value) (one other : Target → List ℕ → Answer O) → All (Turn E one other) (met_by args other term) → Follows E (eval_by args one term) (met_by args one term) (eval_by args other term) (met_by args other term)
 follows_back E (const value) args one other h = inl (refl, refl)
 follows_back E (arg place) args one other h = inl (refl, refl)
+follows_back E state args one other h = inl (refl, refl)
 follows_back E (prop target name) args one other h = at_once (h 0 (record { target = target; name = name }) (omega arith))
   where
     at_once : Turn E one other (record { target = target; name = name }) → Follows E (one target name) (record { target = target; name = name } ∷ []) (other target name) (record { target = target; name = name } ∷ [])

@@ -6,7 +6,7 @@ use Rattle.refusals.specs.declared.code.Code.TheVariants.{BadValue}
 use Rattle.variant_value.specs.declared.value.Value.{Value}
 use Rattle.variant_value.specs.Values.{truth_in}
 use Rattle.term_core.specs.declared.target.Target.{Target}
-use Rattle.term_core.specs.Term.{Term, const, arg, prop, binary, choice}
+use Rattle.term_core.specs.Term.{Term, const, arg, state, prop, binary, choice}
 use Rattle.term_evaluation.specs.Operations.{applied}
 use Rattle.term_evaluation.specs.Outcomes.{Answer, ◌>>=◌, answer, refused}
 
@@ -19,10 +19,12 @@ abbrev pub chosen : {O : Type 0} → Option Bool → Answer O → Answer O → A
 chosen truth held failed = option_map_or (λ b. if b then held else failed) truth (Err (refused BadValue))
 
 -- the value of an expression, over the arguments' values and what reading a property answers: from left
--- to right, where the first fault ends it; of a choice only the branch that is taken
+-- to right, where the first fault ends it; of a choice only the branch that is taken; the state of a functor
+-- has no value until a number is put in its place
 abbrev pub eval_by : {O : Type 0} → List Value → (Target → List ℕ → Answer O) → Term → Answer O
 eval_by args read (const value) = Ok value
 eval_by args read (arg place) = answer (argument args place)
+eval_by args read state = Err (refused BadValue)
 eval_by args read (prop target name) = read target name
 eval_by args read (binary operator a b) = eval_by args read a >>= λ x. eval_by args read b >>= λ y. answer (applied operator x y)
 eval_by args read (choice test a b) = eval_by args read test >>= λ t. chosen (truth_in t) (eval_by args read a) (eval_by args read b)
@@ -31,6 +33,7 @@ eval_by args read (choice test a b) = eval_by args read test >>= λ t. chosen (t
 abbrev pub standing : List Value → Term → Option Value
 standing args (const value) = Some value
 standing args (arg place) = slice_get args place
+standing args state = None
 standing args (prop target name) = None
 standing args (binary operator a b) = None
 standing args (choice test a b) = None

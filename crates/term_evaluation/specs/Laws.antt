@@ -15,6 +15,7 @@ use Rattle.term_evaluation.specs.Known.{Known, read_of}
 use Rattle.term_evaluation.specs.Met.{met_by}
 use Rattle.term_evaluation.specs.Outcomes.{Answer}
 use Rattle.term_evaluation.specs.Reading.{reads_of}
+use Rattle.term_evaluation.specs.Stating.{with_state}
 use Rattle.term_evaluation.specs.Unfolding.{unfolded_body, unfolded_term}
 
 -- two readers answer the same at each of these properties
@@ -60,3 +61,14 @@ UnfoldingKeepsActions = (body : Body) (args : List Value) → counts (acts_of (u
 -- so with short arguments it keeps to the limits
 abbrev pub UnfoldingKeepsLimits : Type 0
 UnfoldingKeepsLimits = (body : Body) (args : List Value) → All IsShort args → IsTrue (is_body_limited body.actions) → IsTrue (is_body_limited (unfolded_body args body))
+
+-- a body with a number in the place of the state takes no argument more, has as many actions, and keeps to
+-- the limits as it did
+abbrev pub StateTakesNoArgument : Type 0
+StateTakesNoArgument = (body : Body) (n : ℕ) → ActsTakeAtMost body.params (acts_of body.actions) → ActsTakeAtMost body.params (acts_of (with_state n body).actions)
+
+abbrev pub StateKeepsActions : Type 0
+StateKeepsActions = (body : Body) (n : ℕ) → counts (acts_of (with_state n body).actions) ≡ counts (acts_of body.actions)
+
+abbrev pub StateKeepsLimits : Type 0
+StateKeepsLimits = (body : Body) (n : ℕ) → IsTrue (is_body_limited body.actions) → IsTrue (is_body_limited (with_state n body).actions)

@@ -5,4 +5,5 @@ pub mod Operations
 pub mod Evaluation
 pub mod Met
 pub mod Unfolding
+pub mod Stating
 pub mod Laws

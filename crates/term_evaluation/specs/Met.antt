@@ -3,7 +3,7 @@ use Rattle.std.specs.Prelude.{◌<◌, ℕ, suc, Bool, true, false, List, [], �
 use Rattle.variant_value.specs.declared.value.Value.{Value}
 use Rattle.variant_value.specs.Values.{truth_in}
 use Rattle.term_core.specs.declared.target.Target.{Target}
-use Rattle.term_core.specs.Term.{Term, const, arg, prop, binary, choice}
+use Rattle.term_core.specs.Term.{Term, const, arg, state, prop, binary, choice}
 use Rattle.term_evaluation.specs.declared.reading.Read.{Read}
 use Rattle.term_evaluation.specs.Evaluation.{eval_by}
 use Rattle.term_evaluation.specs.Outcomes.{Answer}
@@ -24,6 +24,7 @@ in_branch (Some false) held failed = failed
 abbrev pub met_by : {O : Type 0} → List Value → (Target → List ℕ → Answer O) → Term → List Read
 met_by args read (const value) = []
 met_by args read (arg place) = []
+met_by args read state = []
 met_by args read (prop target name) = record { target = target; name = name } ∷ []
 met_by args read (binary operator a b) = met_by args read a ++ behind (eval_by args read a) (λ x. met_by args read b)
 met_by args read (choice test a b) = met_by args read test ++ behind (eval_by args read test) (λ t. in_branch (truth_in t) (met_by args read a) (met_by args read b))

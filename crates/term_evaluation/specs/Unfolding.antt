@@ -6,32 +6,43 @@ use Rattle.term_core.specs.declared.action.Effect.{Effect}
 use Rattle.term_core.specs.declared.action.Effect.TheVariants as e
 use Rattle.term_core.specs.declared.body.Body.{Body}
 use Rattle.term_core.specs.Act.{Act, Acts, effect, when, nothing, more}
-use Rattle.term_core.specs.Term.{Term, const, arg, prop, binary, choice}
+use Rattle.term_core.specs.Term.{Term, const, arg, state, prop, binary, choice}
+
+-- an action that does one thing, with each of its expressions changed
+abbrev pub effect_by : (Term → Term) → Effect → Effect
+effect_by change (e.Set of property value) = e.Set of property (change value)
+effect_by change (e.Emit of signal sent) = e.Emit of signal (map change sent)
+effect_by change other = other
+
+-- any action, so: the test of a choice, and what is in both branches
+abbrev mutual
+  pub act_by : (Term → Term) → Act → Act
+  act_by change (effect plain) = effect (effect_by change plain)
+  act_by change (when test held failed) = when (change test) (acts_by change held) (acts_by change failed)
+
+  pub acts_by : (Term → Term) → Acts → Acts
+  acts_by change nothing = nothing
+  acts_by change (more action rest) = more (act_by change action) (acts_by change rest)
 
 -- an expression with the constants that are given in place of its arguments; an argument that is not
 -- given stays as it is
 abbrev pub unfolded_term : List Value → Term → Term
 unfolded_term args (const value) = const value
 unfolded_term args (arg place) = option_map_or const (slice_get args place) (arg place)
+unfolded_term args state = state
 unfolded_term args (prop target name) = prop target name
 unfolded_term args (binary operator a b) = binary operator (unfolded_term args a) (unfolded_term args b)
 unfolded_term args (choice test a b) = choice (unfolded_term args test) (unfolded_term args a) (unfolded_term args b)
 
--- an action that does one thing, so
+-- actions, so
 abbrev pub unfolded_effect : List Value → Effect → Effect
-unfolded_effect args (e.Set of property value) = e.Set of property (unfolded_term args value)
-unfolded_effect args (e.Emit of signal sent) = e.Emit of signal (map (unfolded_term args) sent)
-unfolded_effect args other = other
+unfolded_effect args plain = effect_by (unfolded_term args) plain
 
--- any action, so: the test of a choice, and what is in both branches
-abbrev mutual
-  pub unfolded : List Value → Act → Act
-  unfolded args (effect plain) = effect (unfolded_effect args plain)
-  unfolded args (when test held failed) = when (unfolded_term args test) (unfolded_acts args held) (unfolded_acts args failed)
+abbrev pub unfolded : List Value → Act → Act
+unfolded args action = act_by (unfolded_term args) action
 
-  pub unfolded_acts : List Value → Acts → Acts
-  unfolded_acts args nothing = nothing
-  unfolded_acts args (more action rest) = more (unfolded args action) (unfolded_acts args rest)
+abbrev pub unfolded_acts : List Value → Acts → Acts
+unfolded_acts args actions = acts_by (unfolded_term args) actions
 
 -- the actions of a body, so
 abbrev pub unfolded_body : List Value → Body → List Act

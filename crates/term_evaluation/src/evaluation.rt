@@ -47,8 +47,8 @@ impl Reads for NoObjects {
 
 /// The value of the expression, from left to right; the first fault ends it. Of two operands both are
 /// evaluated before their kinds are looked at, of a choice the test and then the branch that is taken.
-/// Operands of a wrong kind, a test that is no truth, a number below -2^63 or above 2^64 - 1 and an
-/// argument that is not given are `BadValue`; a text of more than `TEXT_BYTES` is `Limit`.
+/// Operands of a wrong kind, a test that is no truth, a number below -2^63 or above 2^64 - 1, an
+/// argument that is not given and a state, for which no number was put in, are `BadValue`; a text of more than `TEXT_BYTES` is `Limit`.
 pub fn evaluate<R: Reads>(
     alloc: Global,
     expr: &Expr,
@@ -60,6 +60,7 @@ pub fn evaluate<R: Reads>(
     match &expr.node {
         Node::Const(value) => Ok(value.copy(alloc)?),
         Node::Arg(place) => Ok(argument(alloc, args, *place)?),
+        Node::State => Err(Halt::Refused(Code::BadValue)),
         Node::Prop(target, name) => reader.read(alloc, target, name),
         Node::Binary(operator, a, b) => {
             let a = evaluate(alloc, a, args, reader)?;
@@ -85,7 +86,7 @@ pub fn standing<'a>(expr: &'a Expr, args: &'a [Value]) -> Option<&'a Value>
     match &expr.node {
         Node::Const(value) => Some(value),
         Node::Arg(place) => args.get(*place),
-        Node::Prop(..) | Node::Binary(..) | Node::Choice(..) => None,
+        Node::State | Node::Prop(..) | Node::Binary(..) | Node::Choice(..) => None,
     }
 }
 

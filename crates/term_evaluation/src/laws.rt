@@ -1,6 +1,6 @@
 //! What holds of evaluation and of unfolding. There is nothing to run in these functions: the clause of each
 //! is a theorem.
-ghost use Rattle.term_evaluation.specs.Laws.{EvaluatesInPlace, FiniteReadsSuffice, MetSuffice, ReadsSuffice, UnfoldingKeepsActions, UnfoldingKeepsLimits, UnfoldingKeepsNodes, UnfoldingLeavesNoArgument, ValuesAreShort};
+ghost use Rattle.term_evaluation.specs.Laws.{EvaluatesInPlace, FiniteReadsSuffice, MetSuffice, ReadsSuffice, StateKeepsActions, StateKeepsLimits, StateTakesNoArgument, UnfoldingKeepsActions, UnfoldingKeepsLimits, UnfoldingKeepsNodes, UnfoldingLeavesNoArgument, ValuesAreShort};
 
 /// The value of an expression depends on no property but those that `reads_of` names: readers that
 /// answer the same at these, whatever they answer elsewhere and whatever faults of their own they
@@ -45,4 +45,11 @@ pub fn unfolding_keeps_limits()
     ensures nodes { UnfoldingKeepsNodes }
     ensures actions { UnfoldingKeepsActions }
     ensures limits { UnfoldingKeepsLimits }
+{}
+
+/// So does a body with a number in the place of the state, and it takes no argument that it did not take.
+pub fn state_keeps_limits()
+    ensures arguments { StateTakesNoArgument }
+    ensures actions { StateKeepsActions }
+    ensures limits { StateKeepsLimits }
 {}

@@ -8,14 +8,16 @@ mod halt;
 mod laws;
 mod operations;
 mod reading;
+mod stating;
 mod substitution;
 
 pub use evaluation::{NoObjects, Reads, evaluate, standing};
 pub use halt::Halt;
 pub use laws::{
-    evaluates_in_place, finite_reads_suffice, met_suffice, reads_suffice, unfolding_keeps_limits,
-    unfolding_leaves_no_argument, values_are_short,
+    evaluates_in_place, finite_reads_suffice, met_suffice, reads_suffice, state_keeps_limits,
+    unfolding_keeps_limits, unfolding_leaves_no_argument, values_are_short,
 };
-pub use operations::{apply, truth};
+pub use operations::{apply, state_value, truth};
 pub use reading::{Read, reads_of};
-pub use substitution::unfold;
+pub use stating::after;
+pub use substitution::{copied_body, unfold};

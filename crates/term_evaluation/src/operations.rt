@@ -5,6 +5,7 @@ ghost use Rattle.std.specs.Ordering.{int_eq};
 ghost use Rattle.refusals.specs.Answers.{Answers};
 ghost use Rattle.variant_value.specs.Values.{truth_in, number_in, text_in, number_of, inferred_number, text_of};
 ghost use Rattle.signature_core.specs.declared.kind.Kind.TheVariants as kind;
+ghost use Rattle.term_evaluation.specs.Stating.{state_in, state_value};
 ghost use Rattle.term_evaluation.specs.Operations.{of_two, are_equal, text_value, applied};
 
 use plain_types::Text;
@@ -79,6 +80,24 @@ fn number_value(number: i128) -> Option<Value>
     int_value(number)
         .or_else(|| longlong_value(number))
         .or_else(|| ulonglong_value(number))
+}
+
+/// A state as a value: a number of the first kind that holds it.
+pub fn state_value(state: u64) -> Value
+    ensures { result ≡ state_value state }
+{
+    number_value(i128::from(state)).unwrap_or(Value::Ulonglong(state))
+}
+
+/// The state that a value is: a whole number from 0 to 2^64 - 1.
+pub(crate) fn state_in(value: &Value) -> Option<u64>
+    ensures { result ≡ state_in value.now }
+{
+    let number = number(value)?;
+    match u64::try_from(number) {
+        Ok(state) => Some(state),
+        Err(_) => None,
+    }
 }
 
 fn int_value(number: i128) -> Option<Value>
@@ -171,5 +190,5 @@ fn joined_text(alloc: Global, a: &str, b: &str) -> Result<Value, Fault>
     }
     let mut text = String::from_str(alloc, a)?;
     text.push_str(b)?;
-    Ok(Value::Text(Text::from_string(text)))
+    Ok(Value::Text(Text::from_string(text)?))
 }

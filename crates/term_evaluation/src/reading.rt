@@ -33,7 +33,7 @@ fn gather(alloc: Global, expr: &Expr, found: &mut Vec<Read>) -> Result<(), Alloc
     ensures { IfOk result (λ _. found.new.items ≡ found.old.items ++ reads_of expr.now) }
 {
     match &expr.node {
-        Node::Const(_) | Node::Arg(_) => Ok(()),
+        Node::Const(_) | Node::Arg(_) | Node::State => Ok(()),
         Node::Prop(target, name) => {
             found.push(Read {
                 target: target.copy(alloc)?,

@@ -1,11 +1,14 @@
-//! A body with its arguments put in.
-ghost use Rattle.std.specs.Prelude.{◌≡◌, IfOk, map};
+//! A body with its state and arguments put in.
+ghost use Rattle.std.specs.Prelude.{◌≡◌, List, IfOk, map};
 ghost use Rattle.term_core.specs.Act.{acts_of, when};
+ghost use Rattle.term_core.specs.Term as term;
 ghost use Rattle.term_core.specs.Term.{arg, binary, choice};
 ghost use Rattle.term_core.specs.declared.action.Effect.TheVariants as effects;
-ghost use Rattle.term_evaluation.specs.Unfolding.{unfolded_term, unfolded_effect, unfolded, unfolded_body};
+ghost use Rattle.term_evaluation.specs.Stating.{put_in, with_state};
+ghost use Rattle.term_evaluation.specs.Unfolding.{act_by, effect_by, unfolded_body, unfolded_term};
 
 use crate::both::both;
+use crate::operations::state_value;
 use connection_types::ConnectionType;
 use plain_types::{Items, Text};
 use signature_core::Signature;
@@ -13,79 +16,109 @@ use std::alloc::{AllocError, Global};
 use term_core::{Action, Body, Effect, Expr, Node, Operator, Step, Target};
 use variant_value::Value;
 
-/// The body's actions with the arguments put in: each `Node::Arg`, at every depth of every expression,
-/// is replaced by the constant argument of that place. One beyond the arguments stays as it is.
-pub fn unfold(alloc: Global, body: &Body, args: &[Value]) -> Result<Items<Action>, AllocError>
-    ensures { IfOk result (λ actions. actions ≡ unfolded_body args.now body.now) }
+/// The body's actions with the state and the arguments put in: each `Node::State` and each `Node::Arg`, at
+/// every depth of every expression, is replaced by the constant state, a number of the kind that `infer`
+/// gives it, and by the constant argument of that place. One beyond the arguments stays as it is.
+pub fn unfold(
+    alloc: Global,
+    body: &Body,
+    state: u64,
+    args: &[Value],
+) -> Result<Items<Action>, AllocError>
+    ensures { IfOk result (λ actions. actions ≡ unfolded_body args.now (with_state state body.now)) }
 {
-    Ok(Items::from_vec(unfolded_actions(alloc, body.actions.as_slice(), args)?))
+    let actions = put_in_actions(alloc, body.actions.as_slice(), Some(state), args)?;
+    Ok(Items::from_vec(actions))
 }
 
-#[cycle(unfold)]
-fn unfolded_actions(
+/// The body once more, in memory of its own.
+pub fn copied_body(alloc: Global, body: &Body) -> Result<Body, AllocError>
+    ensures { IfOk result (λ copy. copy ≡ body.now) }
+{
+    let actions = put_in_actions(alloc, body.actions.as_slice(), None, &[])?;
+    Ok(Body {
+        params: body.params,
+        actions: Items::from_vec(actions),
+    })
+}
+
+#[cycle(put_in)]
+fn put_in_actions(
     alloc: Global,
     actions: &[Action],
+    given: Option<u64>,
     args: &[Value],
 ) -> Result<Vec<Action>, AllocError>
-    ensures { IfOk result (λ found. found.items ≡ map (unfolded args.now) actions.now) }
+    ensures { IfOk result (λ found. found.items ≡ map (act_by (put_in given args.now)) actions.now) }
 {
     let mut found = Vec::new(alloc);
     for action in actions {
-        found.push(unfolded_action(alloc, action, args)?)?;
+        found.push(put_in_action(alloc, action, given, args)?)?;
     }
     Ok(found)
 }
 
-#[cycle(unfold)]
-fn unfolded_action(alloc: Global, action: &Action, args: &[Value]) -> Result<Action, AllocError>
-    ensures { IfOk result (λ found. found ≡ unfolded args.now action.now) }
+#[cycle(put_in)]
+fn put_in_action(
+    alloc: Global,
+    action: &Action,
+    given: Option<u64>,
+    args: &[Value],
+) -> Result<Action, AllocError>
+    ensures { IfOk result (λ found. found ≡ act_by (put_in given args.now) action.now) }
 {
     match &action.step {
         Step::Effect(effect) => {
-            let effect = unfolded_effect(alloc, effect, args)?;
+            let effect = put_in_effect(alloc, effect, given, args)?;
             Ok(Action {
                 step: Step::Effect(effect),
             })
         }
-        Step::When(test, held, failed) => unfolded_when(alloc, test, held, failed, args),
+        Step::When(test, held, failed) => put_in_when(alloc, test, held, failed, given, args),
     }
 }
 
-#[cycle(unfold)]
-#[tactic(auto, using(crate::proofs::Branches::branch_unfolded))]
-fn unfolded_when(
+#[cycle(put_in)]
+#[tactic(auto, using(crate::proofs::Branches::branch_changed))]
+fn put_in_when(
     alloc: Global,
     test: &Expr,
     held: &[Action],
     failed: &[Action],
+    given: Option<u64>,
     args: &[Value],
 ) -> Result<Action, AllocError>
-    ensures { IfOk result (λ found. found ≡ unfolded args.now (when test.now (acts_of held.now) (acts_of failed.now))) }
+    ensures { IfOk result (λ found. found ≡ act_by (put_in given args.now) (when test.now (acts_of held.now) (acts_of failed.now))) }
 {
     let branches = both(
-        unfolded_actions(alloc, held, args),
-        unfolded_actions(alloc, failed, args),
+        put_in_actions(alloc, held, given, args),
+        put_in_actions(alloc, failed, given, args),
     );
-    let (test, (held, failed)) = both(unfolded_expr(alloc, test, args), branches)?;
+    let (test, (held, failed)) = both(put_in_expr(alloc, test, given, args), branches)?;
     Ok(Action {
         step: Step::When(test, held, failed),
     })
 }
 
-fn unfolded_effect(alloc: Global, effect: &Effect, args: &[Value]) -> Result<Effect, AllocError>
-    ensures { IfOk result (λ found. found ≡ unfolded_effect args.now effect.now) }
+fn put_in_effect(
+    alloc: Global,
+    effect: &Effect,
+    given: Option<u64>,
+    args: &[Value],
+) -> Result<Effect, AllocError>
+    ensures { IfOk result (λ found. found ≡ effect_by (put_in given args.now) effect.now) }
 {
     match effect {
         Effect::Set {
             of,
             property,
             value,
-        } => unfolded_set(alloc, of, property, value, args),
+        } => put_in_set(alloc, of, property, value, given, args),
         Effect::Emit {
             of,
             signal,
             args: sent,
-        } => unfolded_emit(alloc, of, signal, sent.as_slice(), args),
+        } => put_in_emit(alloc, of, signal, sent.as_slice(), given, args),
         Effect::Connect {
             of,
             signal,
@@ -108,17 +141,18 @@ fn unfolded_effect(alloc: Global, effect: &Effect, args: &[Value]) -> Result<Eff
     }
 }
 
-fn unfolded_set(
+fn put_in_set(
     alloc: Global,
     of: &Target,
     property: &Text,
     value: &Expr,
+    given: Option<u64>,
     args: &[Value],
 ) -> Result<Effect, AllocError>
-    ensures { IfOk result (λ found. found ≡ effects.Set of.now property.now (unfolded_term args.now value.now)) }
+    ensures { IfOk result (λ found. found ≡ effects.Set of.now property.now (put_in given args.now value.now)) }
 {
     let place = both(of.copy(alloc), property.copy(alloc));
-    let ((of, property), value) = both(place, unfolded_expr(alloc, value, args))?;
+    let ((of, property), value) = both(place, put_in_expr(alloc, value, given, args))?;
     Ok(Effect::Set {
         of,
         property,
@@ -126,17 +160,18 @@ fn unfolded_set(
     })
 }
 
-fn unfolded_emit(
+fn put_in_emit(
     alloc: Global,
     of: &Target,
     signal: &Signature,
     sent: &[Expr],
+    given: Option<u64>,
     args: &[Value],
 ) -> Result<Effect, AllocError>
-    ensures { IfOk result (λ found. found ≡ effects.Emit of.now signal.now (map (unfolded_term args.now) sent.now)) }
+    ensures { IfOk result (λ found. found ≡ effects.Emit of.now signal.now (map (put_in given args.now) sent.now)) }
 {
     let sender = both(of.copy(alloc), copy_signature(alloc, signal));
-    let ((of, signal), args) = both(sender, unfolded_exprs(alloc, sent, args))?;
+    let ((of, signal), args) = both(sender, put_in_exprs(alloc, sent, given, args))?;
     Ok(Effect::Emit { of, signal, args })
 }
 
@@ -207,29 +242,40 @@ fn copy_set_parent(
     Ok(Effect::SetParent { of, parent })
 }
 
-fn unfolded_exprs(alloc: Global, exprs: &[Expr], args: &[Value]) -> Result<Items<Expr>, AllocError>
-    ensures { IfOk result (λ found. found ≡ map (unfolded_term args.now) exprs.now) }
+fn put_in_exprs(
+    alloc: Global,
+    exprs: &[Expr],
+    given: Option<u64>,
+    args: &[Value],
+) -> Result<Items<Expr>, AllocError>
+    ensures { IfOk result (λ found. found ≡ map (put_in given args.now) exprs.now) }
 {
     let mut found = Vec::new(alloc);
     for expr in exprs {
-        found.push(unfolded_expr(alloc, expr, args)?)?;
+        found.push(put_in_expr(alloc, expr, given, args)?)?;
     }
     Ok(Items::from_vec(found))
 }
 
-#[cycle(unfolded_expr)]
-fn unfolded_expr(alloc: Global, expr: &Expr, args: &[Value]) -> Result<Expr, AllocError>
-    ensures { IfOk result (λ found. found ≡ unfolded_term args.now expr.now) }
+#[cycle(put_in_expr)]
+pub(crate) fn put_in_expr(
+    alloc: Global,
+    expr: &Expr,
+    given: Option<u64>,
+    args: &[Value],
+) -> Result<Expr, AllocError>
+    ensures { IfOk result (λ found. found ≡ put_in given args.now expr.now) }
 {
     match &expr.node {
         Node::Const(_) | Node::Prop(_, _) => expr.copy(alloc),
-        Node::Arg(place) => unfolded_arg(alloc, *place, args),
-        Node::Binary(operator, a, b) => unfolded_binary(alloc, *operator, a, b, args),
-        Node::Choice(test, held, failed) => unfolded_choice(alloc, test, held, failed, args),
+        Node::Arg(place) => put_in_arg(alloc, *place, args),
+        Node::State => Ok(put_in_state(given)),
+        Node::Binary(operator, a, b) => put_in_binary(alloc, *operator, a, b, given, args),
+        Node::Choice(test, held, failed) => put_in_choice(alloc, test, held, failed, given, args),
     }
 }
 
-fn unfolded_arg(alloc: Global, place: usize, args: &[Value]) -> Result<Expr, AllocError>
+fn put_in_arg(alloc: Global, place: usize, args: &[Value]) -> Result<Expr, AllocError>
     ensures { IfOk result (λ found. found ≡ unfolded_term args.now (arg place)) }
 {
     let node = match args.get(place) {
@@ -239,48 +285,65 @@ fn unfolded_arg(alloc: Global, place: usize, args: &[Value]) -> Result<Expr, All
     Ok(Expr { node })
 }
 
-#[cycle(unfolded_expr)]
-fn unfolded_binary(
+fn put_in_state(given: Option<u64>) -> Expr
+    ensures { (args : List Value) → result ≡ put_in given args term.state }
+{
+    let node = match given {
+        Some(number) => Node::Const(state_value(number)),
+        None => Node::State,
+    };
+    Expr { node }
+}
+
+#[cycle(put_in_expr)]
+fn put_in_binary(
     alloc: Global,
     operator: Operator,
     a: &Expr,
     b: &Expr,
+    given: Option<u64>,
     args: &[Value],
 ) -> Result<Expr, AllocError>
-    ensures { IfOk result (λ found. found ≡ unfolded_term args.now (binary operator a.now b.now)) }
+    ensures { IfOk result (λ found. found ≡ put_in given args.now (binary operator a.now b.now)) }
 {
-    let a = unfolded_operand(alloc, a, args);
-    let (a, b) = both(a, unfolded_operand(alloc, b, args))?;
+    let a = put_in_operand(alloc, a, given, args);
+    let (a, b) = both(a, put_in_operand(alloc, b, given, args))?;
     Ok(Expr {
         node: Node::Binary(operator, a, b),
     })
 }
 
-#[cycle(unfolded_expr)]
-fn unfolded_choice(
+#[cycle(put_in_expr)]
+fn put_in_choice(
     alloc: Global,
     test: &Expr,
     held: &Expr,
     failed: &Expr,
+    given: Option<u64>,
     args: &[Value],
 ) -> Result<Expr, AllocError>
-    ensures { IfOk result (λ found. found ≡ unfolded_term args.now (choice test.now held.now failed.now)) }
+    ensures { IfOk result (λ found. found ≡ put_in given args.now (choice test.now held.now failed.now)) }
 {
     let branches = both(
-        unfolded_operand(alloc, held, args),
-        unfolded_operand(alloc, failed, args),
+        put_in_operand(alloc, held, given, args),
+        put_in_operand(alloc, failed, given, args),
     );
-    let (test, (held, failed)) = both(unfolded_operand(alloc, test, args), branches)?;
+    let (test, (held, failed)) = both(put_in_operand(alloc, test, given, args), branches)?;
     Ok(Expr {
         node: Node::Choice(test, held, failed),
     })
 }
 
-#[cycle(unfolded_expr)]
-fn unfolded_operand(alloc: Global, expr: &Expr, args: &[Value]) -> Result<Box<Expr>, AllocError>
-    ensures { IfOk result (λ found. found.value ≡ unfolded_term args.now expr.now) }
+#[cycle(put_in_expr)]
+fn put_in_operand(
+    alloc: Global,
+    expr: &Expr,
+    given: Option<u64>,
+    args: &[Value],
+) -> Result<Box<Expr>, AllocError>
+    ensures { IfOk result (λ found. found.value ≡ put_in given args.now expr.now) }
 {
-    Ok(Box::new(alloc, unfolded_expr(alloc, expr, args)?)?)
+    Ok(Box::new(alloc, put_in_expr(alloc, expr, given, args)?)?)
 }
 
 fn copy_signature(alloc: Global, signature: &Signature) -> Result<Signature, AllocError>

@@ -1,8 +1,8 @@
 //! Bodies of slots, and the laws of their expressions.
 use term_core::{Action, Effect, Expr, Step};
 use term_evaluation::{
-    evaluates_in_place, reads_suffice, unfolding_keeps_limits, unfolding_leaves_no_argument,
-    values_are_short,
+    evaluates_in_place, reads_suffice, state_keeps_limits, unfolding_keeps_limits,
+    unfolding_leaves_no_argument, values_are_short,
 };
 
 /// What the first action sets, sends first or tests.
@@ -33,4 +33,5 @@ fn there_are_laws() {
     values_are_short::<()>();
     unfolding_leaves_no_argument();
     unfolding_keeps_limits();
+    state_keeps_limits();
 }

@@ -124,6 +124,7 @@ fn queued_call(alloc: Global, object: u32, sender: u32) -> Result<Event, AllocEr
         object,
         callee: Callee::Method(7),
         sender,
+        connection: 0,
         args: Args::copied(alloc, &[])?,
     }))
 }

@@ -135,6 +135,7 @@ const BINDINGS: &str = r#"[
 [{"+":[{"const":1},{"const":1},{"const":1}]}, "E22"],
 [{"if":[{"const":true},{"const":1}]}, "E22"],
 [{"arg":0}, "E22"],
+[{"state":true}, "E22"],
 [{"prop":"x","of":"sender"}, "E22"],
 [{"prop":"x","of":{"child":"c"}}, "E22"]]"#;
 
@@ -191,7 +192,7 @@ fn ends_so_unfolded(
     args: &[Value],
     wanted: &str,
 ) -> Result<bool, AllocError> {
-    let unfolded = unfold(alloc, body, args)?;
+    let unfolded = unfold(alloc, body, 0, args)?;
     ends_so(alloc, unfolded.as_slice(), &[], wanted)
 }
 
@@ -234,7 +235,7 @@ fn expressions_have_their_values(rt: HostRuntime) -> Result<(), Fail> {
 /// Whether 5 is put into the branch of a branch.
 fn is_put_into_branches(alloc: Global, body: &Body) -> Result<bool, AllocError> {
     let args = [Value::Uint(5), Value::Bool(true)];
-    let actions = unfold(alloc, body, &args)?;
+    let actions = unfold(alloc, body, 0, &args)?;
     ends_so(alloc, branch(branch(actions.as_slice())), &[], "uint 5")
 }
 
@@ -291,7 +292,7 @@ fn bindings(alloc: Global) -> Result<Vec<Json>, AllocError> {
 #[test]
 fn bindings_have_their_forms(rt: HostRuntime) -> Result<(), Fail> {
     let cases = bindings(rt.alloc())?;
-    assert_eq!(rt; cases.len(), 33);
+    assert_eq!(rt; cases.len(), 34);
     assert_eq!(rt; first_wrong_binding(rt.alloc(), &cases)?, None);
     Ok(())
 }

@@ -1,13 +1,16 @@
 //! Functors that are handed in, called, found and looked at.
 ghost use Rattle.std.specs.Prelude.{◌≡◌, [], IfOk};
+ghost use Rattle.term_core.specs.Term.{state};
+ghost use Rattle.term_evaluation.specs.Stating.{after};
 
 use crate::handing::answers;
 use plain_types::{Items, Text};
+use program_start::kept_state;
 use refusals::{Code, Fault};
 use std::alloc::{AllocError, Global};
 use std::test::Fail;
 use stored_slots::{Closure, FUNCTORS, Functors};
-use term_core::{Action, Body, Effect, Expr, Step};
+use term_core::{Action, Body, Effect, Expr, Node, Step};
 use term_evaluation::{Halt, NoObjects, evaluate};
 use variant_value::Value;
 
@@ -111,16 +114,17 @@ fn are_as_wanted(alloc: Global) -> Result<bool, AllocError> {
     for count in 0..FUNCTORS + 2 {
         let run: Closure = Box::new(
             alloc,
-            |alloc: Global, _args: &[Value]| -> Result<Vec<Action>, AllocError>
-                ensures { IfOk result (λ actions. actions.items ≡ []) }
-            { Ok(Vec::new(alloc)) },
+            |alloc: Global, found: u64, args: &[Value]| -> Result<(Vec<Action>, u64), AllocError>
+                ensures { IfOk result (λ answer. (answer.0.items ≡ []) × (answer.1 ≡ after state found args.now)) }
+            { Ok((Vec::new(alloc), kept_state(found))) },
         )?;
         let body = Body {
             params: 0,
             actions: Items::new(alloc),
         };
-        let name = Text::from_string((count % (FUNCTORS + 1)).to_string(alloc)?);
-        let added = functors.add(name, Items::new(alloc), body, run);
+        let name = Text::from_string((count % (FUNCTORS + 1)).to_string(alloc)?)?;
+        let next = Expr { node: Node::State };
+        let added = functors.add(name, Items::new(alloc), body, next, run);
         if !is_as_wanted(count, added) {
             return Ok(false);
         }

@@ -2,10 +2,12 @@
 ghost use Rattle.std.specs.Prelude.{◌≡◌, ◌∷◌, [], IfOk};
 ghost use Rattle.signature_core.specs.declared.kind.Kind.TheVariants.{Int};
 ghost use Rattle.stored_slots.specs.Functors.{AreArguments};
+ghost use Rattle.term_core.specs.Term.{state};
+ghost use Rattle.term_evaluation.specs.Stating.{after, with_state};
 ghost use Rattle.term_evaluation.specs.Unfolding.{unfolded_body};
 ghost use Rattle.program_start.specs.Clamp.{clamp_body};
 
-use program_start::{clamped, with_clamp};
+use program_start::{clamped, kept_state, with_clamp};
 use refusals::Fault;
 use std::alloc::{AllocError, Global};
 use stored_slots::Closure;
@@ -18,19 +20,21 @@ pub fn answers(alloc: Global, given: &[i32]) -> Result<Vec<Vec<Action>>, Fault> 
     let (least, most) = (0, 100);
     let run: Closure = Box::new(
         alloc,
-        move |alloc: Global, args: &[Value]| -> Result<Vec<Action>, AllocError>
+        move |alloc: Global, found: u64, args: &[Value]| -> Result<(Vec<Action>, u64), AllocError>
             requires { AreArguments (Int ∷ []) args.now }
-            ensures { IfOk result (λ actions.
-                actions.items ≡ unfolded_body args.now (clamp_body least most)) }
+            ensures { IfOk result (λ answer. (answer.0.items ≡ unfolded_body args.now (with_state found (clamp_body least most)))
+                × (answer.1 ≡ after state found args.now)) }
         {
             let node = Node::Const(args[0].copy(alloc)?);
-            clamped(alloc, least, most, &Expr { node })
+            let actions = clamped(alloc, least, most, &Expr { node })?;
+            Ok((actions, kept_state(found)))
         },
     )?;
     let functors = with_clamp(alloc, least, most, run)?;
     let mut answers = Vec::new(alloc);
     for number in given {
-        answers.push(functors.call(0, &[Value::Int(*number)])?)?;
+        let (actions, _) = functors.call(0, 0, &[Value::Int(*number)])?;
+        answers.push(actions)?;
     }
     Ok(answers)
 }

@@ -26,5 +26,7 @@ mod gaps;
 mod handing;
 #[cfg(test)]
 mod members;
+#[cfg(test)]
+mod states;
 
 pub use handing::answers;

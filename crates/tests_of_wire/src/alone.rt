@@ -326,7 +326,7 @@ fn is_told_alone(
     list: &[Tagged],
     entries: &[Entry],
 ) -> Result<bool, AllocError> {
-    let name = Text::from_string(filled(alloc, "s@", session, 0)?);
+    let name = Text::from_string(filled(alloc, "s@", session, 0)?)?;
     let beside = told_in(alloc, &name, list, entries)?;
     let mut engine = engine(alloc)?;
     let items = ring_items(alloc, session)?;

@@ -1,5 +1,7 @@
 //! A functor whose closure finds no memory.
 ghost use Rattle.std.specs.Prelude.{◌≡◌, [], IfOk};
+ghost use Rattle.term_core.specs.Term.{state};
+ghost use Rattle.term_evaluation.specs.Stating.{after};
 
 use crate::fakes::hashing;
 use crate::lines::lamps;
@@ -9,7 +11,7 @@ use server_world::Server;
 use std::alloc::{AllocError, Global};
 use std::test::Fail;
 use stored_slots::{Closure, Functors};
-use term_core::{Action, Body};
+use term_core::{Action, Body, Expr, Node};
 use variant_value::Value;
 
 /// In both sessions a signal calls the functor; it is sent in one of them alone.
@@ -36,8 +38,8 @@ fn starving(alloc: Global) -> Result<Functors, AllocError> {
     let name = Text::from_str(alloc, "starved")?;
     let starved: Closure = Box::new(
         alloc,
-        |_alloc: Global, _args: &[Value]| -> Result<Vec<Action>, AllocError>
-            ensures { IfOk result (λ actions. actions.items ≡ []) }
+        |_alloc: Global, found: u64, args: &[Value]| -> Result<(Vec<Action>, u64), AllocError>
+            ensures { IfOk result (λ answer. (answer.0.items ≡ []) × (answer.1 ≡ after state found args.now)) }
         { Err(AllocError) },
     )?;
     let body = Body {
@@ -45,7 +47,8 @@ fn starving(alloc: Global) -> Result<Functors, AllocError> {
         actions: Items::new(alloc),
     };
     let mut functors = Functors::new(alloc);
-    match functors.add(name, Items::new(alloc), body, starved) {
+    let next = Expr { node: Node::State };
+    match functors.add(name, Items::new(alloc), body, next, starved) {
         Ok(_) => Ok(functors),
         Err(_) => Err(AllocError),
     }

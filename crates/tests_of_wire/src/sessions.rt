@@ -2,13 +2,15 @@
 ghost use Rattle.std.specs.Prelude.{◌≡◌, ◌∷◌, [], IfOk};
 ghost use Rattle.signature_core.specs.declared.kind.Kind.TheVariants.{Int};
 ghost use Rattle.stored_slots.specs.Functors.{AreArguments};
+ghost use Rattle.term_core.specs.Term.{state};
+ghost use Rattle.term_evaluation.specs.Stating.{after, with_state};
 ghost use Rattle.term_evaluation.specs.Unfolding.{unfolded_body};
 ghost use Rattle.program_start.specs.Clamp.{clamp_body};
 
 use crate::fakes::hashing;
 use crate::lines::classes_of;
 use crate::served::{Host, TURNS, answers};
-use program_start::{DEMONSTRATION, clamped, with_clamp};
+use program_start::{DEMONSTRATION, clamped, kept_state, with_clamp};
 use server_world::Server;
 use std::alloc::{AllocError, Global};
 use std::test::Fail;
@@ -356,12 +358,14 @@ fn clamps(alloc: Global) -> Result<Functors, AllocError> {
     let (least, most) = (0, 100);
     let clamp = Box::new(
         alloc,
-        move |alloc: Global, args: &[Value]| -> Result<Vec<Action>, AllocError>
+        move |alloc: Global, found: u64, args: &[Value]| -> Result<(Vec<Action>, u64), AllocError>
             requires { AreArguments (Int ∷ []) args.now }
-            ensures { IfOk result (λ actions. actions.items ≡ unfolded_body args.now (clamp_body least most)) }
+            ensures { IfOk result (λ answer. (answer.0.items ≡ unfolded_body args.now (with_state found (clamp_body least most)))
+                × (answer.1 ≡ after state found args.now)) }
         {
             let node = Node::Const(args[0].copy(alloc)?);
-            clamped(alloc, least, most, &Expr { node })
+            let actions = clamped(alloc, least, most, &Expr { node })?;
+            Ok((actions, kept_state(found)))
         },
     )?;
     match with_clamp(alloc, least, most, clamp) {

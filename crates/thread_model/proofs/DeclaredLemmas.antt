@@ -37,7 +37,7 @@ use Rattle.thread_model.specs.Asked.{Asked, New, Delete, Children, Find, Set, Ge
 use Rattle.thread_model.specs.declared.deed.Deed.{Deed}
 use Rattle.thread_model.specs.declared.deed.Deed.TheVariants as d
 use Rattle.thread_model.specs.Deeds.{deed_done, with_deed}
-use Rattle.thread_model.specs.Doing.{Doing, begun, dying, first_taken, in_state, lost, posted, posting, shot, told, turn_taken, used_up, severed}
+use Rattle.thread_model.specs.Doing.{Doing, begun, dying, first_taken, in_state, lost, posted, posting, shot, told, turn_taken, used_up, severed, stepped}
 use Rattle.thread_model.specs.Effects.{does_next, unless}
 use Rattle.thread_model.specs.Items.{Delete as ToDelete, Emit, Item, Next, Reply, ReplySpun, Run, Spin, puts}
 use Rattle.thread_model.specs.Laws.{KeepsDeclared}
@@ -194,6 +194,10 @@ module _ (classes : List Class) (doing : Doing) (declared : IsDeclared classes d
   unfolding dying
   dying_declared target = each_marked (Has classes doing.state) doing.state.forest target declared
 
+  stepped_declared : (number next : ℕ) → IsDeclared classes (stepped doing number next).state
+  unfolding stepped
+  stepped_declared number next = declared
+
   gone_declared : (target : ℕ) → IsDeclared classes (without_object doing.state target)
   gone_declared target = each_removed (Has classes doing.state) (Has classes (without_object doing.state target)) doing.state.forest target
       (λ number class apart has. ap (option_map (λ of. of.fields)) (without_others doing.state.store target number apart) ∙ has) declared
@@ -220,6 +224,7 @@ holds classes = record {
   marks = λ doing target declared. dying_declared classes doing declared target;
   severs = λ doing target declared. severed_declared classes doing declared target;
   goes = λ doing target declared. gone_declared classes doing declared target;
+  steps = λ doing number next declared. stepped_declared classes doing declared number next;
 }
 
 pub item_declared : (settings : Settings) (item : Item) (doing : Doing) → IsDeclared settings.classes doing.state → IsDeclared settings.classes (step settings item doing).doing.state

@@ -143,7 +143,7 @@ module _ (settings : Settings) (number : ℕ) (args : List Value) (depth : ℕ) 
         module _ (method : Method) (has : method_at settings doing.state connection.receiver index ≡ Some method) where
           -- a queued connection calls later, with the same arguments
           abbrev pub call_later : QueuedCall
-          call_later = record { object = connection.receiver; callee = callee.Method index; sender = connection.sender; args = take (length method.signature.kinds) args }
+          call_later = record { object = connection.receiver; callee = callee.Method index; sender = connection.sender; connection = connection.number; args = take (length method.signature.kinds) args }
 
           module _ (later : is_queued connection.mode ≡ true) where
             is_later : (room : Bool) → has_room doing.state.queue ≡ room → step settings (Call number args depth) doing ≡ puts [] (cond room (posted after (event.Call call_later)) (lost after))
@@ -179,15 +179,14 @@ module _ (settings : Settings) (target index sender : ℕ) (args : List Value) (
       ≡ puts (acts (acts_of method.body.actions) args target sender (depth + 1)) (told doing (call_line method target sender args))
   run_slot method has = ap (λ found. option_map_or (ran doing target sender args depth) found (puts [] doing)) has
 
-module _ (settings : Settings) (target index sender : ℕ) (args : List Value) (depth : ℕ) (doing : Doing) where
+module _ (settings : Settings) (target index sender connection : ℕ) (args : List Value) (depth : ℕ) (doing : Doing) where
   -- a functor that is not there runs nothing
-  pub run_functor_absent : functor_at settings index ≡ None → step settings (RunFunctor target index sender args depth) doing ≡ puts [] doing
-  run_functor_absent absent = ap (λ found. option_map_or (functor_ran doing target sender args depth) found (puts [] doing)) absent
+  pub run_functor_absent : functor_at settings index ≡ None → step settings (RunFunctor target index sender connection args depth) doing ≡ puts [] doing
+  run_functor_absent absent = ap (λ found. option_map_or (functor_ran doing target sender connection args depth) found (puts [] doing)) absent
 
-  -- a functor that is there is told of, and does what its body says, one level deeper
-  pub run_functor : (functor : Functor) → functor_at settings index ≡ Some functor → step settings (RunFunctor target index sender args depth) doing
-      ≡ puts (acts (acts_of functor.body.actions) args target sender (depth + 1)) (told doing (functor_line functor target sender args))
-  run_functor functor has = ap (λ found. option_map_or (functor_ran doing target sender args depth) found (puts [] doing)) has
+  -- a functor that is there is told of, steps its connection's state, and does what its body says
+  pub run_functor : (functor : Functor) → functor_at settings index ≡ Some functor → step settings (RunFunctor target index sender connection args depth) doing ≡ functor_ran doing target sender connection args depth functor
+  run_functor functor has = ap (λ found. option_map_or (functor_ran doing target sender connection args depth) found (puts [] doing)) has
 
 module _ (settings : Settings) (doing : Doing) where
   -- a warning and a reply are told

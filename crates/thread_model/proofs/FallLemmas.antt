@@ -19,6 +19,8 @@ use Rattle.object_tree.specs.declared.row.Row.{Row}
 use Rattle.object_tree.specs.Rows.{children, row_of}
 use Rattle.object_tree.specs.Changes.{marked}
 use Rattle.stored_slots.specs.declared.functor.Functor.{Functor}
+use Rattle.term_evaluation.specs.Stating.{after, with_state}
+use Rattle.term_evaluation.proofs.StatingLemmas.{state_counts}
 use Rattle.thread_model.specs.declared.call.TheConstants.{DESTROYED, NESTED_SIGNALS}
 use Rattle.thread_model.specs.declared.line.Answer.TheVariants as a
 use Rattle.thread_model.specs.declared.line.Line.TheVariants as line
@@ -27,14 +29,14 @@ use Rattle.thread_model.specs.Acts.{acts, chosen}
 use Rattle.thread_model.specs.Arriving.{posts_of}
 use Rattle.thread_model.specs.Agenda.{binding_line, call_items, call_line, callee_called, called, calls_of, connection_of, emitted, event_items, functor_called, functor_line, functor_ran, is_held_back, kins, lives, lives_below, method_called, method_items, queued, ran, spun, step, with_turn}
 use Rattle.thread_model.specs.Deeds.{deed_done}
-use Rattle.thread_model.specs.Doing.{Doing, dying, first_taken, in_state, shot, told, turn_taken, used_up, posting, severed}
+use Rattle.thread_model.specs.Doing.{Doing, dying, first_taken, in_state, shot, told, turn_taken, used_up, posting, severed, stepped}
 use Rattle.thread_model.specs.Items.{Act, Call, Cut, Delete, Emit, Gone, Item, Kin, Next, Reply, ReplySpun, Run, RunFunctor, Spin, Warn, WarnOf, puts}
 use Rattle.thread_model.specs.Functors.{functor_at}
 use Rattle.thread_model.specs.Methods.{Found, method_at}
 use Rattle.thread_model.specs.Posting.{is_queued, spin_of}
 use Rattle.thread_model.specs.Run.{Most, action_weight, change_weight, deletion_weight, most, turn_weight, weight, weights}
 use Rattle.thread_model.specs.Settings.{Settings}
-use Rattle.thread_model.specs.State.{State, without_object}
+use Rattle.thread_model.specs.State.{State, without_object, functor_state}
 use Rattle.thread_model.specs.Showing.{comes_to}
 use Rattle.thread_model.specs.Targets.{truth_evaluated}
 use Rattle.thread_model.specs.Writing.{Writing, with_writing, written, written_property}
@@ -42,7 +44,7 @@ use Rattle.thread_model.proofs.ActLemmas.{acted_cases}
 use Rattle.thread_model.proofs.ShowingLemmas.{told-weight}
 use Rattle.thread_model.proofs.LivingLemmas.{few_children, filter-fewer, living_rows}
 use Rattle.thread_model.proofs.WeightLemmas.{act-some, acts-weight, body-size, calls-weight, choice-weight, functor-size, kins-weight, weight-some, weights-append}
-use Rattle.thread_model.proofs.ShrinkLemmas.{Shrinks, both, deed_shrinks, dying_less, dying_shrinks, first_taken-turns, gone_shrinks, queued_shrinks, same, shot_shrinks, taken_shrinks, told_shrinks, turn_shrinks, turn_taken-less, used_up_shrinks, written_shrinks, posting_shrinks, severed_shrinks}
+use Rattle.thread_model.proofs.ShrinkLemmas.{Shrinks, both, deed_shrinks, dying_less, dying_shrinks, first_taken-turns, gone_shrinks, queued_shrinks, same, shot_shrinks, taken_shrinks, told_shrinks, turn_shrinks, turn_taken-less, used_up_shrinks, written_shrinks, posting_shrinks, severed_shrinks, stepped_shrinks}
 
 abbrev pub total : Most → Doing → ℕ → ℕ
 total n doing items = doing.turns * turn_weight n + living_rows doing.state.forest.rows * deletion_weight n + items
@@ -119,7 +121,7 @@ module _ (settings : Settings) (item : Item) (doing new : Doing) (shrinks : Shri
   method_falls : (connection : Connection) (index : ℕ) (args : List Value) (depth : ℕ) (method : Method) → FallsTo settings item doing (method_called connection index args depth new method)
   method_falls connection index args depth method =
       let given = take (length method.signature.kinds) args in
-      let call : QueuedCall = record { object = connection.receiver; callee = callee.Method index; sender = connection.sender; args = given } in
+      let call : QueuedCall = record { object = connection.receiver; callee = callee.Method index; sender = connection.sender; connection = connection.number; args = given } in
       let later = queued_shrinks new call in
       let few = method_weight (most settings doing) connection.receiver index connection.sender given (depth + 1) depth method in
       cond_both (is_queued connection.mode) (puts [] (queued new call)) (puts (method_items connection.receiver index connection.sender given (depth + 1) depth method) new) (FallsTo settings item doing)
@@ -130,9 +132,9 @@ module _ (settings : Settings) (item : Item) (doing new : Doing) (shrinks : Shri
   functor_falls : (connection : Connection) (index : ℕ) (args : List Value) (depth : ℕ) (functor : Functor) → FallsTo settings item doing (functor_called connection index args depth new functor)
   functor_falls connection index args depth functor =
       let given = take (length functor.params) args in
-      let call : QueuedCall = record { object = connection.receiver; callee = callee.Functor index; sender = connection.sender; args = given } in
+      let call : QueuedCall = record { object = connection.receiver; callee = callee.Functor index; sender = connection.sender; connection = connection.number; args = given } in
       let later = queued_shrinks new call in
-      let items = RunFunctor connection.receiver index connection.sender given depth ∷ [] in
+      let items = RunFunctor connection.receiver index connection.sender connection.number given depth ∷ [] in
       cond_both (is_queued connection.mode) (puts [] (queued new call)) (puts items new) (FallsTo settings item doing)
       (λ queues. by_turn settings item doing (puts [] (queued new call)) (both doing new (queued new call) shrinks later) (omega (arith, taken, later.turns)) (omega arith))
       (λ direct. by_turn settings item doing (puts items new) shrinks taken (omega arith))
@@ -203,16 +205,21 @@ ran_falls settings target index sender args depth doing (Some method) is =
     let short = mul-le-mul_right (action_weight n) within in
     lighter settings (Run target index sender args depth) doing (ran doing target sender args depth method) (told_shrinks doing (call_line method target sender args)) (omega (arith, its, short))
 
-functor_ran_falls : (settings : Settings) (target index sender : ℕ) (args : List Value) (depth : ℕ) (doing : Doing) (found : Option Functor) → functor_at settings index ≡ found
-    → FallsTo settings (RunFunctor target index sender args depth) doing (option_map_or (functor_ran doing target sender args depth) found (puts [] doing))
-functor_ran_falls settings target index sender args depth doing None is = idle settings (RunFunctor target index sender args depth) doing doing (same doing)
-functor_ran_falls settings target index sender args depth doing (Some functor) is =
+functor_ran_falls : (settings : Settings) (target index sender connection : ℕ) (args : List Value) (depth : ℕ) (doing : Doing) (found : Option Functor) → functor_at settings index ≡ found
+    → FallsTo settings (RunFunctor target index sender connection args depth) doing (option_map_or (functor_ran doing target sender connection args depth) found (puts [] doing))
+functor_ran_falls settings target index sender connection args depth doing None is = idle settings (RunFunctor target index sender connection args depth) doing doing (same doing)
+functor_ran_falls settings target index sender connection args depth doing (Some functor) is =
     let n = most settings doing in
-    let its = acts-weight n (acts_of functor.body.actions) args target sender (depth + 1) in
+    let state = functor_state doing.state connection in
+    let body = acts_of (with_state state functor.body).actions in
+    let its = acts-weight n body args target sender (depth + 1) in
     let size = functor-size settings index functor is in
-    let within : counts (acts_of functor.body.actions) ≤ n.actions = omega (arith, size) in
+    let within : counts body ≤ n.actions = omega (arith, size, state_counts functor.body state) in
     let short = mul-le-mul_right (action_weight n) within in
-    lighter settings (RunFunctor target index sender args depth) doing (functor_ran doing target sender args depth functor) (told_shrinks doing (functor_line functor target sender args)) (omega (arith, its, short))
+    let new = told doing (functor_line functor target sender args) in
+    let next = after functor.next state args in
+    lighter settings (RunFunctor target index sender connection args depth) doing (functor_ran doing target sender connection args depth functor)
+    (both doing new (stepped new connection next) (told_shrinks doing (functor_line functor target sender args)) (stepped_shrinks new connection next)) (omega (arith, its, short))
 
 chosen_falls : (settings : Settings) (test : _) (held failed : Acts) (args : List Value) (self sender depth : ℕ) (doing : Doing) (truth : Found Bool)
     → FallsTo settings (Act (when test held failed) args self sender depth) doing (chosen truth held failed args self sender depth doing)
@@ -242,7 +249,7 @@ pub falls : (settings : Settings) (item : Item) (doing : Doing) → FallsTo sett
 falls settings (Emit target signal args depth) doing = emitted_falls settings target signal args depth doing (row_of doing.state.forest.rows target)
 falls settings (Call number args depth) doing = called_falls settings number args depth doing (connection_of doing number)
 falls settings (Run target index sender args depth) doing = ran_falls settings target index sender args depth doing (method_at settings doing.state target index) refl
-falls settings (RunFunctor target index sender args depth) doing = functor_ran_falls settings target index sender args depth doing (functor_at settings index) refl
+falls settings (RunFunctor target index sender connection args depth) doing = functor_ran_falls settings target index sender connection args depth doing (functor_at settings index) refl
 falls settings (Act (effect plain) args self sender depth) doing =
     let item = Act (effect plain) args self sender depth in
     acted_cases settings doing self sender args depth (FallsTo settings item doing)

@@ -129,15 +129,15 @@ module _ (settings : Settings) (doing : Doing) (on : Carries settings doing.stat
       by (Some functor) is =
           let params : option_map_or (λ (functor : Functor). functor.params) (functor_at settings index) [] ≡ functor.params = ap (λ found. option_map_or (λ (functor : Functor). functor.params) found []) is in
           let given = take (length functor.params) args in
-          let call : QueuedCall = record { object = connection.receiver; callee = callee.Functor index; sender = connection.sender; args = given } in
+          let call : QueuedCall = record { object = connection.receiver; callee = callee.Functor index; sender = connection.sender; connection = connection.number; args = given } in
           let its : IsCall settings rows connection.receiver (callee.Functor index) given = record {
             callee = may.callee;
             arguments = subst (λ kinds. AreArguments kinds given) (sym params)
                 (fitting_arguments (kinds_of settings.classes rows connection.sender connection.signal) functor.params args (ap (fits (kinds_of settings.classes rows connection.sender connection.signal)) (sym params) ∙ may.fitting) all);
           } in
-          cond_both (is_queued connection.mode) (puts [] (queued doing call)) (puts (RunFunctor connection.receiver index connection.sender given depth ∷ []) doing) (Comes settings rows)
+          cond_both (is_queued connection.mode) (puts [] (queued doing call)) (puts (RunFunctor connection.receiver index connection.sender connection.number given depth ∷ []) doing) (Comes settings rows)
           (λ later. no_item settings rows (queued doing call) (queued_carries settings rows doing on call its))
-          (λ now. one_item settings rows doing on (RunFunctor connection.receiver index connection.sender given depth) its)
+          (λ now. one_item settings rows doing on (RunFunctor connection.receiver index connection.sender connection.number given depth) its)
   callee_comes connection args depth (callee.Method index) may all = by (method_at settings doing.state connection.receiver index) refl
     where
       by : (found : Option Method) → method_at settings doing.state connection.receiver index ≡ found → Comes settings rows (option_map_or (method_called connection index args depth doing) found (puts [] doing))
@@ -145,7 +145,7 @@ module _ (settings : Settings) (doing : Doing) (on : Carries settings doing.stat
       by (Some method) is =
           let params : kinds_of settings.classes rows connection.receiver index ≡ method.signature.kinds = ap (λ found. option_map_or (λ (method : Method). method.signature.kinds) found []) is in
           let given = take (length method.signature.kinds) args in
-          let call : QueuedCall = record { object = connection.receiver; callee = callee.Method index; sender = connection.sender; args = given } in
+          let call : QueuedCall = record { object = connection.receiver; callee = callee.Method index; sender = connection.sender; connection = connection.number; args = given } in
           let arguments : AreArguments (kinds_of settings.classes rows connection.receiver index) given = subst (λ kinds. AreArguments kinds given) (sym params)
           (fitting_arguments (kinds_of settings.classes rows connection.sender connection.signal) method.signature.kinds args (ap (fits (kinds_of settings.classes rows connection.sender connection.signal)) (sym params) ∙ may.fitting) all) in
           let its : IsCall settings rows connection.receiver (callee.Method index) given = record { callee = may.callee; arguments = arguments } in
@@ -185,7 +185,7 @@ module _ (settings : Settings) (doing : Doing) (on : Carries settings doing.stat
   event_fits before after same (event.Call call) fit = by call.callee fit
     where
       by : (to : Callee) → IsCall settings before.forest.rows call.object to call.args → All (IsFittingItem settings after) (call_items settings before call to)
-      by (callee.Functor index) its = All-cons (IsFittingItem settings after) (RunFunctor call.object index call.sender call.args 0) [] (record { callee = its.callee; arguments = its.arguments }) (All-nil (IsFittingItem settings after))
+      by (callee.Functor index) its = All-cons (IsFittingItem settings after) (RunFunctor call.object index call.sender call.connection call.args 0) [] (record { callee = its.callee; arguments = its.arguments }) (All-nil (IsFittingItem settings after))
       by (callee.Method index) its = found (method_at settings before call.object index) refl
         where
           found : (method : Option Method) → method_at settings before call.object index ≡ method → All (IsFittingItem settings after) (option_map_or (method_items call.object index call.sender call.args 0 0) method [])

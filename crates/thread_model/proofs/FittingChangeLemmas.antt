@@ -14,6 +14,7 @@ use Rattle.event_queue.specs.Queue.{has_room}
 use Rattle.object_tree.specs.declared.row.Row.{Row}
 use Rattle.publish_board.specs.declared.join.Join.{Join}
 use Rattle.publish_board.specs.declared.publication.Publication.{Publication}
+use Rattle.connection_list.proofs.StateLemmas.{all_stepped}
 use Rattle.thread_model.specs.declared.deed.Deed.{Deed}
 use Rattle.thread_model.specs.declared.deed.Deed.TheVariants as d
 use Rattle.thread_model.specs.declared.line.Line.{Line}
@@ -21,7 +22,7 @@ use Rattle.thread_model.specs.declared.line.Line.TheVariants.{Warning}
 use Rattle.thread_model.specs.declared.post.Post.{Post}
 use Rattle.thread_model.specs.Agenda.{queued}
 use Rattle.thread_model.specs.Deeds.{deed_done, with_deed}
-use Rattle.thread_model.specs.Doing.{Doing, dying, first_taken, in_state, lost, posted, posting, severed, shot, told, turn_taken, used_up}
+use Rattle.thread_model.specs.Doing.{Doing, dying, first_taken, in_state, lost, posted, posting, severed, shot, told, turn_taken, used_up, stepped}
 use Rattle.thread_model.specs.Fitting.{IsConnected, IsFittingDeed, IsFittingEvent, IsFittingItem, IsJoined, IsPublished, IsRightPost}
 use Rattle.thread_model.specs.Items.{Item, Next, puts}
 use Rattle.thread_model.specs.Settings.{Settings}
@@ -98,6 +99,18 @@ module _ (settings : Settings) (rows : List Row) where
     unfolding shot
     shot_carries row = cond_both row.single (in_state doing (without_connections doing.state (has_number row.number))) doing Carries
         (λ single. record { fits = fits_without doing.state (has_number row.number) on.fits; posts = on.posts }) (λ lasting. on)
+
+    pub stepped_carries : (number next : ℕ) → Carries (stepped doing number next)
+    unfolding stepped
+    stepped_carries number next = record {
+      fits = record {
+        events = on.fits.events;
+        connections = all_stepped number next (IsConnected settings rows) (λ row may. record { signal_there = may.signal_there; callee = may.callee; fitting = may.fitting }) doing.state.connections.rows on.fits.connections;
+        publications = on.fits.publications;
+        joins = on.fits.joins;
+      };
+      posts = on.posts;
+    }
 
     posted_carries : (event : Event) → IsFittingEvent settings rows event → Carries (posted doing event)
     unfolding posted

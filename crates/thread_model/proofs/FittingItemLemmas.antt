@@ -23,6 +23,7 @@ use Rattle.object_tree.specs.Rows.{children, has_number, is_there, row_of}
 use Rattle.property_store.proofs.ListLemmas.{found}
 use Rattle.stored_slots.specs.declared.functor.Functor.{Functor}
 use Rattle.stored_slots.specs.Functors.{AreArguments}
+use Rattle.term_evaluation.specs.Stating.{after, with_state}
 use Rattle.thread_model.specs.declared.call.TheConstants.{DESTROYED}
 use Rattle.thread_model.specs.declared.deed.Deed.{Deed}
 use Rattle.thread_model.specs.declared.deed.Deed.TheVariants as d
@@ -32,7 +33,7 @@ use Rattle.thread_model.specs.Absence.{absence}
 use Rattle.thread_model.specs.Acts.{act_refusal, acted, acts, chosen, connection, emission, pattern, warns_or, with_found, writing}
 use Rattle.thread_model.specs.Agenda.{binding_line, call_line, connection_of, functor_line, functor_ran, kins, lives, lives_below, ran, step}
 use Rattle.thread_model.specs.Deeds.{behind, deed_done, deed_refusal, found_refusal}
-use Rattle.thread_model.specs.Doing.{Doing, dying, severed, told}
+use Rattle.thread_model.specs.Doing.{Doing, dying, severed, told, stepped}
 use Rattle.thread_model.specs.Fitting.{AreSettings, IsCall, IsFittingDeed, IsFittingItem, IsFittingUnderWay, IsSent}
 use Rattle.thread_model.specs.Functors.{functor_at}
 use Rattle.thread_model.specs.Items.{Act, Call, Cut, Delete, Emit, Gone, Item, Kin, Next, Reply, ReplySpun, Run, RunFunctor, Spin, Warn, WarnOf, puts}
@@ -40,12 +41,12 @@ use Rattle.thread_model.specs.Methods.{Found, ◌>>=◌, is_signal_at, kinds_at,
 use Rattle.thread_model.specs.Posting.{spin_of}
 use Rattle.thread_model.specs.Settings.{Settings}
 use Rattle.thread_model.specs.Showing.{comes_to}
-use Rattle.thread_model.specs.State.{IsDeclared, IsWhole, State, without_object}
+use Rattle.thread_model.specs.State.{IsDeclared, IsWhole, State, without_object, functor_state}
 use Rattle.thread_model.specs.Targets.{all_converted, all_evaluated, named_object_of, object_of, truth_evaluated}
 use Rattle.thread_model.specs.Writing.{Writing, with_writing, written, written_property}
 use Rattle.thread_model.proofs.FittingArgumentLemmas.{all_evaluated_short, converted_arguments, short_arguments}
 use Rattle.thread_model.proofs.FittingCallLemmas.{connection_comes, emitted_comes, spun_comes}
-use Rattle.thread_model.proofs.FittingChangeLemmas.{Carries, Comes, done_carries, dying_carries, fits_writing, no_item, one_item, severed_carries, told_carries}
+use Rattle.thread_model.proofs.FittingChangeLemmas.{Carries, Comes, done_carries, dying_carries, fits_writing, no_item, one_item, severed_carries, told_carries, stepped_carries}
 use Rattle.thread_model.proofs.DeclaredLemmas.{each_marked, item_declared}
 use Rattle.thread_model.proofs.ItemLemmas.{item_under_way}
 use Rattle.thread_model.proofs.FittingFoundLemmas.{connection_fits, deed_fits, found_past, method_there, pattern_fits, signal_there}
@@ -98,13 +99,17 @@ module _ (settings : Settings) (are : AreSettings settings) where
           (short_arguments _ args (fit (has_method settings.classes rows target index method is)).arguments);
     }
 
-    functor_ran_comes : (target index sender : ℕ) (args : List Value) (depth : ℕ) → IsCall settings rows target (callee.Functor index) args → (found : Option Functor) → functor_at settings index ≡ found
-        → Comes settings rows (option_map_or (functor_ran doing target sender args depth) found (puts [] doing))
-    functor_ran_comes target index sender args depth fit None is = no_item settings rows doing on
-    functor_ran_comes target index sender args depth fit (Some functor) is = record {
-      carries = told_carries settings rows doing on (functor_line functor target sender args);
-      items = acts_fit settings (told doing (functor_line functor target sender args)).state (acts_of functor.body.actions) args target sender (depth + 1) (functor_limited settings are index functor is) (short_arguments _ args fit.arguments);
-    }
+    functor_ran_comes : (target index sender connection : ℕ) (args : List Value) (depth : ℕ) → IsCall settings rows target (callee.Functor index) args → (found : Option Functor) → functor_at settings index ≡ found
+        → Comes settings rows (option_map_or (functor_ran doing target sender connection args depth) found (puts [] doing))
+    functor_ran_comes target index sender connection args depth fit None is = no_item settings rows doing on
+    functor_ran_comes target index sender connection args depth fit (Some functor) is =
+        let new = told doing (functor_line functor target sender args) in
+        let state = functor_state doing.state connection in
+        let next = after functor.next state args in
+        record {
+          carries = stepped_carries settings rows new (told_carries settings rows doing on (functor_line functor target sender args)) connection next;
+          items = acts_fit settings (stepped new connection next).state (acts_of (with_state state functor.body).actions) args target sender (depth + 1) (functor_limited settings are index state functor is) (short_arguments _ args fit.arguments);
+        }
 
     chosen_comes : (truth : Found Bool) (held failed : Acts) (args : List Value) (self sender depth : ℕ) → are_limited held ≡ true → are_limited failed ≡ true → All IsShort args → Comes settings rows (chosen truth held failed args self sender depth doing)
     chosen_comes (Ok true) held failed args self sender depth one other short = record { carries = on; items = acts_fit settings doing.state held args self sender depth one short }
@@ -219,7 +224,7 @@ module _ (settings : Settings) (are : AreSettings settings) where
     item_comes whole classes (Emit target signal args depth) fit after declared = emitted_comes settings doing on whole.connections target signal args depth fit (row_of rows target) refl
     item_comes whole classes (Call number args depth) fit after declared = connection_comes settings doing on number args depth fit (connection_of doing number) refl
     item_comes whole classes (Run target index sender args depth) fit after declared = ran_comes target index sender args depth fit (method_at settings doing.state target index) refl
-    item_comes whole classes (RunFunctor target index sender args depth) fit after declared = functor_ran_comes target index sender args depth fit (functor_at settings index) refl
+    item_comes whole classes (RunFunctor target index sender connection args depth) fit after declared = functor_ran_comes target index sender connection args depth fit (functor_at settings index) refl
     item_comes whole classes (Act (effect plain) args self sender depth) fit after declared = act_comes whole self sender args fit.1 depth plain fit.0 after declared
     item_comes whole classes (Act (when test held failed) args self sender depth) fit after declared =
         let both = (and_parts _ _ fit.0).1 in

@@ -12,6 +12,7 @@ use Rattle.connection_list.specs.Rows.{has_number, numbered}
 use Rattle.event_queue.specs.declared.event.Event.{Event}
 use Rattle.object_tree.specs.Rows.{is_there}
 use Rattle.stored_slots.specs.Functors.{AreArguments}
+use Rattle.connection_list.proofs.StateLemmas.{all_stepped}
 use Rattle.thread_model.specs.declared.deed.Deed.{Deed}
 use Rattle.thread_model.specs.declared.deed.Deed.TheVariants as d
 use Rattle.thread_model.specs.declared.line.Line.{Line}
@@ -20,7 +21,7 @@ use Rattle.thread_model.specs.declared.post.Post.{Post}
 use Rattle.thread_model.specs.Agenda.{step}
 use Rattle.thread_model.specs.Arriving.{kinds_of}
 use Rattle.thread_model.specs.Deeds.{deed_done, with_deed}
-use Rattle.thread_model.specs.Doing.{Doing, dying, first_taken, in_state, lost, posted, posting, severed, shot, told, turn_taken, used_up}
+use Rattle.thread_model.specs.Doing.{Doing, dying, first_taken, in_state, lost, posted, posting, severed, shot, told, turn_taken, used_up, stepped}
 use Rattle.thread_model.specs.Fitting.{IsCalledBy, IsFittingItem}
 use Rattle.thread_model.specs.Items.{Act, Call, Cut, Delete, Emit, Gone, Item, Kin, Reply, ReplySpun, Run, RunFunctor, Spin, Warn, WarnOf}
 use Rattle.thread_model.specs.Settings.{Settings}
@@ -30,7 +31,7 @@ use Rattle.thread_model.proofs.DeclaredLemmas.{OfEach, each_blocked, each_marked
 use Rattle.thread_model.proofs.FittingClassLemmas.{SameClass, arguments_moved, call_moved, class_at, kept_class, sent_moved, was_there}
 use Rattle.thread_model.proofs.StepLemmas.{Holds, step_holds}
 
-module _ (G : ℕ → ℕ → Type 0) (number : ℕ) (Q : Connection → Type 0) where
+module _ (G : ℕ → ℕ → Type 0) (number : ℕ) (Q : Connection → Type 0) (stateless : (row : Connection) (state : ℕ) → Q row → Q (record row { state = state })) where
   -- what is said of the connection of this number
   abbrev Called : State → Type 0
   Called state = All (λ row. row.number ≡ number → Q row) state.connections.rows
@@ -93,6 +94,14 @@ module _ (G : ℕ → ℕ → Type 0) (number : ℕ) (Q : Connection → Type 0)
   shot_stays doing row = cond_both row.single (in_state doing (without_connections doing.state (has_number row.number))) doing (Stay doing)
       (λ single. without_stays doing.state (has_number row.number)) (λ lasting. record { classes = λ all. all; last = omega arith; calls = λ given all. all })
 
+  stepped_stays : (doing : Doing) (object next : ℕ) → Stay doing (stepped doing object next)
+  unfolding stepped
+  stepped_stays doing object next = record {
+    classes = λ all. all;
+    last = omega arith;
+    calls = λ given all. all_stepped object next (λ (row : Connection). row.number ≡ number → Q row) (λ row holds same. stateless row next (holds same)) doing.state.connections.rows all;
+  }
+
   posted_stays : (doing : Doing) (event : Event) → Stay doing (posted doing event)
   unfolding posted
   posted_stays doing event = record { classes = λ all. all; last = omega arith; calls = λ given all. all }
@@ -138,15 +147,16 @@ module _ (G : ℕ → ℕ → Type 0) (number : ℕ) (Q : Connection → Type 0)
     marks = dying_stays;
     severs = severed_stays;
     goes = gone_stays;
+    steps = stepped_stays;
   }
 
 -- what is said of each object by its number and its class stays with each item
 pub classes_stay : (G : ℕ → ℕ → Type 0) (settings : Settings) (item : Item) (doing : Doing) → OfEach G doing.state.forest.rows → OfEach G (step settings item doing).doing.state.forest.rows
-classes_stay G settings item doing = (step_holds settings (Stay G 0 (λ row. Unit {0})) (stay G 0 (λ row. Unit {0})) item doing).classes
+classes_stay G settings item doing = (step_holds settings (Stay G 0 (λ row. Unit {0}) (λ row state h. h)) (stay G 0 (λ row. Unit {0}) (λ row state h. h)) item doing).classes
 
 -- and with each deed
 pub deed_classes : (G : ℕ → ℕ → Type 0) (state : State) (deed : Deed) → OfEach G state.forest.rows → OfEach G (with_deed state deed).forest.rows
-deed_classes G state deed = (deed_stays G 0 (λ row. Unit {0}) state deed).classes
+deed_classes G state deed = (deed_stays G 0 (λ row. Unit {0}) (λ row state h. h) state deed).classes
 
 module _ (settings : Settings) (item : Item) (doing : Doing) (whole : IsWhole (step settings item doing).doing.state)
     (kept : All (λ row. class_at doing.state.forest.rows row.number ≡ Some row.class) (step settings item doing).doing.state.forest.rows) where
@@ -170,15 +180,18 @@ module _ (settings : Settings) (item : Item) (doing : Doing) (whole : IsWhole (s
       its : Connection → Type 0
       its row = AreArguments (kinds_of settings.classes doing.state.forest.rows row.sender row.signal) args
 
-      stays : Stays (λ n class. Unit {0}) number its doing.state after
-      stays = step_holds settings (Stay (λ n class. Unit {0}) number its) (stay (λ n class. Unit {0}) number its) item doing
+      stateless' : (row : Connection) (state : ℕ) → its row → its (record row { state = state })
+      stateless' row state h = h
+
+      stays : Stays (λ n class. Unit {0}) number its stateless' doing.state after
+      stays = step_holds settings (Stay (λ n class. Unit {0}) number its stateless') (stay (λ n class. Unit {0}) number its stateless') item doing
 
   -- and so does each item that is still to be done fit
   pub item_stays : (other : Item) → IsFittingItem settings doing.state other → IsFittingItem settings after other
   item_stays (Emit target signal args depth) fit = λ there. sent_moved settings doing.state.forest.rows after.forest.rows target signal args (same target there) (fit (was target there))
   item_stays (Call number args depth) fit = called_stays number args fit
   item_stays (Run target method sender args depth) fit = λ there. call_moved settings doing.state.forest.rows after.forest.rows target (callee.Method method) args (same target there) (fit (was target there))
-  item_stays (RunFunctor target functor sender args depth) fit = record { callee = fit.callee; arguments = fit.arguments }
+  item_stays (RunFunctor target functor sender connection args depth) fit = record { callee = fit.callee; arguments = fit.arguments }
   item_stays (Act action args self sender depth) fit = fit
   item_stays (Warn code object) fit = tt
   item_stays (WarnOf at error) fit = tt

@@ -228,10 +228,10 @@ module _ (settings : Settings) (are : AreSettings settings) (state : State) (sou
       call : IsCall settings rows target (callee.Method index) values
       call = record { callee = there; arguments = given }
 
-      event_kept : IsFitting settings (with_event state (event.Call (record { object = target; callee = callee.Method index; sender = 0; args = values })))
+      event_kept : IsFitting settings (with_event state (event.Call (record { object = target; callee = callee.Method index; sender = 0; connection = 0; args = values })))
       event_kept = record {
         objects = fit.objects;
-        events = each_posted (IsFittingEvent settings rows) state.queue (event.Call (record { object = target; callee = callee.Method index; sender = 0; args = values })) call fit.events;
+        events = each_posted (IsFittingEvent settings rows) state.queue (event.Call (record { object = target; callee = callee.Method index; sender = 0; connection = 0; args = values })) call fit.events;
         connections = fit.connections;
         publications = fit.publications;
         joins = fit.joins;

@@ -8,6 +8,8 @@ use Rattle.std.proofs.lemmas.List.Elements.{All-append, All-nil, All-weaker}
 use Rattle.std.proofs.lemmas.Option.{get_or_from_slice_get, slice_get-get_or, slice_get_past, slice_get_within}
 use Rattle.term_core.specs.declared.limits.TheConstants.{ACTIONS}
 use Rattle.term_core.specs.Act.{acts_of, are_limited, counts}
+use Rattle.term_evaluation.specs.Stating.{with_state}
+use Rattle.term_evaluation.proofs.StatingLemmas.{state_limits}
 use Rattle.class_table.specs.declared.class.Class.{Class}
 use Rattle.class_table.specs.declared.class.Method.{Method}
 use Rattle.class_table.specs.declared.class.Property.{Property}
@@ -108,9 +110,11 @@ module _ (settings : Settings) (are : AreSettings settings) where
               let same : other ≡ class = cc in
               let no : false ≡ true = sym (ap is_some so) ∙ subst (λ (class : Class). is_some class.superclass ≡ true) same some in absurd (cc)
 
-  -- the body of each slot, and of each functor, keeps to the limits
+  -- the body of each slot, and of each functor with a state put in, keeps to the limits
   pub method_limited : (index number : ℕ) (method : Method) → slice_get (methods classes index) number ≡ Some method → are_limited (acts_of method.body.actions) ≡ true
   method_limited index number method is = (and_parts _ _ (of_slice IsMethod (methods classes index) number method is (each_method classes are.table index)).body.limited).1
 
-  pub functor_limited : (number : ℕ) (functor : Functor) → slice_get settings.functors number ≡ Some functor → are_limited (acts_of functor.body.actions) ≡ true
-  functor_limited number functor is = (and_parts (nat_le (counts (acts_of functor.body.actions)) ACTIONS) _ (of_slice IsFunctor settings.functors number functor is are.functors).keeps.limited).1
+  pub functor_limited : (number state : ℕ) (functor : Functor) → slice_get settings.functors number ≡ Some functor → are_limited (acts_of (with_state state functor.body).actions) ≡ true
+  functor_limited number state functor is =
+      let limited = (of_slice IsFunctor settings.functors number functor is are.functors).body.keeps.limited in
+      (and_parts (nat_le (counts (acts_of (with_state state functor.body).actions)) ACTIONS) _ (state_limits functor.body state limited)).1

@@ -20,26 +20,27 @@ use Rattle.property_store.specs.declared.property.Property.{Property}
 use Rattle.object_tree.specs.declared.row.Row.{Row}
 use Rattle.object_tree.specs.Rows.{children, row_of}
 use Rattle.stored_slots.specs.declared.functor.Functor.{Functor}
+use Rattle.term_evaluation.specs.Stating.{after, with_state}
 use Rattle.thread_model.specs.declared.call.TheConstants.{DESTROYED, NESTED_SIGNALS}
 use Rattle.thread_model.specs.declared.line.Answer.TheVariants as a
 use Rattle.thread_model.specs.declared.line.Line.TheVariants as line
 use Rattle.thread_model.specs.Acts.{acts, chosen}
 use Rattle.thread_model.specs.Arriving.{posts_of}
 use Rattle.thread_model.specs.Agenda.{binding_line, call_items, call_line, called, callee_called, calls_of, connection_of, emitted, event_items, functor_called, functor_line, functor_ran, is_held_back, kins, lives, lives_below, method_called, method_items, queued, ran, spun, step, with_turn}
-use Rattle.thread_model.specs.Doing.{Doing, dying, first_taken, in_state, posting, shot, told, turn_taken, used_up, severed}
+use Rattle.thread_model.specs.Doing.{Doing, dying, first_taken, in_state, posting, shot, told, turn_taken, used_up, severed, stepped}
 use Rattle.thread_model.specs.Items.{Act, Call, Cut, Delete, Emit, Gone, Item, Kin, Next, Reply, ReplySpun, Run, RunFunctor, Spin, Warn, WarnOf, puts}
 use Rattle.thread_model.specs.Functors.{functor_at}
 use Rattle.thread_model.specs.Methods.{Found, method_at}
 use Rattle.thread_model.specs.Posting.{is_queued, spin_of}
 use Rattle.thread_model.specs.Settings.{Settings}
 use Rattle.thread_model.specs.Showing.{changes, comes_to}
-use Rattle.thread_model.specs.State.{IsTied, State, without_connections, without_object}
+use Rattle.thread_model.specs.State.{IsTied, State, without_connections, without_object, functor_state}
 use Rattle.thread_model.specs.Targets.{truth_evaluated}
 use Rattle.thread_model.specs.Writing.{Writing, with_writing, written, written_property}
 use Rattle.thread_model.specs.UnderWay.{IsBrokenInTime, IsUnderWay, is_gone}
 use Rattle.thread_model.proofs.ActLemmas.{acted_cases}
 use Rattle.thread_model.proofs.ConnectionLemmas.{of_found}
-use Rattle.thread_model.proofs.UnderWayLemmas.{behind, cut_under, deed_under, dying_under, first_taken_under, gone_under, in_front, queued_under, shot_under, told_under, turn_under, used_up_under, writing_under, posting_under}
+use Rattle.thread_model.proofs.UnderWayLemmas.{behind, cut_under, deed_under, dying_under, first_taken_under, gone_under, in_front, queued_under, shot_under, told_under, turn_under, used_up_under, writing_under, posting_under, stepped_under}
 use Rattle.thread_model.proofs.ShowingLemmas.{tells_stay}
 use Rattle.thread_model.proofs.FitLemmas.{IsFit, acted_fit}
 
@@ -111,8 +112,8 @@ module _ (settings : Settings) (agenda : List Item) (doing : Doing) (under : IsU
       by None = under
       by (Some functor) =
           let given = take (length functor.params) args in
-          let call : QueuedCall = record { object = connection.receiver; callee = callee.Functor index; sender = connection.sender; args = given } in
-          let items = RunFunctor connection.receiver index connection.sender given depth ∷ [] in
+          let call : QueuedCall = record { object = connection.receiver; callee = callee.Functor index; sender = connection.sender; connection = connection.number; args = given } in
+          let items = RunFunctor connection.receiver index connection.sender connection.number given depth ∷ [] in
           cond_both (is_queued connection.mode) (puts [] (queued doing call)) (puts items doing) (Keeps agenda)
           (λ later. queued_under agenda doing under connection call tied broken refl)
           (λ now. in_front items agenda doing.state refl under)
@@ -122,7 +123,7 @@ module _ (settings : Settings) (agenda : List Item) (doing : Doing) (under : IsU
       by None = under
       by (Some method) =
           let given = take (length method.signature.kinds) args in
-          let call : QueuedCall = record { object = connection.receiver; callee = callee.Method index; sender = connection.sender; args = given } in
+          let call : QueuedCall = record { object = connection.receiver; callee = callee.Method index; sender = connection.sender; connection = connection.number; args = given } in
           let items = method_items connection.receiver index connection.sender given (depth + 1) depth method in
           cond_both (is_queued connection.mode) (puts [] (queued doing call)) (puts items doing) (Keeps agenda)
           (λ later. queued_under agenda doing under connection call tied broken refl)
@@ -134,11 +135,13 @@ module _ (settings : Settings) (agenda : List Item) (doing : Doing) (under : IsU
       let said = call_line method target sender args in
       in_front _ agenda (told doing said).state (acts_stay (acts_of method.body.actions) args target sender (depth + 1)) (told_under agenda doing under said)
 
-  functor_ran_kept : (target sender : ℕ) (args : List Value) (depth : ℕ) (found : Option Functor) → Keeps agenda (option_map_or (functor_ran doing target sender args depth) found (puts [] doing))
-  functor_ran_kept target sender args depth None = under
-  functor_ran_kept target sender args depth (Some functor) =
-      let said = functor_line functor target sender args in
-      in_front _ agenda (told doing said).state (acts_stay (acts_of functor.body.actions) args target sender (depth + 1)) (told_under agenda doing under said)
+  functor_ran_kept : (target sender connection : ℕ) (args : List Value) (depth : ℕ) (found : Option Functor) → Keeps agenda (option_map_or (functor_ran doing target sender connection args depth) found (puts [] doing))
+  functor_ran_kept target sender connection args depth None = under
+  functor_ran_kept target sender connection args depth (Some functor) =
+      let new = told doing (functor_line functor target sender args) in
+      let its = functor_state doing.state connection in
+      let next = after functor.next its args in
+      in_front _ agenda (stepped new connection next).state (acts_stay (acts_of (with_state its functor.body).actions) args target sender (depth + 1)) (stepped_under agenda new (told_under agenda doing under (functor_line functor target sender args)) connection next)
 
   -- another state may be told of
   telling_kept : (depth : ℕ) (after : State) (written : Option Property) → IsUnderWay agenda after → Keeps agenda (comes_to settings doing depth after written)
@@ -193,9 +196,9 @@ item_under_way settings (Call number args depth) agenda doing under =
 item_under_way settings (Run target index sender args depth) agenda doing under =
     let rest = behind (Run target index sender args depth) agenda doing.state (λ number. refl) (λ number. refl) under in
     ran_kept settings agenda doing rest target sender args depth (method_at settings doing.state target index)
-item_under_way settings (RunFunctor target index sender args depth) agenda doing under =
-    let rest = behind (RunFunctor target index sender args depth) agenda doing.state (λ number. refl) (λ number. refl) under in
-    functor_ran_kept settings agenda doing rest target sender args depth (functor_at settings index)
+item_under_way settings (RunFunctor target index sender connection args depth) agenda doing under =
+    let rest = behind (RunFunctor target index sender connection args depth) agenda doing.state (λ number. refl) (λ number. refl) under in
+    functor_ran_kept settings agenda doing rest target sender connection args depth (functor_at settings index)
 item_under_way settings (Act (effect plain) args self sender depth) agenda doing under =
     let rest = behind (Act (effect plain) args self sender depth) agenda doing.state (λ number. refl) (λ number. refl) under in
     acted_cases settings doing self sender args depth (Keeps agenda)

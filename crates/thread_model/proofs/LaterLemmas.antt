@@ -1,21 +1,24 @@
 -- What becomes of connections while an agenda is done: some are broken, and those that are made have
 -- greater numbers.
-use Rattle.std.proofs.Common.{◌≡◌, ◌<◌, ◌≤◌, ◌+◌, ◌&&◌, ℕ, Bool, true, not, List, [], ◌∷◌, ◌++◌, All, None, filter, sym, ap, ◌∙◌, append_assoc, arith}
+use Rattle.std.proofs.Common.{◌≡◌, ◌<◌, ◌≤◌, ◌+◌, ◌&&◌, ℕ, Bool, true, not, List, [], ◌∷◌, ◌++◌, ◌==◌, All, Option, Some, None, filter, map, refl, sym, ap, ap₂, subst, ◌∙◌, append_assoc, arith}
 use Rattle.std.proofs.lemmas.Bool.{cond_both}
-use Rattle.std.proofs.lemmas.List.{append-nil}
+use Rattle.std.proofs.lemmas.List.{append-nil, map-append}
 use Rattle.std.proofs.lemmas.List.Elements.{filter-append}
 use Rattle.std.proofs.lemmas.List.Elements.{All-append, All-cons, All-filter, All-nil, All-weaker}
 use Rattle.refusals.specs.declared.code.Code.TheVariants.{TurnsUsedUp}
 use Rattle.connection_list.specs.declared.connection.Connection.{Connection}
 use Rattle.connection_list.specs.declared.connection.NewConnection.{NewConnection}
-use Rattle.connection_list.specs.Ends.{matches, touches}
+use Rattle.connection_list.specs.declared.pattern.Pattern.{Pattern}
+use Rattle.connection_list.specs.declared.pattern.Receiver.{Receiver}
+use Rattle.connection_list.specs.Ends.{allows, allows_receiver, matches, touches}
 use Rattle.connection_list.specs.Rows.{Rows, has_number, numbered}
+use Rattle.connection_list.proofs.StateLemmas.{Keeps, filter-changed, stepped-same, stepped_row}
 use Rattle.thread_model.specs.declared.line.Line.TheVariants.{Warning}
 use Rattle.thread_model.specs.declared.deed.Deed.{Deed}
 use Rattle.thread_model.specs.declared.deed.Deed.TheVariants as d
 use Rattle.thread_model.specs.Agenda.{step}
 use Rattle.thread_model.specs.Deeds.{deed_done}
-use Rattle.thread_model.specs.Doing.{Doing, dying, first_taken, in_state, lost, posted, posting, shot, told, turn_taken, used_up, severed}
+use Rattle.thread_model.specs.Doing.{Doing, dying, first_taken, in_state, lost, posted, posting, shot, told, turn_taken, used_up, severed, stepped}
 use Rattle.thread_model.specs.Items.{Item}
 use Rattle.thread_model.specs.Run.{run}
 use Rattle.thread_model.specs.Settings.{Settings}
@@ -67,17 +70,44 @@ later_both one two three first second = record {
   last = omega (arith, first.last, second.last);
 }
 
--- the connections after a change of a session, or after what an item comes to
+-- connections without what their functors keep, which changes while they stand
+abbrev pub bare_row : Connection → Connection
+bare_row row = record row { state = 0 }
+
+abbrev pub bare : Rows → Rows
+bare place = record { rows = map bare_row place.rows; last_number = place.last_number }
+
+bare_without : (test : Connection → Bool) → Keeps bare_row test → (place : Rows) → IsLater (bare place) (bare (record { rows = filter (λ row. not (test row)) place.rows; last_number = place.last_number }))
+bare_without test keeps place =
+    subst (λ rows. IsLater (bare place) (record { rows = rows; last_number = place.last_number })) (filter-changed bare_row (λ row. not (test row)) (λ row. ap not (keeps row)) place.rows) (later_without test (bare place))
+
+-- a pattern does not ask for them
+bare_matches : (pattern : Pattern) → Keeps bare_row (matches pattern)
+bare_matches pattern row = ap (λ b. pattern.sender == row.sender && allows pattern.signal row.signal && b) (by pattern.receiver)
+  where
+    by : (wanted : Option Receiver) → allows_receiver wanted (bare_row row) ≡ allows_receiver wanted row
+    by None = refl
+    by (Some wanted) = refl
+
+bare_linked : (place : Rows) (new : NewConnection) → IsLater (bare place) (bare (record { rows = place.rows ++ numbered (place.last_number + 1) new ∷ []; last_number = place.last_number + 1 }))
+bare_linked place new =
+    subst (λ rows. IsLater (bare place) (record { rows = rows; last_number = place.last_number + 1 })) (sym (map-append bare_row place.rows (numbered (place.last_number + 1) new ∷ []))) (later_linked (bare place) new)
+
+bare_stepped : (number next : ℕ) (rows : List Connection) → map bare_row (map (stepped_row number next) rows) ≡ map bare_row rows
+bare_stepped number next [] = refl
+bare_stepped number next (row ∷ rows) = ap₂ (λ row rows. row ∷ rows) (stepped-same number next bare_row (λ row. refl) row) (bare_stepped number next rows)
+
+-- the connections after a change of a session, or after what an item comes to, whatever their functors keep
 abbrev pub Later : Doing → Doing → Type 0
-Later old new = IsLater old.state.connections new.state.connections
+Later old new = IsLater (bare old.state.connections) (bare new.state.connections)
 
 unchanged : (doing : Doing) → Later doing doing
-unchanged doing = later_same doing.state.connections
+unchanged doing = later_same (bare doing.state.connections)
 
 deed_later : (doing : Doing) (deed : Deed) → Later doing (deed_done doing deed)
 unfolding deed_done
-deed_later doing (d.Connect new unique) = later_linked doing.state.connections new
-deed_later doing (d.Disconnect pattern) = later_without (matches pattern) doing.state.connections
+deed_later doing (d.Connect new unique) = bare_linked doing.state.connections new
+deed_later doing (d.Disconnect pattern) = bare_without (matches pattern) (bare_matches pattern) doing.state.connections
 deed_later doing (d.SetParent target parent) = unchanged doing
 deed_later doing (d.DeleteLater target) = unchanged doing
 deed_later doing (d.Block target on) = unchanged doing
@@ -90,23 +120,24 @@ written_later doing target Nothing = unchanged doing
 
 -- what each change makes of the connections
 holds : Holds Later
-unfolding told posting turn_taken used_up shot posted lost first_taken dying severed
+unfolding told posting turn_taken used_up shot posted lost first_taken dying severed stepped
 holds = record {
   same = unchanged;
-  both = λ one two three first second. later_both one.state.connections two.state.connections three.state.connections first second;
+  both = λ one two three first second. later_both (bare one.state.connections) (bare two.state.connections) (bare three.state.connections) first second;
   tells = λ doing said. unchanged doing;
   publishes = λ doing more. unchanged doing;
   takes_turn = unchanged;
   uses_up = λ doing. cond_both doing.spent doing (record doing { spent = true; lines = doing.lines ++ Warning TurnsUsedUp None ∷ [] }) (Later doing) (λ spent. unchanged doing) (λ fresh. unchanged doing);
-  shoots = λ doing row. cond_both row.single (in_state doing (without_connections doing.state (has_number row.number))) doing (Later doing) (λ single. later_without (has_number row.number) doing.state.connections) (λ lasting. unchanged doing);
+  shoots = λ doing row. cond_both row.single (in_state doing (without_connections doing.state (has_number row.number))) doing (Later doing) (λ single. bare_without (has_number row.number) (λ row. refl) doing.state.connections) (λ lasting. unchanged doing);
   posts = λ doing event. unchanged doing;
   loses = unchanged;
   takes = unchanged;
   does = deed_later;
   writes = written_later;
   marks = λ doing target. unchanged doing;
-  severs = λ doing target. later_without (touches target) doing.state.connections;
+  severs = λ doing target. bare_without (touches target) (λ row. refl) doing.state.connections;
   goes = λ doing target. unchanged doing;
+  steps = λ doing number next. subst (λ rows. IsLater (bare doing.state.connections) (record { rows = rows; last_number = doing.state.connections.last_number })) (sym (bare_stepped number next doing.state.connections.rows)) (unchanged doing);
 }
 
 module _ (settings : Settings) where
@@ -115,4 +146,4 @@ module _ (settings : Settings) where
 
   pub run_later : (agenda : List Item) (doing : Doing) → Later doing (run settings agenda doing)
   run_later agenda doing = run_keeps settings (λ items new. Later doing new)
-      (λ item rest new before. later_both doing.state.connections new.state.connections (step settings item new).doing.state.connections before (step_later item new)) agenda doing (unchanged doing)
+      (λ item rest new before. later_both (bare doing.state.connections) (bare new.state.connections) (bare (step settings item new).doing.state.connections) before (step_later item new)) agenda doing (unchanged doing)

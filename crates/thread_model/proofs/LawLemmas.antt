@@ -185,7 +185,7 @@ invokes_sound settings state target args mode None there sound = sound
 invokes_sound settings state target args mode (Some index) there sound =
     let begins = invoked_begins settings state target index _ sound in
     cond_both (is_queued mode) (invoked_later state target index _) (does_next settings (invoked settings state target index _) (a.Truth true)) (λ (effect : Effect State Line Post). IsSound effect.state)
-    (λ later. posted_sound state (Call (record { object = target; callee = Method index; sender = 0; args = _ })) there sound)
+    (λ later. posted_sound state (Call (record { object = target; callee = Method index; sender = 0; connection = 0; args = _ })) there sound)
     (λ now. done_sound settings (invoked settings state target index _) (a.Truth true) (begins.none _) begins.sound)
 
 spins_sound : (settings : Settings) (state : State) → IsSound state → IsSound (spins settings state).state

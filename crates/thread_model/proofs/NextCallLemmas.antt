@@ -2,6 +2,7 @@
 -- the last when it began.
 use Rattle.std.proofs.Common.{◌≡◌, ◌<◌, ◌≤◌, ◌||◌, ◌&&◌, ℕ, Bool, true, false, cond, List, [], ◌∷◌, ◌++◌, Some, None, filter, find, map, nat_le, nat_lt, refl, sym, ap, ◌∙◌, arith}
 use Rattle.std.specs.List.{AllByRecursion, list_any}
+use Rattle.std.specs.Option.{option_map}
 use Rattle.std.proofs.lemmas.Bool.Decides.{nat_tests}
 use Rattle.std.proofs.lemmas.List.{append-nil}
 use Rattle.std.proofs.lemmas.List.Elements.{filter-append}
@@ -11,13 +12,14 @@ use Rattle.variant_value.specs.declared.value.Value.{Value}
 use Rattle.connection_list.specs.declared.connection.Connection.{Connection}
 use Rattle.connection_list.specs.Ends.{calls}
 use Rattle.connection_list.specs.Rows.{IsSound, Rows, has_number, is_next}
+use Rattle.connection_list.proofs.StateLemmas.{filter-changed, find-changed, sound_changed}
 use Rattle.thread_model.specs.Agenda.{calls_of}
 use Rattle.thread_model.specs.Doing.{Doing}
 use Rattle.thread_model.specs.Items.{Call, Item}
 use Rattle.thread_model.specs.Run.{run}
 use Rattle.thread_model.specs.Settings.{Settings}
 use Rattle.thread_model.proofs.EmissionLemmas.{call_broken}
-use Rattle.thread_model.proofs.LaterLemmas.{IsLater, Later, run_later}
+use Rattle.thread_model.proofs.LaterLemmas.{IsLater, Later, bare, bare_row, run_later}
 use Rattle.thread_model.proofs.RunLemmas.{after_first, at_end, by_change}
 use Rattle.thread_model.proofs.RemainingLemmas.{made_since, next_first, none_at, none_left, out_of, remaining}
 use Rattle.thread_model.proofs.FilterLemmas.{each_left, filter-alike, filter-none, filter-swap, find-none, find-passes, none-found}
@@ -42,13 +44,22 @@ dead_after old new number later given out = record {
 dead_later : (old new : Rows) (number : ℕ) → IsLater old new → IsDead old number → IsDead new number
 dead_later old new number later dead = dead_after old new number later dead.given (none_left number later.left old.rows dead.broken)
 
+-- what a connection's functor keeps makes no difference to its number
+any_bare : (number : ℕ) (rows : List Connection) → list_any (has_number number) (map bare_row rows) ≡ list_any (has_number number) rows
+any_bare number [] = refl
+any_bare number (row ∷ rows) = ap (λ b. has_number number row || b) (any_bare number rows)
+
 module _ (settings : Settings) (args : List Value) (depth : ℕ) where
   -- calls of connections
   abbrev pub calls_to : List Connection → List Item
   calls_to rows = map (λ row. Call row.number args depth) rows
 
+  calls_bare : (rows : List Connection) → calls_to (map bare_row rows) ≡ calls_to rows
+  calls_bare [] = refl
+  calls_bare (row ∷ rows) = ap (λ rest. Call row.number args depth ∷ rest) (calls_bare rows)
+
   -- calls of dead connections may be left out
-  dead_out : (test : Connection → Bool) (rows : List Connection) (doing : Doing) → AllByRecursion (λ row. test row ≡ false → IsDead doing.state.connections row.number) rows
+  dead_out : (test : Connection → Bool) (rows : List Connection) (doing : Doing) → AllByRecursion (λ row. test row ≡ false → IsDead (bare doing.state.connections) row.number) rows
       → run settings (calls_to rows) doing ≡ run settings (calls_to (filter test rows)) doing
   dead_out test [] doing dead = refl
   dead_out test (row ∷ rows) doing dead =
@@ -57,9 +68,9 @@ module _ (settings : Settings) (args : List Value) (depth : ℕ) where
       (let new = run settings (Call row.number args depth ∷ []) doing in
       dead_out test rows new (still rows new (run_later settings (Call row.number args depth ∷ []) doing) dead.1))
     where
-      still : (rows : List Connection) (new : Doing) → Later doing new → AllByRecursion (λ row. test row ≡ false → IsDead doing.state.connections row.number) rows → AllByRecursion (λ row. test row ≡ false → IsDead new.state.connections row.number) rows
+      still : (rows : List Connection) (new : Doing) → Later doing new → AllByRecursion (λ row. test row ≡ false → IsDead (bare doing.state.connections) row.number) rows → AllByRecursion (λ row. test row ≡ false → IsDead (bare new.state.connections) row.number) rows
       still [] new later dead = tt
-      still (row ∷ rows) new later dead = ((λ out. dead_later doing.state.connections new.state.connections row.number later (dead.0 out)), still rows new later dead.1)
+      still (row ∷ rows) new later dead = ((λ out. dead_later (bare doing.state.connections) (bare new.state.connections) row.number later (dead.0 out)), still rows new later dead.1)
 
       by : (kept : Bool) → test row ≡ kept
           → (test row ≡ false → run settings (calls_to rows) doing ≡ run settings (calls_to (filter test rows)) doing)
@@ -69,7 +80,7 @@ module _ (settings : Settings) (args : List Value) (depth : ℕ) where
           after_first settings (Call row.number args depth) (calls_to rows) doing ∙ after ∙ sym (after_first settings (Call row.number args depth) (calls_to (filter test rows)) doing)
       by false is out after =
           after_first settings (Call row.number args depth) (calls_to rows) doing
-          ∙ ap (run settings (calls_to rows)) (by_change settings (Call row.number args depth) doing doing (call_broken settings row.number args depth doing (none-found (has_number row.number) doing.state.connections.rows (dead.0 is).broken)))
+          ∙ ap (run settings (calls_to rows)) (by_change settings (Call row.number args depth) doing doing (call_broken settings row.number args depth doing (none-found (has_number row.number) doing.state.connections.rows (sym (any_bare row.number doing.state.connections.rows) ∙ (dead.0 is).broken))))
           ∙ out is
 
 first_true : (a b : Bool) → (a && b) ≡ true → a ≡ true
@@ -93,19 +104,33 @@ module _ (settings : Settings) (target signal : ℕ) (args : List Value) (depth 
           (rw (one, other), both rows from.1 given.1)
 
   module _ (up_to after : ℕ) (doing : Doing) where
+    -- the same connections remain, whatever their functors keep
+    calls_remaining : (up_to after : ℕ) (rows : List Connection) → calls_to settings args depth (remaining target signal up_to after rows) ≡ calls_to settings args depth (remaining target signal up_to after (map bare_row rows))
+    calls_remaining up_to after rows =
+        sym (calls_bare settings args depth (remaining target signal up_to after rows))
+        ∙ ap (calls_to settings args depth) (sym (filter-changed bare_row (is_next target signal after up_to) (λ row. refl) rows))
+
     -- the next one is called, and then those that remain after it, of the connections as they stand by then
     pub emission_next : (next : Connection) → IsSound doing.state.connections → up_to ≤ doing.state.connections.last_number
         → find (is_next target signal after up_to) doing.state.connections.rows ≡ Some next
         → run settings (calls_to settings args depth (remaining target signal up_to after doing.state.connections.rows)) doing
         ≡ run settings (calls_to settings args depth (remaining target signal up_to next.number (run settings (Call next.number args depth ∷ []) doing).state.connections.rows)) (run settings (Call next.number args depth ∷ []) doing)
     emission_next next sound most found =
-        ap (λ rows. run settings (calls_to settings args depth rows) doing) (next_first target signal up_to after next place.rows sound.rising below found)
+        ap (λ agenda. run settings agenda doing) (calls_remaining up_to after doing.state.connections.rows)
+        ∙ ap (λ rows. run settings (calls_to settings args depth rows) doing) (next_first target signal up_to after (bare_row next) place.rows sound'.rising below found')
         ∙ after_first settings (Call next.number args depth) (calls_to settings args depth (remaining target signal up_to next.number place.rows)) doing
         ∙ dead_out settings args depth later.left (remaining target signal up_to next.number place.rows) then dead
         ∙ ap (λ rows. run settings (calls_to settings args depth rows) then) (sym left)
+        ∙ ap (λ agenda. run settings agenda then) (sym (calls_remaining up_to next.number then.state.connections.rows))
       where
         place : Rows
-        place = doing.state.connections
+        place = bare doing.state.connections
+
+        sound' : IsSound place
+        sound' = sound_changed bare_row (λ row. refl) doing.state.connections sound
+
+        found' : find (is_next target signal after up_to) place.rows ≡ Some (bare_row next)
+        found' = find-changed bare_row (is_next target signal after up_to) (λ row. refl) doing.state.connections.rows ∙ ap (option_map bare_row) found
 
         then : Doing
         then = run settings (Call next.number args depth ∷ []) doing
@@ -114,10 +139,10 @@ module _ (settings : Settings) (target signal : ℕ) (args : List Value) (depth 
         later = run_later settings (Call next.number args depth ∷ []) doing
 
         below : after < next.number
-        below = let passes = find-passes (is_next target signal after up_to) place.rows next found in
+        below = let passes = find-passes (is_next target signal after up_to) place.rows (bare_row next) found' in
             let above : nat_lt after next.number ≡ true = first_true (nat_lt after next.number) _ passes in grind (arith, nat_tests, above)
 
-        left : remaining target signal up_to next.number then.state.connections.rows ≡ filter later.left (remaining target signal up_to next.number place.rows)
+        left : remaining target signal up_to next.number (map bare_row then.state.connections.rows) ≡ filter later.left (remaining target signal up_to next.number place.rows)
         left =
             ap (remaining target signal up_to next.number) later.rows
             ∙ filter-append (is_next target signal next.number up_to) (filter later.left place.rows) later.added
@@ -126,15 +151,15 @@ module _ (settings : Settings) (target signal : ℕ) (args : List Value) (depth 
             ∙ append-nil (remaining target signal up_to next.number (filter later.left place.rows))
             ∙ filter-swap (is_next target signal next.number up_to) later.left place.rows
 
-        dead : AllByRecursion (λ row. later.left row ≡ false → IsDead then.state.connections row.number) (remaining target signal up_to next.number place.rows)
+        dead : AllByRecursion (λ row. later.left row ≡ false → IsDead (bare then.state.connections) row.number) (remaining target signal up_to next.number place.rows)
         dead =
-            each_left (λ row. later.left row ≡ false → IsDead then.state.connections row.number) (is_next target signal next.number up_to) place.rows
-            (those place.rows (recursion_from_All (λ (row : Connection). row.number ≤ place.last_number) place.rows sound.given) (out_of later.left place.rows sound.rising))
+            each_left (λ row. later.left row ≡ false → IsDead (bare then.state.connections) row.number) (is_next target signal next.number up_to) place.rows
+            (those place.rows (recursion_from_All (λ (row : Connection). row.number ≤ place.last_number) place.rows sound'.given) (out_of later.left place.rows sound'.rising))
           where
             those : (rows : List Connection) → AllByRecursion (λ (row : Connection). row.number ≤ place.last_number) rows → AllByRecursion (λ row. later.left row ≡ false → list_any (has_number row.number) (filter later.left place.rows) ≡ false) rows
-                → AllByRecursion (λ row. later.left row ≡ false → IsDead then.state.connections row.number) rows
+                → AllByRecursion (λ row. later.left row ≡ false → IsDead (bare then.state.connections) row.number) rows
             those [] given out = tt
-            those (row ∷ rows) given out = ((λ gone. dead_after place then.state.connections row.number later given.0 (out.0 gone)), those rows given.1 out.1)
+            those (row ∷ rows) given out = ((λ gone. dead_after place (bare then.state.connections) row.number later given.0 (out.0 gone)), those rows given.1 out.1)
 
     -- where there is none, all is done
     pub emission_end : find (is_next target signal after up_to) doing.state.connections.rows ≡ None

@@ -7,6 +7,7 @@ use Rattle.connection_list.specs.declared.connection.Connection.{Connection}
 use Rattle.connection_list.specs.declared.limit.TheConstants.{CONNECTIONS}
 use Rattle.connection_list.specs.Ends.{matches, touches}
 use Rattle.connection_list.specs.Rows.{has_number, numbered}
+use Rattle.connection_list.proofs.StateLemmas.{stepped_row}
 use Rattle.object_tree.specs.Rows.{has_number as has_object}
 use Rattle.object_tree.specs.declared.row.Row.{Row}
 use Rattle.object_tree.specs.Refusing.{object_refusal}
@@ -24,7 +25,7 @@ use Rattle.thread_model.specs.Agenda.{lives, queued}
 use Rattle.thread_model.specs.declared.deed.Deed.{Deed}
 use Rattle.thread_model.specs.declared.deed.Deed.TheVariants as d
 use Rattle.thread_model.specs.Deeds.{deed_done, deed_refusal}
-use Rattle.thread_model.specs.Doing.{Doing, dying, first_taken, in_state, lost, posted, shot, told, turn_taken, used_up, posting, severed}
+use Rattle.thread_model.specs.Doing.{Doing, dying, first_taken, in_state, lost, posted, shot, stepped, told, turn_taken, used_up, posting, severed}
 use Rattle.binding_values.specs.Stored.{properties_in}
 use Rattle.property_store.specs.Store.{with_dynamic, with_value, without_dynamic}
 use Rattle.thread_model.specs.State.{without_connections, without_object}
@@ -93,6 +94,12 @@ shot_shrinks doing row =
     cond_both row.single (in_state doing (without_connections doing.state (has_number row.number))) doing (Shrinks doing)
     (λ single. record { turns = omega arith; taken = omega arith; living = omega arith; objects = omega arith; connections = kept CONNECTIONS (λ other. not (has_number row.number other)) doing.state.connections.rows; properties = omega arith; joins = λ test held. held })
     (λ lasting. same doing)
+
+pub stepped_shrinks : (doing : Doing) (number next : ℕ) → Shrinks doing (stepped doing number next)
+unfolding stepped
+stepped_shrinks doing number next =
+    let many = length-map doing.state.connections.rows (stepped_row number next) in
+    record { turns = omega arith; taken = omega arith; living = omega arith; objects = omega arith; connections = omega (arith, many); properties = omega arith; joins = λ test held. held }
 
 pub severed_shrinks : (doing : Doing) (target : ℕ) → Shrinks doing (severed doing target)
 unfolding severed

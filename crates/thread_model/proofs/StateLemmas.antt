@@ -13,6 +13,7 @@ use Rattle.object_tree.proofs.LawLemmas.{keeps_numbers, keeps_sound}
 use Rattle.connection_list.specs.declared.connection.Connection.{Connection}
 use Rattle.connection_list.specs.declared.connection.NewConnection.{NewConnection}
 use Rattle.connection_list.specs.Rows.{numbered}
+use Rattle.connection_list.proofs.StateLemmas.{all_stepped, sound_stepped}
 use Rattle.connection_list.proofs.WithoutLemmas.{IsSound-without}
 use Rattle.event_queue.specs.declared.event.Event.{Event}
 use Rattle.event_queue.specs.Queue as events
@@ -28,7 +29,7 @@ use Rattle.binding_graph.specs.Graph as graph
 use Rattle.binding_graph.specs.Graph.{Graph, begin_refusal, begun, bind_refusal, bound, ended, is_bound, is_open, unbound, value_in}
 use Rattle.binding_graph.proofs.ShownLemmas.{value_short}
 use Rattle.property_store.proofs.SoundLemmas.{objects, objects_added, objects_changed, objects_without, sound_added, sound_changed, sound_empty, sound_without}
-use Rattle.thread_model.specs.State.{IsMeant, IsTied, IsWhole, OfDesk, State, closed, empty, fields_of, with_binding, with_binding_taken, with_blocking, with_connection, with_desk, with_event, with_group, with_lost, with_object, with_parent, with_properties, without_binding, without_connections, without_events, without_first, without_group, without_object, without_rows_of}
+use Rattle.thread_model.specs.State.{IsMeant, IsTied, IsWhole, OfDesk, State, closed, empty, fields_of, with_binding, with_binding_taken, with_blocking, with_connection, with_desk, with_event, with_functor_state, with_group, with_lost, with_object, with_parent, with_properties, without_binding, without_connections, without_events, without_first, without_group, without_object, without_rows_of}
 use Rattle.thread_model.specs.Writing.{Declared, Dynamic, Nothing, Removed, Writing, with_writing}
 use Rattle.thread_model.proofs.BindingLemmas.{AreBindable, IsBindable, bindable_added, bindable_bound, bindable_changed, bindable_unbound, bindable_without, fit_sound, graph_sound_begun, graph_sound_bound, graph_sound_ended, graph_sound_none, graph_sound_unbound, graph_sound_without}
 use Rattle.thread_model.proofs.ConnectionLemmas.{Ends, IsAllowed, sound_connected, sound_empty as none_connected, tied_more, tied_same, tied_without}
@@ -254,6 +255,23 @@ whole_without_connections state test whole = record {
   meant = meant_same state (without_connections state test) refl state.queue.events whole.meant;
   desk = whole.desk;
   named = desk_same state (without_connections state test) refl state.desk whole.named;
+}
+
+pub whole_with_functor_state : (state : State) (number next : ℕ) → IsWhole state → IsWhole (with_functor_state state number next)
+whole_with_functor_state state number next whole = record {
+  forest = whole.forest;
+  objects = whole.objects;
+  properties = whole.properties;
+  graph = whole.graph;
+  bound = whole.bound;
+  closed = whole.closed;
+  connections = sound_stepped number next state.connections whole.connections;
+  ends = all_stepped number next (IsTied (with_functor_state state number next)) (λ row tied. record { sender = tied.sender; receiver = tied.receiver }) state.connections.rows
+      (tied_same state (with_functor_state state number next) refl state.connections.rows whole.ends);
+  queue = whole.queue;
+  meant = meant_same state (with_functor_state state number next) refl state.queue.events whole.meant;
+  desk = whole.desk;
+  named = desk_same state (with_functor_state state number next) refl state.desk whole.named;
 }
 
 -- other events: each names an object that stands

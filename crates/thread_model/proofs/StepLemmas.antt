@@ -6,6 +6,7 @@ use Rattle.std.proofs.lemmas.Bool.{cond_both}
 use Rattle.refusals.specs.declared.code.Code.TheVariants.{Limit}
 use Rattle.variant_value.specs.declared.value.Value.{Value}
 use Rattle.term_core.specs.Act.{Acts, effect, when}
+use Rattle.term_evaluation.specs.Stating.{after}
 use Rattle.class_table.specs.declared.class.Method.{Method}
 use Rattle.connection_types.specs.declared.callee.Callee.{Callee}
 use Rattle.connection_types.specs.declared.callee.Callee.TheVariants as callee
@@ -27,13 +28,13 @@ use Rattle.thread_model.specs.Acts.{chosen}
 use Rattle.thread_model.specs.Arriving.{posts_of}
 use Rattle.thread_model.specs.Deeds.{deed_done}
 use Rattle.thread_model.specs.Agenda.{binding_line, call_line, callee_called, called, calls_of, connection_of, emitted, event_items, functor_called, functor_line, functor_ran, is_held_back, lives, lives_below, method_called, queued, ran, spun, step, with_turn}
-use Rattle.thread_model.specs.Doing.{Doing, dying, first_taken, in_state, lost, posted, posting, shot, told, turn_taken, used_up, severed}
+use Rattle.thread_model.specs.Doing.{Doing, dying, first_taken, in_state, lost, posted, posting, shot, stepped, told, turn_taken, used_up, severed}
 use Rattle.thread_model.specs.Items.{Act, Call, Cut, Delete, Emit, Gone, Item, Kin, Next, Reply, ReplySpun, Run, RunFunctor, Spin, Warn, WarnOf, puts}
 use Rattle.thread_model.specs.Functors.{functor_at}
 use Rattle.thread_model.specs.Methods.{Found, method_at}
 use Rattle.thread_model.specs.Posting.{is_queued, spin_of}
 use Rattle.thread_model.specs.Settings.{Settings}
-use Rattle.thread_model.specs.State.{without_object}
+use Rattle.thread_model.specs.State.{functor_state, without_object}
 use Rattle.thread_model.specs.Targets.{truth_evaluated}
 use Rattle.thread_model.specs.Writing.{Writing, with_writing}
 use Rattle.thread_model.proofs.ActLemmas.{acted_cases}
@@ -55,6 +56,7 @@ pub record Holds (R : Doing → Doing → Type 0) : Type 0 where
   pub marks : (doing : Doing) (target : ℕ) → R doing (dying doing target)
   pub severs : (doing : Doing) (target : ℕ) → R doing (severed doing target)
   pub goes : (doing : Doing) (target : ℕ) → R doing (in_state doing (without_object doing.state target))
+  pub steps : (doing : Doing) (number next : ℕ) → R doing (stepped doing number next)
 
 module _ (settings : Settings) (R : Doing → Doing → Type 0) (holds : Holds R) where
   -- what an item comes to
@@ -108,9 +110,12 @@ module _ (settings : Settings) (R : Doing → Doing → Type 0) (holds : Holds R
   runs target sender args depth doing None = holds.same doing
   runs target sender args depth doing (Some method) = holds.tells doing (call_line method target sender args)
 
-  runs_functor : (target sender : ℕ) (args : List Value) (depth : ℕ) (doing : Doing) (found : Option Functor) → To doing (option_map_or (functor_ran doing target sender args depth) found (puts [] doing))
-  runs_functor target sender args depth doing None = holds.same doing
-  runs_functor target sender args depth doing (Some functor) = holds.tells doing (functor_line functor target sender args)
+  runs_functor : (target sender connection : ℕ) (args : List Value) (depth : ℕ) (doing : Doing) (found : Option Functor) → To doing (option_map_or (functor_ran doing target sender connection args depth) found (puts [] doing))
+  runs_functor target sender connection args depth doing None = holds.same doing
+  runs_functor target sender connection args depth doing (Some functor) =
+      let new = told doing (functor_line functor target sender args) in
+      let next = after functor.next (functor_state doing.state connection) args in
+      holds.both doing new (stepped new connection next) (holds.tells doing (functor_line functor target sender args)) (holds.steps new connection next)
 
   chooses : (truth : Found Bool) (held failed : Acts) (args : List Value) (self sender depth : ℕ) (doing : Doing) → To doing (chosen truth held failed args self sender depth doing)
   chooses (Ok truth) held failed args self sender depth doing = holds.same doing
@@ -120,7 +125,7 @@ module _ (settings : Settings) (R : Doing → Doing → Type 0) (holds : Holds R
   step_holds (Emit target signal args depth) doing = emits target signal args depth doing (row_of doing.state.forest.rows target)
   step_holds (Call number args depth) doing = calls_found args depth doing (connection_of doing number)
   step_holds (Run target index sender args depth) doing = runs target sender args depth doing (method_at settings doing.state target index)
-  step_holds (RunFunctor target index sender args depth) doing = runs_functor target sender args depth doing (functor_at settings index)
+  step_holds (RunFunctor target index sender connection args depth) doing = runs_functor target sender connection args depth doing (functor_at settings index)
   step_holds (Act (effect plain) args self sender depth) doing =
       acted_cases settings doing self sender args depth (To doing)
       (λ code. holds.same doing)

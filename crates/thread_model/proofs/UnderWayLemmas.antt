@@ -9,6 +9,7 @@ use Rattle.refusals.specs.declared.code.Code.TheVariants.{TurnsUsedUp}
 use Rattle.connection_list.specs.declared.connection.Connection.{Connection}
 use Rattle.connection_list.specs.Ends.{matches, touches}
 use Rattle.connection_list.specs.Rows.{has_number, numbered}
+use Rattle.connection_list.proofs.StateLemmas.{all_stepped}
 use Rattle.event_queue.specs.declared.event.Event.{Event}
 use Rattle.event_queue.specs.declared.event.Event.TheVariants as event
 use Rattle.event_queue.specs.declared.event.QueuedCall.{QueuedCall}
@@ -22,7 +23,7 @@ use Rattle.thread_model.specs.Agenda.{queued}
 use Rattle.thread_model.specs.declared.deed.Deed.{Deed}
 use Rattle.thread_model.specs.declared.deed.Deed.TheVariants as d
 use Rattle.thread_model.specs.Deeds.{deed_done, deed_refusal}
-use Rattle.thread_model.specs.Doing.{Doing, dying, first_taken, in_state, lost, posted, shot, told, turn_taken, used_up, posting, severed}
+use Rattle.thread_model.specs.Doing.{Doing, dying, first_taken, in_state, lost, posted, shot, stepped, told, turn_taken, used_up, posting, severed}
 use Rattle.thread_model.specs.Items.{Cut, Gone, Item}
 use Rattle.thread_model.specs.State.{IsTied, IsWhole, State, without_connections, without_events, without_object}
 use Rattle.thread_model.specs.Writing.{Declared, Dynamic, Nothing, Removed, Writing, with_writing}
@@ -32,7 +33,7 @@ use Rattle.thread_model.proofs.DyingLemmas.{Stands, each_blocked, each_marked, e
 use Rattle.thread_model.proofs.QueueLemmas.{each_posted, each_taken, others_named}
 use Rattle.thread_model.proofs.DeskLemmas.{each_of, of_others}
 use Rattle.thread_model.proofs.FitLemmas.{IsFit}
-use Rattle.thread_model.proofs.StateLemmas.{whole_with_blocking, whole_with_connection, whole_with_dying, whole_with_event, whole_with_lost, whole_with_parent, whole_with_writing, whole_without_connections, whole_without_events, whole_without_first, whole_without_object, whole_without_rows_of}
+use Rattle.thread_model.proofs.StateLemmas.{whole_with_blocking, whole_with_connection, whole_with_dying, whole_with_event, whole_with_functor_state, whole_with_lost, whole_with_parent, whole_with_writing, whole_without_connections, whole_without_events, whole_without_first, whole_without_object, whole_without_rows_of}
 
 -- an object is dying exactly where an agenda is to let it go
 abbrev pub IsGoing : List Item → ℕ → Bool → Type 0
@@ -129,6 +130,17 @@ module _ (agenda : List Item) (doing : Doing) (under : IsUnderWay agenda doing.s
     whole = whole_without_connections doing.state test under.whole;
     going = under.going;
     in_time = All-filter (λ row. not (test row)) (IsBrokenInTime agenda) doing.state.connections.rows under.in_time;
+    forgotten = under.forgotten;
+    withdrawn = under.withdrawn;
+  }
+
+  -- and the functor of one may get another state
+  pub stepped_under : (number next : ℕ) → IsUnderWay agenda (stepped doing number next).state
+  unfolding stepped
+  stepped_under number next = record {
+    whole = whole_with_functor_state doing.state number next under.whole;
+    going = under.going;
+    in_time = all_stepped number next (IsBrokenInTime agenda) (λ row h. record { sender = h.sender; receiver = h.receiver }) doing.state.connections.rows under.in_time;
     forgotten = under.forgotten;
     withdrawn = under.withdrawn;
   }

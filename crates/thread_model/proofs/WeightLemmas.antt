@@ -54,7 +54,7 @@ weight-more : (m n : Most) (item : Item) → IsAtMost m n → weight m item ≤ 
 weight-more m n (Emit target signal args depth) less = omega (arith, less.connections)
 weight-more m n (Call number args depth) less = omega arith
 weight-more m n (Run target method sender args depth) less = let body = body-more m n less in omega (arith, body)
-weight-more m n (RunFunctor target functor sender args depth) less = let body = body-more m n less in omega (arith, body)
+weight-more m n (RunFunctor target functor sender connection args depth) less = let body = body-more m n less in omega (arith, body)
 weight-more m n (Act action args self sender depth) less = mul-le-mul_left (count action) (action-more m n less)
 weight-more m n (Warn code object) less = omega arith
 weight-more m n (WarnOf at error) less = omega arith
@@ -87,7 +87,7 @@ pub weight-some : (n : Most) (item : Item) → 1 ≤ weight n item
 weight-some n (Emit target signal args depth) = omega arith
 weight-some n (Call number args depth) = omega arith
 weight-some n (Run target method sender args depth) = omega arith
-weight-some n (RunFunctor target functor sender args depth) = omega arith
+weight-some n (RunFunctor target functor sender connection args depth) = omega arith
 weight-some n (Act action args self sender depth) = let some = act-some n action in omega (arith, some)
 weight-some n (Warn code object) = omega arith
 weight-some n (WarnOf at error) = omega arith

@@ -6,6 +6,7 @@ use Rattle.variant_value.specs.declared.value.Value.{Value}
 use Rattle.binding_values.specs.declared.property.BindingError.{BindingError}
 use Rattle.property_store.specs.declared.property.Property.{Property}
 use Rattle.term_core.specs.Act.{acts_of, effect, when}
+use Rattle.term_evaluation.specs.Stating.{after, with_state}
 use Rattle.class_table.specs.declared.class.Method.{Method}
 use Rattle.class_table.specs.Lookup.{method_text}
 use Rattle.connection_types.specs.declared.callee.Callee.{Callee}
@@ -26,14 +27,14 @@ use Rattle.thread_model.specs.declared.line.Line.{Line}
 use Rattle.thread_model.specs.declared.line.Line.TheVariants as line
 use Rattle.thread_model.specs.Arriving.{posts_of}
 use Rattle.thread_model.specs.Acts.{act_refusal, acted, acts, chosen, warns_or}
-use Rattle.thread_model.specs.Doing.{Doing, dying, first_taken, lost, posted, posting, severed, shot, told, turn_taken, used_up}
+use Rattle.thread_model.specs.Doing.{Doing, dying, first_taken, lost, posted, posting, severed, shot, stepped, told, turn_taken, used_up}
 use Rattle.thread_model.specs.Items.{Act, Call, Cut, Delete, Emit, Gone, Item, Kin, Next, Reply, ReplySpun, Run, RunFunctor, Spin, Warn, WarnOf, puts}
 use Rattle.thread_model.specs.Functors.{functor_at}
 use Rattle.thread_model.specs.Methods.{method_at}
 use Rattle.thread_model.specs.Posting.{is_queued, spin_of}
 use Rattle.thread_model.specs.Settings.{Settings}
 use Rattle.thread_model.specs.Showing.{comes_to, property_at}
-use Rattle.thread_model.specs.State.{State, without_object}
+use Rattle.thread_model.specs.State.{State, functor_state, without_object}
 use Rattle.thread_model.specs.Targets.{truth_evaluated}
 
 -- an object that stands is not dying
@@ -92,7 +93,7 @@ abbrev pub method_called : Connection → ℕ → List Value → ℕ → Doing �
 method_called connection index args depth doing method =
     let given = take (length method.signature.kinds) args in
     if is_queued connection.mode
-    then puts [] (queued doing (record { object = connection.receiver; callee = callee.Method index; sender = connection.sender; args = given }))
+    then puts [] (queued doing (record { object = connection.receiver; callee = callee.Method index; sender = connection.sender; connection = connection.number; args = given }))
     else puts (method_items connection.receiver index connection.sender given (depth + 1) depth method) doing
 
 -- the same of a functor, whose context object is the receiver
@@ -100,8 +101,8 @@ abbrev pub functor_called : Connection → ℕ → List Value → ℕ → Doing 
 functor_called connection index args depth doing functor =
     let given = take (length functor.params) args in
     if is_queued connection.mode
-    then puts [] (queued doing (record { object = connection.receiver; callee = callee.Functor index; sender = connection.sender; args = given }))
-    else puts (RunFunctor connection.receiver index connection.sender given depth ∷ []) doing
+    then puts [] (queued doing (record { object = connection.receiver; callee = callee.Functor index; sender = connection.sender; connection = connection.number; args = given }))
+    else puts (RunFunctor connection.receiver index connection.sender connection.number given depth ∷ []) doing
 
 -- what a connection calls
 abbrev pub callee_called : Settings → Connection → List Value → ℕ → Doing → Callee → Next
@@ -115,7 +116,7 @@ called settings connection args depth doing = callee_called settings connection 
 -- what an event comes to: all that it does is done at depth 0
 abbrev pub call_items : Settings → State → QueuedCall → Callee → List Item
 call_items settings state call (callee.Method index) = option_map_or (method_items call.object index call.sender call.args 0 0) (method_at settings state call.object index) []
-call_items settings state call (callee.Functor index) = RunFunctor call.object index call.sender call.args 0 ∷ []
+call_items settings state call (callee.Functor index) = RunFunctor call.object index call.sender call.connection call.args 0 ∷ []
 
 abbrev pub event_items : Settings → State → Event → List Item
 event_items settings state (event.Call call) = call_items settings state call call.callee
@@ -138,9 +139,13 @@ functor_line functor target sender args = line.Call (record { method = functor.n
 abbrev pub ran : Doing → ℕ → ℕ → List Value → ℕ → Method → Next
 ran doing target sender args depth method = puts (acts (acts_of method.body.actions) args target sender (depth + 1)) (told doing (call_line method target sender args))
 
--- and so does a functor for its context object
-abbrev pub functor_ran : Doing → ℕ → ℕ → List Value → ℕ → Functor → Next
-functor_ran doing target sender args depth functor = puts (acts (acts_of functor.body.actions) args target sender (depth + 1)) (told doing (functor_line functor target sender args))
+-- and so does a functor for its context object, over the state that its connection keeps; the state that
+-- follows is kept there before that
+abbrev pub functor_ran : Doing → ℕ → ℕ → ℕ → List Value → ℕ → Functor → Next
+functor_ran doing target sender connection args depth functor =
+    let state = functor_state doing.state connection in
+    puts (acts (acts_of (with_state state functor.body).actions) args target sender (depth + 1))
+    (stepped (told doing (functor_line functor target sender args)) connection (after functor.next state args))
 
 -- the line that warns of the error of a bound property, by its name
 abbrev pub binding_line : Settings → State → Property → BindingError → Line
@@ -151,7 +156,7 @@ abbrev pub step : Settings → Item → Doing → Next
 step settings (Emit target signal args depth) doing = option_map_or (emitted settings doing target signal args depth) (row_of doing.state.forest.rows target) (puts [] doing)
 step settings (Call number args depth) doing = option_map_or (λ connection. with_turn doing (called settings connection args depth)) (connection_of doing number) (puts [] doing)
 step settings (Run target method sender args depth) doing = option_map_or (ran doing target sender args depth) (method_at settings doing.state target method) (puts [] doing)
-step settings (RunFunctor target functor sender args depth) doing = option_map_or (functor_ran doing target sender args depth) (functor_at settings functor) (puts [] doing)
+step settings (RunFunctor target functor sender connection args depth) doing = option_map_or (functor_ran doing target sender connection args depth) (functor_at settings functor) (puts [] doing)
 step settings (Act (effect plain) args self sender depth) doing = warns_or (act_refusal settings doing.state self sender args plain) self doing (acted settings doing self sender args depth plain)
 step settings (Act (when test held failed) args self sender depth) doing = chosen (truth_evaluated doing.state self sender args test) held failed args self sender depth doing
 step settings (Warn code object) doing = puts [] (told doing (line.Warning code object))

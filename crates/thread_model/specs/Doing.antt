@@ -9,7 +9,7 @@ use Rattle.thread_model.specs.declared.line.Line.{Line}
 use Rattle.thread_model.specs.declared.line.Line.TheVariants.{Warning}
 use Rattle.thread_model.specs.declared.post.Post.{Post}
 use Rattle.thread_model.specs.Settings.{Settings}
-use Rattle.thread_model.specs.State.{State, with_event, with_lost, without_connections, without_first, without_ties}
+use Rattle.thread_model.specs.State.{State, with_event, with_functor_state, with_lost, without_connections, without_first, without_ties}
 
 pub record Doing : Type 0 where
   pub state : State
@@ -66,6 +66,10 @@ lost doing = in_state doing (with_lost doing.state)
 -- the first event is taken
 unfoldable pub first_taken : Doing → Doing
 first_taken doing = record (in_state doing (without_first doing.state)) { taken = doing.taken + 1 }
+
+-- the functor of the connection with this number has another state, where that stands
+unfoldable pub stepped : Doing → ℕ → ℕ → Doing
+stepped doing number next = in_state doing (with_functor_state doing.state number next)
 
 -- a single-shot connection is broken before its callee is called
 unfoldable pub shot : Doing → Connection → Doing

@@ -116,7 +116,7 @@ abbrev pub IsFittingItem : Settings → State → Item → Type 0
 IsFittingItem settings state (Emit target signal args depth) = IsTrue (is_there state.forest.rows target) → IsSent settings state.forest.rows target signal args
 IsFittingItem settings state (Call number args depth) = IsCalledBy settings state number args
 IsFittingItem settings state (Run target method sender args depth) = IsTrue (is_there state.forest.rows target) → IsCall settings state.forest.rows target (callee.Method method) args
-IsFittingItem settings state (RunFunctor target functor sender args depth) = IsCall settings state.forest.rows target (callee.Functor functor) args
+IsFittingItem settings state (RunFunctor target functor sender connection args depth) = IsCall settings state.forest.rows target (callee.Functor functor) args
 IsFittingItem settings state (Act action args self sender depth) = IsTrue (is_limited action) × All IsShort args
 IsFittingItem settings state _ = Unit {0}
 

@@ -16,8 +16,8 @@ pub data Item : Type 0 where
   Call : (connection : ℕ) (args : List Value) (depth : ℕ) → Item
   -- run a slot, given by its index; 0 is no sender
   Run : (target method sender : ℕ) (args : List Value) (depth : ℕ) → Item
-  -- run a functor, given by its index, whose context object is the target
-  RunFunctor : (target functor sender : ℕ) (args : List Value) (depth : ℕ) → Item
+  -- run a functor, given by its index, whose context object is the target, for the connection of this number
+  RunFunctor : (target functor sender connection : ℕ) (args : List Value) (depth : ℕ) → Item
   -- do an action of the body of a slot or functor that is run for `self` and has these arguments
   Act : (action : term.Act) (args : List Value) (self sender depth : ℕ) → Item
   -- warn of a code, and name an object with it

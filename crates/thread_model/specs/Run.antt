@@ -58,7 +58,7 @@ abbrev pub weight : Most → Item → ℕ
 weight most (Emit target signal args depth) = most.connections + 2
 weight most (Call number args depth) = 1
 weight most (Run target method sender args depth) = most.actions * action_weight most + 1
-weight most (RunFunctor target functor sender args depth) = most.actions * action_weight most + 1
+weight most (RunFunctor target functor sender connection args depth) = most.actions * action_weight most + 1
 weight most (Act action args self sender depth) = count action * action_weight most
 weight most (Warn code object) = 1
 weight most (WarnOf at error) = 1

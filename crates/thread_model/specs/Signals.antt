@@ -117,7 +117,7 @@ invoked settings state target index values =
 
 -- a call that is asked for later is posted as an event, which no object has sent
 abbrev pub invoked_later : State → ℕ → ℕ → List Value → Effect State Line Post
-invoked_later state target index values = replies (with_event state (Call (record { object = target; callee = Method index; sender = 0; args = values }))) (a.Truth true)
+invoked_later state target index values = replies (with_event state (Call (record { object = target; callee = Method index; sender = 0; connection = 0; args = values }))) (a.Truth true)
 
 -- invoking a method replies true at the end, and false where the object has no such method
 abbrev pub invokes : Settings → State → ℕ → List Data → ConnectionType → Option ℕ → Effect State Line Post

@@ -1,5 +1,5 @@
 -- What a session holds.
-use Rattle.std.specs.Prelude.{◌≡◌, ◌+◌, ℕ, Bool, false, List, [], Option, Some, IsFalse, IsTrue, bytes_eq, map, option_map, if◌then◌else◌}
+use Rattle.std.specs.Prelude.{◌≡◌, ◌+◌, ℕ, Bool, false, List, [], Option, Some, IsFalse, IsTrue, bytes_eq, map, option_map, if◌then◌else◌, unwrap_or}
 use Rattle.std.specs.List.{All}
 use Rattle.binding_values.specs.declared.property.BindingError.{BindingError}
 use Rattle.property_store.specs.declared.property.Property.{Property as At}
@@ -116,6 +116,14 @@ without_group state = record state { graph = closed (graph.ended state.graph) }
 -- the state with one more connection, which has the next number
 abbrev pub with_connection : State → NewConnection → State
 with_connection state new = record state { connections = connected state.connections new }
+
+-- the state of the functor of the connection with this number, or 0 where that has gone
+abbrev pub functor_state : State → ℕ → ℕ
+functor_state state number = unwrap_or (list.state_of number state.connections) 0
+
+-- the state where the functor of the connection with this number has another state, where that stands
+abbrev pub with_functor_state : State → ℕ → ℕ → State
+with_functor_state state number next = record state { connections = list.with_state number next state.connections }
 
 -- the state without the connections that pass a test
 abbrev pub without_connections : State → (Connection → Bool) → State

@@ -33,7 +33,7 @@ use Rattle.thread_model.specs.Agenda.{lives, lives_below}
 use Rattle.nested_calls.proofs.DeletionLemmas.{cut_first, cut_last, cut_next, delete_begins, delete_loose, delete_none, gone_told, kin_none, kin_some, kins_from, left_marked, left_severed}
 use Rattle.nested_calls.proofs.NewsLemmas.{told_from, told_last, told_next, warn_of_done}
 use Rattle.nested_calls.proofs.FrontLemmas.{front_same, part_front, told_front}
-use Rattle.nested_calls.proofs.FunctorLemmas.{answered_does, answered_short, callee_front, functor_absent, functor_queued, functor_run, functor_short, queued_is}
+use Rattle.nested_calls.proofs.FunctorLemmas.{answered_short, callee_front, functor_absent, functor_does, functor_front, functor_queued, functor_run, functor_short, left_functor, queued_is, stepped_is}
 use Rattle.nested_calls.proofs.+agenda.Goals as goal
 
 pub agenda::act-returns-in-Ok-true : goal.agenda::act-returns-in-Ok-true
@@ -692,42 +692,29 @@ deletion::kin-returns t g c =
 pub agenda::run_functor-acts-requires : goal.agenda::run_functor-acts-requires
 agenda::run_functor-acts-requires t g c = λ κs outlives.
     let caller = c.args.actor.now.caller in
-    let same : left_at caller.place c.args.tables.now c.call_functor.new.self ≡ left_at caller.place c.args.tables.now c.args.telling.now = ap (left_at caller.place c.args.tables.now) c.in_ok-call_functor.ensures.told in
-    let short = functor_short (settings_of caller.setup.now) c.args.index c.args.functor.now c.requires.found in
-    let whole : counts (acts_of c.as_slice.result.now) ≡ counts (acts_of c.args.functor.now.body.actions) = ap (λ (actions : List Act). counts (acts_of actions)) c.as_slice.ensures in
-    ((let falls = rank_falls caller c.args.tables.now c.args.tables.now c.args.telling.now c.call_functor.new.self (2 * longest_of caller + 7) (2 * counts (acts_of c.as_slice.result.now) + 6) (omega (arith, same)) (omega (arith, short, whole)) in grind (arith, falls)), (outlives, (c.requires.placed, c.requires.depth)))
-
-pub agenda::run_functor-acts-requires-2 : goal.agenda::run_functor-acts-requires-2
-agenda::run_functor-acts-requires-2 t g c = λ κs outlives.
-    let caller = c.args.actor.now.caller in
     let settings = settings_of caller.setup.now in
-    let same : left_at caller.place c.args.tables.now c.call_functor.new.self ≡ left_at caller.place c.args.tables.now c.args.telling.now = ap (left_at caller.place c.args.tables.now) c.in_ok-call_functor.ensures.told in
+    let old = c.args.tables.now in
+    let new = c.step_functor.new.self in
+    let same : left_at caller.place old c.call_functor.new.self ≡ left_at caller.place old c.args.telling.now = ap (left_at caller.place old) c.in_ok-call_functor.ensures.told in
+    let less = left_functor caller.place old new c.call_functor.new.self c.args.connection c.in_ok-answered.next c.requires.placed c.step_functor.ensures in
     let short = functor_short settings c.args.index c.args.functor.now c.requires.found in
-    let kept = answered_short settings c.args.index c.args.functor.now c.requires.found c.args.slot.now.args.now c.in-Some.actions.items (rw c.in-Some.is at c.in_ok-answer.ensures.answer) in
-    let whole : counts (acts_of c.as_slice-2.result.now) ≡ counts (acts_of c.in-Some.actions.items) = ap (λ (actions : List Act). counts (acts_of actions)) c.as_slice-2.ensures.value in
-    ((let falls = rank_falls caller c.args.tables.now c.args.tables.now c.args.telling.now c.call_functor.new.self (2 * longest_of caller + 7) (2 * counts (acts_of c.as_slice-2.result.now) + 6) (omega (arith, same)) (omega (arith, short, kept, whole)) in grind (arith, falls)), (outlives, (c.requires.placed, c.requires.depth)))
+    let kept = answered_short settings c.args.index c.args.functor.now c.requires.found c.functor_state-state.result c.args.slot.now.args.now c.in_ok-answered.actions.items c.in_ok-answered.ensures.actions in
+    let whole : counts (acts_of c.as_slice.result.now) ≡ counts (acts_of c.in_ok-answered.actions.items) = ap (λ (actions : List Act). counts (acts_of actions)) c.as_slice.ensures.value in
+    ((let falls = rank_falls caller old new c.args.telling.now c.call_functor.new.self (2 * longest_of caller + 7) (2 * counts (acts_of c.as_slice.result.now) + 6) (omega (arith, same, less)) (omega (arith, short, kept, whole)) in grind (arith, falls)), (outlives, (placed_kept _ _ _ (keeps_with _ _ _ _ c.requires.placed c.step_functor.ensures) c.requires.placed, c.requires.depth)))
 
 pub agenda::run_functor-returns-in_err-call_functor : goal.agenda::run_functor-returns-in_err-call_functor
 agenda::run_functor-returns-in_err-call_functor t g c =
     let caller = c.args.actor.now.caller in
-    let old = c.args.tables.now in
-    next_wanting caller _ old c.args.telling.now (λ earlier. told_front (doing_at caller.place old c.args.telling.now earlier) _) old c.call_functor.new.self _ c.from_residual.ensures.0 (keeps_same old old caller.place refl) c.call_functor.ensures.failing
-
-pub agenda::run_functor-returns-in_err-answer : goal.agenda::run_functor-returns-in_err-answer
-agenda::run_functor-returns-in_err-answer t g c =
-    let caller = c.args.actor.now.caller in
-    let old = c.args.tables.now in
-    next_wanting caller _ old c.args.telling.now (λ earlier. told_front (doing_at caller.place old c.args.telling.now earlier) _) old c.call_functor.new.self _ c.from_residual-in_err-answer.ensures.0 (keeps_same old old caller.place refl) c.call_functor.ensures.failing
-
-pub agenda::run_functor-returns-in_default : goal.agenda::run_functor-returns-in_default
-agenda::run_functor-returns-in_default t g c =
-    let caller = c.args.actor.now.caller in
-    let settings = settings_of caller.setup.now in
     let slot = c.args.slot.now in
     let old = c.args.tables.now in
-    does_after caller _ old c.args.telling.now _ old c.acts.new.tables c.call_functor.new.self c.acts.new.telling c.acts.result c.requires.placed (keeps_same old old caller.place refl) c.in_ok-call_functor.ensures.failing
-    (λ earlier done does. ap (run settings (model.acts (acts_of c.args.functor.now.body.actions) slot.args.now slot.object slot.sender slot.depth)) (told_is caller.place old c.args.telling.now c.call_functor.new.self earlier _ c.in_ok-call_functor.ensures.told) ∙ does)
-    (rw c.as_slice.ensures at c.acts.ensures)
+    next_wanting caller _ old c.args.telling.now (λ earlier. functor_front (settings_of caller.setup.now) c.args.index c.args.functor.now c.requires.found slot.object slot.sender c.args.connection slot.args.now slot.depth (doing_at caller.place old c.args.telling.now earlier)) old c.call_functor.new.self _ c.from_residual.ensures.0 (keeps_same old old caller.place refl) c.call_functor.ensures.failing
+
+pub agenda::run_functor-returns-in_err-answered : goal.agenda::run_functor-returns-in_err-answered
+agenda::run_functor-returns-in_err-answered t g c =
+    let caller = c.args.actor.now.caller in
+    let slot = c.args.slot.now in
+    let old = c.args.tables.now in
+    next_wanting caller _ old c.args.telling.now (λ earlier. functor_front (settings_of caller.setup.now) c.args.index c.args.functor.now c.requires.found slot.object slot.sender c.args.connection slot.args.now slot.depth (doing_at caller.place old c.args.telling.now earlier)) old c.call_functor.new.self _ c.from_residual-in_err-answered.ensures.0 (keeps_same old old caller.place refl) c.call_functor.ensures.failing
 
 pub agenda::run_functor-returns : goal.agenda::run_functor-returns
 agenda::run_functor-returns t g c =
@@ -735,11 +722,14 @@ agenda::run_functor-returns t g c =
     let settings = settings_of caller.setup.now in
     let slot = c.args.slot.now in
     let old = c.args.tables.now in
-    does_after caller _ old c.args.telling.now _ old c.acts-2.new.tables c.call_functor.new.self c.acts-2.new.telling c.acts-2.result c.requires.placed (keeps_same old old caller.place refl) c.in_ok-call_functor.ensures.failing
-    (λ earlier done does. ap (run settings (model.acts (acts_of c.args.functor.now.body.actions) slot.args.now slot.object slot.sender slot.depth)) (told_is caller.place old c.args.telling.now c.call_functor.new.self earlier _ c.in_ok-call_functor.ensures.told)
-    ∙ answered_does settings c.args.index c.args.functor.now c.requires.found slot.args.now c.in-Some.actions.items (rw c.in-Some.is at c.in_ok-answer.ensures.answer) slot.object slot.sender slot.depth
-    (doing_at caller.place old c.call_functor.new.self earlier) done does)
-    (rw c.as_slice-2.ensures.value at c.acts-2.ensures)
+    let new = c.step_functor.new.self in
+    does_after caller _ old c.args.telling.now _ new c.acts.new.tables c.call_functor.new.self c.acts.new.telling c.acts.result c.requires.placed (keeps_with _ _ _ _ c.requires.placed c.step_functor.ensures) c.in_ok-call_functor.ensures.failing
+    (λ earlier done. functor_does settings c.args.index c.args.functor.now c.requires.found slot.object slot.sender c.args.connection slot.args.now slot.depth
+    (doing_at caller.place old c.args.telling.now earlier) (doing_at caller.place new c.call_functor.new.self earlier) done c.functor_state-state.result c.in_ok-answered.next c.in_ok-answered.actions.items
+    c.functor_state-state.ensures c.in_ok-answered.ensures.actions c.in_ok-answered.ensures.next
+    (ap (λ (doing : Doing). stepped doing c.args.connection c.in_ok-answered.next) (told_is caller.place old c.args.telling.now c.call_functor.new.self earlier _ c.in_ok-call_functor.ensures.told)
+    ∙ stepped_is caller.place old new c.call_functor.new.self earlier c.args.connection c.in_ok-answered.next c.requires.placed c.step_functor.ensures))
+    (rw c.as_slice.ensures.value at c.acts.ensures)
 
 pub agenda::acts-actions-init : goal.agenda::acts-actions-init
 agenda::acts-actions-init t g c =

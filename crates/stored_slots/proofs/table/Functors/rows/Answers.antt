@@ -16,4 +16,4 @@ returns-clause-few g c = grind (arith, common_steps)
 
 pub returns-clause-each : goal.returns-clause-each
 returns-clause-each g c =
-    subst (All IsFunctor) (sym c.loop-one.invariant) (all_parts (λ stored. stored.functor) IsFunctor _ (λ stored. stored.is_body))
+    subst (All IsFunctor) (sym c.loop-one.invariant) (all_parts (λ stored. stored.functor) IsFunctor _ (λ stored. stored.is_functor))

@@ -1,17 +1,13 @@
-use Rattle.std.proofs.Common.{◌≡◌, ◌≤◌, ◌∙◌, true, sym, ap, arith}
-use Rattle.std.proofs.lemmas.Bool.{le-leb}
 use Rattle.serde_json.specs.View.{view}
-use Rattle.term_core.specs.Act.{acts_of, counts, are_limited}
-use Rattle.term_core.proofs.BodyLemmas.{arguments_read}
+use Rattle.term_core.specs.Bodies.{limited_body}
+use Rattle.term_core.proofs.BodyLemmas.{IsReadFor, answered, answers_next, body_read, read_body, read_params}
 use Rattle.term_core.proofs.body.Body.from_json.Goals as goal
 
+pub returns-clause-answers : goal.returns-clause-answers
+returns-clause-answers c = answers_next c.limited.result _ c.in_ok-actions.actions (limited_body c.args.params) c.in_ok-actions.ensures c.limited.ensures
+
+pub returns-clause-params : goal.returns-clause-params
+returns-clause-params c = read_params c.args.params c.limited.result (answered (IsReadFor c.args.params) c.limited.result _ (returns-clause-answers c) (body_read c.args.params (view c.args.json.now)))
+
 pub returns-clause-sound : goal.returns-clause-sound
-returns-clause-sound c =
-    let actions = c.in_ok-actions.actions in
-    let same = c.as_slice-list.ensures in
-    let few : counts (acts_of actions) ≤ 32 = omega (arith, rw same at c.count_all.ensures) in
-    let short : are_limited (acts_of actions) ≡ true = ap (λ l. are_limited (acts_of l)) (sym same) ∙ (sym c.are_limited.ensures ∙ c.if-not-are_limited.false) in
-    record {
-      limited = rw (le-leb _ 32 few, short);
-      arguments = arguments_read c.args.params (view c.args.json.now) actions c.in_ok-actions.ensures;
-    }
+returns-clause-sound c = read_body c.args.params c.limited.result (answered (IsReadFor c.args.params) c.limited.result _ (returns-clause-answers c) (body_read c.args.params (view c.args.json.now)))

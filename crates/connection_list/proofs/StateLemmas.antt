@@ -1,0 +1,69 @@
+-- Connections that are changed in what tests do not ask for, as in the state of a functor.
+use Rattle.std.proofs.Common.{◌≡◌, ◌<◌, ◌≤◌, ℕ, Bool, true, false, cond, List, [], ◌∷◌, Some, filter, find, get_or, length, map, refl, sym, ap, subst, arith}
+use Rattle.std.specs.List.{All}
+use Rattle.std.specs.Option.{option_map}
+use Rattle.std.proofs.lemmas.List.{get_or-map, length-map}
+use Rattle.connection_list.specs.declared.connection.Connection.{Connection}
+use Rattle.connection_list.specs.Rows.{IsSound, Rows, is_of_functor, with_state}
+
+module _ (change : Connection → Connection) where
+  -- a change that this does not see
+  abbrev pub Keeps : {A : Type 0} → (Connection → A) → Type 0
+  Keeps f = (row : Connection) → f (change row) ≡ f row
+
+  pub find-changed : (test : Connection → Bool) → Keeps test → (rows : List Connection) → find test (map change rows) ≡ option_map change (find test rows)
+  find-changed test keeps [] = refl
+  find-changed test keeps (row ∷ rows) = rw (keeps row) (by (test row) (find-changed test keeps rows))
+    where
+      by : (here : Bool) → find test (map change rows) ≡ option_map change (find test rows) → cond here (Some (change row)) (find test (map change rows)) ≡ option_map change (cond here (Some row) (find test rows))
+      by true rest = refl
+      by false rest = rest
+
+  pub filter-changed : (test : Connection → Bool) → Keeps test → (rows : List Connection) → filter test (map change rows) ≡ map change (filter test rows)
+  filter-changed test keeps [] = refl
+  filter-changed test keeps (row ∷ rows) = rw (keeps row) (by (test row) (filter-changed test keeps rows))
+    where
+      by : (here : Bool) → filter test (map change rows) ≡ map change (filter test rows) → cond here (change row ∷ filter test (map change rows)) (filter test (map change rows)) ≡ map change (cond here (row ∷ filter test rows) (filter test rows))
+      by true rest = ap (λ rest. change row ∷ rest) rest
+      by false rest = rest
+
+  pub all_changed : (P Q : Connection → Type 0) → ((row : Connection) → P row → Q (change row)) → (rows : List Connection) → All P rows → All Q (map change rows)
+  all_changed P Q each rows all = λ i d within.
+      let inside : i < length rows = omega (arith, within, length-map rows change) in
+      subst Q (sym (get_or-map change rows i d d inside)) (each _ (all i d inside))
+
+  pub sound_changed : Keeps (λ row. row.number) → (place : Rows) → IsSound place → IsSound (record { rows = map change place.rows; last_number = place.last_number })
+  sound_changed keeps place sound =
+      let many = length-map place.rows change in
+      record {
+        rising = λ i j d below within.
+            let later : j < length place.rows = omega (arith, within, many) in
+            let earlier : i < length place.rows = omega (arith, below, later) in
+            rw (get_or-map change place.rows i d d earlier, get_or-map change place.rows j d d later, keeps (get_or place.rows i d), keeps (get_or place.rows j d)) (sound.rising i j d below later);
+        from_one = all_changed (λ row. 1 ≤ row.number) (λ row. 1 ≤ row.number) (λ row h. omega (arith, h, keeps row)) place.rows sound.from_one;
+        given = all_changed (λ row. row.number ≤ place.last_number) (λ row. row.number ≤ place.last_number) (λ row h. omega (arith, h, keeps row)) place.rows sound.given;
+        fits = sound.fits;
+        few = omega (arith, sound.few, many);
+      }
+
+-- the row with another state, if it is the one
+module _ (number state : ℕ) where
+  abbrev pub stepped_row : Connection → Connection
+  stepped_row row = cond (is_of_functor number row) (record row { state = state }) row
+
+  pub stepped-same : {A : Type 0} (f : Connection → A) → ((row : Connection) → f (record row { state = state }) ≡ f row) → Keeps stepped_row f
+  stepped-same f stateless row = by (is_of_functor number row)
+    where
+      by : (b : Bool) → f (cond b (record row { state = state }) row) ≡ f row
+      by true = stateless row
+      by false = refl
+
+  pub all_stepped : (P : Connection → Type 0) → ((row : Connection) → P row → P (record row { state = state })) → (rows : List Connection) → All P rows → All P (map stepped_row rows)
+  all_stepped P each rows all = all_changed stepped_row P P (λ row. by row (is_of_functor number row)) rows all
+    where
+      by : (row : Connection) (b : Bool) → P row → P (cond b (record row { state = state }) row)
+      by row true h = each row h
+      by row false h = h
+
+  pub sound_stepped : (place : Rows) → IsSound place → IsSound (with_state number state place)
+  sound_stepped place sound = sound_changed stepped_row (stepped-same (λ row. row.number) (λ row. refl)) place sound
