@@ -4,7 +4,9 @@
 # make tests  runs every test on bin/metad as it is; make rows, random, program, memory, classes, clients and test_install
 #             run those of tests/test_rows and so on
 # make bench  counts the program's instructions; with LAST=PROGRAM also beside an earlier one; STANDS=1 writes down the counts
-# make install, make uninstall   bin/metad, its manual page, the documents, the client, the examples and the tools, below PREFIX
+# make install, make uninstall   bin/metad, its manual page, the documents, the client, the examples and the tools, below PREFIX;
+#             with SITE=FOLDER also a link to the client in a folder where Python looks
+# make dist   a tarball of all that is installed, for any folder; make deb   a package for Debian; each in DIST, with its checksum
 
 PROGRAM = meta_main
 CRATE = crates/$(PROGRAM)
@@ -14,7 +16,7 @@ PREFIX ?= /usr/local
 # each takes bin/metad as it is
 TESTS = rows random program memory classes clients
 
-.PHONY: all run test budget tests $(TESTS) test_install libraries bench install uninstall clean
+.PHONY: all run test budget tests $(TESTS) test_install test_package libraries bench install uninstall dist deb clean
 
 all: bin/metad
 
@@ -44,7 +46,7 @@ tests: libraries
 $(TESTS): libraries
 	python3 -m unittest -v tests.test_$@
 
-test_install:
+test_install test_package:
 	python3 -m unittest -v tests.$@
 
 libraries: bin/refuse_growth.so bin/early_signal.so
@@ -61,10 +63,11 @@ MAN = $(DESTDIR)$(PREFIX)/share/man/man1
 DOC = $(DESTDIR)$(PREFIX)/share/doc/metad
 SHARE = $(DESTDIR)$(PREFIX)/share/metad
 # the documents and what they lead to, which stands below DOC as it stands here
-PYTHON = clients/python
-OF_PYTHON = README.md pyproject.toml metad/py.typed metad/*.py
-DOCUMENTS = README.md $(wildcard docs/*.md docs/*.json $(OF_PYTHON:%=$(PYTHON)/%) clients/fronting/*.md examples/*/*)
-FOLDERS = $(PYTHON)/metad $(filter-out ./ $(PYTHON)/metad/,$(sort $(dir $(DOCUMENTS)))) clients examples
+DOCUMENTS = README.md CHANGELOG.md $(wildcard docs/*.md docs/*.json clients/*/*.md examples/*/*)
+FOLDERS = $(filter-out ./,$(sort $(dir $(DOCUMENTS)))) clients examples
+# the client, which the tools find below SHARE as they find it here
+CLIENT = python/metad
+OF_CLIENT = $(patsubst clients/%,%,$(wildcard clients/$(CLIENT)/*.py clients/$(CLIENT)/py.typed))
 # each is installed as metad-TOOL; what it is made of stands in clients/TOOLing
 TOOLS = explain check shell front
 OF_TOOLS = $(TOOLS) $(patsubst clients/%,%,$(wildcard $(TOOLS:%=clients/%ing/*.py)))
@@ -76,21 +79,35 @@ install:
 	install bin/metad "$(BIN)/metad"
 	install -m 644 man/metad.1 "$(MAN)/metad.1"
 	for it in $(DOCUMENTS); do install -D -m 644 "$$it" "$(DOC)/$$it" || exit; done
+	for it in $(OF_CLIENT); do install -D -m 644 "clients/$$it" "$(SHARE)/$$it" || exit; done
 	for it in $(TOOLS); do \
 		install -d "$(SHARE)/$${it}ing" && \
 		install clients/$$it "$(SHARE)/$$it" && \
 		install -m 644 clients/$${it}ing/*.py "$(SHARE)/$${it}ing" && \
 		ln -sf ../share/metad/$$it "$(BIN)/metad-$$it" || exit; \
 	done
+ifdef SITE
+	install -d "$(DESTDIR)$(SITE)"
+	ln -srfT "$(SHARE)/$(CLIENT)" "$(DESTDIR)$(SITE)/metad"
+endif
 
 # takes away all that install puts there, what Python has left beside it, and the folders that hold nothing else
 uninstall:
-	rm -f "$(BIN)/metad" $(TOOLS:%="$(BIN)/metad-%") "$(MAN)/metad.1"
-	rm -f $(DOCUMENTS:%="$(DOC)/%") $(OF_TOOLS:%="$(SHARE)/%")
-	rm -rf "$(DOC)/$(PYTHON)/metad/__pycache__" $(TOOLS:%="$(SHARE)/%ing/__pycache__")
-	for it in $(FOLDERS:%="$(DOC)/%") "$(DOC)" $(TOOLS:%="$(SHARE)/%ing") "$(SHARE)"; do \
+	rm -f "$(BIN)/metad" $(TOOLS:%="$(BIN)/metad-%") "$(MAN)/metad.1" $(if $(SITE),"$(DESTDIR)$(SITE)/metad")
+	rm -f $(DOCUMENTS:%="$(DOC)/%") $(OF_CLIENT:%="$(SHARE)/%") $(OF_TOOLS:%="$(SHARE)/%")
+	rm -rf "$(SHARE)/$(CLIENT)/__pycache__" $(TOOLS:%="$(SHARE)/%ing/__pycache__")
+	for it in $(FOLDERS:%="$(DOC)/%") "$(DOC)" "$(SHARE)/$(CLIENT)" "$(SHARE)/python" $(TOOLS:%="$(SHARE)/%ing") "$(SHARE)"; do \
 		test ! -d "$$it" || rmdir --ignore-fail-on-non-empty "$$it"; \
 	done
 
+DIST = dist
+
+# each takes bin/metad as it is
+dist:
+	python3 tools/package.py tarball "$(DIST)"
+
+deb:
+	python3 tools/package.py debian "$(DIST)"
+
 clean:
-	rm -rf bin crates/*/out
+	rm -rf bin dist crates/*/out

@@ -10,6 +10,7 @@ the others go on, and it is shown with its input and with how what came differs 
 
 `test_rows` has worked sessions, `test_random` sessions by chance, beside the plain program in `plain`, `test_program`
 the program's ends, its pipes and its limits, `test_memory` refused growths, `test_classes` class files,
-`test_clients` what stands in `clients`, and `test_install` what `make install` installs. `support` is what they
-share, `generators` makes what they give, and `preload` has the libraries that are preloaded into the program.
+`test_clients` what stands in `clients`, `test_install` what `make install` installs, and `test_package` what is packed.
+`support` is what they share, `generators` makes what they give, and `preload` has the libraries that are preloaded into
+the program.
 """

@@ -18,10 +18,11 @@ DOC = "share/doc/metad"
 TOOLS = ("explain", "check", "shell", "front")
 LINKS = {f"bin/metad-{tool}": f"share/metad/{tool}" for tool in TOOLS}
 PROGRAMS = {"bin/metad", *LINKS, *LINKS.values()}
-DOCUMENTS = ("README.md", "docs/PROTOCOL.md", "clients/python/metad/__init__.py", "examples/traffic_light/session")
-ALWAYS = PROGRAMS | {"share/man/man1/metad.1", *(f"{DOC}/{it}" for it in DOCUMENTS)}
-OF_CLIENTS = ("python/README.md", "python/pyproject.toml", "python/metad/*.py", "python/metad/py.typed", "fronting/*.md")
-OF_DOCUMENTS = ("README.md", "docs/*.md", "docs/*.json", *(f"clients/{it}" for it in OF_CLIENTS), "examples/*/*")
+DOCUMENTS = ("README.md", "docs/PROTOCOL.md", "clients/python/README.md", "examples/traffic_light/session")
+CLIENT = "share/metad/python"
+ALWAYS = PROGRAMS | {"share/man/man1/metad.1", f"{CLIENT}/metad/__init__.py", *(f"{DOC}/{it}" for it in DOCUMENTS)}
+OF_DOCUMENTS = ("README.md", "CHANGELOG.md", "docs/*.md", "docs/*.json", "clients/*/*.md", "examples/*/*")
+OF_CLIENT = ("metad/*.py", "metad/py.typed")
 RELATIVE = re.compile(r"\]\((?!#|\w+:)([^)#]+)[^)]*\)")  # a link of a document to another file or folder
 LINE = b'{"error":"E12","session":"a"}\n'
 SAID = b"    session a: E12: the parent would be the object itself or below it\n"
@@ -41,7 +42,9 @@ def wanted_files():
     for tool in TOOLS:
         made |= {name: ROOT / "clients" / tool for name in (f"bin/metad-{tool}", f"share/metad/{tool}")}
         made |= {f"share/metad/{tool}ing/{path.name}": path for path in (ROOT / "clients" / f"{tool}ing").glob("*.py")}
-    documents = [path for pattern in OF_DOCUMENTS for path in ROOT.glob(pattern)]
+    client = ROOT / "clients" / "python"
+    made |= {f"{CLIENT}/{path.relative_to(client)}": path for pattern in OF_CLIENT for path in client.glob(pattern)}
+    documents = [path for pattern in OF_DOCUMENTS for path in ROOT.glob(pattern) if path.is_file()]
     return made | {f"{DOC}/{path.relative_to(ROOT)}": path for path in documents}
 
 
@@ -81,7 +84,7 @@ class Install(Cases):
     def check_run(self, words, top, given, wanted):
         """Something installed runs where it stands, where Python may leave its folders."""
         own = {key: value for key, value in os.environ.items() if key not in OF_PYTHON}
-        where = {**own, "PYTHONPATH": str(top / DOC / "clients" / "python")}
+        where = {**own, "PYTHONPATH": str(top / CLIENT)}
         ran = subprocess.run(words, input=given, capture_output=True, env=where, timeout=SECONDS)
         self.assertEqual((ran.returncode, ran.stderr, ran.stdout), (0, b"", wanted), words)
 
@@ -90,10 +93,10 @@ class Install(Cases):
         self.check_run([top / "bin/metad-explain"], top, LINE, LINE + SAID)
         self.check_run([top / "bin/metad-check", "-"], top, b'{"classes":[]}', CHECKED)
         self.check_run([top / "bin/metad-shell", top / "bin/metad"], top, b"new QObject as p\n", MADE)
-        client = str(top / DOC / "clients" / "python" / "metad" / "__init__.py")
+        client = str(top / CLIENT / "metad" / "__init__.py")
         self.check_run(["python3", "-c", "import metad; print(metad.__file__)"], top, b"", f"{client}\n".encode())
         left = {str(path.parent.relative_to(top)) for path in top.rglob("__pycache__")}
-        wanted = {"share/metad/explaining", "share/metad/checking", "share/metad/shelling", f"{DOC}/clients/python/metad"}
+        wanted = {"share/metad/explaining", "share/metad/checking", "share/metad/shelling", f"{CLIENT}/metad"}
         self.assertLessEqual(wanted, left, "where Python has left its folders")
 
     def check_stage(self, stage, prefix, kept=None):
@@ -122,6 +125,26 @@ class Install(Cases):
     def test_beside_other_files(self):
         """In a folder with a space in its name, where a file of somebody else has to stay."""
         self.check_stage(f"{self.room}/a stage", "/usr", "share/doc/metad/notes")
+
+    def test_site(self):
+        """A folder where Python looks is given a link to the client, and keeps all else at the end."""
+        stage, site = Path(self.room, "stage"), "/usr/lib/python 3/site"
+        (stage / site[1:]).mkdir(parents=True)
+        (stage / site[1:] / "other.py").write_text("")
+        link = stage / site[1:] / "metad"
+        for _ in range(2):
+            ran = make("install", f"DESTDIR={stage}", "PREFIX=/usr", f"SITE={site}")
+            self.assertEqual((ran.returncode, ran.stderr), (0, ""), ran.stdout)
+            self.assertEqual(os.readlink(link), "../../../share/metad/python/metad")
+        own = {**os.environ, "PYTHONPATH": str(link.parent)}
+        words = ["python3", "-c", "import metad, metad.fronts; print(metad.fronts.front_words()[-1])"]
+        ran = subprocess.run(words, capture_output=True, text=True, env=own, timeout=SECONDS)
+        self.assertEqual((ran.stdout, ran.stderr), (f"{stage}/usr/share/metad/front\n", ""), "the front that it finds")
+        for _ in range(2):
+            ran = make("uninstall", f"DESTDIR={stage}", "PREFIX=/usr", f"SITE={site}")
+            self.assertEqual((ran.returncode, ran.stderr), (0, ""), ran.stdout)
+            self.assertEqual(os.listdir(link.parent), ["other.py"], "what is left there")
+            self.assertFalse((stage / "usr/share/metad").exists(), "whether the client is left")
 
     def test_without_the_program(self):
         """Nothing is installed where bin/metad is not built."""

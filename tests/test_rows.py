@@ -12,11 +12,12 @@ from .plain.lines import answer, server_of
 from .support.cases import Cases, ProgramCases
 from .support.differences import LAST, difference
 from .support.documents import BLOCK, GIVEN, GUIDE, README, examples_of, line_number
+from .support.pages import check_page
 from .support.program import ROOT, ROWS, Row, lay_out, rows_in, run_shell
 from .support.protocol import PROTOCOL
 
 EXAMPLES = ROOT / "examples"
-EXPLAIN = ROOT / "clients" / "explain"
+CLIENTS = ROOT / "clients"
 PART_OR_RECIPE = re.compile(rf"^```(part \w+|console)\n{BLOCK}```$", re.MULTILINE)
 COMMAND = "$ "
 MAY_LACK = ("jq", "socat")
@@ -124,6 +125,11 @@ def lacking(block):
     return next((it for it in MAY_LACK if it in words and shutil.which(it) is None), None)
 
 
+def lay_out_guide(room, program):
+    """Puts into a folder what the recipes of the guide find at the root of the repository."""
+    lay_out(room, {"bin/metad": program, "clients": CLIENTS, "examples": EXAMPLES})
+
+
 def recipe_fault(block, program):
     """What is wrong with what a recipe writes, or None. It is passed over where a program that it needs is not there."""
     if lacking(block):
@@ -133,8 +139,8 @@ def recipe_fault(block, program):
     if not commands:
         return "it has no command"
     with TemporaryDirectory(prefix="metad-recipe-") as room:
-        lay_out(room, {"bin/metad": program, "clients/explain": EXPLAIN, "examples": EXAMPLES})
-        ran = run_shell("\n".join(["exec 2>&1", *commands]), room, LC_ALL="C")
+        lay_out_guide(room, program)
+        ran = run_shell("\n".join(["exec 2>&1", *commands]), room, LC_ALL="C", PYTHONDONTWRITEBYTECODE="1")
     fault = difference(wanted.encode(), ran.stdout + ran.stderr)
     return "\n".join([fault, "its commands:", *(f"    {COMMAND}{it}" for it in commands)]) if fault else None
 
@@ -161,3 +167,9 @@ class WorkedExamples(ProgramCases):
         """The recipes of the guide write what it says."""
         recipes = [(it.name, it) for it in blocks_of_guide() if it.word == "console"]
         self.check_each(recipes, lambda block: recipe_fault(block, self.program))
+
+    def test_programs(self):
+        """The programs of the guide print what it says."""
+        with TemporaryDirectory(prefix="metad-guide-") as room:
+            lay_out_guide(room, self.program)
+            self.tell(f"programs: {check_page(self, GUIDE, room)}")

@@ -28,9 +28,9 @@ class Declared:
             self.upper = above.upper
         self.methods: dict[Signature, str] = {}
         self.properties: dict[str, str] = {}
-        self.method_count = above.method_count if above else 0
-        self.property_count = above.property_count if above else 0
-        self.is_whole = above is not None and above.is_whole  # whether all its methods are known
+        self.method_count: int = above.method_count if above else 0
+        self.property_count: int = above.property_count if above else 0
+        self.is_whole: bool = above is not None and above.is_whole  # whether all its methods are known
 
     def chain(self) -> Iterator[Declared]:
         """The class and its superclasses."""

@@ -118,7 +118,8 @@ class Findings:
 
     def first(self) -> Finding | None:
         """The fault that metad names, where it refuses the file."""
-        return min(self.faults(), key=lambda it: it.order or (), default=None)
+        found = self.faults()
+        return min(found, key=lambda it: it.order or ()) if found else None
 
     def in_order(self) -> list[Finding]:
         """All that is found, by its place in the text."""

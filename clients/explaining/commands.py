@@ -3,7 +3,7 @@
 from __future__ import annotations
 
 from dataclasses import dataclass, field
-from typing import Any, Callable, Iterable, Iterator
+from typing import Any, Callable, Iterable, Iterator, Mapping
 
 from . import replies as said
 from .expressions import objects_of
@@ -18,9 +18,9 @@ class Form:
 
     said: Callable[[Asked, Any], str]
     reply: Holds
-    keys: dict[str, Holds] = field(default_factory=dict)
-    optional: dict[str, Holds] = field(default_factory=dict)
-    refused: dict[str, str] = field(default_factory=dict)  # a code in the words of this command
+    keys: Mapping[str, Holds] = field(default_factory=dict)
+    optional: Mapping[str, Holds] = field(default_factory=dict)
+    refused: Mapping[str, str] = field(default_factory=dict)  # a code in the words of this command
 
     def is_of(self, asked: Asked) -> bool:
         held = {key: holds for key, holds in self.optional.items() if key in asked}
@@ -30,9 +30,9 @@ class Form:
 NO_CLASS = {"E03": "there is no class {class}"}
 NO_SIGNATURE = {"E06": "the text of a signal or a method is no signature"}
 NO_METHOD = {"E05": "the sender has no such signal, or the receiver no such method"}
-ONE_OBJECT = {"object": is_number}
-ONE_PROPERTY = {"object": is_number, "property": is_text}
-COUNTS = {"lost": is_whole, "mismatched": is_whole}
+ONE_OBJECT: dict[str, Holds] = {"object": is_number}
+ONE_PROPERTY: dict[str, Holds] = {"object": is_number, "property": is_text}
+COUNTS: dict[str, Holds] = {"lost": is_whole, "mismatched": is_whole}
 IS_SPIN = has(events=is_whole, left=is_whole, **COUNTS)
 IS_STATUS = has(objects=is_whole, connections=is_whole, queued=is_whole, **COUNTS)
 IS_META = has(**{
@@ -179,7 +179,7 @@ class Command:
     @property
     def word(self) -> str:
         word = self.asked.get("do")
-        return word if is_text(word) else ""
+        return word if isinstance(word, str) else ""
 
     def form(self) -> Form | None:
         """The form of it, or None where its word is not known here."""
@@ -190,8 +190,8 @@ class Command:
 
     def own_objects(self) -> list[int]:
         """The numbers of the objects that it names, each once, but for those that an expression reads."""
-        named = [self.asked.get(key) for key in ("object", "parent", "sender", "receiver", "context")]
-        return sorted(set(filter(is_number, named)))
+        named = (self.asked.get(key, 0) for key in ("object", "parent", "sender", "receiver", "context"))
+        return sorted({it for it in named if is_number(it)})
 
     def objects(self) -> list[int]:
         """The numbers of all objects that it names, each once."""

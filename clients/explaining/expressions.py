@@ -38,7 +38,7 @@ def spelled(form: Any) -> str:
 
 
 def operands(forms: Any, count: int) -> list[Any]:
-    return forms if is_list(forms) and len(forms) == count else misfit()
+    return forms if isinstance(forms, list) and len(forms) == count else misfit()
 
 
 def part(form: Any) -> str:

@@ -134,7 +134,7 @@ LINES: list[tuple[type[Line], dict[str, Holds]]] = [
     (Error, {"error": is_text, "session": is_text}),
     (Call, {"args": is_list, "call": is_text, "object": is_number, "sender": is_whole, "session": is_text}),
     (Warned, {"object": is_number, "session": is_text, "warning": lambda code: is_text(code) and code != NO_TURNS}),
-    (Warned, {"session": is_text, "warning": lambda code: code == NO_TURNS}),
+    (Warned, {"session": is_text, "warning": lambda code: bool(code == NO_TURNS)}),
     (InError, {"object": is_number, "property": is_text, "session": is_text, "warning": is_text}),
 ]
 

@@ -84,7 +84,9 @@ def held(action: Node, key: str) -> object:
     if node is None:
         return "self"
     child = node.text_at("child")
-    return node.held if child is None else [child]
+    if child is not None:
+        return [child]
+    return node.held
 
 
 def is_prompt(deeds: list[Deed]) -> bool:

@@ -8,12 +8,13 @@ import re
 import select
 import signal
 import socket
+import stat
 import sys
 from contextlib import ExitStack, contextmanager
 from typing import Iterator
 
 from .front import Front
-from .lines import is_name
+from .lines import CHUNK, is_name
 from .log import NAME, Ended, Log, say
 from .server import Record, Server, started
 from .sockets import PASSED, listening, passed
@@ -28,8 +29,8 @@ them twice. When it has gone its session is reset. What clients and monitors may
   {"front":"share","session":NAME}    a client's first line: it speaks for a session that --share names
   {"front":"monitor","session":NAME}  a monitor's first line: it is told the lines of this session alone
 
-Exit status: 0 after SIGINT, SIGTERM or SIGHUP, 1 where the server ends, or something cannot be bound, started
-or opened, 2 after a mistake in the command line."""
+Exit status: 0 after SIGINT, SIGTERM or SIGHUP, and with --tied at the end of standard input, 1 where the
+server ends, or something cannot be bound, started or opened, 2 after a mistake in the command line."""
 
 ASK_TO_END = (signal.SIGINT, signal.SIGTERM, signal.SIGHUP)
 OWN_NAME = re.compile(r"c[0-9]+")
@@ -91,6 +92,7 @@ def parser() -> argparse.ArgumentParser:
     add("--share", metavar="NAME", type=shared_name, action="append", default=[], help="a session that clients may share")
     add("--monitor", metavar="SOCKET", type=path, help="where monitors connect, who read all lines of the server")
     add("--monitor-mode", metavar="OCTAL", type=mode_of, help="the rights of that socket")
+    add("--tied", action="store_true", help="end as soon as standard input does, with whoever holds the other side")
     add("socket", metavar="SOCKET", type=path, help=argparse.SUPPRESS)
     add("program", metavar="PROGRAM", type=path, help=argparse.SUPPRESS)
     add("args", metavar="ARGS", nargs=argparse.REMAINDER, help=argparse.SUPPRESS).required = False
@@ -105,7 +107,15 @@ def words_given() -> argparse.Namespace:
         words.error("--mode is for a socket that the front binds")
     if given.monitor_mode is not None and given.monitor is None:
         words.error("--monitor-mode needs --monitor")
+    if given.tied and (sys.stdin is None or not is_pipe(0)):
+        words.error("--tied needs a pipe, a socket or a terminal as standard input")
     return given
+
+
+def is_pipe(number: int) -> bool:
+    """Whether a file is one of those that end, and whose end can be waited for."""
+    mode = os.fstat(number).st_mode
+    return stat.S_ISFIFO(mode) or stat.S_ISSOCK(mode) or os.isatty(number)
 
 
 @contextmanager
@@ -129,6 +139,12 @@ def asked(_events: int) -> None:
     raise Asked
 
 
+def look_at_input(_events: int) -> None:
+    """Ends the front where standard input has ended; what stands there is passed over."""
+    if not os.read(0, CHUNK):
+        raise Asked
+
+
 def serve(given: argparse.Namespace) -> None:
     """Serves until the front is asked to end, or cannot go on."""
     log = Log(given.quiet)
@@ -140,6 +156,8 @@ def serve(given: argparse.Namespace) -> None:
         process = stack.enter_context(started(given.program, given.args))
         front = Front(Server(process, record), given.share, log)
         front.watch.follow(alarm, READ, asked)
+        if given.tied:
+            front.watch.follow(sys.stdin.buffer, READ, look_at_input)
         front.doors.add(listener, front.enter)
         if second:
             front.doors.add(second, front.monitors.enter)

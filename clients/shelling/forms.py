@@ -114,7 +114,7 @@ def ways_at(words: Words) -> Dict[str, Any]:
     keys: Dict[str, Any] = {}
     word = words.maybe_word(*WAYS, *TRUTHS)
     while word is not None:
-        keys.update({"type": word} if word in WAYS else {word: True})
+        keys["type" if word in WAYS else word] = word if word in WAYS else True
         word = words.maybe_word(*WAYS, *TRUTHS)
     return keys
 

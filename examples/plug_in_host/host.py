@@ -1,91 +1,40 @@
-"""A host, a plug-in in a process of its own and an observer, each a client of one front, from nothing to their end.
+"""From nothing to a host, a plug-in in a second process, and an observer of both: python3 host.py [PROGRAM]"""
 
-Usage: python3 host.py [PROGRAM]
-
-PROGRAM is the server, `metad` where it is not there. METAD_FRONT is the front's command, else `metad-front`.
-"""
-
-from __future__ import annotations
-
-import os
-import shlex
-import subprocess
+import json
 import sys
-import time
 from pathlib import Path
-from tempfile import TemporaryDirectory
-from typing import Sequence
+from subprocess import PIPE, Popen
 
 import metad
 
-CLASSES = str(Path(__file__).resolve().parent / "classes.json")
-PATIENCE = 30  # seconds in which the front has to listen
 
-
-def plug_in(path: str, host: str) -> None:
-    """The plug-in: says by which name others join it, and spins at each line that it is given."""
+def plug_in(path, host):
     with metad.connect(path) as server:
-        session = server.session("plug_in")
-        speller = session.new("Speller")
-        session.publish(speller, "says(QString)", "says")
-        session.publish(speller, "destroyed()", "gone")
-        session.join(host, "word", ["QString"], speller, "check(QString)")
-        session.join(host, "closing", [], speller, "deleteLater()")
-        print(session.known_as, flush=True)
-        for _ in sys.stdin:
-            print(session.spin()["events"], "for the plug-in", flush=True)
+        speller = server.session("plug_in").create("Speller")
+        speller.says.publish("says")
+        speller.check.join(host, "word")
+        speller.deleteLater.join(host, "closing")
+        print(speller.session.known_as, flush=True)
+        metad.wait_for(speller.destroyed, timeout=60)
 
 
-def host(path: str, front: subprocess.Popen[bytes]) -> None:
-    """The host: sends words and then its end, has the plug-in spin, and hears as an observer what that publishes."""
-    with reached(path, front) as one, reached(path, front) as other:
-        session, observer = one.session("host"), other.session("observer", on_call=lambda it: print(it.method, *it.args))
-        window, log = session.new("Host"), observer.new("Log")
-        session.publish(window, "word(QString)", "word")
-        session.publish(window, "closing()", "closing")
-        words = [sys.executable, __file__, "--plug-in", path, str(session.known_as)]
-        with subprocess.Popen(words, stdin=subprocess.PIPE, stdout=subprocess.PIPE, text=True, bufsize=1) as process:
-            assert process.stdin and process.stdout
-            name = process.stdout.readline().strip()
-            observer.join(name, "says", ["QString"], log, "write(QString)")
-            observer.join(name, "gone", [], log, "unloaded()")
-            for signal, *args in (("word(QString)", "the"), ("word(QString)", "teh"), ("closing()",)):
-                session.invoke(window, signal, args)
-                process.stdin.write("spin\n")
-                print(process.stdout.readline().strip())
-                observer.spin()
-
-
-def reached(path: str, front: subprocess.Popen[bytes]) -> metad.Server:
-    """A connection with the front, once that listens."""
-    until = time.monotonic() + PATIENCE
-    while True:
-        try:
-            return metad.connect(path)
-        except OSError:
-            if front.poll() is not None or time.monotonic() > until:
-                raise
-            time.sleep(0.05)
-
-
-def main(words: Sequence[str]) -> None:
-    """Starts what the words ask for; at its end the front is asked to end."""
-    if words[:1] == ["--plug-in"]:
-        return plug_in(*words[1:])
-    with TemporaryDirectory() as room:
-        path = str(Path(room, "metad.sock"))
-        command = shlex.split(os.environ.get("METAD_FRONT", "metad-front"))
-        with subprocess.Popen([*command, path, *(words[:1] or ["metad"]), CLASSES]) as front:
-            try:
-                host(path, front)
-            finally:
-                front.terminate()
+def host(program="metad"):
+    classes = metad.with_relay(json.loads(Path(__file__).with_name("classes.json").read_text()))
+    with metad.start_front(program, classes=classes) as front, front.monitor() as observer, front.connect() as server:
+        window, ear = (server.session("host").create(it) for it in ("Host", "PlugIn"))
+        window.word.publish("word")
+        window.closing.publish("closing")
+        with Popen([sys.executable, __file__, front.path, window.session.known_as], stdout=PIPE, text=True) as process:
+            ear.says.join(process.stdout.readline().strip(), "says")
+            window.word("teh")
+            print("the plug-in says", *metad.wait_for(ear.says))
+            window.closing()
+        front.close()
+        print(*(f"{it['session']} {it['call']} {it['args']}" for it in observer if "call" in it), sep="\n")
 
 
 if __name__ == "__main__":
     try:
-        main(sys.argv[1:])
-    except (OSError, metad.MetadError) as error:
+        (host if len(sys.argv) < 3 else plug_in)(*sys.argv[1:])
+    except (OSError, metad.MetadError, KeyboardInterrupt) as error:
         sys.exit(f"host: {error}")
-    except KeyboardInterrupt:
-        sys.exit(130)

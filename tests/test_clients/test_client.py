@@ -20,11 +20,11 @@ import metad
 
 from tests.support import protocol
 from tests.support.documents import GUIDE, examples_of
+from tests.support.pages import check_page
 from tests.support.program import SECONDS, lay_out
 
 from . import PYTHON
 from .fronts import ClientCases
-from .pages import check_page
 
 PIPELINED = 1_000
 LINE_MOST = 65_536
@@ -415,4 +415,4 @@ class Page(ClientCases):
     def test_page(self):
         """The programs of the page print what it says."""
         lay_out(self.room, {"bin/metad": self.program})
-        self.assertEqual(check_page(self, PYTHON / "README.md"), 4, "programs of the page")
+        self.assertEqual(check_page(self, PYTHON / "README.md", self.room), 5, "programs of the page")

@@ -11,7 +11,7 @@ import metad
 from tests.support.documents import version
 from tests.support.program import SECONDS
 
-from . import PYTHON
+from . import CLIENTS, PYTHON
 from .fronts import ClientCases
 
 BUILDS = "import setuptools, wheel, pip; assert int(setuptools.__version__.split('.')[0]) >= 61"
@@ -25,8 +25,29 @@ def python_that_builds():
     return None
 
 
+# What is ignored has to be a fault, or else mypy says that nothing is to be ignored there.
+TYPED = """\
+import metad
+from metad import aio
+
+def give(session: metad.Session) -> int:
+    wrong: str = session.new("Probe")  # type: ignore[assignment]
+    session.new(5)  # type: ignore[arg-type]
+    session.status()["nothing"]  # type: ignore[typeddict-item]
+    made: metad.Proxy = session.create("Probe")
+    return session.new("Probe", made.number) + session.spin()["events"] + len(wrong)
+
+async def give_too(session: aio.Session) -> int:
+    wrong: str = await session.new("Probe")  # type: ignore[assignment]
+    made: aio.Proxy = await session.create("Probe")
+    return await session.new("Probe", made.number) + len(wrong)
+"""
+
+
 class Package(ClientCases):
     """The package `metad`."""
+
+    seconds = 3 * SECONDS
 
     def test_version(self):
         """Its version is the program's."""
@@ -56,3 +77,15 @@ class Package(ClientCases):
         own = {**os.environ, "PYTHONPATH": str(target)}
         ran = subprocess.run([sys.executable, "-c", code], capture_output=True, text=True, env=own, cwd=self.room)
         self.assertEqual(ran.stdout, f"{target / 'metad' / '__init__.py'} {version()[0]}\n", ran.stderr)
+
+    def test_types(self):
+        """mypy finds no fault in its types and those of the tools, and knows those of replies where it is used."""
+        if shutil.which("mypy") is None:
+            self.skipTest("mypy is not on the path")
+        Path(self.room, "program.py").write_text(TYPED)
+        own = {**os.environ, "MYPYPATH": os.pathsep.join(map(str, (PYTHON, CLIENTS)))}
+        tools = [word for tool in ("checking", "explaining", "fronting", "shelling") for word in ("-p", tool)]
+        words = ["mypy", "--strict", "--no-error-summary", "--cache-dir", self.room]
+        for what in (["-p", "metad"], ["program.py"], tools):
+            ran = subprocess.run([*words, *what], cwd=self.room, env=own, capture_output=True, text=True, timeout=self.seconds)
+            self.assertEqual((ran.returncode, ran.stdout, ran.stderr), (0, "", ""), what)

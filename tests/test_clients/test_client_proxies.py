@@ -3,7 +3,7 @@
 import time
 
 import metad
-from metad.proxies import types_of
+from metad.shapes import types_of
 
 from .fronts import ClientCases
 

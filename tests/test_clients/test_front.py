@@ -20,10 +20,10 @@ from fronting.lines import with_session
 
 from tests.generators.sessions import CLASSES, life_of
 from tests.support.lines import text_of
+from tests.support.pages import check_page
 from tests.support.program import lay_out
 
 from .fronts import FRONT, NEW, PATIENCE, STATUS, Client, FrontCases, classes_in, error, reply
-from .pages import check_page
 
 PAGE = FRONT.parent / "fronting" / "README.md"
 QUIET = 0.4
@@ -131,7 +131,7 @@ class Page(FrontCases):
         monitor = Path(self.room, "metad.monitor")
         with self.front(options=("--quiet", "--share", "team", "--monitor", monitor)) as (path, _):
             lay_out(self.room, {"metad.sock": path})
-            self.assertEqual(check_page(self, PAGE), 4, "programs of the page")
+            self.assertEqual(check_page(self, PAGE, self.room), 4, "programs of the page")
 
     def test_words(self):
         """The page tells of each option that there is, and its line of usage is that of the help."""

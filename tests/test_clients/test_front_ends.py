@@ -65,6 +65,27 @@ class Ends(FrontCases):
                 self.assertEqual(client.until_closed(), b"", "the end for a client")
         self.tell("cases: 3")
 
+    def test_tied(self):
+        """A front that is tied ends with its standard input, and passes over what stands there; that can be no file."""
+        path = Path(self.room, "socket")
+        process = front_of("--quiet", "--tied", path, self.program, stdin=subprocess.PIPE)
+        try:
+            self.wait_for(path, process)
+            process.stdin.write("nothing\n")
+            process.stdin.flush()
+            with Client(path) as client:
+                self.assertEqual(json.loads(client.ask(NEW))["reply"], 1, "an object")
+                said = process.communicate(timeout=PATIENCE)
+                self.assertEqual(client.until_closed(), b"", "the end for a client")
+        finally:
+            process.kill()
+        self.assertEqual((process.returncode, *said), (0, "", self.said()), "the front's end")
+        for given in ({"stdin": subprocess.DEVNULL}, {"preexec_fn": lambda: os.close(0)}):
+            process = front_of("--tied", path, self.program, **given)
+            said = process.communicate(timeout=PATIENCE)
+            self.assertEqual((process.returncode, said[0]), (2, ""), "the status")
+            self.assertTrue(said[1].startswith(USAGE) and "--tied needs a pipe" in said[1], said[1])
+
     def test_hangup_passed_over(self):
         """A front that was started to pass over hangups, as by nohup, does."""
         path = Path(self.room, "socket")

@@ -8,7 +8,8 @@
         session.connect(sender, "ping()", receiver, "note()")
         session.invoke(sender, "ping()")
 
-`start` starts a server, `connect` reaches one through a front's socket, and `Server` takes two streams. A method of
+`start` starts a server, `connect` reaches one through a front's socket, and `Server` takes two streams. `start_front`
+starts a front with its server, and `monitor` is told all that the server of a front writes. A method of
 a `Session` is a command of the protocol: it returns the value of the reply, or raises `Refused` with the code. What
 the commands mean, and every code and limit, stands in docs/PROTOCOL.md. Nothing is checked here that the server
 checks: a name that is none, a number out of range and a line that is too long are refused by the server.
@@ -18,7 +19,7 @@ returns. Commands can be sent without waiting: `Session.send` returns a `Pending
 in the order of the commands, over the whole server.
 
 `Session.create` makes an object whose properties, signals and slots are reached by their names, see `proxies`. The
-same sessions for asyncio are in `metad.aio`.
+same sessions and objects for asyncio are in `metad.aio`.
 
 Needs Python 3.8 or later, and nothing but its standard library.
 """
@@ -39,9 +40,11 @@ from .errors import (
     ServerGone,
     StrangeLine,
 )
+from .fronts import Front, Monitor, monitor, start_front
 from .hearing import Listener, OnCall, OnWarning
 from .lines import NOBODY, Call, Meta, Spun, Status, Value, Warned
-from .proxies import Connected, Heard, Method, Property, Proxy, SignalSpy, wait_for, with_relay
+from .proxies import Connected, Heard, Method, Property, Proxy, SignalSpy, wait_for
+from .shapes import with_relay
 
 __version__ = "0.8.0"
 
@@ -53,12 +56,14 @@ __all__ = [
     "ClassFileRefused",
     "Connected",
     "ConnectionClosed",
+    "Front",
     "Heard",
     "Listener",
     "MEANINGS",
     "Meta",
     "MetadError",
     "Method",
+    "Monitor",
     "NOBODY",
     "NoRelay",
     "NotAnswered",
@@ -83,7 +88,9 @@ __all__ = [
     "advice_on",
     "connect",
     "meaning_of",
+    "monitor",
     "start",
+    "start_front",
     "wait_for",
     "with_relay",
 ]

@@ -13,8 +13,7 @@
 
 Callbacks are plain functions. They are called in the thread of the event loop, by the task that waits for an answer,
 before it gets that; they may `send` commands and make tasks, and cannot wait for answers. A task that is cancelled
-while it waits leaves its command under way. There are no proxies here, as an attribute cannot be awaited when it is
-set.
+while it waits leaves its command under way. Objects by their names are in `aio_proxies`, and reached from here too.
 """
 
 from __future__ import annotations
@@ -23,16 +22,18 @@ import asyncio
 from contextlib import suppress
 from tempfile import TemporaryDirectory
 from types import TracebackType
-from typing import TYPE_CHECKING, Any, Callable, Coroutine, Dict, Generator, Optional, Type, TypeVar, cast
+from typing import TYPE_CHECKING, Any, Callable, Coroutine, Dict, Generator, Optional, Sequence, Type, TypeVar, cast
 
 from . import commands
+from .aio_proxies import Connected, Heard, Method, Property, Proxy, SignalSpy, hear_post, wait_for
 from .client import reply_of
 from .commands import Asked, make_method
 from .connection import Answer, Connection, Once, ProgramConnection, SocketConnection, Word
-from .errors import NotAnswered, Refused
+from .errors import NotAnswered, OtherSession, Refused
 from .hearing import Hearing, OnCall, OnWarning
 from .holding import START_SECONDS, Holder, class_words
 from .lines import Value, command_line
+from .shapes import Shape, with_relay
 
 if TYPE_CHECKING:
     from typing_extensions import Concatenate, ParamSpec
@@ -40,6 +41,22 @@ if TYPE_CHECKING:
     Given = ParamSpec("Given")
 
 Replied = TypeVar("Replied")
+
+__all__ = [
+    "Connected",
+    "Heard",
+    "Method",
+    "Pending",
+    "Property",
+    "Proxy",
+    "Server",
+    "Session",
+    "SignalSpy",
+    "connect",
+    "start",
+    "wait_for",
+    "with_relay",
+]
 
 
 class Pending:
@@ -72,7 +89,7 @@ def awaiting(
 ) -> Callable[Concatenate[Session, Given], Coroutine[Any, Any, Replied]]:
     """The method that gives a command and awaits the reply."""
 
-    async def method(self: Session, *args: Given.args, **keys: Given.kwargs) -> Replied:
+    async def method(self: Session, /, *args: Given.args, **keys: Given.kwargs) -> Replied:
         return await self.ask(build(*args, **keys))
 
     make_method(method, build)
@@ -142,6 +159,29 @@ class Session(Hearing):
         self._forget_listeners()
         return done
 
+    async def create(self, class_: str, parent: Optional[Proxy] = None) -> Proxy:
+        """Makes an object as `new` does, and returns it with the properties and methods of its class."""
+        if parent is not None and parent.session is not self:
+            raise OtherSession(f"{parent!r} is of another session")
+        shape = await self.shape(class_)
+        return Proxy(self, await self.new(class_, None if parent is None else parent.number), shape)
+
+    async def proxy(self, object: int, class_: str) -> Proxy:
+        """An object that is there, with the properties and methods of its class, which the server does not tell."""
+        return Proxy(self, object, await self.shape(class_))
+
+    async def shape(self, class_: str) -> Shape:
+        """What there is in a class. The server is asked for it once."""
+        shapes = self.server.shapes
+        if class_ not in shapes:
+            shapes[class_] = Shape(await self.meta(class_))
+        return shapes[class_]
+
+    async def listen(self, from_: str, name: str, types: Sequence[str], told: Callable[..., object]) -> Heard:
+        """Has a function called with what another session publishes under a name, with these types, when this one
+        spins. It needs a relay, see `with_relay`."""
+        return await hear_post(self, from_, name, types, told)
+
     def _give(self, asked: Asked[Any]) -> Pending:
         line = command_line(self.name, asked.do, asked.keys)
         answer = Answer(self)
@@ -209,9 +249,9 @@ async def start(
     return Server(connection)
 
 
-async def connect(path: Word) -> Server:
+async def connect(path: Word, share: Optional[str] = None) -> Server:
     """Connects with the Unix-domain socket of a front, as `metad.connect` does."""
-    connection = SocketConnection(path)
+    connection = SocketConnection(path, share)
     connection.open()
     return Server(connection)
 

@@ -14,7 +14,8 @@ from .errors import NotAnswered, OtherSession, Refused
 from .hearing import Hearing, OnCall, OnWarning
 from .holding import START_SECONDS, Holder, class_words
 from .lines import Value, command_line, named
-from .proxies import Heard, Proxy, Shape, hear_post
+from .proxies import Heard, Proxy, hear_post
+from .shapes import Shape
 
 if TYPE_CHECKING:
     from typing_extensions import Concatenate, ParamSpec
@@ -58,7 +59,7 @@ def reply_of(asked: Asked[Any], line: Dict[str, Value]) -> Value:
 def waiting(build: Callable[Given, Asked[Replied]]) -> Callable[Concatenate[Session, Given], Replied]:
     """The method that gives a command and waits for the reply."""
 
-    def method(self: Session, *args: Given.args, **keys: Given.kwargs) -> Replied:
+    def method(self: Session, /, *args: Given.args, **keys: Given.kwargs) -> Replied:
         return self.ask(build(*args, **keys))
 
     make_method(method, build)
@@ -289,12 +290,13 @@ def start(
     return Server.of(connection)
 
 
-def connect(path: Word) -> Server:
+def connect(path: Word, share: Optional[str] = None) -> Server:
     """Connects with the Unix-domain socket of a front. `OSError` where nobody listens there.
 
     A front gives each connection one session, whatever names are asked for: take one `Session` of it. Its `known_as` is
-    the name by which other clients join it.
+    the name by which other clients join it. With `share` that is the session of this name, which the front lets several
+    clients speak for; `Refused` where it does not. What others cause there is told at the next wait.
     """
-    connection = SocketConnection(path)
+    connection = SocketConnection(path, share)
     connection.open()
     return Server.of(connection)

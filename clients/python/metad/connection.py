@@ -20,9 +20,18 @@ from os import PathLike, fspath
 from typing import IO, Callable, Deque, Dict, List, Optional, Sequence, Tuple, Union
 from weakref import ref
 
-from .errors import ClassFileRefused, ConnectionClosed, MetadError, NotAnswered, NotStarted, ServerGone, StrangeLine
+from .errors import (
+    ClassFileRefused,
+    ConnectionClosed,
+    MetadError,
+    NotAnswered,
+    NotStarted,
+    Refused,
+    ServerGone,
+    StrangeLine,
+)
 from .hearing import Hearing, Listening
-from .lines import NO_COMMAND, NOBODY, Told, Value, is_answer, line_of, told_by
+from .lines import NO_COMMAND, NOBODY, Told, Value, is_answer, line_of, line_with, told_by
 
 Word = Union[str, "PathLike[str]"]
 """A word of a command line, or a path."""
@@ -36,6 +45,8 @@ Fault = Callable[[], MetadError]
 
 class Once:
     """Something that comes once, and that any number of threads wait for."""
+
+    __slots__ = ("_bells", "_has_come")
 
     def __init__(self) -> None:
         self._bells: List[Bell] = []
@@ -80,6 +91,8 @@ class Once:
 
 class Answer(Once):
     """What a command comes to. The thread that reads lets it come, with a line or with a fault."""
+
+    __slots__ = ("session", "line", "fault", "mark")
 
     def __init__(self, session: Optional[Hearing] = None) -> None:
         super().__init__()
@@ -186,7 +199,10 @@ class Connection:
         return None
 
     def _tell(self, mark: int) -> None:
-        """Tells what was heard, up to so many in all: in their order, and by one thread at a time."""
+        """Tells what was heard, up to so many in all: in their order, and by one thread at a time. What is being told
+        stands there until it was told."""
+        if not self._heard:
+            return
         with self._telling:
             while self._heard and self._heard[0].number < mark:
                 event = self._heard[0]
@@ -345,8 +361,7 @@ class ProgramConnection(Connection):
         try:
             self.settled(answer)
         except ServerGone as gone:
-            is_classes = gone.status == 1 and "class file refused" in gone.stderr
-            raise (ClassFileRefused if is_classes else NotStarted)(gone.status, gone.stderr) from None
+            raise not_started(gone.status, gone.stderr) from None
 
     def _end(self) -> Fault:
         self._status = self._process.wait()
@@ -357,19 +372,37 @@ class ProgramConnection(Connection):
         return partial(ServerGone, self._status, stderr)
 
 
+def not_started(status: Optional[int], stderr: str) -> NotStarted:
+    """What it means that a server has ended before it answered anything."""
+    is_classes = status == 1 and "class file refused" in stderr
+    return (ClassFileRefused if is_classes else NotStarted)(status, stderr)
+
+
 class SocketConnection(Connection):
-    """A connection through the Unix-domain socket of a front."""
+    """A connection through the Unix-domain socket of a front, which may speak for a session that is shared."""
 
     _ends_when_hung_up = True
 
-    def __init__(self, path: Word) -> None:
+    def __init__(self, path: Word, share: Optional[str]) -> None:
         self._socket = socket.socket(socket.AF_UNIX)
         try:
             self._socket.connect(fspath(path))
+            super().__init__(self._socket.makefile("rb"), self._socket.makefile("wb"))
+            if share is not None:
+                self._share(share)
         except BaseException:
             self._socket.close()
             raise
-        super().__init__(self._socket.makefile("rb"), self._socket.makefile("wb"))
+
+    def _share(self, session: str) -> None:
+        """Asks the front to speak for a session that is shared, before any command is given."""
+        self._socket.sendall(line_with({"front": "share", "session": session}))
+        text = self._reader.readline()
+        if not text.endswith(b"\n"):
+            raise ConnectionClosed
+        line = line_of(text)
+        if "error" in line:
+            raise Refused("share", line["error"], {"session": session})
 
     def _shut(self) -> None:
         try:

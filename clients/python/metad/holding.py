@@ -10,7 +10,7 @@ from typing import Dict, List, Optional
 
 from .connection import Connection, Word
 from .lines import Value
-from .proxies import Shape
+from .shapes import Shape
 
 START_SECONDS = 30.0  # in which a server has to answer its first line
 

@@ -16,6 +16,9 @@ Value = Any
 NOBODY = "-"
 """The session of the answer to a line of which nobody can say whose it was."""
 
+ENCODER = json.JSONEncoder(ensure_ascii=False, separators=(",", ":"), default=index)
+DECODER = json.JSONDecoder()
+
 NO_COMMAND = b"{}\n"
 """A line that is no command: it is answered by `E02` for nobody, and enters no session."""
 
@@ -97,23 +100,27 @@ Meta = TypedDict(
 def named(keys: Dict[str, Value]) -> Dict[str, Value]:
     """The keys of a command by their names in the protocol: those that are words of Python have an underscore behind
     them in Python."""
-    return {key[:-1] if key.endswith("_") else key: value for key, value in keys.items()}
+    return {key[:-1] if key[-1:] == "_" else key: value for key, value in keys.items()}
 
 
 def command_line(session: str, do: str, keys: Dict[str, Value]) -> bytes:
     """The line of a command, in which a value that is no JSON and has an `__index__`, as a proxy, is that number."""
-    whole = {**named(keys), "do": do, "session": session}
-    text = json.dumps(whole, ensure_ascii=False, separators=(",", ":"), default=index)
-    return text.encode("utf-8", "surrogatepass") + b"\n"
+    return line_with({**named(keys), "do": do, "session": session})
+
+
+def line_with(keys: Dict[str, Value]) -> bytes:
+    """A line with these keys, in their order."""
+    return ENCODER.encode(keys).encode("utf-8", "surrogatepass") + b"\n"
 
 
 def line_of(text: bytes) -> Dict[str, Value]:
     """A line that the server wrote."""
     try:
-        line = json.loads(text)
+        whole = text.decode()
+        line, end = DECODER.raw_decode(whole)
     except (ValueError, RecursionError):
         raise StrangeLine(text) from None
-    if not isinstance(line, dict) or not isinstance(line.get("session"), str):
+    if end + 1 != len(whole) or not isinstance(line, dict) or not isinstance(line.get("session"), str):
         raise StrangeLine(text)
     return line
 

@@ -5,9 +5,6 @@
     player.finished.connect(other.play)
     player.play()
 
-What there is in a class is asked for once, by `meta`. That tells the names of properties and the signatures of methods,
-and not which methods are signals, nor the types of properties: the server refuses what does not fit.
-
 A function of Python cannot be connected: the server calls slots, functors and signals, and tells of slots and functors
 alone. So to have a function called for a signal the signal is connected to a slot whose calls are told, and which
 does nothing else. That is a slot of a class `Relay`, which `with_relay` adds to a class file, or another one that is
@@ -19,81 +16,23 @@ what other sessions do somebody has to `spin`, as `wait_for` and `SignalSpy.wait
 from __future__ import annotations
 
 import time
-from typing import TYPE_CHECKING, Any, Callable, Dict, Iterable, List, Optional, Sequence, Tuple, cast
+from typing import TYPE_CHECKING, Any, Callable, Dict, List, Optional, Sequence
 
-from .errors import Ambiguous, MetadError, NoRelay, NotAnswered, OtherSession, Refused
-from .lines import Call, Meta, Value
+from .errors import MetadError, NoRelay, NotAnswered, Refused
+from .lines import Value
+from .shapes import HEAR, RELAY, SPIN_SECONDS, BaseMethod, BaseProxy, calls_of, name_of, no_relay, types_of
 
 if TYPE_CHECKING:
     from .client import Session
     from .hearing import Listener
 
-RELAY = "Relay"
-"""The name of the class whose slots tell functions of signals."""
 
-HEAR = "hear"
-"""The name of its slots, of which there is one for each list of parameters."""
-
-OF_QOBJECT = ["destroyed()", "objectNameChanged(QString)"]
-SPIN_SECONDS = (0.001, 0.05)  # between two spins of a wait: at first, and at most
-
-
-def types_of(signature: str) -> List[str]:
-    """The types of the parameters of a signature, which is given in its normal text."""
-    inside = signature[signature.index("(") + 1 : -1]
-    return inside.split(",") if inside else []
-
-
-def name_of(signature: str) -> str:
-    """The name in a signature."""
-    return signature.split("(", 1)[0]
-
-
-def with_relay(classes: Dict[str, Value]) -> Dict[str, Value]:
-    """What a class file holds, and the class `Relay` behind it, by which functions are called for all its signals."""
-    signals = [it for described in classes["classes"] for it in described.get("signals", [])]
-    lists = dict.fromkeys(_normal_types(it) for it in [*OF_QOBJECT, *signals])
-    slots = [{"sig": f"{HEAR}({types})", "body": []} for types in lists]
-    return {**classes, "classes": [*classes["classes"], {"name": RELAY, "super": "QObject", "slots": slots}]}
-
-
-def _normal_types(signature: str) -> str:
-    """The types of a signature in their normal text, without white space, constants and references."""
-    parts = signature[signature.find("(") + 1 : signature.rfind(")")].replace("&", " ").split(",")
-    types = [" ".join(word for word in part.split() if word != "const") for part in parts]
-    return "" if types == ["void"] else ",".join(types)
-
-
-class Shape:
-    """What there is in a class."""
-
-    def __init__(self, meta: Meta) -> None:
-        self.name = meta["class"]
-        """The name of the class."""
-        self.properties = tuple(meta["properties"])
-        """The names of its properties."""
-        self.methods: Dict[str, Tuple[str, ...]] = {}
-        """The signatures of its methods, by their names."""
-        for signature in meta["methods"]:
-            self.methods[name_of(signature)] = (*self.methods.get(name_of(signature), ()), signature)
-
-
-class Proxy:
+class Proxy(BaseProxy["Session"]):
     """An object of a server. It is made by `create` and `proxy` of a session.
 
     Properties that its class declares are read and written as attributes; methods are attributes that can be called.
     What has the name of something here, or a name that Python cannot write, is reached by `property` and `method`.
     """
-
-    session: Session
-    """The session that the object is of."""
-    number: int
-    """The object's number."""
-    shape: Shape
-    """What there is in its class."""
-
-    def __init__(self, session: Session, number: int, shape: Shape) -> None:
-        self.__dict__.update(session=session, number=number, shape=shape)
 
     def property(self, name: str) -> Property:
         """A property, declared or dynamic, by its name."""
@@ -101,43 +40,19 @@ class Proxy:
 
     def method(self, which: str) -> Method:
         """A signal or a slot, by its name, or by its signature in its normal text where several have the name."""
-        methods = self.shape.methods.get(name_of(which), ())
-        fitting = tuple(it for it in methods if which in (it, name_of(it)))
-        if not fitting:
-            raise Ambiguous(f"{self.shape.name} has no method {which}")
-        return Method(self, name_of(which), fitting)
+        return Method(self, name_of(which), self.shape.fitting(which))
 
     def delete(self) -> None:
         """Deletes the object and all below it."""
         self.session.delete(self.number)
 
-    def __getattr__(self, name: str) -> Any:
-        shape = cast(Optional[Shape], self.__dict__.get("shape"))
-        if shape and name in shape.properties:
-            return self.property(name).value
-        if shape and name in shape.methods:
-            return self.method(name)
-        raise AttributeError(f"{shape.name if shape else Proxy.__name__} declares no {name}")
+    def _read(self, name: str) -> Value:
+        return self.property(name).value
 
     def __setattr__(self, name: str, value: Value) -> None:
         if name not in self.shape.properties or hasattr(Proxy, name) or name in self.__dict__:
             raise AttributeError(f"{name} of {self.shape.name} is not written so; see `property`")
         self.property(name).value = value
-
-    def __dir__(self) -> Iterable[str]:
-        return [*super().__dir__(), *self.shape.properties, *self.shape.methods]
-
-    def __index__(self) -> int:
-        return self.number
-
-    def __eq__(self, other: object) -> bool:
-        return isinstance(other, Proxy) and (self.session, self.number) == (other.session, other.number)
-
-    def __hash__(self) -> int:
-        return hash((id(self.session), self.number))
-
-    def __repr__(self) -> str:
-        return f"<{self.shape.name} {self.number} of {self.session.name}>"
 
 
 class Property:
@@ -152,10 +67,18 @@ class Property:
     @property
     def value(self) -> Value:
         """Its value; None where there is none of this name. Written, None takes a dynamic property away."""
-        return self.owner.session.get(self.owner.number, self.name)
+        return self.get()
 
     @value.setter
     def value(self, value: Value) -> None:
+        self.set(value)
+
+    def get(self) -> Value:
+        """Its value."""
+        return self.owner.session.get(self.owner.number, self.name)
+
+    def set(self, value: Value) -> None:
+        """Writes it."""
         self.owner.session.set(self.owner.number, self.name, value)
 
     @property
@@ -200,26 +123,16 @@ class Heard(Connected):
         return _deleted(self._relay) and stood
 
 
-class Method:
+class Method(BaseMethod[Proxy]):
     """A signal or a slot of an object, or several of one name. It is made by `Proxy.method`.
 
     `method(..)` sends the signal or calls the slot, and so does `emit`; where several have the name, that which has as
     many parameters as there are arguments.
     """
 
-    def __init__(self, owner: Proxy, name: str, signatures: Sequence[str]) -> None:
-        self.owner = owner
-        """The object that it is of."""
-        self.name = name
-        """Its name."""
-        self.signatures = tuple(signatures)
-        """The signatures of this name."""
-
     def __call__(self, *args: Value, type: Optional[str] = None) -> None:
         """Sends the signal or calls the slot; with the type `queued` it is posted as an event."""
-        fitting = [it for it in self.signatures if len(types_of(it)) == len(args)]
-        signature = self._only(fitting, f"takes {len(args)} arguments")
-        self.owner.session.invoke(self.owner.number, signature, args, type=type)
+        self.owner.session.invoke(self.owner.number, self._of_count(len(args)), args, type=type)
 
     def emit(self, *args: Value, type: Optional[str] = None) -> None:
         """Sends the signal, as a call does."""
@@ -265,32 +178,10 @@ class Method:
         given = types_of(signature) if types is None else types
         self.owner.session.join(from_, name, given, self.owner.number, signature)
 
-    def signature(self) -> str:
-        """Its signature; `Ambiguous` where several have its name."""
-        return self._only(self.signatures, "is meant")
-
-    def taking(self, types: Sequence[str], of: str) -> Method:
-        """That of the methods of this name that takes the most of arguments of these types."""
-        lists = [(len(types_of(it)), it) for it in self.signatures]
-        found = [it for count, it in sorted(lists, reverse=True) if types_of(it) == list(types[:count])]
-        return Method(self.owner, self.name, [self._only(found[:1], f"fits {of}({','.join(types)})")])
-
-    def _fit(self, to: Method) -> Method:
-        """That of the methods of a name that takes the most of the signal's arguments."""
-        if to.owner.session is not self.owner.session:
-            raise OtherSession(f"{to.owner!r} and {self.owner!r} are of two sessions: publish the signal, and join it")
-        return to.taking(types_of(self.signature()), self.name)
-
     def _connect(self, to: Method, how: Dict[str, Any]) -> int:
         """Connects the signal to a method; returns the connection's number."""
         own = self.owner
         return own.session.connect(own.number, self.signature(), to.owner.number, to.signature(), **how)
-
-    def _only(self, fitting: Sequence[str], what: str) -> str:
-        if len(fitting) == 1:
-            return fitting[0]
-        fault = f"{len(fitting) or 'none'} of {', '.join(self.signatures)} of {self.owner.shape.name} {what}"
-        raise Ambiguous(f"{fault}; name one by `method`" if fitting else fault)
 
 
 class SignalSpy(List[List[Value]]):
@@ -350,23 +241,13 @@ def _heard(
     slot: Method, told: Callable[..., object], sender: int, relay: Optional[Proxy], connect: Callable[[], int]
 ) -> Heard:
     """Has a function called through a slot, which is then connected; where that is refused, nothing is left of it."""
-    listener = _listen(slot, told, sender)
+    listener = slot.owner.session.on(slot.owner.number, slot.signature(), calls_of(sender, told))
     try:
         return Heard(slot.owner.session, connect(), listener, relay)
     except MetadError:
         listener.stop()
         _deleted(relay)
         raise
-
-
-def _listen(slot: Method, told: Callable[..., object], sender: int) -> Listener:
-    """Has a function called with the arguments of the calls of a slot that this sender sends."""
-
-    def tell(call: Call) -> None:
-        if call.sender == sender:
-            told(*call.args)
-
-    return slot.owner.session.on(slot.owner.number, slot.signature(), tell)
 
 
 def _relay(session: Session, parent: Optional[Proxy]) -> Proxy:
@@ -376,7 +257,7 @@ def _relay(session: Session, parent: Optional[Proxy]) -> Proxy:
     except Refused as refused:
         if refused.code != "E03":
             raise
-        raise NoRelay(f"the server has no class {RELAY}, which `with_relay` adds; or name a slot by `via`") from None
+        raise NoRelay(no_relay()) from None
 
 
 def _deleted(relay: Optional[Proxy]) -> bool:

@@ -5,20 +5,19 @@ import re
 import subprocess
 import sys
 
-from tests.support.documents import BLOCK
-from tests.support.program import SECONDS
+from .documents import BLOCK
+from .program import ROOT, SECONDS
 
-from . import PYTHON
-
+PYTHON = ROOT / "clients" / "python"
 PROGRAM_AND_PRINT = re.compile(rf"^```python\n{BLOCK}```\n+```text\n{BLOCK}```$", re.MULTILINE)
 
 
-def check_page(test, page):
-    """Runs the programs of a page in the folder of a test, and compares what they print; answers how many there are."""
+def check_page(test, page, room):
+    """Runs the programs of a page in a folder, and compares what they print; answers how many there are."""
     examples = PROGRAM_AND_PRINT.findall(page.read_text())
     where = {**os.environ, "PYTHONPATH": str(PYTHON), "PYTHONDONTWRITEBYTECODE": "1"}
     for code, wanted in examples:
         words = [sys.executable, "-W", "error", "-c", code]
-        ran = subprocess.run(words, cwd=test.room, env=where, capture_output=True, text=True, timeout=SECONDS)
+        ran = subprocess.run(words, cwd=room, env=where, capture_output=True, text=True, timeout=SECONDS)
         test.assertEqual((ran.stdout, ran.stderr), (wanted, ""), f"what this prints:\n{code}")
     return len(examples)

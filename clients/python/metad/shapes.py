@@ -1,0 +1,177 @@
+"""What objects of a server are as objects of Python, whether their commands are waited for or awaited: what there is in a
+class, and which of its methods is meant.
+
+What there is in a class is asked for once, by `meta`. That tells the names of properties and the signatures of methods,
+and not which methods are signals, nor the types of properties: the server refuses what does not fit.
+"""
+
+from __future__ import annotations
+
+from typing import Any, Callable, Dict, Generic, Iterable, List, Optional, Sequence, Tuple, TypeVar, cast
+
+from .errors import Ambiguous, OtherSession
+from .hearing import Hearing, OnCall
+from .lines import Call, Meta, Value
+
+RELAY = "Relay"
+"""The name of the class whose slots tell functions of signals."""
+
+HEAR = "hear"
+"""The name of its slots, of which there is one for each list of parameters."""
+
+OF_QOBJECT = ["destroyed()", "objectNameChanged(QString)"]
+SPIN_SECONDS = (0.001, 0.05)  # between two spins of a wait: at first, and at most
+
+SessionKind = TypeVar("SessionKind", bound=Hearing)
+OwnerKind = TypeVar("OwnerKind", bound="BaseProxy[Any]")
+MethodKind = TypeVar("MethodKind", bound="BaseMethod[Any]")
+
+
+def types_of(signature: str) -> List[str]:
+    """The types of the parameters of a signature, which is given in its normal text."""
+    inside = signature[signature.index("(") + 1 : -1]
+    return inside.split(",") if inside else []
+
+
+def name_of(signature: str) -> str:
+    """The name in a signature."""
+    return signature.split("(", 1)[0]
+
+
+def with_relay(classes: Dict[str, Value]) -> Dict[str, Value]:
+    """What a class file holds, and the class `Relay` behind it, by which functions are called for all its signals."""
+    signals = [it for described in classes["classes"] for it in described.get("signals", [])]
+    lists = dict.fromkeys(_normal_types(it) for it in [*OF_QOBJECT, *signals])
+    slots = [{"sig": f"{HEAR}({types})", "body": []} for types in lists]
+    return {**classes, "classes": [*classes["classes"], {"name": RELAY, "super": "QObject", "slots": slots}]}
+
+
+def _normal_types(signature: str) -> str:
+    """The types of a signature in their normal text, without white space, constants and references."""
+    parts = signature[signature.find("(") + 1 : signature.rfind(")")].replace("&", " ").split(",")
+    types = [" ".join(word for word in part.split() if word != "const") for part in parts]
+    return "" if types == ["void"] else ",".join(types)
+
+
+class Shape:
+    """What there is in a class."""
+
+    def __init__(self, meta: Meta) -> None:
+        self.name = meta["class"]
+        """The name of the class."""
+        self.properties = tuple(meta["properties"])
+        """The names of its properties."""
+        self.methods: Dict[str, Tuple[str, ...]] = {}
+        """The signatures of its methods, by their names."""
+        for signature in meta["methods"]:
+            self.methods[name_of(signature)] = (*self.methods.get(name_of(signature), ()), signature)
+
+    def fitting(self, which: str) -> Tuple[str, ...]:
+        """The signatures of the methods of a name, or of a signature; `Ambiguous` where there is none."""
+        fitting = tuple(it for it in self.methods.get(name_of(which), ()) if which in (it, name_of(it)))
+        if not fitting:
+            raise Ambiguous(f"{self.name} has no method {which}")
+        return fitting
+
+
+class BaseProxy(Generic[SessionKind]):
+    """An object of a server, by its session and its number."""
+
+    session: SessionKind
+    """The session that the object is of."""
+    number: int
+    """The object's number."""
+    shape: Shape
+    """What there is in its class."""
+
+    def __init__(self, session: SessionKind, number: int, shape: Shape) -> None:
+        self.__dict__.update(session=session, number=number, shape=shape)
+
+    def property(self, name: str) -> Any:
+        """A property, declared or dynamic, by its name."""
+        raise NotImplementedError
+
+    def method(self, which: str) -> Any:
+        """A signal or a slot, by its name, or by its signature in its normal text where several have the name."""
+        raise NotImplementedError
+
+    def _read(self, name: str) -> Any:
+        """What the attribute is that has the name of a property."""
+        return self.property(name)
+
+    def __getattr__(self, name: str) -> Any:
+        shape = cast(Optional[Shape], self.__dict__.get("shape"))
+        if shape and name in shape.properties:
+            return self._read(name)
+        if shape and name in shape.methods:
+            return self.method(name)
+        raise AttributeError(f"{shape.name if shape else type(self).__name__} declares no {name}")
+
+    def __dir__(self) -> Iterable[str]:
+        return [*super().__dir__(), *self.shape.properties, *self.shape.methods]
+
+    def __index__(self) -> int:
+        return self.number
+
+    def __eq__(self, other: object) -> bool:
+        return isinstance(other, BaseProxy) and (self.session, self.number) == (other.session, other.number)
+
+    def __hash__(self) -> int:
+        return hash((id(self.session), self.number))
+
+    def __repr__(self) -> str:
+        return f"<{self.shape.name} {self.number} of {self.session.name}>"
+
+
+class BaseMethod(Generic[OwnerKind]):
+    """A signal or a slot of an object, or several of one name."""
+
+    def __init__(self, owner: OwnerKind, name: str, signatures: Sequence[str]) -> None:
+        self.owner = owner
+        """The object that it is of."""
+        self.name = name
+        """Its name."""
+        self.signatures = tuple(signatures)
+        """The signatures of this name."""
+
+    def signature(self) -> str:
+        """Its signature; `Ambiguous` where several have its name."""
+        return self._only(self.signatures, "is meant")
+
+    def taking(self: MethodKind, types: Sequence[str], of: str) -> MethodKind:
+        """That of the methods of this name that takes the most of arguments of these types."""
+        lists = [(len(types_of(it)), it) for it in self.signatures]
+        found = [it for count, it in sorted(lists, reverse=True) if types_of(it) == list(types[:count])]
+        return type(self)(self.owner, self.name, [self._only(found[:1], f"fits {of}({','.join(types)})")])
+
+    def _of_count(self, count: int) -> str:
+        """The signature of this name that has so many parameters."""
+        fitting = [it for it in self.signatures if len(types_of(it)) == count]
+        return self._only(fitting, f"takes {count} arguments")
+
+    def _fit(self, to: MethodKind) -> MethodKind:
+        """That of the methods of a name that takes the most of the signal's arguments."""
+        if to.owner.session is not self.owner.session:
+            raise OtherSession(f"{to.owner!r} and {self.owner!r} are of two sessions: publish the signal, and join it")
+        return to.taking(types_of(self.signature()), self.name)
+
+    def _only(self, fitting: Sequence[str], what: str) -> str:
+        if len(fitting) == 1:
+            return fitting[0]
+        fault = f"{len(fitting) or 'none'} of {', '.join(self.signatures)} of {self.owner.shape.name} {what}"
+        raise Ambiguous(f"{fault}; name one by `method`" if fitting else fault)
+
+
+def calls_of(sender: int, told: Callable[..., object]) -> OnCall:
+    """What is told of the calls of a slot, and has a function called with the arguments of those that this sender sends."""
+
+    def tell(call: Call) -> None:
+        if call.sender == sender:
+            told(*call.args)
+
+    return tell
+
+
+def no_relay() -> str:
+    """Why a function cannot be called for a signal, where the server has no relay."""
+    return f"the server has no class {RELAY}, which `with_relay` adds; or name a slot by `via`"

@@ -1,0 +1,233 @@
+#!/usr/bin/env python3
+"""Packs bin/metad as it is, with all that `make install` installs: as a tarball for any folder, or for Debian.
+
+The same files make the same bytes, on any day and by anybody: all that a package holds has the time of the newest
+commit, or that of SOURCE_DATE_EPOCH, and belongs to root. SHA256SUMS beside it has the checksums of all packages there.
+Usage: package.py tarball|debian FOLDER
+"""
+
+from __future__ import annotations
+
+import argparse
+import gzip
+import hashlib
+import os
+import re
+import subprocess
+import sys
+import tarfile
+from pathlib import Path
+from tempfile import TemporaryDirectory
+from typing import IO, Callable, Dict, List, Sequence, Tuple, cast
+
+ROOT = Path(__file__).resolve().parent.parent
+PROGRAM = ROOT / "bin" / "metad"
+OF_MAKE = ("MAKEFLAGS", "MAKELEVEL", "MFLAGS")
+ELF = b"\x7fELF\x02\x01"  # how programs begin that are of 64 bits, the lowest byte first
+PROCESSOR, X86_64 = 18, 62  # where they say for which processor they are, and what is said of this one
+FIRST_GLIBC = (2, 2, 5)  # that there was for it
+SITE = "/usr/lib/python3/dist-packages"  # where Python looks on Debian
+OF_GLIBC = ("libc.so", "libm.so", "libpthread.so", "libdl.so", "ld-linux-x86-64.so")
+PACKAGES = {**dict.fromkeys(OF_GLIBC, "libc6"), "libgcc_s.so": "libgcc-s1"}
+OLDEST_PYTHON = "3.8"
+
+ABOUT = """\
+metad {version}, for x86-64 Linux with glibc {glibc} or later; the tools need Python {python} or later beside it.
+
+This folder may stand anywhere. With its bin/ on the path there are metad, metad-front, metad-shell, metad-check and
+metad-explain; with share/metad/python on PYTHONPATH programs in Python find the client. man -l share/man/man1/metad.1
+shows the manual page, and share/doc/metad/README.md leads to the documents. sha256sum -c SHA256SUMS compares all files.
+"""
+
+CONTROL = """\
+Package: metad
+Version: {version}
+Architecture: amd64
+Maintainer: {maintainer}
+Section: devel
+Priority: optional
+Installed-Size: {size}
+Depends: {depends}
+Description: server of live objects with the meta-object system of Qt 6
+ Classes, trees of objects, signals and slots, properties that can be bound to
+ others, queued events and publications between sessions, in one server whose
+ sessions are isolated. Commands come in as JSON, one a line, and replies, calls
+ and warnings go out as JSON lines. With a front for many clients of a socket, a
+ line editor, a checker of class files and a client for Python.
+"""
+
+COPYRIGHT = "The owner of metad has not chosen a licence yet.\n"
+
+BEFORE_REMOVAL = """\
+#!/bin/sh
+set -e
+for it in {folders}; do rm -rf "$DPKG_ROOT/usr/share/metad/$it/__pycache__"; done
+"""
+
+
+class Unable(Exception):
+    """Why there is no package, as a text for people."""
+
+
+def version() -> str:
+    """The version of the program and of the client."""
+    found = re.search(r'^__version__ = "(.*)"$', (ROOT / "clients/python/metad/__init__.py").read_text(), re.MULTILINE)
+    assert found
+    return found[1]
+
+
+def epoch() -> int:
+    """The time that all files are given, in seconds."""
+    said = os.environ.get("SOURCE_DATE_EPOCH")
+    if said is None:
+        ran = subprocess.run(["git", "-C", ROOT, "log", "-1", "--format=%ct"], capture_output=True, text=True)
+        said = ran.stdout.strip() or "0"
+    if not said.isdigit():
+        raise Unable(f"SOURCE_DATE_EPOCH is no number of seconds: {said}")
+    return int(said)
+
+
+def needs_of(program: Path) -> Tuple[List[str], str]:
+    """The libraries that a program needs, and the oldest glibc that has all that it asks for."""
+    head = program.read_bytes()[: PROCESSOR + 1]
+    if not head.startswith(ELF) or head[PROCESSOR] != X86_64:
+        raise Unable(f"{program} is no program for x86-64")
+    told = said_by(["objdump", "-p", program])
+    versions = [tuple(map(int, it.split("."))) for it in re.findall(r"\bGLIBC_([0-9.]+)", told)]
+    return re.findall(r"NEEDED\s+(\S+)", told), ".".join(map(str, max(versions, default=FIRST_GLIBC)))
+
+
+def said_by(words: Sequence[object], **more: str) -> str:
+    """What a program writes, which has to end well."""
+    own = {key: value for key, value in os.environ.items() if key not in OF_MAKE}
+    try:
+        ran = subprocess.run([str(it) for it in words], capture_output=True, text=True, env={**own, **more})
+    except OSError as error:
+        raise Unable(f"{words[0]} cannot be started: {error.strerror}") from None
+    if ran.returncode:
+        raise Unable((ran.stderr or ran.stdout).strip())
+    return ran.stdout
+
+
+def install(stage: Path, *words: str) -> None:
+    """Installs into a folder, by the Makefile."""
+    if not PROGRAM.is_file():
+        raise Unable("bin/metad is not there yet: make builds it")
+    said_by(["make", "-s", "-C", ROOT, "install", f"DESTDIR={stage}", *words])
+
+
+def files_below(top: Path) -> List[Path]:
+    """The files below a folder, without links, in the order of their paths."""
+    return sorted(it for it in top.rglob("*") if it.is_file() and not it.is_symlink())
+
+
+def sums_of(top: Path, algorithm: str) -> str:
+    """The checksums of the files below a folder, as `sha256sum` writes them."""
+    sums = ((hashlib.new(algorithm, it.read_bytes()).hexdigest(), it.relative_to(top)) for it in files_below(top))
+    return "".join(f"{checksum}  {path}\n" for checksum, path in sums)
+
+
+def settle(top: Path, time: int) -> None:
+    """Gives all below a folder, and itself, the same time, and modes that no umask has a part in."""
+    for it in [*top.rglob("*"), top]:
+        if not it.is_symlink():
+            it.chmod(0o755 if it.is_dir() or os.access(it, os.X_OK) else 0o644)
+        os.utime(it, (time, time), follow_symlinks=False)
+
+
+def tarball(folder: Path) -> Path:
+    """Makes the tarball; answers where it is."""
+    name = f"metad-{version()}-x86_64-linux"
+    path = folder / f"{name}.tar.gz"
+    with TemporaryDirectory(prefix="metad-package-") as room:
+        top = Path(room, name)
+        install(top, "PREFIX=")
+        (top / "README").write_text(ABOUT.format(version=version(), glibc=needs_of(PROGRAM)[1], python=OLDEST_PYTHON))
+        (top / "SHA256SUMS").write_text(sums_of(top, "sha256"))
+        settle(top, epoch())
+        write_tarball(path, top)
+    return path
+
+
+def write_tarball(path: Path, top: Path) -> None:
+    """Writes a folder with all below it, in the order of the paths."""
+    with path.open("wb") as file, gzip.GzipFile("", "wb", 9, file, mtime=0) as packed:
+        with tarfile.open(fileobj=cast("IO[bytes]", packed), mode="w", format=tarfile.USTAR_FORMAT) as tar:
+            for it in [top, *sorted(top.rglob("*"))]:
+                tar.add(it, str(it.relative_to(top.parent)), recursive=False, filter=of_root)
+
+
+def of_root(member: tarfile.TarInfo) -> tarfile.TarInfo:
+    """A member of a tarball that belongs to root."""
+    member.uid = member.gid = 0
+    member.uname = member.gname = "root"
+    return member
+
+
+def debian(folder: Path) -> Path:
+    """Makes the package for Debian; answers where it is."""
+    path = folder / f"metad_{version()}_amd64.deb"
+    with TemporaryDirectory(prefix="metad-package-") as room:
+        top = Path(room, "metad")
+        install(top, "PREFIX=/usr", f"SITE={SITE}")
+        page = top / "usr/share/man/man1/metad.1"
+        page.with_suffix(".1.gz").write_bytes(gzip.compress(page.read_bytes(), 9, mtime=0))
+        page.unlink()
+        (top / "usr/share/doc/metad/copyright").write_text(COPYRIGHT)
+        describe(top)
+        settle(top, epoch())
+        words = ["dpkg-deb", "--root-owner-group", "--uniform-compression", "-Zxz", "--build", top, path]
+        said_by(words, SOURCE_DATE_EPOCH=str(epoch()))
+    return path
+
+
+def describe(top: Path) -> None:
+    """Puts into a folder what Debian has to know of the package."""
+    sums, size = sums_of(top, "md5"), sum(it.stat().st_size for it in files_below(top))
+    shared = top / "usr/share/metad"
+    folders = sorted(str(it.relative_to(shared)) for it in {path.parent for path in shared.rglob("*.py")})
+    maintainer = os.environ.get("MAINTAINER", "metad <metad@localhost>")
+    told = CONTROL.format(version=version(), maintainer=maintainer, size=-(-size // 1024), depends=depends())
+    (top / "DEBIAN").mkdir()
+    (top / "DEBIAN/control").write_text(told)
+    (top / "DEBIAN/md5sums").write_text(sums)
+    (top / "DEBIAN/prerm").write_text(BEFORE_REMOVAL.format(folders=" ".join(folders)))
+    (top / "DEBIAN/prerm").chmod(0o755)
+
+
+def depends() -> str:
+    """The packages of Debian that the program and the tools need."""
+    libraries, glibc = needs_of(PROGRAM)
+    named = [it.partition(".so")[0] + ".so" for it in libraries]
+    unknown = [it for it in named if it not in PACKAGES]
+    if unknown:
+        raise Unable(f"no package of Debian is known here for {', '.join(unknown)}")
+    needed = {PACKAGES[it] for it in named}
+    versions = {"libc6": f" (>= {glibc})"}
+    return ", ".join([*(it + versions.get(it, "") for it in sorted(needed)), f"python3 (>= {OLDEST_PYTHON})"])
+
+
+MAKERS: Dict[str, Callable[[Path], Path]] = {"tarball": tarball, "debian": debian}
+
+
+def main() -> int:
+    words = argparse.ArgumentParser(description="Packs bin/metad as it is, with all that `make install` installs.")
+    words.add_argument("kind", choices=MAKERS, help="a tarball for any folder, or a package for Debian")
+    words.add_argument("folder", type=Path, help="where it is put, with SHA256SUMS beside it")
+    given = words.parse_args()
+    try:
+        given.folder.mkdir(parents=True, exist_ok=True)
+        print(MAKERS[given.kind](given.folder))
+        packages = sorted([*given.folder.glob("metad-*.tar.gz"), *given.folder.glob("metad_*.deb")])
+        lines = (f"{hashlib.sha256(it.read_bytes()).hexdigest()}  {it.name}\n" for it in packages)
+        (given.folder / "SHA256SUMS").write_text("".join(lines))
+    except (Unable, OSError) as error:
+        print(f"package.py: {error}", file=sys.stderr)
+        return 1
+    except KeyboardInterrupt:
+        return 130
+    return 0
+
+
+if __name__ == "__main__":
+    sys.exit(main())
