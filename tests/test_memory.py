@@ -1,36 +1,65 @@
-"""Memory: each request of the program for more is refused in turn, and what comes of it is looked at; and the look at it
-tells good programs from bad ones."""
+"""Memory: each request of the program for more is refused in turn, and what comes of it is looked at; the look at it tells
+good programs from bad ones; and the program has little memory, and gives back what it has had."""
 
 import json
 from collections import Counter
-from concurrent.futures import ProcessPoolExecutor
+from concurrent.futures import ProcessPoolExecutor, ThreadPoolExecutor
 from dataclasses import replace
 from functools import partial
+from itertools import islice
 from subprocess import CompletedProcess
 
-from .generators import bindings
+from .generators import bindings, mixed, repeating
+from .generators.growing import growing_row
 from .plain.lines import answer, server_of
-from .support.by_chance import session_by_chance
-from .support.cases import CASE, Cases, ProgramCases
-from .support.growths import COMPLAINT, KINDS, OUT_OF_MEMORY, Tried, Trial, count_start, missing, refuse_growths, start_of
+from .support.bounded import NOT_LOADED, UNLOADED, came_of, run_bounded
+from .support.by_chance import listeners_by_chance, session_by_chance
+from .support.cases import AT_ONCE, CASE, Cases, ProgramCases
+from .support.differences import difference
+from .support.growths import (
+    COMPLAINT,
+    ENDED,
+    FAILED,
+    KINDS,
+    LINE_LOST,
+    MOST,
+    NOT_ENTERED,
+    NOT_SEEN,
+    NOT_STARTED,
+    OUT_OF_MEMORY,
+    RECEIVER_FAILED,
+    Tried,
+    Trial,
+    count_start,
+    missing,
+    refuse_growths,
+    start_of,
+)
 from .support.lines import lines_of
+from .support.peaks import peaks_of
 from .support.program import ROWS, Row, library, row_of, rows_in
-
 
 SESSIONS = 1_000
 COMMANDS = 200
 REFUSED = 400  # one of so many requests for memory behind the start is refused, if the program comes to it
+LISTENERS = 200  # runs of sessions that listen to each other
+REFUSED_OF_LISTENERS = 3  # requests of each that are refused, each in a run by itself
 
 
-def refuse_by_chance(program, preloaded, seed):
+def refuse_with_bindings(program, preloaded, seed):
     """What comes of a session with bindings in which one growth is refused, which is taken by chance."""
     made = bindings.Watching(seed)
     with session_by_chance(made, seed, COMMANDS) as session:
-        trial = Trial(program, preloaded, session.row)
-        number = count_start(program, preloaded, session.row) + made.randint(1, REFUSED)
-        ran, _was_refused = trial.run(number)
-        outcome = trial.outcome(ran)
-        return Tried(Counter([outcome]), None if outcome else trial.refusal_fault(number, ran))
+        trial = Trial(program, preloaded, session.row, count_start(program, preloaded, session.row))
+        return trial.refuse_some([trial.start + made.randint(1, REFUSED)])
+
+
+def refuse_among_listeners(program, preloaded, seed):
+    """What comes of sessions that listen to each other where one growth of theirs is refused, taken from all by chance."""
+    made = mixed.Chance(seed)
+    with listeners_by_chance(made, seed) as row:
+        trial = Trial(program, preloaded, row, count_start(program, preloaded, row))
+        return trial.refuse_some(made.sample(range(trial.start + 1, trial.count() + 1), REFUSED_OF_LISTENERS))
 
 
 class RefusedGrowths(ProgramCases):
@@ -41,29 +70,118 @@ class RefusedGrowths(ProgramCases):
     and where the row has more than 1,000 lines by a fifth.
     """
 
+    def tell_outcomes(self, tried):
+        """Says how often each kind of outcome came about, and answers these counts."""
+        outcomes = sum((it.outcomes for it in tried), Counter())
+        kinds = ", ".join(f"{kind}: {outcomes[kind]:,}" for kind in KINDS)
+        self.tell(f"{kinds}, lines of other sessions compared: {sum(it.neighbours for it in tried):,}")
+        return outcomes
+
     def test_refused_growths(self):
         """Each leads to one of the allowed outcomes, and each of these comes about."""
         rows, preloaded, first_rows = rows_in(ROWS), library("refuse_growth"), {}
         for row in rows:
             first_rows.setdefault(start_of(row), row)
+        with ThreadPoolExecutor(AT_ONCE) as pool:
+            starts = dict(zip(first_rows, pool.map(partial(count_start, self.program, preloaded), first_rows.values())))
 
         def try_row(row):
-            alike = first_rows[start_of(row)]
-            first = 1 if alike is row else count_start(self.program, preloaded, alike) + 1
-            return refuse_growths(self.program, preloaded, row, first)
+            start = starts[start_of(row)]
+            first = 1 if first_rows[start_of(row)] is row else start + 1
+            return refuse_growths(self.program, preloaded, row, start, first)
 
-        tried = self.check_each([(row.name, row) for row in rows], try_row, lambda it: it.fault)
-        outcomes = sum((it.outcomes for it in tried), Counter())
-        self.tell(", ".join(f"{kind}: {count:,}" for kind, count in sorted(outcomes.items())))
+        outcomes = self.tell_outcomes(self.check_each([(row.name, row) for row in rows], try_row, lambda it: it.fault))
         self.assertEqual([] if CASE else missing(outcomes), [], "no refused growth ever led to this")
+
+    def test_refused_arrival(self):
+        """One is the growth that a post needs where it arrives: the receiver alone has failed, up to its reset."""
+        preloaded, seen = library("refuse_growth"), []
+        start = count_start(self.program, preloaded, POSTED)
+        trial = Trial(self.program, preloaded, POSTED, start)
+        for number in range(start + 1, MOST):
+            ran, was_refused = trial.run(number)
+            if not was_refused:
+                break
+            if ran.stdout == b"".join(RECEIVER_FAILS):
+                seen.append(number - start)
+        self.assertTrue(seen, "no refused growth made the receiver fail")
+        self.tell(f"growths behind the start: {number - start - 1}, of arrivals: {seen}")
+
+    def check_by_chance(self, number, try_seed, kinds):
+        """Tries so many sessions or runs, and that some of them lead to outcomes of these kinds."""
+        cases = ((f"by chance, {seed}", seed) for seed in range(1, number + 1))
+        tried = self.check_each(cases, partial(try_seed, self.program, library("refuse_growth")), lambda it: it.fault, ProcessPoolExecutor)
+        outcomes = self.tell_outcomes(tried)
+        few = [kind for kind, least in kinds.items() if outcomes[kind] < least]
+        self.assertEqual([] if CASE else few, [], "too few sessions led to this")
 
     def test_sessions_with_bindings(self):
         """So does one growth, taken by chance, of each of many sessions whose bindings are asked for after each command."""
-        cases = ((f"by chance, {seed}", seed) for seed in range(1, SESSIONS + 1))
-        tried = self.check_each(cases, partial(refuse_by_chance, self.program, library("refuse_growth")), lambda it: it.fault, ProcessPoolExecutor)
-        outcomes = sum((it.outcomes for it in tried), Counter())
-        self.tell(", ".join(f"{kind}: {count:,}" for kind, count in sorted(outcomes.items())))
-        self.assertGreaterEqual(outcomes[KINDS[0]], 0 if CASE else SESSIONS // 10, "too few sessions have failed")
+        self.check_by_chance(SESSIONS, refuse_with_bindings, {FAILED: SESSIONS // 10})
+
+    def test_sessions_that_listen(self):
+        """So do some, each in a run of its own, of sessions that publish, join, bind and call functors."""
+        self.check_by_chance(LISTENERS, refuse_among_listeners, {FAILED: LISTENERS // 10, RECEIVER_FAILED: 1})
+
+
+MIB, KIB = 2**20, 2**10
+LEAST_SPACE, STEP_OF_SPACE, MOST_SPACE = 2 * MIB, 64 * KIB, 64 * MIB  # in the least the program is not even loaded
+SPACES = 4 * AT_ONCE  # that are tried before it is looked whether one of them was enough
+MOST_GROWN = 1.02  # of the peak of the first lines
+
+
+def try_space(program, row, size):
+    """What comes of a row in so many bytes of address space, and what was written then."""
+    ran = run_bounded(program, row, f"ulimit -v {size // KIB}")
+    return size, came_of(row, ran), ran
+
+
+class LittleMemory(ProgramCases):
+    """The program where there is little memory, and what it gives back."""
+
+    def tried_spaces(self, row):
+        """What comes of a row in an address space of 2 MiB, and of 64 KiB more each time, up to where it passes whole."""
+        sizes, tried = iter(range(LEAST_SPACE, MOST_SPACE, STEP_OF_SPACE)), []
+        with ProcessPoolExecutor(AT_ONCE) as pool:
+            while not any(NOT_SEEN in came.kinds for _, came, _ in tried):
+                part = list(islice(sizes, SPACES))
+                self.assertTrue(part, "no space was enough")
+                tried += pool.map(partial(try_space, self.program, row), part)
+        return tried
+
+    def check_spaces(self, row, needed):
+        """Each run ends by itself, and each session is told what it may be told where memory is short; outcomes of these
+        kinds come about."""
+        outcomes, whole = Counter(), None
+        for size, came, ran in self.tried_spaces(row):
+            with self.subTest(space=f"{size // KIB:,} KiB"):
+                self.assertTrue(came.is_allowed, f"status {ran.returncode}, {ran.stderr[-300:]!r}, {difference(row.stdout, ran.stdout)}")
+            outcomes.update(set(came.kinds))
+            whole = whole or (size if NOT_SEEN in came.kinds else None)
+        kinds = ", ".join(f"{kind}: {count:,}" for kind, count in sorted(outcomes.items()))
+        self.tell(f"runs by what shows in them: {kinds}; whole in {whole // KIB:,} KiB")
+        self.assertEqual([kind for kind in needed if not outcomes[kind]], [], "no space led to this")
+
+    def test_two_sessions(self):
+        """Two sessions, of which one hears the other."""
+        self.check_spaces(row_of(ROWS / "signal_is_posted_to_another_session"), [NOT_LOADED, ENDED])
+
+    def test_session_that_grows(self):
+        """A session that grows until it fails, beside one that counts on, is reset and grows again."""
+        self.check_spaces(growing_row(), [NOT_LOADED, ENDED, FAILED])
+
+    def check_peaks(self, parts):
+        first, *peaks = peaks_of(self.program, parts)
+        self.tell(f"peak of the first {repeating.LINES:,} lines: {first:,} KiB, of {(1 + len(peaks)) * repeating.LINES:,}: {max(peaks):,} KiB")
+        self.assertLessEqual(max(peaks), MOST_GROWN * first)
+
+    def test_what_deletions_give_back(self):
+        """A million lines that make and delete take no more memory than the first of them."""
+        self.check_peaks(repeating.deleted())
+
+    def test_what_resets_give_back(self):
+        """Nor do a million lines that make objects of a session, which is then reset."""
+        self.check_peaks(repeating.reset())
 
 
 def text(**keys):
@@ -166,11 +284,12 @@ BEGUN = [NUMBER_A, NUMBER_B, TRUTH_B, TRUTH_A]
 FAILED_A, FAILED_B, LATER_A, LATER_B = (error(code, session) for code in ("E21", "E20") for session in "ab")
 CALLED_B = POSTED_B + SPUN
 RESET_B = [TRUTH_B, NOTHING_B]
+RECEIVER_FAILS = [*BEGUN, TRUTH_A, LATER_B, TRUTH_A, *RESET_B]
 
 # what a program writes where one growth is refused while one session posts to another, line by line, and what that is
 CASES_OF_POSTS = [
     ("the row itself", [*BEGUN, TRUTH_A, CALLED_B, TRUTH_A, *RESET_B], "not seen"),
-    ("the receiver fails", [*BEGUN, TRUTH_A, LATER_B, TRUTH_A, *RESET_B], "receiver failed"),
+    ("the receiver fails", RECEIVER_FAILS, "receiver failed"),
     ("the receiver fails in its own command", [*BEGUN, TRUTH_A, FAILED_B, TRUTH_A, *RESET_B], "session failed"),
     ("the receiver fails at its reset", [*BEGUN, TRUTH_A, CALLED_B, TRUTH_A, FAILED_B, LATER_B], "session failed"),
     ("the receiver fails where it joins", [NUMBER_A, NUMBER_B, FAILED_B, TRUTH_A, TRUTH_A, LATER_B, TRUTH_A, *RESET_B], "session failed"),
@@ -186,6 +305,29 @@ CASES_OF_POSTS = [
     ("the receiver goes on", [*BEGUN, TRUTH_A, LATER_B, TRUTH_A, TRUTH_B, JOINS_B], None),
     ("the receiver stays failed", [*BEGUN, TRUTH_A, LATER_B, TRUTH_A, LATER_B, LATER_B], None),
     ("the receiver is told of its failure and goes on", [*BEGUN, TRUTH_A, LATER_B, TRUTH_A, TRUTH_B, LATER_B], None),
+]
+
+LOADED_NOT = b"metad: error while loading shared libraries: libc.so.6: failed to map segment from shared object\n"
+
+# the same where any number of growths may be refused: what it writes, its status and what it says, and what shows in that
+CASES_OF_LITTLE = [
+    ("the row itself", [POSTED.stdout], 0, b"", [NOT_SEEN]),
+    ("both sessions fail", [*BEGUN, FAILED_A, LATER_B, LATER_A, *RESET_B], 0, b"", [FAILED, RECEIVER_FAILED]),
+    ("a session fails and a line is lost", [*BEGUN, TRUTH_A, FAILED_B, error("E21", "-"), *RESET_B], 0, b"", [FAILED, LINE_LOST]),
+    ("a session fails twice", [NUMBER_A, NUMBER_B, FAILED_B, TRUTH_A, TRUTH_A, LATER_B, TRUTH_A, FAILED_B, LATER_B], 0, b"", [FAILED] * 2),
+    ("a session is entered at its third line", [FAILED_A, NUMBER_B, TRUTH_B, FAILED_A, error("E04", "a"), SPUN_NOTHING, error("E04", "a"), *RESET_B], 0, b"", [NOT_ENTERED] * 2),
+    ("the program ends at once", [], OUT_OF_MEMORY, COMPLAINT, [ENDED]),
+    ("the program ends behind a failure", [*BEGUN, FAILED_A, SPUN_NOTHING], OUT_OF_MEMORY, COMPLAINT, [FAILED, ENDED]),
+    ("the program ends in a line", [*BEGUN, TRUTH_A, POSTED_B[:9]], OUT_OF_MEMORY, COMPLAINT, [ENDED]),
+    ("the program ends in another line", [*BEGUN, TRUTH_A, SPUN[:12]], OUT_OF_MEMORY, COMPLAINT, None),
+    ("the program is not loaded", [], UNLOADED, LOADED_NOT, [NOT_LOADED]),
+    ("the program says something, and is not loaded", [NUMBER_A], UNLOADED, LOADED_NOT, None),
+    ("the program ends by a signal", [], -11, b"", None),
+    ("the program ends without a word", BEGUN, OUT_OF_MEMORY, b"", None),
+    ("the program stops early", BEGUN, 0, b"", None),
+    ("a failed session goes on", [*BEGUN, FAILED_A, SPUN_NOTHING, TRUTH_A, *RESET_B], 0, b"", None),
+    ("a lost line was done", [*BEGUN, error("E21", "-"), CALLED_B, TRUTH_A, *RESET_B], 0, b"", None),
+    ("one line too many", [POSTED.stdout, NOTHING_B], 0, b"", None),
 ]
 
 
@@ -209,8 +351,23 @@ class Outcomes(Cases):
 
         self.check_each([(name, case) for name, *case in cases], fault_of)
 
+    def test_outcomes_of_little_memory(self):
+        """So are all that come of one run, where more than one growth may be refused."""
+        for name, lines, status, said, kinds in CASES_OF_LITTLE:
+            with self.subTest(case=name):
+                came = came_of(POSTED, ended(b"".join(lines), status, said))
+                self.assertEqual(list(came.kinds) if came.is_allowed else None, kinds)
+
+    def test_outcomes_of_starts(self):
+        """An end is the start's where the growth is one of its own, and nothing was written."""
+        kinds = [(9, b"", NOT_STARTED), (10, b"", ENDED), (10, NUMBER_A, ENDED), (9, NUMBER_A, None)]
+        for number, wrote, kind in kinds:
+            with self.subTest(number=number, wrote=wrote):
+                trial = Trial("made up", "", replace(ROW), start=9)
+                self.assertEqual(trial.outcome(ended(wrote, OUT_OF_MEMORY, COMPLAINT), number), kind)
+
     def test_missing(self):
         """It is seen which outcomes never came: of a program that ends at every refused growth, and of others."""
-        self.assertEqual(missing(Counter({"program ended": 9})), list(KINDS[:-1]))
+        self.assertEqual(missing(Counter({ENDED: 9})), [kind for kind in KINDS if kind != ENDED])
         self.assertEqual(missing(Counter(KINDS)), [])
         self.assertEqual(missing(Counter(KINDS[1:])), [KINDS[0]])

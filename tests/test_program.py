@@ -1,5 +1,5 @@
-"""The program as a process: its ends and the words of its command line, what it says over pipes, its limits on a stack of
-8 MiB, and names that are chosen to make it slow."""
+"""The program as a process: its ends and the words of its command line, what it says over pipes, a limit on the size of its
+output, its limits on a stack of 8 MiB and of half of that, and names that are chosen to make it slow."""
 
 import os
 import resource
@@ -10,7 +10,7 @@ import time
 from contextlib import ExitStack, contextmanager
 from dataclasses import dataclass, replace
 from pathlib import Path
-from tempfile import TemporaryDirectory
+from tempfile import TemporaryDirectory, TemporaryFile
 
 from .generators import colliding, limits
 from .support.cases import ProgramCases, processor_seconds
@@ -231,8 +231,62 @@ class Pipes(ProgramCases):
         self.tell(f"turns: {len(TALK)}")
 
 
+TRUTHS = SET * 1_000
+OF_TRUTHS = reply("true") * 1_000
+WITHOUT_CORE = "ulimit -c 0"
+OF_SIZE = "ulimit -f 4"  # blocks, each of 512 bytes or of 1,024
+IGNORED, NOT_IGNORED = "trap '' XFSZ", "trap - XFSZ"
+EXCEEDED = -signal.SIGXFSZ
+
+
+class Sizes(ProgramCases):
+    """A limit on the size of the files that the program writes."""
+
+    def run_limited(self, setting):
+        """What comes of a run that writes to a file beyond such a limit, behind this setting of the shell's, and the file."""
+        with TemporaryDirectory(prefix="metad-sizes-") as room:
+            wrote = Path(room, "wrote")
+            words = [WITHOUT_CORE, setting, OF_SIZE, f'exec "$0" > {wrote}']
+            ran = subprocess.run(["sh", "-c", " && ".join(words), self.program], input=NEW + TRUTHS, stderr=subprocess.PIPE, timeout=SECONDS)
+            return ran, wrote.read_bytes()
+
+    def check_front(self, wrote):
+        """What stands in the file is as much of the answer as may."""
+        self.assertTrue(wrote and (ONE + OF_TRUTHS).startswith(wrote), wrote[-300:])
+        self.assertLess(len(wrote), len(ONE + OF_TRUTHS))
+
+    def test_signal_ignored(self):
+        """Where the signal of the limit is ignored, which a program inherits, it ends as with a full device."""
+        ran, wrote = self.run_limited(IGNORED)
+        self.assertEqual((ran.returncode, ran.stderr), (4, WRITE_FAULT))
+        self.check_front(wrote)
+
+    def test_signal_not_ignored(self):
+        """Where it is not, it ends the program, as it does any other."""
+        ran, wrote = self.run_limited(NOT_IGNORED)
+        self.assertEqual((ran.returncode, ran.stderr), (EXCEEDED, b""))
+        self.check_front(wrote)
+
+    def test_started_by_python(self):
+        """Python ignores the signal, and lets what it starts do so too where it is asked for that."""
+        for is_restored, status in ((False, 4), (True, EXCEEDED)):
+            with self.subTest(restore_signals=is_restored), TemporaryFile() as sink:
+                ran = subprocess.run(
+                    ["sh", "-c", f'{WITHOUT_CORE} && {OF_SIZE} && exec "$0"', self.program],
+                    input=NEW + TRUTHS,
+                    stdout=sink,
+                    stderr=subprocess.PIPE,
+                    timeout=SECONDS,
+                    restore_signals=is_restored,
+                )
+                self.assertEqual(ran.returncode, status)
+                sink.seek(0)
+                self.check_front(sink.read())
+
+
 KIB = 1024
 STACK = 8 * KIB * KIB
+HALF = STACK // 2
 ADDRESSES = 20 * KIB * KIB
 
 
@@ -284,8 +338,9 @@ class Limits(ProgramCases):
         self.check_each(self.cases(limits.wide_rows()), wide, at_once=1)
 
     def test_deep(self):
-        """Signals, changes and deletions that nest as deep as they may; it is told how much stack they need."""
-        self.check_needs(limits.deep_rows(), resource.RLIMIT_STACK, STACK, "on a stack of")
+        """Signals, changes, bindings and deletions that nest as deep as they may pass on a stack of 4 MiB; it is told how much
+        they need."""
+        self.check_needs(limits.deep_rows(), resource.RLIMIT_STACK, HALF, "on a stack of")
 
     def test_shared(self):
         """As many events as there may be, whose texts are those of two emissions; it is told in how much memory."""

@@ -15,6 +15,7 @@ LEVELS = 64
 TEXT_BYTES = 4_096
 PARAMETERS = 10
 DYNAMIC_PROPERTIES = 64
+FORMS = 64
 E07, E08, E09, E10, E14 = ({"error": code} for code in ("E07", "E08", "E09", "E10", "E14"))
 E04, E05, E15, E16, E17, E22 = ({"error": code} for code in ("E04", "E05", "E15", "E16", "E17", "E22"))
 SPIN, STATUS, CHILDREN, RESET, BEGIN, END = ({"do": word} for word in ("spin", "status", "children", "reset", "begin", "end"))
@@ -307,12 +308,20 @@ def notes(numbers):
     return [call("note()", number, number) for number in numbers]
 
 
-def bound_chain(count):
-    """Objects of which each adds one to what the one before it shows."""
+def deepened(form):
+    """A form of numbers within as many sums as there may be around three forms."""
+    for _ in range((FORMS - 3) // 2):
+        form = {"+": [form, {"const": 0}]}
+    return form
+
+
+def bound_chain(count, shaped=lambda form: form):
+    """Objects of which each adds one to what the one before it shows, by forms that are shaped in some way."""
     numbers, middle = range(1, count + 1), count // 2
     yield from noted_objects(count)
     yield BEGIN, reply(1)
-    yield from ((bind(it, "x", {"+": [{"prop": "x", "of": it - 1}, {"const": 1}]}), reply(True)) for it in numbers[1:])
+    forms = {it: shaped({"+": [{"prop": "x", "of": it - 1}, {"const": 1}]}) for it in numbers[1:]}
+    yield from ((bind(it, "x", form), reply(True)) for it, form in forms.items())
     yield END, *notes(numbers[1:]), reply(0)
     yield get(count, "x"), reply(count - 1)
     yield set_to(1, "x", 7), *notes(numbers), reply(True)
@@ -477,10 +486,10 @@ def ring(count):
     yield set_to(LEVELS + 2, "x", 7), *calls(LEVELS + 2, 7), warning("E14", 2 * LEVELS + 2), reply(True)
 
 
-def ring_of_bindings(count):
+def ring_of_bindings(count, form={"prop": "x"}):
     """A ring of objects, each of which sets its property to what the bound one of the object before it shows."""
     yield from ((new(), reply(number)) for number in range(1, count + 1))
-    yield from ((bind(number, "y", {"prop": "x"}), reply(True)) for number in range(1, count + 1))
+    yield from ((bind(number, "y", form), reply(True)) for number in range(1, count + 1))
     yield from ((connect(number, "yChanged(int)", number % count + 1, "keep(int)"), reply(number)) for number in range(1, count + 1))
     calls = [call("keep(int)", number + 1, number, 7) for number in range(1, LEVELS + 1)]
     yield set_to(1, "x", 7), *calls, *[warning("E14", LEVELS + 1)] * 2, reply(True)
@@ -608,7 +617,6 @@ def wide_rows():
     yield row_of(f"{GROUPS} groups", groups())
     yield row_of(f"{BINDINGS} bindings", bindings())
     yield row_of(f"a chain of {BINDINGS} bindings", bound_chain(BINDINGS + 1))
-    yield row_of(f"a ring of {BINDINGS} bindings", bound_ring(BINDINGS))
     yield row_of(f"{BINDINGS} bindings over one property", bound_readers(BINDINGS))
     yield row_of(f"{PUBLICATIONS} publications", publications())
     yield row_of(f"{JOINS} joins", joins(), "--turns", str(EVENTS))
@@ -624,6 +632,9 @@ def deep_rows():
     yield row_of("trees deleted in nested changes behind choices", changes("sinkDeep(int)"))
     yield row_of("functors in a chain", chain_of_functors(LEVELS * LEVELS))
     yield row_of("a ring of objects that tell of changes of bound properties", ring_of_bindings(LEVELS + 2))
+    yield row_of("a ring of objects whose bindings are as deep as may be", ring_of_bindings(LEVELS + 2, deepened({"prop": "x"})))
+    yield row_of(f"a chain of {BINDINGS} bindings as deep as may be", bound_chain(BINDINGS + 1, deepened))
+    yield row_of(f"a ring of {BINDINGS} bindings", bound_ring(BINDINGS))
     yield row_of("objects whose ends delete the next one", chain("drop()"))
     yield row_of("objects whose ends delete the next one behind choices", chain("dropDeep()"))
     yield row_of("trees whose ends delete the next one", ends("drop()", False))

@@ -188,9 +188,9 @@ def group_of(chance, number):
     return {name: chance.sample(of, min(len(of), chance.randint(1, SOURCES))) for name, of in others.items()}
 
 
-def run_of(chance, server):
-    """Some runs, which take turns on a server."""
-    run = Run(server, [group_of(chance, number) for number in range(RUNS_AT_ONCE)])
+def run_of(chance, server, number=RUNS_AT_ONCE):
+    """So many runs, which take turns on a server."""
+    run = Run(server, [group_of(chance, at) for at in range(number)])
     for _ in range(COMMANDS * sum(map(len, run.groups))):
         name, sources = chance.choice(list(chance.choice(run.groups).items()))
         run.do({**chance.command_among(server, name, sources), "session": name})

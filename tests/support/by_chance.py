@@ -1,11 +1,12 @@
 """Sessions that are made by chance, as rows for the built program."""
 
 from contextlib import contextmanager
+from dataclasses import replace
 from pathlib import Path
 from tempfile import TemporaryDirectory
 from typing import NamedTuple
 
-from tests.generators import signals
+from tests.generators import mixed, signals
 from tests.plain.classes import Classes
 from tests.plain.world import Server
 
@@ -38,3 +39,14 @@ def session_by_chance(made, seed, number=signals.COMMANDS):
     with TemporaryDirectory(prefix="metad-session-") as room:
         wanted = [line for told in answers for line in told]
         yield Made(declared, commands, answers, row_with_classes(f"by chance, {seed}", commands, wanted, declared, room, turns))
+
+
+@contextmanager
+def listeners_by_chance(made, seed, number=1):
+    """The row of so many runs of sessions that listen to each other, which a kind of chance makes, while their class file
+    stands."""
+    declared, turns = list(made.classes()), made.choice(signals.TURNS)
+    run = mixed.run_of(made, Server(Classes(declared), turns), number)
+    with TemporaryDirectory(prefix="metad-listeners-") as room:
+        row = row_with_classes(f"by chance, {seed}", run.commands(), run.lines(), declared, room, turns)
+        yield replace(row, folder=Path(room))

@@ -1,30 +1,33 @@
 """Runs of the program with one of its requests for memory refused, and what may come of it.
 
 The answer to a command is all that it prints: calls and warnings, and then its reply or its error. A refused growth may
+come to one of these KINDS:
 
-- not show: the run is the row's;
-- fail a session: one command is answered by E21 alone, every later one of its session by E20, and all
+- not seen: the run is the row's;
+- session failed: one command is answered by E21 alone, every later one of its session by E20, and all
   others as in the row, also the session's lines that are no commands;
-- fail a session that a post reaches: the command that posts is answered as in the row, and every later
-  one of that session by E20;
-- lose a line that was being read: it is answered by E21 for the session `-`, and all others as if it
+- receiver failed: a session fails that a post reaches; the command that posts is answered as in the row,
+  and every later one of that session by E20;
+- line lost: a line that was being read is answered by E21 for the session `-`, and all others as if it
   had not been there;
-- keep a session from being entered, where it had no command before: the command is answered by E21 for
-  its session, and all others as if it had not been there;
-- end the program with status 5 and a prefix of the row's answer, which is none while it starts.
+- session not entered: a session that had no command before cannot be entered; the command is answered by
+  E21 for its session, and all others as if it had not been there;
+- program ended: with status 5 and a prefix of the row's answer;
+- start refused: the same before it reads a line, while it makes its classes, its functors, its server and
+  its buffers.
 
 Where sessions are joined or reset, what others are told behind a failure, and a failed session behind its
-`reset`, is not that of the row: the plain program says what it is. Anything else is wrong.
+`reset`, is not that of the row: the plain program says what it is. Anything else is wrong. Whatever comes
+of it, a session that listens to none that was hit is told what the row tells it.
 """
 
 import json
 import os
-from collections import Counter
+from collections import Counter, defaultdict
 from dataclasses import dataclass, field, replace
-from functools import partial
 
-from tests.plain.failing import failing_answers
-from tests.plain.lines import server_of
+from tests.plain.failing import FAILED, LINE_LOST, NOT_ENTERED, RECEIVER_FAILED, Followed, followed
+from tests.plain.lines import NOBODY, command_of, server_of
 
 from .differences import LAST, difference, shown_input
 from .lines import lines_in, lines_of
@@ -35,7 +38,8 @@ LONG = 1_000  # lines
 PART, LONG_PART = 50, 5
 OUT_OF_MEMORY = 5
 COMPLAINT = b"metad: out of memory\n"
-KINDS = ("session failed", "receiver failed", "line lost", "session not entered", "program ended")
+NOT_SEEN, ENDED, NOT_STARTED = "not seen", "program ended", "start refused"
+KINDS = (NOT_SEEN, FAILED, RECEIVER_FAILED, LINE_LOST, NOT_ENTERED, ENDED, NOT_STARTED)
 OF_MANY = (b'"join"', b'"reset"')  # words of commands for which the row does not say what is told behind a failure
 
 
@@ -70,23 +74,47 @@ def with_failed_session(answers, at):
     return answers[:at] + [line("E21", session)] + later
 
 
+def told_to(answers):
+    """What each session is told, by its name."""
+    told = defaultdict(bytes)
+    for it in answers:
+        told[session_of(it)] += it
+    return told
+
+
+def joins_in(lines):
+    """The sessions that lines join by a command, each with the one that it joins."""
+    commands = filter(None, (command_of(it.removesuffix(b"\n")) for it in lines))
+    return {(it["session"], it["from"]) for it in commands if it["do"] == "join"}
+
+
+def listeners(joins, name):
+    """A session, and all that listen to it by joins, of others that listen to it too."""
+    found = {name}
+    while more := {session for session, source in joins if source in found} - found:
+        found |= more
+    return found
+
+
 @dataclass
 class Tried:
-    """What came of refusing one growth after another, and what is wrong, or None."""
+    """What came of refusing one growth after another, how often a session that was not hit was told what the row tells it,
+    and what is wrong, or None."""
 
     outcomes: Counter = field(default_factory=Counter)
     fault: str | None = None
+    neighbours: int = 0
 
 
 class Trial:
-    """A row whose growths are refused by a library that is preloaded."""
+    """A row whose growths are refused by a library that is preloaded. Its start makes so many of them."""
 
-    def __init__(self, program, library, row):
-        self.program, self.library, self.row = program, library, row
+    def __init__(self, program, library, row, start=0):
+        self.program, self.library, self.row, self.start = program, library, row, start
         self.lines = lines_in(row.given)
         self.answers = answers_in(row.stdout)
-        self.without = {}
-        self.failing = None
+        self.told, self.joins = told_to(self.answers), joins_in(self.lines)
+        self.without, self.kinds, self.neighbours = {}, {}, 0
 
     def is_plain(self):
         """Whether each line has one answer, or none is read."""
@@ -115,36 +143,49 @@ class Trial:
         return any(word in self.row.given for word in OF_MANY)
 
     def failed(self, answers, at):
-        """Which kind of session has failed, where that leads to these answers, of which this is the first that is not as in
-        the row; or None."""
+        """What a refusal led to, where a session has failed by it or was not entered and that leads to these answers, of
+        which this is the first that is not as in the row; or None."""
         if not self.has_many():
-            return KINDS[0] if answers == with_failed_session(self.answers, at) else None
-        if self.failing is None:
-            lines = [it.removesuffix(b"\n") for it in self.lines]
-            found = failing_answers(partial(server_of, self.row), lines)
-            self.failing = {tuple(told): KINDS[0] if is_own else KINDS[1] for is_own, told in found}
-        return self.failing.get(tuple(answers))
+            return FAILED if answers == with_failed_session(self.answers, at) else None
+        told = tuple(answers)
+        if told not in self.kinds:
+            found = followed(server_of(self.row, Followed), [it.removesuffix(b"\n") for it in self.lines], answers)
+            self.kinds[told] = next((it.refusals[0].kind for it in found if len(it.refusals) == 1), None)
+        return self.kinds[told]
 
-    def outcome(self, ran):
-        """What a refused growth led to, or None where it is none of the allowed."""
+    def beside(self, name):
+        """The sessions of the row that do not listen to one."""
+        return self.told.keys() - listeners(self.joins, name) - {NOBODY}
+
+    def outcome(self, ran, number=None):
+        """What the refusal of this growth led to, or None where it is none of the allowed."""
         if ran.returncode == OUT_OF_MEMORY:
-            is_front = self.row.stdout.startswith(ran.stdout)
-            return "program ended" if is_front and ran.stderr == COMPLAINT else None
+            if ran.stderr != COMPLAINT or not self.row.stdout.startswith(ran.stdout):
+                return None
+            return ENDED if number is None or number > self.start else NOT_STARTED if not ran.stdout else None
         if self.row.passes(ran):
-            return "not seen"
+            return NOT_SEEN
         answers = answers_in(ran.stdout)
         if self.row.status or ran.returncode or ran.stderr or len(answers) != len(self.answers):
             return None
         at = next(at for at, (got, want) in enumerate(zip(answers, self.answers)) if got != want)
+        told, neighbours = told_to(answers), self.beside(session_of(self.answers[at]))
+        if any(told[it] != self.told[it] for it in neighbours):
+            return None
+        self.neighbours += len(neighbours)
+        return self.outcome_at(answers, at)
+
+    def outcome_at(self, answers, at):
+        """What a refusal led to, where this is the first of the answers that is not as in the row."""
         others = answers[:at] + answers[at + 1 :]
-        if answers[at] == line("E21", "-"):
-            return "line lost" if others == self.answers_without(at) else None
+        if answers[at] == line("E21", NOBODY):
+            return LINE_LOST if others == self.answers_without(at) else None
         if failed := self.failed(answers, at):
             return failed
         session = session_of(self.answers[at])
         is_first = not any(is_command_of(session, it) for it in self.answers[:at])
         if is_first and answers[at] == line("E21", session) and others == self.answers_without(at):
-            return "session not entered"
+            return NOT_ENTERED
         return None
 
     def count(self):
@@ -159,21 +200,29 @@ class Trial:
 
     def refuse_each(self, first, part):
         """Refuses one growth after another, from the first one on; with a part, at distances that grow by it."""
-        tried, number = Tried(), first
+        outcomes, number = Counter(), first
         for _ in range(MOST):
             ran, was_refused = self.run(number)
             if not was_refused:
                 fault = self.row.fault(ran)
-                tried.fault = fault and f"without a refusal {fault}"
-                return tried
-            outcome = self.outcome(ran)
+                return Tried(outcomes, fault and f"without a refusal {fault}", self.neighbours)
+            outcome = self.outcome(ran, number)
             if outcome is None:
-                tried.fault = self.refusal_fault(number, ran)
-                return tried
-            tried.outcomes[outcome] += 1
+                return Tried(outcomes, self.refusal_fault(number, ran), self.neighbours)
+            outcomes[outcome] += 1
             number += 1 + (number // part if part else 0)
-        tried.fault = "no end of growths"
-        return tried
+        return Tried(outcomes, "no end of growths", self.neighbours)
+
+    def refuse_some(self, numbers):
+        """Refuses these growths, each in a run by itself."""
+        outcomes = Counter()
+        for number in numbers:
+            ran, _was_refused = self.run(number)
+            outcome = self.outcome(ran, number)
+            if outcome is None:
+                return Tried(outcomes, self.refusal_fault(number, ran), self.neighbours)
+            outcomes[outcome] += 1
+        return Tried(outcomes, neighbours=self.neighbours)
 
     def refusal_fault(self, number, ran):
         """What is said of a refused growth that led to something else."""
@@ -198,9 +247,9 @@ def count_start(program, library, row):
     return Trial(program, library, replace(row, given=b"", stdout=b"")).count()
 
 
-def refuse_growths(program, library, row, first):
-    """Refuses the growths of a row, from this one on."""
-    trial = Trial(program, library, row)
+def refuse_growths(program, library, row, start, first):
+    """Refuses the growths of a row, whose start makes so many, from the first one that is to be refused on."""
+    trial = Trial(program, library, row, start)
     if not trial.is_plain():
         return Tried(fault="it has not one answer a line")
     if len(trial.lines) > LONG:
