@@ -73,8 +73,8 @@ WAYS = {
 
 
 def respelled(line, ways, chance):
-    """The line as it is spelled in these ways, where that makes it no longer than a line may be."""
-    tokens = tokens_of(line)
+    """The line as it is spelled in these ways, where it is no longer than a line may be and that makes it none."""
+    tokens = tokens_of(line) if len(line) <= LINE_BYTES else None
     if tokens is None:
         return line
     for way in ways:

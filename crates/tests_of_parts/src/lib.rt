@@ -1,5 +1,5 @@
-//! Tests of what only a call can show of the crates below sessions: which texts are read without a tree,
-//! examples from outside of what no command reaches so far, that a closure with its fact is taken and
+//! Tests of what only a call can show of the crates below sessions: which texts are read without a tree, which
+//! calls of a device are made again, examples from outside of what no command reaches so far, that a closure with its fact is taken and
 //! answers, that calls of the shared tables succeed where memory is found, and that the definitions mean
 //! what the rules say. What lines and class files show of these crates stands in the rows and the tools of
 //! the built program.
@@ -7,6 +7,8 @@
 
 #[cfg(test)]
 mod base;
+#[cfg(test)]
+mod beginnings;
 #[cfg(test)]
 mod board;
 #[cfg(test)]
@@ -16,9 +18,13 @@ mod cases;
 #[cfg(test)]
 mod class_files;
 #[cfg(test)]
+mod devices;
+#[cfg(test)]
 mod events;
 #[cfg(test)]
 mod expressions;
+#[cfg(test)]
+mod fakes;
 #[cfg(test)]
 mod functors;
 #[cfg(test)]

@@ -1,10 +1,10 @@
-//! Sources, sinks and readers that give, take or fail as they are told, and keys to hash with.
+//! Sources and sinks that give, take or fail as they are told, and keys to hash with.
 ghost use Rattle.std.specs.Prelude.{Some};
 
 use std::alloc::{AllocError, Global};
 use std::hash::RandomState;
 use std::io;
-use std::io::{ErrorKind, Read, Write};
+use std::io::Read;
 use std::random::RandomSource;
 use wire_devices::{Failed, Sink, Source};
 
@@ -13,13 +13,13 @@ use wire_devices::{Failed, Sink, Source};
 pub struct SlowSource<'a> {
     pub left: &'a [u8],
     pub at_once: usize,
-    pub calls: u32,
-    pub failing: u32,
+    pub calls: u64,
+    pub failing: u64,
     pub failures: u64,
 }
 
 impl<'a> SlowSource<'a> {
-    pub fn new(left: &'a [u8], at_once: usize, failing: u32) -> SlowSource<'a> {
+    pub fn new(left: &'a [u8], at_once: usize, failing: u64) -> SlowSource<'a> {
         SlowSource {
             left,
             at_once,
@@ -32,6 +32,8 @@ impl<'a> SlowSource<'a> {
 
 impl<'a> Source for SlowSource<'a> {
     ghost left = { λ s. Some s.left.now };
+
+    ghost calls = { λ s. s.calls };
 
     ghost failures = { λ s. s.failures };
 
@@ -48,10 +50,11 @@ impl<'a> Source for SlowSource<'a> {
     }
 }
 
-/// Takes seven bytes a call, and fails at one of its calls, or takes nothing at one.
+/// Takes a few bytes a call, and fails at one of its calls, or takes nothing at one.
 #[derive(Drop)]
 pub struct SlowSink {
     pub held: Vec<u8>,
+    pub at_once: usize,
     pub calls: u32,
     pub failing: u32,
     pub idle: u32,
@@ -59,9 +62,10 @@ pub struct SlowSink {
 }
 
 impl SlowSink {
-    pub fn new(alloc: Global, failing: u32, idle: u32) -> SlowSink {
+    pub fn new(alloc: Global, at_once: usize, failing: u32, idle: u32) -> SlowSink {
         SlowSink {
             held: Vec::new(alloc),
+            at_once,
             calls: 0,
             failing,
             idle,
@@ -84,48 +88,12 @@ impl Sink for SlowSink {
             self.failures = self.failures.saturating_add(1);
             return Ok(0);
         }
-        let count = buffer.len().min(7);
+        let count = buffer.len().min(self.at_once.max(1));
         if self.calls == self.failing || self.held.extend_from_slice(&buffer[..count]).is_err() {
             self.failures = self.failures.saturating_add(1);
             return Err(Failed);
         }
         Ok(count)
-    }
-}
-
-/// Fails at its first calls, and then gives the bytes of a slice, or takes one byte a call.
-#[derive(Drop)]
-pub struct Troubled<'a> {
-    pub kind: ErrorKind,
-    pub times: u32,
-    pub left: &'a [u8],
-}
-
-impl<'a> Troubled<'a> {
-    fn call(&mut self) -> io::Result<()> {
-        if self.times == 0 {
-            return Ok(());
-        }
-        self.times -= 1;
-        Err(io::Error::from(self.kind))
-    }
-}
-
-impl<'a> Read for Troubled<'a> {
-    fn read(&mut self, buffer: &mut [u8]) -> io::Result<usize> {
-        self.call()?;
-        self.left.read(buffer)
-    }
-}
-
-impl<'a> Write for Troubled<'a> {
-    fn write(&mut self, buffer: &[u8]) -> io::Result<usize> {
-        self.call()?;
-        Ok(buffer.len().min(1))
-    }
-
-    fn flush(&mut self) -> io::Result<()> {
-        Ok(())
     }
 }
 

@@ -6,9 +6,7 @@
 #[cfg(test)]
 mod alone;
 #[cfg(test)]
-mod beginnings;
-#[cfg(test)]
-mod devices;
+mod broken_off;
 #[cfg(test)]
 mod engine;
 #[cfg(test)]

@@ -7,7 +7,7 @@ use crate::sessions::clamping_server;
 use server_world::Server;
 use std::alloc::{AllocError, Global};
 use stored_slots::Functors;
-use wire_lines::{RunFault, Summary, run};
+use wire_lines::{RunFault, Summary, run, run_bounded};
 
 /// The turns of a command where the command line does not say.
 pub const TURNS: u32 = 10_000;
@@ -34,19 +34,30 @@ fn server_of(alloc: Global, host: Host) -> Result<Server, AllocError> {
     }
 }
 
-/// How a run ended, what it had written by then, and how often its devices failed.
+/// How many lines and calls of `read` a run has at most, where it is told so.
+pub type Bounds = Option<(u64, u64)>;
+
+/// How a run ended, what it had written by then, how often its devices failed, and whether memory was refused.
 #[derive(Drop)]
 pub struct Outcome {
     ended: Result<Summary, RunFault>,
     written: Vec<u8>,
     failures: u64,
+    memory_refused: bool,
 }
 
 impl Outcome {
     pub fn is(&self, ended: Result<Summary, RunFault>, written: &[u8]) -> bool {
+        let failed = matches!(ended, Err(RunFault::Read | RunFault::Write));
         self.ended == ended
             && self.written.as_slice() == written
-            && self.failures == u64::from(ended.is_err())
+            && self.failures == u64::from(failed)
+            && !self.memory_refused
+    }
+
+    /// Whether the run broke off by this fault when it had written a front of these bytes.
+    pub fn breaks_off(&self, fault: RunFault, whole: &[u8]) -> bool {
+        whole.starts_with(&self.written) && self.is(Err(fault), &self.written)
     }
 
     /// Whether the run came to its end and told these lines, and memory was refused or not.
@@ -64,37 +75,57 @@ fn end_of_run(
     reader: &mut SlowSource<'_>,
     writer: &mut SlowSink,
     server: &mut Server,
+    bounds: Bounds,
 ) -> Result<Summary, RunFault> {
-    run(alloc, reader, writer, server)
+    match bounds {
+        None => run(alloc, reader, writer, server),
+        Some((max_lines, max_reads)) => {
+            run_bounded(alloc, reader, writer, server, max_lines, max_reads)
+        }
+    }
 }
 
-/// How a run with a server of its own ends.
+/// How a run with a server of its own ends, and whether memory was refused.
 fn end_of_fresh_run(
     alloc: Global,
     host: Host,
     reader: &mut SlowSource<'_>,
     writer: &mut SlowSink,
-) -> Result<Result<Summary, RunFault>, AllocError> {
+    bounds: Bounds,
+) -> Result<(Result<Summary, RunFault>, bool), AllocError> {
     let mut server = server_of(alloc, host)?;
-    Ok(end_of_run(alloc, reader, writer, &mut server))
+    let ended = end_of_run(alloc, reader, writer, &mut server, bounds);
+    Ok((ended, server.memory_refused()))
+}
+
+/// What comes of a run within bounds.
+pub fn outcome_within(
+    alloc: Global,
+    host: Host,
+    mut reader: SlowSource<'_>,
+    mut writer: SlowSink,
+    bounds: Bounds,
+) -> Result<Outcome, AllocError> {
+    let (ended, memory_refused) = end_of_fresh_run(alloc, host, &mut reader, &mut writer, bounds)?;
+    Ok(Outcome {
+        ended,
+        written: writer.held,
+        failures: reader.failures.saturating_add(writer.failures),
+        memory_refused,
+    })
 }
 
 pub fn outcome_of(
     alloc: Global,
     host: Host,
-    mut reader: SlowSource<'_>,
-    mut writer: SlowSink,
+    reader: SlowSource<'_>,
+    writer: SlowSink,
 ) -> Result<Outcome, AllocError> {
-    let ended = end_of_fresh_run(alloc, host, &mut reader, &mut writer)?;
-    Ok(Outcome {
-        ended,
-        written: writer.held,
-        failures: reader.failures.saturating_add(writer.failures),
-    })
+    outcome_within(alloc, host, reader, writer, None)
 }
 
 /// What comes of an input all of which is there at once.
 pub fn answers(alloc: Global, host: Host, input: &str) -> Result<Outcome, AllocError> {
     let source = SlowSource::new(input.as_bytes(), 65_536, 0);
-    outcome_of(alloc, host, source, SlowSink::new(alloc, 0, 0))
+    outcome_of(alloc, host, source, SlowSink::new(alloc, 7, 0, 0))
 }

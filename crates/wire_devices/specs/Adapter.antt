@@ -6,6 +6,10 @@ use Rattle.wire_devices.specs.declared.adapter.Counted.{Counted}
 abbrev pub counted_device : {D : Type 0} → Counted D → D
 counted_device c = c.device
 
+-- how often it was asked for bytes
+abbrev pub counted_reads : {D : Type 0} → Counted D → ℕ
+counted_reads c = c.reads
+
 -- how often the device failed
 abbrev pub counted_failures : {D : Type 0} → Counted D → ℕ
 counted_failures c = c.failures

@@ -1,13 +1,17 @@
--- How a device counts its failures.
+-- How a device counts its calls and its failures.
 use Rattle.std.specs.Prelude.{◌≡◌, ℕ, ◌+◌, ◌-◌, ◌^◌, ◌<◌, ◌≤◌, min, List, length, Result, MatchResult}
 
 -- the greatest count: from there on the count stays where it stands
-abbrev pub most_failures : ℕ
-most_failures = 2 ^ 64 - 1
+abbrev pub greatest_count : ℕ
+greatest_count = 2 ^ 64 - 1
+
+-- so many calls: the count grew by so many, or up to the greatest
+abbrev pub CountsCalls : ℕ → ℕ → ℕ → Type 0
+CountsCalls calls old new = new ≡ min (old + calls) greatest_count
 
 -- one failure: the count grew by one, or it was the greatest and stays there
 abbrev pub FailsOnce : ℕ → ℕ → Type 0
-FailsOnce old new = (old ≤ most_failures) × (new ≡ min (old + 1) most_failures)
+FailsOnce old new = (old ≤ greatest_count) × (new ≡ min (old + 1) greatest_count)
 
 -- an error is one failure, and any other answer is none
 abbrev pub CountsErrors : {T E : Type 0} → ℕ → ℕ → Result T E → Type 0

@@ -2,7 +2,7 @@
 ghost use Rattle.std.specs.Prelude.{◌≡◌, ◌<◌, length, IfOk};
 ghost use Rattle.std.specs.Io.{ReadsAtMost, WritesAtMost};
 ghost use Rattle.std.specs.Io.KnownBytes.{ReadConsumes, WriteAppends};
-ghost use Rattle.wire_devices.specs.Adapter.{counted_device, counted_failures};
+ghost use Rattle.wire_devices.specs.Adapter.{counted_device, counted_failures, counted_reads};
 ghost use Rattle.wire_devices.specs.Counts.{FailsOnce, CountsWrite};
 
 use crate::traits::{Failed, Sink, Source};
@@ -18,19 +18,30 @@ const MOST_RETRIES: u32 = 1_000;
 #[derive(Drop)]
 pub struct Counted<D> {
     device: D,
+    reads: u64,
     failures: u64,
 }
 
 impl<D> Counted<D> {
-    /// Reads from or writes to `device`, which has not failed so far.
+    /// Reads from or writes to `device`, which was not read and has not failed so far.
     pub fn new(device: D) -> Counted<D>
         ensures device { counted_device result ≡ device }
+        ensures reads { counted_reads result ≡ 0 }
         ensures failures { counted_failures result ≡ 0 }
     {
         Counted {
             device,
+            reads: 0,
             failures: 0,
         }
+    }
+
+    /// How often it was asked for bytes. A call that was made again counts once. The count stays at
+    /// `u64::MAX`.
+    pub fn reads(&self) -> u64
+        ensures { result ≡ counted_reads self.now }
+    {
+        self.reads
     }
 
     /// How often the device failed. The count stays at `u64::MAX`.
@@ -40,7 +51,7 @@ impl<D> Counted<D> {
         self.failures
     }
 
-    /// Gives the device back, and forgets how often it failed.
+    /// Gives the device back, and forgets how often it was read and failed.
     pub fn into_inner(self) -> D
         ensures { result ≡ counted_device self }
     {
@@ -50,6 +61,7 @@ impl<D> Counted<D> {
     // Counts one failure.
     fn fail(&mut self) -> Failed
         ensures device { counted_device self.new ≡ counted_device self.old }
+        ensures reads { counted_reads self.new ≡ counted_reads self.old }
         ensures counted { FailsOnce (counted_failures self.old) (counted_failures self.new) }
     {
         self.failures = self.failures.saturating_add(1);
@@ -60,9 +72,12 @@ impl<D> Counted<D> {
 impl<R: Read> Source for Counted<R> {
     ghost left = { λ c. R.remaining (counted_device c) };
 
+    ghost calls = { counted_reads };
+
     ghost failures = { counted_failures };
 
     fn read(&mut self, buffer: &mut [u8]) -> Result<usize, Failed> {
+        self.reads = self.reads.saturating_add(1);
         match read_again(&mut self.device, buffer) {
             Ok(count) => Ok(count),
             Err(Failed) => Err(self.fail()),

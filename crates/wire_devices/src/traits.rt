@@ -2,7 +2,7 @@
 ghost use Rattle.std.specs.Prelude.{ℕ, List, Option};
 ghost use Rattle.std.specs.Io.{ReadsAtMost, WritesAtMost};
 ghost use Rattle.std.specs.Io.KnownBytes.{ReadConsumes, WriteAppends};
-ghost use Rattle.wire_devices.specs.Counts.{CountsErrors, CountsWrite};
+ghost use Rattle.wire_devices.specs.Counts.{CountsCalls, CountsErrors, CountsWrite};
 
 /// The answer of a source or a sink whose device failed.
 #[derive(Clone, Copy, PartialEq, Eq)]
@@ -12,6 +12,9 @@ pub struct Failed;
 pub trait Source {
     // The bytes that it still has to give, where they are known.
     ghost left: { Self → Option (List ℕ) };
+
+    // How often it was asked for bytes.
+    ghost calls: { Self → ℕ };
 
     // How often it failed.
     ghost failures: { Self → ℕ };
@@ -28,6 +31,7 @@ pub trait Source {
     fn read(&mut self, buffer: &mut [u8]) -> Result<usize, Failed>
         ensures bound { ReadsAtMost result buffer.new }
         ensures bytes { ReadConsumes (left self.old) (left self.new) result buffer.new }
+        ensures asked { CountsCalls 1 (calls self.old) (calls self.new) }
         ensures counted { CountsErrors (failures self.old) (failures self.new) result };
 }
 

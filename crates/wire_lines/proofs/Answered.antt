@@ -7,12 +7,12 @@ use Rattle.wire_format.specs.Input.{NoEnd, piece_from, piece_of}
 use Rattle.wire_format.proofs.Cutting.{piece_of-blank, lines_of-line}
 use Rattle.wire_lines.specs.declared.fault.RunFault.{RunFault}
 use Rattle.wire_lines.specs.declared.fault.RunFault.TheVariants.{Read, Write, Endless, Memory}
-use Rattle.wire_lines.specs.Sending.{Out, Sent, SentFront, SentAll}
+use Rattle.wire_lines.specs.Sending.{Out, Sent, SentAll}
 use Rattle.wire_lines.specs.Steps.{IsAnswered, read_lines}
-use Rattle.wire_lines.specs.Stream.{Point, Fed, Cut, IsOver, Feeds, SendFails}
+use Rattle.wire_lines.specs.Stream.{Point, Fed, SentUntil, Cut, IsOver, Feeds, SendFails}
 use Rattle.wire_lines.proofs.Answering.{AreAnswered-one}
 use Rattle.wire_lines.proofs.Feeding.{Cut-silent}
-use Rattle.wire_lines.proofs.Sent.{Sent-nothing, SentFront-whole}
+use Rattle.wire_lines.proofs.Sent.{Sent-nothing}
 
 -- a line that is not blank is what it is read as
 piece_of-read : (line : List ℕ) → is_blank line ≡ false → piece_of line ≡ Some (piece_from (command_of line))
@@ -41,14 +41,15 @@ module _ (old new : Server) (before after : Out) (lines : ℕ) (line : List ℕ)
     counted = omega arith;
   }
 
-  pub Cut-line : (text : List ℕ) → IsAnswered old (piece_of line) text new → SentFront before after text → (rest : List ℕ) → Cut (before_line old before lines line) (after_line new after lines) rest
-  Cut-line text answered sent rest = record {
+  pub Cut-line : (fault : RunFault) (text : List ℕ) → IsAnswered old (piece_of line) text new → SentUntil fault before after text → (rest : List ℕ) → Cut fault (before_line old before lines line) (after_line new after lines) rest
+  Cut-line fault text answered sent rest = record {
     lines = piece_of line ∷ [];
     behind = read_lines rest;
     text = text;
     reads = first_read line rest no_end;
     answered = AreAnswered-one old new (piece_of line) text answered;
     sent = sent;
+    counted = omega arith;
   }
 
   -- the line was served
@@ -64,8 +65,8 @@ module _ (old new : Server) (before after : Out) (lines : ℕ) (line : List ℕ)
       by (Ok done) sent fails = Fed-line text read sent
       by (Err Read) sent fails = absurd fails
       by (Err Endless) sent fails = absurd fails
-      by (Err Write) sent fails = Cut-line text read sent
-      by (Err Memory) sent fails = Cut-line text read sent
+      by (Err Write) sent fails = Cut-line Write text read sent
+      by (Err Memory) sent fails = Cut-line Memory text read sent
 
 -- a blank line is only counted
 pub Fed-blank : (server : Server) (out : Out) (lines : ℕ) (line : List ℕ) → NoEnd line → is_blank line ≡ true → Fed (before_line server out lines line) (after_line server out lines)
@@ -74,12 +75,13 @@ Fed-blank server out lines line no_end blank =
     (subst (λ p. IsAnswered server p [] server) (sym (piece_of-blank line blank)) (refl, refl)) (Sent-nothing out)
 
 -- a line above the bound is not answered
-pub Cut-nothing : (server : Server) (out : Out) (lines : ℕ) (begun rest : List ℕ) → Cut (record { server = server; out = out; lines = lines; begun = begun }) (record { server = server; out = out; lines = lines; begun = [] }) rest
+pub Cut-nothing : (server : Server) (out : Out) (lines : ℕ) (begun rest : List ℕ) → Cut Endless (record { server = server; out = out; lines = lines; begun = begun }) (record { server = server; out = out; lines = lines; begun = [] }) rest
 Cut-nothing server out lines begun rest =
-    Cut-silent (record { server = server; out = out; lines = lines; begun = begun }) (record { server = server; out = out; lines = lines; begun = [] }) rest refl
-    (SentFront-whole out out [] (Sent-nothing out))
+    Cut-silent Endless (record { server = server; out = out; lines = lines; begun = begun }) (record { server = server; out = out; lines = lines; begun = [] }) rest refl refl
+    (Sent-nothing out)
 
-pub IsOver-line : (most lines : ℕ) (server : Server) (out : Out) (line rest : List ℕ) → NoEnd line → most ≤ lines → IsOver most (before_line server out lines line) rest
-IsOver-line most lines server out line rest no_end full =
+pub IsOver-line : (most lines : ℕ) (server : Server) (out : Out) (line rest : List ℕ) → NoEnd line → lines ≤ most → most ≤ lines →
+    IsOver most (before_line server out lines line) (record { server = server; out = out; lines = lines; begun = [] }) rest
+IsOver-line most lines server out line rest no_end within full =
     let one = ap length (first_read line rest no_end) in
-    omega (arith, one)
+    (omega (arith, within, full), omega (arith, one))

@@ -2,11 +2,11 @@
 use Rattle.std.proofs.Common.{◌≡◌, ℕ, ◌+◌, ◌<◌, List, [], ◌++◌, length, Result, Ok, Err, refl, sym, ap, ◌∙◌, subst, arith, append-nil, append_assoc, length-append}
 use Rattle.wire_lines.specs.declared.fault.RunFault.{RunFault}
 use Rattle.wire_lines.specs.declared.fault.RunFault.TheVariants.{Read, Write, Endless, Memory}
-use Rattle.wire_lines.specs.Sending.{SentFront}
+use Rattle.wire_lines.specs.Sending.{Out, Sent, SentFront}
 use Rattle.wire_lines.specs.Steps.{AreAnswered, read_lines}
-use Rattle.wire_lines.specs.Stream.{Later, Point, Fed, Done, Cut, IsOver, Stops, Feeds, Finishes}
+use Rattle.wire_lines.specs.Stream.{Later, Point, Fed, Done, SentUntil, Cut, IsOver, Stops, Feeds, Finishes, SinkFails}
 use Rattle.wire_lines.proofs.Answering.{AreAnswered-append, AreAnswered-later}
-use Rattle.wire_lines.proofs.Sent.{Sent-nothing, Sent-trans, SentFront-after}
+use Rattle.wire_lines.proofs.Sent.{Sent-nothing, Sent-trans, SentFront-after, SentFront-whole}
 
 -- with more bytes behind those of a point
 abbrev pub and_then : Point → List ℕ → Point
@@ -28,8 +28,8 @@ Fed-trans a b c first second = record {
 pub Fed-later : (a b : Point) → Fed a b → Later a.server b.server
 Fed-later a b fed = AreAnswered-later a.server b.server fed.lines fed.text fed.answered
 
-pub Cut-later : (a b : Point) (rest : List ℕ) → Cut a b rest → Later a.server b.server
-Cut-later a b rest cut = AreAnswered-later a.server b.server cut.lines cut.text cut.answered
+pub Cut-later : (fault : RunFault) (a b : Point) (rest : List ℕ) → Cut fault a b rest → Later a.server b.server
+Cut-later fault a b rest cut = AreAnswered-later a.server b.server cut.lines cut.text cut.answered
 
 -- what follows the bytes of both points may be put behind them
 pub Fed-more : (a b : Point) (bytes : List ℕ) → Fed a b → Fed (and_then a bytes) (and_then b bytes)
@@ -42,57 +42,82 @@ Fed-more a b bytes fed = record {
   counted = fed.counted;
 }
 
+-- what is sent whole is sent enough for each fault,
+pub SentUntil-whole : (fault : RunFault) (a b : Out) (text : List ℕ) → Sent a b text → SentUntil fault a b text
+SentUntil-whole Read a b text sent = sent
+SentUntil-whole Endless a b text sent = sent
+SentUntil-whole Write a b text sent = SentFront-whole a b text sent
+SentUntil-whole Memory a b text sent = SentFront-whole a b text sent
+
+-- of what is sent enough, a front is sent,
+pub SentUntil-front : (fault : RunFault) (a b : Out) (text : List ℕ) → SentUntil fault a b text → SentFront a b text
+SentUntil-front Read a b text sent = SentFront-whole a b text sent
+SentUntil-front Endless a b text sent = SentFront-whole a b text sent
+SentUntil-front Write a b text sent = sent
+SentUntil-front Memory a b text sent = sent
+
+-- and behind a text that is sent, enough of both is
+pub SentUntil-after : (fault : RunFault) (a b c : Out) (text behind : List ℕ) → Sent a b text → SentUntil fault b c behind → SentUntil fault a c (text ++ behind)
+SentUntil-after Read a b c text behind first second = Sent-trans a b c text behind first second
+SentUntil-after Endless a b c text behind first second = Sent-trans a b c text behind first second
+SentUntil-after Write a b c text behind first second = SentFront-after a b c text behind first second
+SentUntil-after Memory a b c text behind first second = SentFront-after a b c text behind first second
+
 -- an end that comes too early, where other bytes are read alike,
-pub Cut-alike : (a b : Point) (begun rest other : List ℕ) → read_lines (begun ++ other) ≡ read_lines (a.begun ++ rest) → Cut a b rest → Cut (record { server = a.server; out = a.out; lines = a.lines; begun = begun }) b other
-Cut-alike a b begun rest other alike cut = record {
+pub Cut-alike : (fault : RunFault) (a b : Point) (begun rest other : List ℕ) → read_lines (begun ++ other) ≡ read_lines (a.begun ++ rest) → Cut fault a b rest → Cut fault (record { server = a.server; out = a.out; lines = a.lines; begun = begun }) b other
+Cut-alike fault a b begun rest other alike cut = record {
   lines = cut.lines;
   behind = cut.behind;
   text = cut.text;
   reads = alike ∙ cut.reads;
   answered = cut.answered;
   sent = cut.sent;
+  counted = cut.counted;
 }
 
 -- where more of what was said is written behind it,
-pub Cut-sent : (a b c : Point) (rest : List ℕ) → c.server ≡ b.server → ((text : List ℕ) → SentFront a.out b.out text → SentFront a.out c.out text) → Cut a b rest → Cut a c rest
-Cut-sent a b c rest same more cut = record {
+pub Cut-sent : (fault other : RunFault) (a b c : Point) (rest : List ℕ) → c.server ≡ b.server → c.lines ≡ b.lines → ((text : List ℕ) → SentUntil fault a.out b.out text → SentUntil other a.out c.out text) → Cut fault a b rest → Cut other a c rest
+Cut-sent fault other a b c rest same count more cut = record {
   lines = cut.lines;
   behind = cut.behind;
   text = cut.text;
   reads = cut.reads;
   answered = subst (AreAnswered a.server cut.lines cut.text) (sym same) cut.answered;
   sent = more cut.text cut.sent;
+  counted = count ∙ cut.counted;
 }
 
 -- and where nothing more is said
-pub Cut-silent : (a b : Point) (rest : List ℕ) → b.server ≡ a.server → SentFront a.out b.out [] → Cut a b rest
-Cut-silent a b rest same sent = record {
+pub Cut-silent : (fault : RunFault) (a b : Point) (rest : List ℕ) → b.server ≡ a.server → b.lines ≡ a.lines → SentUntil fault a.out b.out [] → Cut fault a b rest
+Cut-silent fault a b rest same count sent = record {
   lines = [];
   behind = read_lines (a.begun ++ rest);
   text = [];
   reads = refl;
   answered = (same, refl);
   sent = sent;
+  counted = omega (arith, count);
 }
 
-pub Cut-more : (a b : Point) (bytes rest : List ℕ) → Cut a b (bytes ++ rest) → Cut (and_then a bytes) b rest
-Cut-more a b bytes rest cut = Cut-alike a b (a.begun ++ bytes) (bytes ++ rest) rest (ap read_lines (append_assoc a.begun bytes rest)) cut
+pub Cut-more : (fault : RunFault) (a b : Point) (bytes rest : List ℕ) → Cut fault a b (bytes ++ rest) → Cut fault (and_then a bytes) b rest
+Cut-more fault a b bytes rest cut = Cut-alike fault a b (a.begun ++ bytes) (bytes ++ rest) rest (ap read_lines (append_assoc a.begun bytes rest)) cut
 
 -- a step, and then an end that comes too early
-pub Cut-after : (a b c : Point) (rest : List ℕ) → Fed a b → Cut b c rest → Cut a c rest
-Cut-after a b c rest fed cut = record {
+pub Cut-after : (fault : RunFault) (a b c : Point) (rest : List ℕ) → Fed a b → Cut fault b c rest → Cut fault a c rest
+Cut-after fault a b c rest fed cut = record {
   lines = fed.lines ++ cut.lines;
   behind = cut.behind;
   text = fed.text ++ cut.text;
   reads = fed.reads rest ∙ ap (λ l. fed.lines ++ l) cut.reads ∙ sym (append_assoc fed.lines cut.lines cut.behind);
   answered = AreAnswered-append a.server b.server c.server fed.lines cut.lines fed.text cut.text fed.answered cut.answered;
-  sent = SentFront-after a.out b.out c.out fed.text cut.text fed.sent cut.sent;
+  sent = SentUntil-after fault a.out b.out c.out fed.text cut.text fed.sent cut.sent;
+  counted = let both = length-append fed.lines cut.lines in omega (arith, both, fed.counted, cut.counted);
 }
 
-pub IsOver-after : (most : ℕ) (a b : Point) (rest : List ℕ) → Fed a b → IsOver most b rest → IsOver most a rest
-IsOver-after most a b rest fed over =
+pub IsOver-after : (most : ℕ) (a b c : Point) (rest : List ℕ) → Fed a b → IsOver most b c rest → IsOver most a c rest
+IsOver-after most a b c rest fed over =
     let lines = ap length (fed.reads rest) ∙ length-append fed.lines (read_lines (b.begun ++ rest)) in
-    omega (arith, lines, fed.counted)
+    (over.0, omega (arith, lines, fed.counted, over.1))
 
 -- a step, and then the last
 pub Done-after : (a b c : Point) → Fed a b → Done b c → Done a c
@@ -108,13 +133,13 @@ Done-after a b c fed done =
     }
 
 -- how a run stops, from one point and from another
-pub Stops-along : (most : ℕ) (fault : RunFault) (a b c d : Point) (rest other : List ℕ) → (Cut a b rest → Cut c d other) → (IsOver most a rest → IsOver most c other) → Stops most fault a b rest → Stops most fault c d other
+pub Stops-along : (most : ℕ) (fault : RunFault) (a b c d : Point) (rest other : List ℕ) → (Cut fault a b rest → Cut fault c d other) → (IsOver most a b rest → IsOver most c d other) → Stops most fault a b rest → Stops most fault c d other
 Stops-along most Read a b c d rest other cut over stops = cut stops
 Stops-along most Write a b c d rest other cut over stops = cut stops
 Stops-along most Memory a b c d rest other cut over stops = cut stops
 Stops-along most Endless a b c d rest other cut over stops = (cut stops.0, over stops.1)
 
-pub Stops-cut : (most : ℕ) (fault : RunFault) (a b : Point) (rest : List ℕ) → Stops most fault a b rest → Cut a b rest
+pub Stops-cut : (most : ℕ) (fault : RunFault) (a b : Point) (rest : List ℕ) → Stops most fault a b rest → Cut fault a b rest
 Stops-cut most Read a b rest stops = stops
 Stops-cut most Write a b rest stops = stops
 Stops-cut most Memory a b rest stops = stops
@@ -122,30 +147,34 @@ Stops-cut most Endless a b rest stops = stops.0
 
 pub Finishes-later : {T : Type 0} (most : ℕ) (a b : Point) (r : Result T RunFault) → Finishes most a b r → Later a.server b.server
 Finishes-later most a b (Ok done) finishes = AreAnswered-later a.server b.server (read_lines a.begun) finishes.text finishes.answered
-Finishes-later most a b (Err fault) finishes = Cut-later a b [] (Stops-cut most fault a b [] finishes)
+Finishes-later most a b (Err fault) finishes = Cut-later fault a b [] (Stops-cut most fault a b [] finishes)
 
 pub Stops-after : (most : ℕ) (fault : RunFault) (a b c : Point) (rest : List ℕ) → Fed a b → Stops most fault b c rest → Stops most fault a c rest
-Stops-after most fault a b c rest fed stops = Stops-along most fault b c a c rest rest (Cut-after a b c rest fed) (IsOver-after most a b rest fed) stops
+Stops-after most fault a b c rest fed stops = Stops-along most fault b c a c rest rest (Cut-after fault a b c rest fed) (IsOver-after most a b c rest fed) stops
 
 pub Stops-more : (most : ℕ) (fault : RunFault) (a b : Point) (bytes rest : List ℕ) → Stops most fault a b (bytes ++ rest) → Stops most fault (and_then a bytes) b rest
 Stops-more most fault a b bytes rest stops =
     let same : a.begun ++ (bytes ++ rest) ≡ (a.begun ++ bytes) ++ rest = sym (append_assoc a.begun bytes rest) in
-    Stops-along most fault a b (and_then a bytes) b (bytes ++ rest) rest (Cut-more a b bytes rest)
-    (λ over. subst (λ l. most < a.lines + length (read_lines l)) same over) stops
+    Stops-along most fault a b (and_then a bytes) b (bytes ++ rest) rest (Cut-more fault a b bytes rest)
+    (λ over. (over.0, subst (λ l. most < a.lines + length (read_lines l)) same over.1)) stops
 
--- where a run has stopped, nothing is said of how many lines there were and of what has begun
-pub Stops-anywhere : (most : ℕ) (fault : RunFault) (a b : Point) (lines : ℕ) (begun rest : List ℕ) → Stops most fault a b rest → Stops most fault a (record { server = b.server; out = b.out; lines = lines; begun = begun }) rest
-Stops-anywhere most fault a b lines begun rest stops =
-    Stops-along most fault a b a (record { server = b.server; out = b.out; lines = lines; begun = begun }) rest rest
-    (Cut-sent a b (record { server = b.server; out = b.out; lines = lines; begun = begun }) rest refl (λ text sent. sent)) (λ over. over) stops
+-- where a run has stopped, nothing is said of what has begun
+pub Stops-anywhere : (most : ℕ) (fault : RunFault) (a b : Point) (begun rest : List ℕ) → Stops most fault a b rest → Stops most fault a (record { server = b.server; out = b.out; lines = b.lines; begun = begun }) rest
+Stops-anywhere most fault a b begun rest stops =
+    Stops-along most fault a b a (record { server = b.server; out = b.out; lines = b.lines; begun = begun }) rest rest
+    (Cut-sent fault fault a b (record { server = b.server; out = b.out; lines = b.lines; begun = begun }) rest refl refl (λ text sent. sent)) (λ over. over) stops
 
 pub Feeds-after : {T : Type 0} (most : ℕ) (a b c : Point) (r : Result T RunFault) → Fed a b → Feeds most b c r → Feeds most a c r
 Feeds-after most a b c (Ok done) fed feeds = Fed-trans a b c fed feeds
 Feeds-after most a b c (Err fault) fed feeds = λ rest. Stops-after most fault a b c rest fed (feeds rest)
 
 -- a step to a point with more bytes behind it, and then a stop before them
-pub Feeds-stopped : {T : Type 0} (most : ℕ) (fault : RunFault) (a b c : Point) (bytes : List ℕ) (lines : ℕ) (begun : List ℕ) (r : Result T RunFault) →
-    Fed a (and_then b bytes) → ((rest : List ℕ) → Stops most fault b c rest) → r ≡ Err fault → Feeds most a (record { server = c.server; out = c.out; lines = lines; begun = begun }) r
-Feeds-stopped {T} most fault a b c bytes lines begun r fed stops is =
-    subst (Feeds most a (record { server = c.server; out = c.out; lines = lines; begun = begun })) (sym is)
-    (λ (rest : List ℕ). Stops-anywhere most fault a c lines begun rest (Stops-after most fault a (and_then b bytes) c rest fed (Stops-more most fault b c bytes rest (stops (bytes ++ rest)))))
+pub Feeds-stopped : {T : Type 0} (most : ℕ) (fault : RunFault) (a b c : Point) (bytes begun : List ℕ) (r : Result T RunFault) →
+    Fed a (and_then b bytes) → ((rest : List ℕ) → Stops most fault b c rest) → r ≡ Err fault → Feeds most a (record { server = c.server; out = c.out; lines = c.lines; begun = begun }) r
+Feeds-stopped {T} most fault a b c bytes begun r fed stops is =
+    subst (Feeds most a (record { server = c.server; out = c.out; lines = c.lines; begun = begun })) (sym is)
+    (λ (rest : List ℕ). Stops-anywhere most fault a c begun rest (Stops-after most fault a (and_then b bytes) c rest fed (Stops-more most fault b c bytes rest (stops (bytes ++ rest)))))
+
+-- what feeds a run does not read
+pub SinkFails-unread : (T : Type 0) (old new : ℕ) (fault : RunFault) → SinkFails {T = T} old new (Err fault) → fault ≡ Read → ⊥
+SinkFails-unread T old new fault fails is = subst (λ f. SinkFails {T = T} old new (Err f)) is fails

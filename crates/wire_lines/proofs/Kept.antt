@@ -56,8 +56,8 @@ module _ (a b : List ℕ) (same : read_lines a ≡ read_lines b) where
       let all : read_lines (b ++ []) ≡ read_lines (a ++ []) = ap read_lines (append-nil b) ∙ sym same ∙ ap read_lines (sym (append-nil a)) in
       let counts = ap length all in
       Stops-along most fault (point server out lines a) end (point server out lines b) end [] []
-      (Cut-alike (point server out lines a) end b [] [] all)
-      (λ over. omega (arith, counts, over)) stops
+      (Cut-alike fault (point server out lines a) end b [] [] all)
+      (λ over. (over.0, omega (arith, counts, over.1))) stops
 
 -- a last line is answered as if it had its end
 pub Finishes-last : {T : Type 0} (most : ℕ) (old new : Server) (before after : Out) (lines count : ℕ) (line : List ℕ) (r : Result T RunFault) → NoEnd line → 0 < length line →

@@ -1,5 +1,6 @@
 pub mod Sent
 pub mod Begun
+pub mod Ended
 pub mod Long
 pub mod Answering
 pub mod Feeding

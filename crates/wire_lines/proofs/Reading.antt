@@ -7,10 +7,12 @@ use Rattle.wire_lines.specs.declared.fault.RunFault.{RunFault}
 use Rattle.wire_lines.specs.declared.fault.RunFault.TheVariants.{Read, Write, Endless, Memory}
 use Rattle.wire_lines.specs.Sending.{out, Sent}
 use Rattle.wire_lines.specs.Steps.{read_lines}
-use Rattle.wire_lines.specs.Stream.{Point, Fed, Cut, Stops, Finishes}
-use Rattle.wire_lines.specs.Run.{Ends}
-use Rattle.wire_lines.proofs.Sent.{Sent-flushed, SentFront-emptied, Sent-nothing, SentFront-whole}
-use Rattle.wire_lines.proofs.Feeding.{and_then, Cut-alike, Cut-silent, Fed-trans, Fed-more, Done-after, Stops-after, Stops-along}
+use Rattle.wire_lines.specs.Stream.{Point, Fed, Cut, Stops, Finishes, SinkFails}
+use Rattle.wire_lines.specs.Run.{Ends, HasCountedRead}
+use Rattle.wire_lines.proofs.Sent.{Sent-flushed, SentFront-emptied, Sent-nothing}
+use Rattle.wire_lines.proofs.Feeding.{and_then, SentUntil-whole, Cut-alike, Cut-silent, Fed-trans, Fed-more, Done-after, Stops-after, Stops-along, SinkFails-unread}
+use Rattle.wire_lines.proofs.Ended.{Fed-ends}
+use Rattle.wire_format.specs.Input.{NoEnd}
 use Rattle.wire_lines.proofs.Kept.{point}
 
 -- what is left of a known input
@@ -36,27 +38,27 @@ Fed-flushed server old new gathered left begun lines count none bytes same = rec
 }
 
 -- a front of what is gathered is written
-pub Cut-flushed : (server : Server) (old new : Option (List ℕ)) (gathered left begun later_begun rest : List ℕ) (lines count : ℕ) → left ≡ [] → AppendsFront old new gathered →
-    Cut (point server (out old gathered) lines begun) (point server (out new left) count later_begun) rest
-Cut-flushed server old new gathered left begun later_begun rest lines count none bytes =
-    Cut-silent (point server (out old gathered) lines begun) (point server (out new left) count later_begun) rest refl (SentFront-emptied old new gathered left [] none bytes)
+pub Cut-flushed : (server : Server) (old new : Option (List ℕ)) (gathered left begun later_begun rest : List ℕ) (lines count : ℕ) → left ≡ [] → AppendsFront old new gathered → count ≡ lines →
+    Cut Write (point server (out old gathered) lines begun) (point server (out new left) count later_begun) rest
+Cut-flushed server old new gathered left begun later_begun rest lines count none bytes same =
+    Cut-silent Write (point server (out old gathered) lines begun) (point server (out new left) count later_begun) rest refl same (SentFront-emptied old new gathered left [] none bytes)
 
 -- nothing more is said
-pub Cut-here : (a : Point) (begun rest : List ℕ) → Cut a (point a.server a.out a.lines begun) rest
-Cut-here a begun rest = Cut-silent a (point a.server a.out a.lines begun) rest refl (SentFront-whole a.out a.out [] (Sent-nothing a.out))
+pub Cut-here : (fault : RunFault) (a : Point) (begun rest : List ℕ) → Cut fault a (point a.server a.out a.lines begun) rest
+Cut-here fault a begun rest = Cut-silent fault a (point a.server a.out a.lines begun) rest refl refl (SentUntil-whole fault a.out a.out [] (Sent-nothing a.out))
 
 -- with the bytes that are left, all of the input is behind the point
 module _ (start end : Point) (bytes rest input : List ℕ) (is : input ≡ bytes ++ rest) where
   all_bytes : (start.begun ++ bytes) ++ rest ≡ (start.begun ++ input) ++ []
   all_bytes = append_assoc start.begun bytes rest ∙ ap (λ l. start.begun ++ l) (sym is) ∙ sym (append-nil (start.begun ++ input))
 
-  pub Cut-known : Cut (and_then start bytes) end rest → Cut (and_then start input) end []
-  Cut-known cut = Cut-alike (and_then start bytes) end (start.begun ++ input) rest [] (ap read_lines (sym all_bytes)) cut
+  pub Cut-known : (fault : RunFault) → Cut fault (and_then start bytes) end rest → Cut fault (and_then start input) end []
+  Cut-known fault cut = Cut-alike fault (and_then start bytes) end (start.begun ++ input) rest [] (ap read_lines (sym all_bytes)) cut
 
   pub Stops-known : (most : ℕ) (fault : RunFault) → Stops most fault (and_then start bytes) end rest → Stops most fault (and_then start input) end []
   Stops-known most fault stops =
-      Stops-along most fault (and_then start bytes) end (and_then start input) end rest [] Cut-known
-      (λ over. subst (λ l. most < start.lines + length (read_lines l)) all_bytes over) stops
+      Stops-along most fault (and_then start bytes) end (and_then start input) end rest [] (Cut-known fault)
+      (λ over. (over.0, subst (λ l. most < start.lines + length (read_lines l)) all_bytes over.1)) stops
 
 -- more bytes behind those of a start
 pub Fed-read : (start a b c : Point) (bytes more : List ℕ) → Fed (and_then start bytes) a → Fed a b → Fed (and_then b more) c → Fed (and_then start (bytes ++ more)) c
@@ -69,17 +71,32 @@ Stops-read most fault start a b c bytes more rest so_far flushed stops =
     subst (λ l. Stops most fault (record { server = start.server; out = start.out; lines = start.lines; begun = l }) c rest) (append_assoc start.begun bytes more)
     (Stops-after most fault (and_then (and_then start bytes) more) (and_then b more) c rest (Fed-more (and_then start bytes) b more (Fed-trans (and_then start bytes) a b so_far flushed)) stops)
 
--- how a run ends by a fault
-pub Ends-fault : (T : Type 0) (most reads : ℕ) (fault : RunFault) (a b : Point) → Stops most fault a b [] → Ends {T = T} most reads a b (Err fault)
-Ends-fault T most reads Read a b stops = stops
-Ends-fault T most reads Write a b stops = stops
-Ends-fault T most reads Memory a b stops = stops
-Ends-fault T most reads Endless a b stops = (stops.0, inl stops.1)
+-- how a run ends by a fault that is not the source's
+pub Ends-fault : (T : Type 0) (most reads calls calls_after : ℕ) (left_after : Option (List ℕ)) (fault : RunFault) (a b : Point) → (fault ≡ Read → ⊥) → Stops most fault a b [] → Ends {T = T} most reads calls calls_after left_after a b (Err fault)
+Ends-fault T most reads calls calls_after left_after Read a b unread stops = absurd (unread refl)
+Ends-fault T most reads calls calls_after left_after Write a b unread stops = stops
+Ends-fault T most reads calls calls_after left_after Memory a b unread stops = stops
+Ends-fault T most reads calls calls_after left_after Endless a b unread stops = (stops.0, inl stops.1)
 
-pub Ends-stopped : {T : Type 0} (most reads : ℕ) (fault : RunFault) (a b : Point) (r : Result T RunFault) → Stops most fault a b [] → r ≡ Err fault → Ends most reads a b r
-Ends-stopped {T = T} most reads fault a b r stops is = subst (Ends most reads a b) (sym is) (Ends-fault T most reads fault a b stops)
+pub Ends-stopped : {T : Type 0} (most reads calls calls_after : ℕ) (left_after : Option (List ℕ)) (fault : RunFault) (a b : Point) (r : Result T RunFault) → (fault ≡ Read → ⊥) → Stops most fault a b [] → r ≡ Err fault → Ends most reads calls calls_after left_after a b r
+Ends-stopped {T = T} most reads calls calls_after left_after fault a b r unread stops is = subst (Ends most reads calls calls_after left_after a b) (sym is) (Ends-fault T most reads calls calls_after left_after fault a b unread stops)
 
 -- and how by its last line
-pub Ends-finished : {T : Type 0} (most reads : ℕ) (a b c : Point) (r : Result T RunFault) → Fed a b → Finishes most b c r → Ends most reads a c r
-Ends-finished {T = T} most reads a b c (Ok done) fed finishes = Done-after a b c fed finishes
-Ends-finished {T = T} most reads a b c (Err fault) fed finishes = Ends-fault T most reads fault a c (Stops-after most fault a b c [] fed finishes)
+pub Ends-finished : {T : Type 0} (most reads calls calls_after : ℕ) (left_after : Option (List ℕ)) (a b c : Point) (r : Result T RunFault) (f f' : ℕ) → SinkFails f f' r → Fed a b → Finishes most b c r → Ends most reads calls calls_after left_after a c r
+Ends-finished {T = T} most reads calls calls_after left_after a b c (Ok done) f f' fails fed finishes = Done-after a b c fed finishes
+Ends-finished {T = T} most reads calls calls_after left_after a b c (Err fault) f f' fails fed finishes =
+    Ends-fault T most reads calls calls_after left_after fault a c (SinkFails-unread T f f' fault fails) (Stops-after most fault a b c [] fed finishes)
+
+pub not_read : Write ≡ Read → ⊥
+not_read is = absurd (cc is)
+
+-- the lines that ended in what was read are counted
+pub counted_read : (start b : Point) (bytes rest input : List ℕ) (left_after : Option (List ℕ)) (begun : List ℕ) → input ≡ bytes ++ rest → left_after ≡ Some rest → Fed (and_then start bytes) b → NoEnd b.begun →
+    HasCountedRead left_after (and_then start input) (point b.server b.out b.lines begun)
+counted_read start b bytes rest input left_after begun is left fed no_end = (
+  start.begun ++ bytes,
+  rest,
+  ap (λ l. start.begun ++ l) is ∙ sym (append_assoc start.begun bytes rest),
+  left,
+  Fed-ends (and_then start bytes) b fed no_end,
+)

@@ -1,5 +1,5 @@
 -- How a whole run ends, and what it has written.
-use Rattle.std.proofs.Common.{IfOk, ⊎_elim, ◌≡◌, ◌⊎◌, ◌≤◌, ℕ, ◌+◌, ◌<◌, List, [], ◌++◌, length, take, drop, Option, Result, Ok, Err, IsOk, IsErr, IsFalse, inl, inr, refl, sym, ap, ◌∙◌, subst, arith, append-nil, append_assoc, take-append-drop}
+use Rattle.std.proofs.Common.{IfOk, ⊎_elim, ◌≡◌, ◌⊎◌, ◌≤◌, ℕ, ◌+◌, ◌<◌, true, List, [], ◌++◌, length, take, drop, Option, Result, Ok, Err, IsOk, IsErr, IsFalse, inl, inr, refl, sym, ap, ap₂, ◌∙◌, subst, arith, append-nil, append_assoc, take-append-drop}
 use Rattle.std.specs.Prelude.{MatchResult}
 use Rattle.std.specs.Io.KnownBytes.{Appends}
 use Rattle.std.proofs.lemmas.List.{length-map, take_all, take-append-le}
@@ -10,13 +10,13 @@ use Rattle.wire_format.specs.Output.{output, world_of}
 use Rattle.wire_lines.specs.declared.fault.RunFault.{RunFault}
 use Rattle.wire_lines.specs.declared.fault.RunFault.TheVariants.{Read, Write, Endless, Memory}
 use Rattle.wire_lines.specs.declared.stream.Summary.{Summary}
-use Rattle.wire_lines.specs.Sending.{out, Sent, SentFront}
+use Rattle.wire_lines.specs.Sending.{Out, out, Sent, SentFront}
 use Rattle.wire_lines.specs.Steps.{AreAnswered, read_lines}
-use Rattle.wire_lines.specs.Stream.{Point, Done, Cut}
-use Rattle.wire_lines.specs.Run.{AppendsSome, WritesAll, WritesFirst, ReadFails, WriteFails, Ends, Runs}
+use Rattle.wire_lines.specs.Stream.{Point, Done, SentUntil, Cut}
+use Rattle.wire_lines.specs.Run.{AppendsSome, AppendsUntil, WritesAll, WritesUntil, WritesFirst, HasAnsweredRead, HasCountedRead, IsPastLines, IsPastReads, line_ends, IsWrittenOut, device_failed, ReadFails, WriteFails, Ends, Runs}
 use Rattle.wire_lines.proofs.Answering.{front_found, output_found, world_found}
-use Rattle.wire_lines.proofs.Feeding.{Cut-sent}
-use Rattle.wire_lines.proofs.Sent.{Sent-then, SentFront-then, SentFront-then_front, SentFront-whole}
+use Rattle.wire_lines.proofs.Feeding.{SentUntil-front, SentUntil-whole, Cut-sent}
+use Rattle.wire_lines.proofs.Sent.{Sent-then, SentFront-then, SentFront-then_front}
 use Rattle.wire_lines.proofs.Kept.{point}
 use Rattle.wire_lines.proofs.Reading.{Cut-here}
 
@@ -30,44 +30,75 @@ Done-flushed a server old new gathered left lines count none same bytes done = r
   counted = same ∙ done.counted;
 }
 
-Cut-then : (a : Point) (server : Server) (old new : Option (List ℕ)) (gathered left rest : List ℕ) (lines count : ℕ) → left ≡ [] → Appends old new gathered →
-    Cut a (point server (out old gathered) lines []) rest → Cut a (point server (out new left) count []) rest
-Cut-then a server old new gathered left rest lines count none bytes cut =
-    Cut-sent a (point server (out old gathered) lines []) (point server (out new left) count []) rest refl
-    (λ text sent. SentFront-then a.out old new gathered left text none sent bytes) cut
+SentUntil-then : (fault : RunFault) (a : Out) (old new : Option (List ℕ)) (gathered left text : List ℕ) → left ≡ [] → Appends old new gathered → SentUntil fault a (out old gathered) text → SentUntil fault a (out new left) text
+SentUntil-then Read a old new gathered left text none bytes sent = Sent-then a old new gathered left text none sent bytes
+SentUntil-then Endless a old new gathered left text none bytes sent = Sent-then a old new gathered left text none sent bytes
+SentUntil-then Write a old new gathered left text none bytes sent = SentFront-then a old new gathered left text none sent bytes
+SentUntil-then Memory a old new gathered left text none bytes sent = SentFront-then a old new gathered left text none sent bytes
 
-Cut-then_front : (a : Point) (server : Server) (old new : Option (List ℕ)) (gathered left rest : List ℕ) (lines count : ℕ) → left ≡ [] → AppendsFront old new gathered →
-    Cut a (point server (out old gathered) lines []) rest → Cut a (point server (out new left) count []) rest
-Cut-then_front a server old new gathered left rest lines count none bytes cut =
-    Cut-sent a (point server (out old gathered) lines []) (point server (out new left) count []) rest refl
-    (λ text sent. SentFront-then_front a.out old new gathered left text none sent bytes) cut
+Cut-then : (fault : RunFault) (a : Point) (server : Server) (old new : Option (List ℕ)) (gathered left rest : List ℕ) (lines count : ℕ) → left ≡ [] → count ≡ lines → Appends old new gathered →
+    Cut fault a (point server (out old gathered) lines []) rest → Cut fault a (point server (out new left) count []) rest
+Cut-then fault a server old new gathered left rest lines count none same bytes cut =
+    Cut-sent fault fault a (point server (out old gathered) lines []) (point server (out new left) count []) rest refl same
+    (λ text sent. SentUntil-then fault a.out old new gathered left text none bytes sent) cut
 
-Cut-done : (a b : Point) → Done a b → Cut a b []
-Cut-done a b done = record {
+Cut-then_front : (fault : RunFault) (a : Point) (server : Server) (old new : Option (List ℕ)) (gathered left rest : List ℕ) (lines count : ℕ) → left ≡ [] → count ≡ lines → AppendsFront old new gathered →
+    Cut fault a (point server (out old gathered) lines []) rest → Cut Write a (point server (out new left) count []) rest
+Cut-then_front fault a server old new gathered left rest lines count none same bytes cut =
+    Cut-sent fault Write a (point server (out old gathered) lines []) (point server (out new left) count []) rest refl same
+    (λ text sent. SentFront-then_front a.out old new gathered left text none (SentUntil-front fault a.out (out old gathered) text sent) bytes) cut
+
+Cut-done : (fault : RunFault) (a b : Point) → Done a b → Cut fault a b []
+Cut-done fault a b done = record {
   lines = read_lines a.begun;
   behind = [];
   text = done.text;
   reads = ap read_lines (append-nil a.begun) ∙ sym (append-nil (read_lines a.begun));
   answered = done.answered;
-  sent = SentFront-whole a.out b.out done.text done.sent;
+  sent = SentUntil-whole fault a.out b.out done.text done.sent;
+  counted = done.counted;
 }
 
-pub Ends-flushed : {T : Type 0} (most reads : ℕ) (a : Point) (server : Server) (old new : Option (List ℕ)) (gathered left : List ℕ) (lines count : ℕ) (r : Result T RunFault) → left ≡ [] → count ≡ lines → Appends old new gathered →
-    Ends most reads a (point server (out old gathered) lines []) r → Ends most reads a (point server (out new left) count []) r
-Ends-flushed most reads a server old new gathered left lines count (Ok done) none same bytes ends = Done-flushed a server old new gathered left lines count none same bytes ends
-Ends-flushed most reads a server old new gathered left lines count (Err Read) none same bytes ends = Cut-then a server old new gathered left [] lines count none bytes ends
-Ends-flushed most reads a server old new gathered left lines count (Err Write) none same bytes ends = Cut-then a server old new gathered left [] lines count none bytes ends
-Ends-flushed most reads a server old new gathered left lines count (Err Memory) none same bytes ends = Cut-then a server old new gathered left [] lines count none bytes ends
-Ends-flushed most reads a server old new gathered left lines count (Err Endless) none same bytes ends = (Cut-then a server old new gathered left [] lines count none bytes ends.0, ends.1)
+counted_alike : (left_after : Option (List ℕ)) (a : Point) (server : Server) (old new : Option (List ℕ)) (gathered left : List ℕ) (lines count : ℕ) → count ≡ lines → HasCountedRead left_after a (point server (out old gathered) lines []) → HasCountedRead left_after a (point server (out new left) count [])
+counted_alike left_after a server old new gathered left lines count same counts = (counts.0, counts.1, counts.2, counts.3, same ∙ counts.4)
+
+pub Ends-flushed : {T : Type 0} (most reads calls calls_after : ℕ) (left_after : Option (List ℕ)) (a : Point) (server : Server) (old new : Option (List ℕ)) (gathered left : List ℕ) (lines count : ℕ) (r : Result T RunFault) → left ≡ [] → count ≡ lines → Appends old new gathered →
+    Ends most reads calls calls_after left_after a (point server (out old gathered) lines []) r → Ends most reads calls calls_after left_after a (point server (out new left) count []) r
+Ends-flushed most reads calls calls_after left_after a server old new gathered left lines count (Ok done) none same bytes ends = Done-flushed a server old new gathered left lines count none same bytes ends
+Ends-flushed most reads calls calls_after left_after a server old new gathered left lines count (Err Read) none same bytes ends = (
+  Cut-then Read a server old new gathered left [] lines count none same bytes ends.0,
+  counted_alike left_after a server old new gathered left lines count same ends.1,
+)
+Ends-flushed most reads calls calls_after left_after a server old new gathered left lines count (Err Write) none same bytes ends = Cut-then Write a server old new gathered left [] lines count none same bytes ends
+Ends-flushed most reads calls calls_after left_after a server old new gathered left lines count (Err Memory) none same bytes ends = Cut-then Memory a server old new gathered left [] lines count none same bytes ends
+Ends-flushed most reads calls calls_after left_after a server old new gathered left lines count (Err Endless) none same bytes ends = (
+  Cut-then Endless a server old new gathered left [] lines count none same bytes ends.0,
+  ⊎_elim (λ over. inl (same ∙ over.0, over.1)) (λ past. inr (past.0, counted_alike left_after a server old new gathered left lines count same past.1)) ends.1,
+)
 
 -- or a front of it
-pub Ends-flush_failed : {T : Type 0} (most reads : ℕ) (a : Point) (server : Server) (old new : Option (List ℕ)) (gathered left : List ℕ) (lines count : ℕ) (r : Result T RunFault) → left ≡ [] → AppendsFront old new gathered →
-    Ends most reads a (point server (out old gathered) lines []) r → Cut a (point server (out new left) count []) []
-Ends-flush_failed most reads a server old new gathered left lines count (Ok done) none bytes ends = Cut-then_front a server old new gathered left [] lines count none bytes (Cut-done a _ ends)
-Ends-flush_failed most reads a server old new gathered left lines count (Err Read) none bytes ends = Cut-then_front a server old new gathered left [] lines count none bytes ends
-Ends-flush_failed most reads a server old new gathered left lines count (Err Write) none bytes ends = Cut-then_front a server old new gathered left [] lines count none bytes ends
-Ends-flush_failed most reads a server old new gathered left lines count (Err Memory) none bytes ends = Cut-then_front a server old new gathered left [] lines count none bytes ends
-Ends-flush_failed most reads a server old new gathered left lines count (Err Endless) none bytes ends = Cut-then_front a server old new gathered left [] lines count none bytes ends.0
+pub Ends-flush_failed : {T : Type 0} (most reads calls calls_after : ℕ) (left_after : Option (List ℕ)) (a : Point) (server : Server) (old new : Option (List ℕ)) (gathered left : List ℕ) (lines count : ℕ) (r : Result T RunFault) → left ≡ [] → count ≡ lines → AppendsFront old new gathered →
+    Ends most reads calls calls_after left_after a (point server (out old gathered) lines []) r → Cut Write a (point server (out new left) count []) []
+Ends-flush_failed most reads calls calls_after left_after a server old new gathered left lines count (Ok done) none same bytes ends = Cut-then_front Write a server old new gathered left [] lines count none same bytes (Cut-done Write a _ ends)
+Ends-flush_failed most reads calls calls_after left_after a server old new gathered left lines count (Err Read) none same bytes ends = Cut-then_front Read a server old new gathered left [] lines count none same bytes ends.0
+Ends-flush_failed most reads calls calls_after left_after a server old new gathered left lines count (Err Write) none same bytes ends = Cut-then_front Write a server old new gathered left [] lines count none same bytes ends
+Ends-flush_failed most reads calls calls_after left_after a server old new gathered left lines count (Err Memory) none same bytes ends = Cut-then_front Memory a server old new gathered left [] lines count none same bytes ends
+Ends-flush_failed most reads calls calls_after left_after a server old new gathered left lines count (Err Endless) none same bytes ends = Cut-then_front Endless a server old new gathered left [] lines count none same bytes ends.0
+
+-- what a run has written out where a device has failed, and where nothing is gathered
+pub IsWrittenOut-failed : {T : Type 0} (r : Result T RunFault) (gathered : List ℕ) → device_failed r ≡ true → (r ≡ Err Read → gathered ≡ []) → IsWrittenOut r gathered
+IsWrittenOut-failed (Ok done) gathered failed none = absurd (cc failed)
+IsWrittenOut-failed (Err Read) gathered failed none = none refl
+IsWrittenOut-failed (Err Write) gathered failed none = tt
+IsWrittenOut-failed (Err Endless) gathered failed none = absurd (cc failed)
+IsWrittenOut-failed (Err Memory) gathered failed none = absurd (cc failed)
+
+pub IsWrittenOut-empty : {T : Type 0} (r : Result T RunFault) (gathered : List ℕ) → gathered ≡ [] → IsWrittenOut r gathered
+IsWrittenOut-empty (Ok done) gathered none = none
+IsWrittenOut-empty (Err Read) gathered none = none
+IsWrittenOut-empty (Err Write) gathered none = tt
+IsWrittenOut-empty (Err Endless) gathered none = none
+IsWrittenOut-empty (Err Memory) gathered none = none
 
 -- a run from the beginning of its input
 abbrev pub beginning : Server → Option (List ℕ) → List ℕ → Point
@@ -83,93 +114,124 @@ all_written held held_after left text none sent =
     let (w, bytes, is) = sent in
     subst (Appends held held_after) (sym (is ∙ ap (λ l. w ++ l) none ∙ append-nil w)) bytes
 
--- what was answered where a run has stopped
-pub WritesFirst-cut : (input : List ℕ) (held held_after : Option (List ℕ)) (old new : Server) (left : List ℕ) (count : ℕ) → Cut (beginning old held input) (point new (out held_after left) count []) [] → WritesFirst input held old held_after new
-WritesFirst-cut input held held_after old new left count cut =
-    let all : read_lines input ≡ cut.lines ++ cut.behind = ap read_lines (sym (append-nil input)) ∙ cut.reads in
-    let first : take (length cut.lines) (read_lines input) ≡ cut.lines =
-    ap (take (length cut.lines)) all ∙ take-append-le (length cut.lines) cut.lines cut.behind (omega arith) ∙ take_all (length cut.lines) cut.lines (omega arith) in (
-      length cut.lines,
-      cut.text,
-      subst (λ lines. AreAnswered old lines cut.text new) (sym first) cut.answered,
-      front_written held held_after left cut.text cut.sent,
-    )
+-- what is written of a text that was sent, where nothing is gathered any more unless the sink failed
+until_written : (T : Type 0) (fault : RunFault) (held held_after : Option (List ℕ)) (left text : List ℕ) → IsWrittenOut {T = T} (Err fault) left → SentUntil fault (out held []) (out held_after left) text → AppendsUntil fault held held_after text
+until_written T Read held held_after left text none sent = all_written held held_after left text none sent
+until_written T Endless held held_after left text none sent = all_written held held_after left text none sent
+until_written T Write held held_after left text none sent = front_written held held_after left text sent
+until_written T Memory held held_after left text none sent = front_written held held_after left text sent
+
+some_written : (fault : RunFault) (held held_after : Option (List ℕ)) (text : List ℕ) → AppendsUntil fault held held_after text → AppendsSome held held_after text
+some_written Read held held_after text bytes = (text, ([], sym (append-nil text)), bytes)
+some_written Endless held held_after text bytes = (text, ([], sym (append-nil text)), bytes)
+some_written Write held held_after text bytes = bytes
+some_written Memory held held_after text bytes = bytes
 
 -- how many lines an input has
 counted_lines : (input : List ℕ) → length (read_lines input) ≡ length (lines_of input)
 counted_lines input = length-map (lines_of input) piece_of
 
-pub Runs-stopped : (max_lines max_reads : ℕ) (input : List ℕ) (held held_after : Option (List ℕ)) (old new : Server) (left : List ℕ) (count : ℕ) (T : Type 0) (fault : RunFault) →
-    Ends {T = T} max_lines max_reads (beginning old held input) (point new (out held_after left) count []) (Err fault) → Runs max_lines max_reads input held old held_after new (Err fault)
-Runs-stopped max_lines max_reads input held held_after old new left count T Read ends = WritesFirst-cut input held held_after old new left count ends
-Runs-stopped max_lines max_reads input held held_after old new left count T Write ends = WritesFirst-cut input held held_after old new left count ends
-Runs-stopped max_lines max_reads input held held_after old new left count T Memory ends = WritesFirst-cut input held held_after old new left count ends
-Runs-stopped max_lines max_reads input held held_after old new left count T Endless ends = (
-  WritesFirst-cut input held held_after old new left count ends.0,
+-- what was answered where a run has stopped
+module _ (T : Type 0) (fault : RunFault) (input : List ℕ) (held held_after : Option (List ℕ)) (old new : Server) (left : List ℕ) (count : ℕ) (none : IsWrittenOut {T = T} (Err fault) left) where
+  pub WritesUntil-cut : Cut fault (beginning old held input) (point new (out held_after left) count []) [] → WritesUntil fault count input held old held_after new
+  WritesUntil-cut cut =
+      let all : read_lines input ≡ cut.lines ++ cut.behind = ap read_lines (sym (append-nil input)) ∙ cut.reads in
+      let same : count ≡ length cut.lines = omega (arith, cut.counted) in
+      let first : take count (read_lines input) ≡ cut.lines =
+      ap₂ take same all ∙ take-append-le (length cut.lines) cut.lines cut.behind (omega arith) ∙ take_all (length cut.lines) cut.lines (omega arith) in (
+        cut.text,
+        subst (λ lines. AreAnswered old lines cut.text new) (sym first) cut.answered,
+        until_written T fault held held_after left cut.text none cut.sent,
+      )
+
+  pub HasAnsweredRead-cut : (left_after : Option (List ℕ)) → HasCountedRead left_after (beginning old held input) (point new (out held_after left) count []) → Cut fault (beginning old held input) (point new (out held_after left) count []) [] → HasAnsweredRead fault input left_after held old held_after new
+  HasAnsweredRead-cut left_after counts cut =
+      let same : count ≡ line_ends counts.0 = omega (arith, counts.4) in
+      (counts.0, counts.1, counts.2, counts.3, subst (λ n. WritesUntil fault n input held old held_after new) same (WritesUntil-cut cut))
+
+  pub WritesFirst-cut : (most : ℕ) → count ≤ most → Cut fault (beginning old held input) (point new (out held_after left) count []) [] → WritesFirst fault most input held old held_after new
+  WritesFirst-cut most within cut = (count, within, WritesUntil-cut cut)
+
+pub Runs-stopped : (max_lines max_reads calls calls_after : ℕ) (input : List ℕ) (left_after : Option (List ℕ)) (held held_after : Option (List ℕ)) (old new : Server) (left : List ℕ) (count : ℕ) (T : Type 0) (fault : RunFault) → IsWrittenOut {T = T} (Err fault) left → count ≤ max_lines →
+    Ends {T = T} max_lines max_reads calls calls_after left_after (beginning old held input) (point new (out held_after left) count []) (Err fault) → Runs max_lines max_reads calls calls_after input left_after held old held_after new (Err fault)
+Runs-stopped max_lines max_reads calls calls_after input left_after held held_after old new left count T Read none within ends = (
+  WritesFirst-cut T Read input held held_after old new left count none max_lines within ends.0,
+  HasAnsweredRead-cut T Read input held held_after old new left count none left_after ends.1 ends.0,
+)
+Runs-stopped max_lines max_reads calls calls_after input left_after held held_after old new left count T Write none within ends = WritesFirst-cut T Write input held held_after old new left count none max_lines within ends
+Runs-stopped max_lines max_reads calls calls_after input left_after held held_after old new left count T Memory none within ends = WritesFirst-cut T Memory input held held_after old new left count none max_lines within ends
+Runs-stopped max_lines max_reads calls calls_after input left_after held held_after old new left count T Endless none within ends = (
+  WritesFirst-cut T Endless input held held_after old new left count none max_lines within ends.0,
   ⊎_elim
-      (λ (over : max_lines < 0 + length (read_lines (input ++ []))).
+      (λ (over : (count ≡ max_lines) × (max_lines < 0 + length (read_lines (input ++ [])))).
       let same = ap (λ l. length (read_lines l)) (append-nil input) in
       let counts = counted_lines input in
-      inl (omega (arith, same, counts)))
-      (λ (enough : max_reads ≤ length input). inr enough)
+      inl (omega (arith, same, counts, over.1), subst (λ n. WritesUntil Endless n input held old held_after new) over.0 (WritesUntil-cut T Endless input held held_after old new left count none ends.0)))
+      (λ (past : IsPastReads max_reads input calls calls_after × HasCountedRead left_after (beginning old held input) (point new (out held_after left) count [])).
+      inr (past.0, HasAnsweredRead-cut T Endless input held held_after old new left count none left_after past.1 ends.0))
       ends.1,
 )
 
 -- where a run has not begun, it has answered and written nothing
-pub Runs-unbegun : (max_lines max_reads : ℕ) (input : List ℕ) (held : Option (List ℕ)) (server : Server) → Runs max_lines max_reads input held server held server (Err Memory)
-Runs-unbegun max_lines max_reads input held server = WritesFirst-cut input held held server server [] 0 (Cut-here (beginning server held input) [] [])
+pub Runs-unbegun : (max_lines max_reads calls calls_after : ℕ) (input : List ℕ) (left_after : Option (List ℕ)) (held : Option (List ℕ)) (server : Server) → Runs max_lines max_reads calls calls_after input left_after held server held server (Err Memory)
+Runs-unbegun max_lines max_reads calls calls_after input left_after held server = WritesFirst-cut (Unit {0}) Memory input held held server server [] 0 refl max_lines (omega arith) (Cut-here Memory (beginning server held input) [] [])
 
-pub Runs-done : (max_lines max_reads : ℕ) (input : List ℕ) (held held_after : Option (List ℕ)) (old new : Server) (left : List ℕ) (summary : Summary) → left ≡ [] →
-    Done (beginning old held input) (point new (out held_after left) summary.lines []) → Runs max_lines max_reads input held old held_after new (Ok summary)
-Runs-done max_lines max_reads input held held_after old new left summary none done =
+pub Runs-done : (max_lines max_reads calls calls_after : ℕ) (input : List ℕ) (left_after : Option (List ℕ)) (held held_after : Option (List ℕ)) (old new : Server) (left : List ℕ) (summary : Summary) → left ≡ [] → summary.lines ≤ max_lines →
+    Done (beginning old held input) (point new (out held_after left) summary.lines []) → Runs max_lines max_reads calls calls_after input left_after held old held_after new (Ok summary)
+Runs-done max_lines max_reads calls calls_after input left_after held held_after old new left summary none within done =
     let counts = counted_lines input in
-    ((done.text, done.answered, all_written held held_after left done.text none done.sent), omega (arith, counts, done.counted))
+    ((done.text, done.answered, all_written held held_after left done.text none done.sent), omega (arith, counts, done.counted), within)
 
 -- what follows of a run
-module _ (max_lines max_reads : ℕ) (input : List ℕ) (held held_after : Option (List ℕ)) (old new : Server) where
-  pub Runs-answered : (r : Result Summary RunFault) → Runs max_lines max_reads input held old held_after new r → MatchResult r (λ _. WritesAll input held old held_after new) (λ _. WritesFirst input held old held_after new)
+module _ (max_lines max_reads calls calls_after : ℕ) (input : List ℕ) (left_after : Option (List ℕ)) (held held_after : Option (List ℕ)) (old new : Server) where
+  pub Runs-answered : (r : Result Summary RunFault) → Runs max_lines max_reads calls calls_after input left_after held old held_after new r → MatchResult r (λ _. WritesAll input held old held_after new) (λ fault. WritesFirst fault max_lines input held old held_after new)
   Runs-answered (Ok summary) runs = runs.0
-  Runs-answered (Err Read) runs = runs
+  Runs-answered (Err Read) runs = runs.0
   Runs-answered (Err Write) runs = runs
   Runs-answered (Err Memory) runs = runs
   Runs-answered (Err Endless) runs = runs.0
 
-  pub Runs-well : (r : Result Summary RunFault) → Runs max_lines max_reads input held old held_after new r → IsOk r → IsFalse (was_refused new) →
+  pub Runs-well : (r : Result Summary RunFault) → Runs max_lines max_reads calls calls_after input left_after held old held_after new r → IsOk r → IsFalse (was_refused new) →
       Appends held held_after (output (settings old) (states old) input) × (states new ≡ world_of (settings old) (states old) input)
   Runs-well (Ok summary) runs ok found =
       let (text, answered, written) = runs.0 in
       (subst (Appends held held_after) (output_found old new input text answered found) written, world_found old new input text answered found)
   Runs-well (Err fault) runs ok found = absurd (cc ok)
 
-  pub Runs-lines : (r : Result Summary RunFault) → Runs max_lines max_reads input held old held_after new r → IfOk r (λ summary. summary.lines ≡ length (lines_of input))
-  Runs-lines (Ok summary) runs = runs.1
+  pub Runs-lines : (r : Result Summary RunFault) → Runs max_lines max_reads calls calls_after input left_after held old held_after new r → IfOk r (λ summary. (summary.lines ≡ length (lines_of input)) × (summary.lines ≤ max_lines))
+  Runs-lines (Ok summary) runs = (runs.1, runs.2)
   Runs-lines (Err fault) runs = tt
 
-  first_written : WritesFirst input held old held_after new → IsFalse (was_refused new) → AppendsSome held held_after (output (settings old) (states old) input)
-  first_written writes found =
-      let (count, text, answered, (front, (more, is), written)) = writes in
+  first_written : (fault : RunFault) → WritesFirst fault max_lines input held old held_after new → IsFalse (was_refused new) → AppendsSome held held_after (output (settings old) (states old) input)
+  first_written fault writes found =
+      let (count, within, until) = writes in
+      let (text, answered, some) = until in
+      let (front, (more, is), written) = some_written fault held held_after text some in
       let (rest, all) = front_found old new input (take count (read_lines input)) (drop count (read_lines input)) text (sym (take-append-drop count (read_lines input))) answered found in
       (front, (more ++ rest, all ∙ ap (λ l. l ++ rest) is ∙ append_assoc front more rest), written)
 
-  pub Runs-prefix : (r : Result Summary RunFault) → Runs max_lines max_reads input held old held_after new r → IsErr r → IsFalse (was_refused new) → AppendsSome held held_after (output (settings old) (states old) input)
+  pub Runs-prefix : (r : Result Summary RunFault) → Runs max_lines max_reads calls calls_after input left_after held old held_after new r → IsErr r → IsFalse (was_refused new) → AppendsSome held held_after (output (settings old) (states old) input)
   Runs-prefix (Ok summary) runs failed found = absurd (cc failed)
-  Runs-prefix (Err Read) runs failed found = first_written runs found
-  Runs-prefix (Err Write) runs failed found = first_written runs found
-  Runs-prefix (Err Memory) runs failed found = first_written runs found
-  Runs-prefix (Err Endless) runs failed found = first_written runs.0 found
+  Runs-prefix (Err Read) runs failed found = first_written Read runs.0 found
+  Runs-prefix (Err Write) runs failed found = first_written Write runs found
+  Runs-prefix (Err Memory) runs failed found = first_written Memory runs found
+  Runs-prefix (Err Endless) runs failed found = first_written Endless runs.0 found
 
-  pub Runs-endless : (r : Result Summary RunFault) → Runs max_lines max_reads input held old held_after new r → r ≡ Err Endless → (max_lines < length (lines_of input)) ⊎ (max_reads ≤ length input)
-  Runs-endless r runs is = let ended : Runs max_lines max_reads input held old held_after new (Err Endless) = subst (Runs max_lines max_reads input held old held_after new) is runs in ended.1
+  pub Runs-endless : (r : Result Summary RunFault) → Runs max_lines max_reads calls calls_after input left_after held old held_after new r → r ≡ Err Endless → IsPastLines max_lines input held old held_after new ⊎ IsPastReads max_reads input calls calls_after × HasAnsweredRead Endless input left_after held old held_after new
+  Runs-endless r runs is = let ended : Runs max_lines max_reads calls calls_after input left_after held old held_after new (Err Endless) = subst (Runs max_lines max_reads calls calls_after input left_after held old held_after new) is runs in ended.1
+
+  pub Runs-unread : (r : Result Summary RunFault) → Runs max_lines max_reads calls calls_after input left_after held old held_after new r → r ≡ Err Read → HasAnsweredRead Read input left_after held old held_after new
+  Runs-unread r runs is = let ended : Runs max_lines max_reads calls calls_after input left_after held old held_after new (Err Read) = subst (Runs max_lines max_reads calls calls_after input left_after held old held_after new) is runs in ended.1
 
 -- a run with nothing gathered and nothing begun stands at the beginning
-pub Ends-beginning : {T : Type 0} (max_lines max_reads most lines : ℕ) (gathered begun input : List ℕ) (held : Option (List ℕ)) (old : Server) (end : Point) (r : Result T RunFault) →
+pub Ends-beginning : {T : Type 0} (max_lines max_reads calls calls_after : ℕ) (left_after : Option (List ℕ)) (most lines : ℕ) (gathered begun input : List ℕ) (held : Option (List ℕ)) (old : Server) (end : Point) (r : Result T RunFault) →
     most ≡ max_lines → gathered ≡ [] → lines ≡ 0 → begun ≡ [] →
-    Ends most max_reads (point old (out held gathered) lines (begun ++ input)) end r → Ends max_lines max_reads (beginning old held input) end r
-Ends-beginning max_lines max_reads most lines gathered begun input held old end r same nothing zero_lines none ends =
-    subst (λ m. Ends m max_reads (beginning old held input) end r) same
-    (subst (λ g. Ends most max_reads (point old (out held g) 0 input) end r) nothing
-    (subst (λ n. Ends most max_reads (point old (out held gathered) n input) end r) zero_lines
-    (subst (λ b. Ends most max_reads (point old (out held gathered) lines (b ++ input)) end r) none ends)))
+    Ends most max_reads calls calls_after left_after (point old (out held gathered) lines (begun ++ input)) end r → Ends max_lines max_reads calls calls_after left_after (beginning old held input) end r
+Ends-beginning max_lines max_reads calls calls_after left_after most lines gathered begun input held old end r same nothing zero_lines none ends =
+    subst (λ m. Ends m max_reads calls calls_after left_after (beginning old held input) end r) same
+    (subst (λ g. Ends most max_reads calls calls_after left_after (point old (out held g) 0 input) end r) nothing
+    (subst (λ n. Ends most max_reads calls calls_after left_after (point old (out held gathered) n input) end r) zero_lines
+    (subst (λ b. Ends most max_reads calls calls_after left_after (point old (out held gathered) lines (b ++ input)) end r) none ends)))
 
 -- faults of devices in calls whose answers are of two types
 read_fault : (T U : Type 0) (old new : ℕ) (fault : RunFault) → ReadFails {T = T} old new (Err fault) → ReadFails {T = U} old new (Err fault)

@@ -1,5 +1,5 @@
 -- What a run over a whole input promises.
-use Rattle.std.specs.Prelude.{◌≡◌, ◌⊎◌, ◌<◌, ◌≤◌, ◌^◌, ℕ, Bool, true, false, List, [], length, take, Option, Some, Result, Ok, Err, IsOk, IsErr, IfOk, MatchResult, IsFalse}
+use Rattle.std.specs.Prelude.{◌≡◌, ◌⊎◌, ◌<◌, ◌≤◌, ◌+◌, ◌==◌, ◌++◌, ℕ, Bool, true, false, List, [], length, take, filter, min, Option, Some, Result, Ok, Err, IsOk, IsErr, IfOk, MatchResult, IsFalse}
 use Rattle.std.specs.Io.KnownBytes.{Appends}
 use Rattle.isolation.specs.Alone.{items, alone_lines}
 use Rattle.isolation.specs.Influence.{influences}
@@ -7,11 +7,11 @@ use Rattle.isolation.specs.Pieces.{commands_of, told}
 use Rattle.server_world.specs.Server.{Server, states, names, was_refused, settings}
 use Rattle.thread_model.specs.Machine.{machine}
 use Rattle.thread_model.specs.Thread.{Settings}
-use Rattle.wire_devices.specs.Counts.{FailsOnce}
+use Rattle.wire_devices.specs.Counts.{FailsOnce, greatest_count}
 use Rattle.wire_format.specs.Input.{lines_of, pieces_of, without}
 use Rattle.wire_format.specs.Output.{World, answers_to, said_all, lines_said_to, output, world_of}
 use Rattle.wire_lines.specs.declared.fault.RunFault.{RunFault}
-use Rattle.wire_lines.specs.declared.fault.RunFault.TheVariants.{Read, Write, Endless}
+use Rattle.wire_lines.specs.declared.fault.RunFault.TheVariants.{Read, Write, Endless, Memory}
 use Rattle.wire_lines.specs.declared.stream.Summary.{Summary}
 use Rattle.wire_lines.specs.Sending.{IsFront}
 use Rattle.wire_lines.specs.Steps.{AreAnswered, read_lines}
@@ -34,6 +34,10 @@ ReadFails old new r = new ≡ old
 abbrev pub WriteFails : {T : Type 0} → ℕ → ℕ → Result T RunFault → Type 0
 WriteFails old new (Err Write) = FailsOnce old new
 WriteFails old new r = new ≡ old
+
+-- the source and the sink of a run failed once where that is the fault, and else not
+abbrev pub DevicesFail : {T : Type 0} → ℕ → ℕ → ℕ → ℕ → Result T RunFault → Type 0
+DevicesFail source source_after sink sink_after r = ReadFails source source_after r × WriteFails sink sink_after r
 
 -- what is said to the commands of s is what s would be told alone
 abbrev pub IsToldAlone : Settings → World → List ℕ → List ℕ → Type 0
@@ -67,34 +71,80 @@ abbrev pub WritesAll : List ℕ → Option (List ℕ) → Server → Option (Lis
 WritesAll input held old held_after new =
     (text : List ℕ) × AreAnswered old (read_lines input) text new × Appends held held_after text
 
--- so many first lines are, and a front of what is said is written
-abbrev pub WritesFirst : List ℕ → Option (List ℕ) → Server → Option (List ℕ) → Server → Type 0
-WritesFirst input held old held_after new =
-    (count : ℕ) × (text : List ℕ) × AreAnswered old (take count (read_lines input)) text new × AppendsSome held held_after text
+-- how much is written of what was said until a run stops
+abbrev pub AppendsUntil : RunFault → Option (List ℕ) → Option (List ℕ) → List ℕ → Type 0
+AppendsUntil Write old new text = AppendsSome old new text
+AppendsUntil Memory old new text = AppendsSome old new text
+AppendsUntil fault old new text = Appends old new text
 
--- what a run over these bytes comes to
-pub record RunsOver (input : List ℕ) (old new : Server) (held held_after left_after : Option (List ℕ)) (result : Result Summary RunFault) : Type 0 where
+-- so many first lines are answered, and what was said to them is written so far
+abbrev pub WritesUntil : RunFault → ℕ → List ℕ → Option (List ℕ) → Server → Option (List ℕ) → Server → Type 0
+WritesUntil fault count input held old held_after new =
+    (text : List ℕ) × AreAnswered old (take count (read_lines input)) text new × AppendsUntil fault held held_after text
+
+-- the same of some first lines, and no more than that
+abbrev pub WritesFirst : RunFault → ℕ → List ℕ → Option (List ℕ) → Server → Option (List ℕ) → Server → Type 0
+WritesFirst fault most input held old held_after new =
+    (count : ℕ) × (count ≤ most) × WritesUntil fault count input held old held_after new
+
+-- how many lines end in these bytes
+abbrev pub line_ends : List ℕ → ℕ
+line_ends bytes = length (filter (λ byte. byte == 10) bytes)
+
+-- the lines that ended in what was read are answered, and no others
+abbrev pub HasAnsweredRead : RunFault → List ℕ → Option (List ℕ) → Option (List ℕ) → Server → Option (List ℕ) → Server → Type 0
+HasAnsweredRead fault input left_after held old held_after new =
+    (read : List ℕ) × (left : List ℕ) × (input ≡ read ++ left) × (left_after ≡ Some left) × WritesUntil fault (line_ends read) input held old held_after new
+
+-- the lines reached their bound, all of them are answered, and a further one came
+abbrev pub IsPastLines : ℕ → List ℕ → Option (List ℕ) → Server → Option (List ℕ) → Server → Type 0
+IsPastLines max_lines input held old held_after new =
+    (max_lines < length (lines_of input)) × WritesUntil Endless max_lines input held old held_after new
+
+-- the calls of `read` reached their bound, as far as they are counted, and each of them gave some bytes
+abbrev pub IsPastReads : ℕ → List ℕ → ℕ → ℕ → Type 0
+IsPastReads max_reads bytes calls calls_after =
+    (min calls_after greatest_count ≡ min (calls + max_reads) greatest_count) × (max_reads ≤ length bytes)
+
+-- what a run over these bytes comes to, which reads no more than so many lines, and by no more than so many calls
+pub record RunsOver (max_lines max_reads : ℕ) (input : List ℕ) (old new : Server) (held held_after left_after : Option (List ℕ)) (calls calls_after : ℕ) (result : Result Summary RunFault) : Type 0 where
   pub well : WentWell result new → AnswersAll input old new held held_after
   -- where it stops, it has written a front of that output,
   pub stopped : IsErr result → IsFalse (was_refused new) → AppendsSome held held_after (output (settings old) (states old) input)
-  -- and it finds no end only behind so many lines or bytes
-  pub endless : result ≡ Err Endless → (2 ^ 32 < length (lines_of input)) ⊎ (2 ^ 40 ≤ length input)
+  -- and it finds no end only at a bound
+  pub endless : result ≡ Err Endless → IsPastLines max_lines input held old held_after new
+      ⊎ IsPastReads max_reads input calls calls_after × HasAnsweredRead Endless input left_after held old held_after new
+  pub unread : result ≡ Err Read → HasAnsweredRead Read input left_after held old held_after new
   -- also where memory was refused: the lines are answered one after another, and what is said to them is written,
-  pub answered : MatchResult result (λ _. WritesAll input held old held_after new) (λ _. WritesFirst input held old held_after new)
+  pub answered : MatchResult result (λ _. WritesAll input held old held_after new) (λ fault. WritesFirst fault max_lines input held old held_after new)
   -- all of the input is read, and its lines are counted
   pub all_read : IsOk result → left_after ≡ Some []
-  pub counted : IfOk result (λ summary. summary.lines ≡ length (lines_of input))
+  pub counted : IfOk result (λ summary. (summary.lines ≡ length (lines_of input)) × (summary.lines ≤ max_lines))
 
--- how often the source and the sink of a run failed
-pub record DevicesFail (source source_after sink sink_after : ℕ) (result : Result Summary RunFault) : Type 0 where
+-- how often the source of a run was asked, and how often it and the sink failed
+pub record UsesDevices (max_reads calls calls_after source source_after sink sink_after : ℕ) (result : Result Summary RunFault) : Type 0 where
+  pub asked : calls_after ≤ calls + max_reads
   pub read : ReadFails source source_after result
   pub write : WriteFails sink sink_after result
 
+-- from one point to another, the lines that ended in what was read were counted, and no others
+abbrev pub HasCountedRead : Option (List ℕ) → Point → Point → Type 0
+HasCountedRead left_after old new =
+    (read : List ℕ) × (left : List ℕ) × (old.begun ≡ read ++ left) × (left_after ≡ Some left) × (new.lines ≡ old.lines + line_ends read)
+
 -- how a run over these bytes ends, from the point where they are all to come
-abbrev pub Ends : {T : Type 0} → ℕ → ℕ → Point → Point → Result T RunFault → Type 0
-Ends most_lines most_reads old new (Ok done) = Done old new
-Ends most_lines most_reads old new (Err Endless) = Cut old new [] × (IsOver most_lines old [] ⊎ (most_reads ≤ length old.begun))
-Ends most_lines most_reads old new (Err fault) = Cut old new []
+abbrev pub Ends : {T : Type 0} → ℕ → ℕ → ℕ → ℕ → Option (List ℕ) → Point → Point → Result T RunFault → Type 0
+Ends max_lines max_reads calls calls_after left_after old new (Ok done) = Done old new
+Ends max_lines max_reads calls calls_after left_after old new (Err Read) = Cut Read old new [] × HasCountedRead left_after old new
+Ends max_lines max_reads calls calls_after left_after old new (Err Endless) =
+    Cut Endless old new []
+    × (IsOver max_lines old new [] ⊎ IsPastReads max_reads old.begun calls calls_after × HasCountedRead left_after old new)
+Ends max_lines max_reads calls calls_after left_after old new (Err fault) = Cut fault old new []
+
+-- nothing is gathered any more, unless the sink failed
+abbrev pub IsWrittenOut : {T : Type 0} → Result T RunFault → List ℕ → Type 0
+IsWrittenOut (Err Write) gathered = Unit {0}
+IsWrittenOut r gathered = gathered ≡ []
 
 -- has a source or a sink failed
 abbrev pub device_failed : {T : Type 0} → Result T RunFault → Bool
@@ -103,9 +153,13 @@ device_failed (Err Write) = true
 device_failed r = false
 
 -- a run over these bytes: what it has answered and written, and how many lines there were
-abbrev pub Runs : ℕ → ℕ → List ℕ → Option (List ℕ) → Server → Option (List ℕ) → Server → Result Summary RunFault → Type 0
-Runs max_lines max_reads input held old held_after new (Ok summary) =
-    WritesAll input held old held_after new × (summary.lines ≡ length (lines_of input))
-Runs max_lines max_reads input held old held_after new (Err Endless) =
-    WritesFirst input held old held_after new × ((max_lines < length (lines_of input)) ⊎ (max_reads ≤ length input))
-Runs max_lines max_reads input held old held_after new (Err fault) = WritesFirst input held old held_after new
+abbrev pub Runs : ℕ → ℕ → ℕ → ℕ → List ℕ → Option (List ℕ) → Option (List ℕ) → Server → Option (List ℕ) → Server → Result Summary RunFault → Type 0
+Runs max_lines max_reads calls calls_after input left_after held old held_after new (Ok summary) =
+    WritesAll input held old held_after new × (summary.lines ≡ length (lines_of input)) × (summary.lines ≤ max_lines)
+Runs max_lines max_reads calls calls_after input left_after held old held_after new (Err Read) =
+    WritesFirst Read max_lines input held old held_after new × HasAnsweredRead Read input left_after held old held_after new
+Runs max_lines max_reads calls calls_after input left_after held old held_after new (Err Endless) =
+    WritesFirst Endless max_lines input held old held_after new
+    × (IsPastLines max_lines input held old held_after new
+    ⊎ IsPastReads max_reads input calls calls_after × HasAnsweredRead Endless input left_after held old held_after new)
+Runs max_lines max_reads calls calls_after input left_after held old held_after new (Err fault) = WritesFirst fault max_lines input held old held_after new

@@ -4,7 +4,7 @@ use Rattle.server_world.specs.Server.{Server, was_refused, settings}
 use Rattle.wire_format.specs.Input.{Piece}
 use Rattle.wire_devices.specs.Counts.{FailsOnce}
 use Rattle.wire_lines.specs.declared.fault.RunFault.{RunFault}
-use Rattle.wire_lines.specs.declared.fault.RunFault.TheVariants.{Read, Write, Endless}
+use Rattle.wire_lines.specs.declared.fault.RunFault.TheVariants.{Read, Write, Endless, Memory}
 use Rattle.wire_lines.specs.Sending.{Out, Sent, SentFront}
 use Rattle.wire_lines.specs.Steps.{AreAnswered, read_lines}
 
@@ -39,24 +39,32 @@ pub record Done (old new : Point) : Type 0 where
   pub sent : Sent old.out new.out text
   pub counted : new.lines ≡ old.lines + length (read_lines old.begun)
 
--- the run ended too early: where these bytes follow, some first lines were answered, and a front of what was said
--- to them is sent
-pub record Cut (old new : Point) (rest : List ℕ) : Type 0 where
+-- how much is sent of what was said until a run stops: a front where the sink failed or there was no memory for a text,
+-- and else all of it
+abbrev pub SentUntil : RunFault → Out → Out → List ℕ → Type 0
+SentUntil Write old new text = SentFront old new text
+SentUntil Memory old new text = SentFront old new text
+SentUntil fault old new text = Sent old new text
+
+-- the run stopped for this fault: where these bytes follow, some first lines were answered and counted, and what was
+-- said to them is sent so far
+pub record Cut (fault : RunFault) (old new : Point) (rest : List ℕ) : Type 0 where
   pub lines : List (Option Piece)
   pub behind : List (Option Piece)
   pub text : List ℕ
   pub reads : read_lines (old.begun ++ rest) ≡ lines ++ behind
   pub answered : AreAnswered old.server lines text new.server
-  pub sent : SentFront old.out new.out text
+  pub sent : SentUntil fault old.out new.out text
+  pub counted : new.lines ≡ old.lines + length lines
 
--- there are more lines than that
-abbrev pub IsOver : ℕ → Point → List ℕ → Type 0
-IsOver most old rest = most < old.lines + length (read_lines (old.begun ++ rest))
+-- so many lines were counted, and there are more
+abbrev pub IsOver : ℕ → Point → Point → List ℕ → Type 0
+IsOver most old new rest = (new.lines ≡ most) × (most < old.lines + length (read_lines (old.begun ++ rest)))
 
 -- the run stops for this fault, where these bytes follow
 abbrev pub Stops : ℕ → RunFault → Point → Point → List ℕ → Type 0
-Stops most Endless old new rest = Cut old new rest × IsOver most old rest
-Stops most fault old new rest = Cut old new rest
+Stops most Endless old new rest = Cut Endless old new rest × IsOver most old new rest
+Stops most fault old new rest = Cut fault old new rest
 
 -- the run goes on, or stops whatever follows
 abbrev pub Feeds : {T : Type 0} → ℕ → Point → Point → Result T RunFault → Type 0

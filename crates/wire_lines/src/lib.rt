@@ -13,6 +13,6 @@ mod stream;
 pub use fault::RunFault;
 pub use limits::limits_are_these;
 pub use status::status_of;
-pub use stream::{Summary, run};
+pub use stream::{Summary, run, run_bounded};
 pub use wire_devices::{Counted, Failed, Sink, Source};
 pub use wire_format::{LINE_BYTES, LineFault, ReadError, line_text, read_line};

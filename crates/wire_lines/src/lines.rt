@@ -1,10 +1,9 @@
 //! Lines, one after another.
-ghost use Rattle.std.specs.Prelude.{◌≡◌, ◌∷◌, ◌++◌, [], IfOk};
+ghost use Rattle.std.specs.Prelude.{◌≡◌, ◌≤◌, ◌∷◌, ◌++◌, [], IfOk};
 ghost use Rattle.wire_devices.specs.Bytes.{AppendsAll};
 ghost use Rattle.wire_devices.specs.Counts.{CountsErrors};
 ghost use Rattle.wire_format.specs.Input.{NoEnd};
 ghost use Rattle.wire_lines.specs.Stream.{Feeds, SinkFails};
-ghost use Rattle.wire_lines.specs.Feeding.{at};
 ghost use Rattle.server_world.specs.Server.{seen_as};
 
 use crate::fault::RunFault;
@@ -22,9 +21,12 @@ pub struct Lines {
     pub count: u64,
     /// How many there may be.
     most: u64,
+    ghost within: { count ≤ most },
 }
 
 impl Lines {
+    ghost use Rattle.wire_lines.specs.Feeding.{at};
+
     pub fn new(alloc: Global, most: u64) -> Result<Lines, AllocError>
         ensures output { IfOk result (λ lines. lines.output.gathered ≡ []) }
         ensures count { IfOk result (λ lines. lines.count ≡ 0) }

@@ -1,11 +1,12 @@
 //! Runs over whole inputs.
-ghost use Rattle.std.specs.Prelude.{◌≡◌, ◌<◌, ◌++◌, ◌∷◌, ℕ, List, [], length, Some, None, IfSome, IsOk, IfOk, OnOk};
+ghost use Rattle.std.specs.Prelude.{◌≡◌, ◌+◌, ◌<◌, ◌≤◌, ◌^◌, ◌++◌, ◌∷◌, ℕ, List, [], length, Some, None, IfSome, IsOk, IfOk, Err};
 ghost use Rattle.session_engine.specs.Sessions.{AreSound};
 ghost use Rattle.server_world.specs.Server.{KnowsItsSessions, seen, seen_as, was_refused};
 ghost use Rattle.wire_format.specs.Input.{NoEnd};
-ghost use Rattle.wire_lines.specs.Run.{RunsOver, DevicesFail, ReadFails, WriteFails, Ends, Runs, device_failed};
+ghost use Rattle.wire_lines.specs.Run.{RunsOver, UsesDevices, IsWrittenOut, DevicesFail, Ends, Runs, device_failed};
 ghost use Rattle.wire_lines.specs.Stream.{Later, SinkFails, Feeds, Finishes};
 ghost use Rattle.wire_lines.specs.Feeding.{at};
+ghost use Rattle.wire_lines.specs.declared.fault.RunFault.TheVariants.{Read};
 
 use crate::buffer::Buffer;
 use crate::fault::RunFault;
@@ -104,6 +105,7 @@ impl Stream {
         ensures done { Finishes self.old.lines.most (at (W.held writer.old) self.old.lines (seen_as server.old) self.old.begun)
             (at (W.held writer.new) self.new.lines (seen_as server.new) []) result }
         ensures failed { SinkFails (W.failures writer.old) (W.failures writer.new) result }
+        ensures most { self.new.lines.most ≡ self.old.lines.most }
     {
         if self.begun.is_empty() {
             return Ok(());
@@ -123,11 +125,13 @@ impl Stream {
         requires { 0 < length chunk.old }
         ensures later { Later (seen_as server.old) (seen_as server.new) }
         ensures ends { (input : List ℕ) → R.left reader.old ≡ Some input
-            → Ends self.old.lines.most max_reads (at (W.held writer.old) self.old.lines (seen_as server.old) (self.old.begun ++ input))
+            → Ends self.old.lines.most max_reads (R.calls reader.old) (R.calls reader.new) (R.left reader.new) (at (W.held writer.old) self.old.lines (seen_as server.old) (self.old.begun ++ input))
             (at (W.held writer.new) self.new.lines (seen_as server.new) []) result }
+        ensures written { result ≡ Err Read → self.new.lines.output.gathered ≡ [] }
+        ensures within { self.new.lines.count ≤ self.old.lines.most }
         ensures all_read { (input : List ℕ) → R.left reader.old ≡ Some input → IsOk result → R.left reader.new ≡ Some [] }
-        ensures read_fails { ReadFails (R.failures reader.old) (R.failures reader.new) result }
-        ensures write_fails { WriteFails (W.failures writer.old) (W.failures writer.new) result }
+        ensures asked { R.calls reader.new ≤ R.calls reader.old + max_reads }
+        ensures failed { DevicesFail (R.failures reader.old) (R.failures reader.new) (W.failures writer.old) (W.failures writer.new) result }
     {
         'reads: for _reads in 0..max_reads {
             self.lines.flush(writer)?;
@@ -154,12 +158,13 @@ impl Stream {
         requires { 0 < length chunk.old }
         ensures later { Later (seen_as server.old) (seen_as server.new) }
         ensures ends { (input : List ℕ) → R.left reader.old ≡ Some input
-            → Ends self.old.lines.most max_reads (at (W.held writer.old) self.old.lines (seen_as server.old) (self.old.begun ++ input))
+            → Ends self.old.lines.most max_reads (R.calls reader.old) (R.calls reader.new) (R.left reader.new) (at (W.held writer.old) self.old.lines (seen_as server.old) (self.old.begun ++ input))
             (at (W.held writer.new) self.new.lines (seen_as server.new) []) result }
-        ensures emptied { OnOk result (self.new.lines.output.gathered ≡ []) }
+        ensures written { IsWrittenOut result self.new.lines.output.gathered }
+        ensures within { self.new.lines.count ≤ self.old.lines.most }
         ensures all_read { (input : List ℕ) → R.left reader.old ≡ Some input → IsOk result → R.left reader.new ≡ Some [] }
-        ensures read_fails { ReadFails (R.failures reader.old) (R.failures reader.new) result }
-        ensures write_fails { WriteFails (W.failures writer.old) (W.failures writer.new) result }
+        ensures asked { R.calls reader.new ≤ R.calls reader.old + max_reads }
+        ensures failed { DevicesFail (R.failures reader.old) (R.failures reader.new) (W.failures writer.old) (W.failures writer.new) result }
     {
         let ended = self.serve_all(chunk, reader, writer, server, max_reads);
         if device_failed(&ended) {
@@ -212,24 +217,51 @@ pub fn run<R: Source, W: Sink>(
     writer: &mut W,
     server: &mut Server,
 ) -> Result<Summary, RunFault>
+    // As of `run_bounded`, at these bounds.
+    ensures runs { (input : List ℕ) → R.left reader.old ≡ Some input
+        → RunsOver (2 ^ 32) (2 ^ 40) input (seen_as server.old) (seen_as server.new) (W.held writer.old) (W.held writer.new) (R.left reader.new) (R.calls reader.old) (R.calls reader.new) result }
+    ensures devices { UsesDevices (2 ^ 40) (R.calls reader.old) (R.calls reader.new) (R.failures reader.old) (R.failures reader.new) (W.failures writer.old) (W.failures writer.new) result }
+    ensures memory { IfOk result (λ summary. summary.memory_refused ≡ was_refused (seen_as server.new)) }
+    ensures later { Later (seen_as server.old) (seen_as server.new) }
+    ensures knows { KnowsItsSessions (seen_as server.new) }
+    ensures sound { AreSound (seen (seen_as server.new)) }
+{
+    run_bounded(alloc, reader, writer, server, MOST_LINES, MOST_READS)
+}
+
+/// The same with other bounds: before a line is answered, the lines so far, skipped ones among them,
+/// are compared with `max_lines`, and before each read the calls so far with `max_reads`. Where one
+/// of them has reached its bound, it ends with `Endless`.
+///
+/// # Errors
+///
+/// As those of [`run`], at these bounds.
+pub fn run_bounded<R: Source, W: Sink>(
+    alloc: Global,
+    reader: &mut R,
+    writer: &mut W,
+    server: &mut Server,
+    max_lines: u64,
+    max_reads: u64,
+) -> Result<Summary, RunFault>
     // Where the bytes of the source are known: what is answered to each line, and where memory was found, the output,
     // and that it keeps the sessions apart.
     ensures runs { (input : List ℕ) → R.left reader.old ≡ Some input
-        → RunsOver input (seen_as server.old) (seen_as server.new) (W.held writer.old) (W.held writer.new) (R.left reader.new) result }
-    ensures devices { DevicesFail (R.failures reader.old) (R.failures reader.new) (W.failures writer.old) (W.failures writer.new) result }
+        → RunsOver max_lines max_reads input (seen_as server.old) (seen_as server.new) (W.held writer.old) (W.held writer.new) (R.left reader.new) (R.calls reader.old) (R.calls reader.new) result }
+    ensures devices { UsesDevices max_reads (R.calls reader.old) (R.calls reader.new) (R.failures reader.old) (R.failures reader.new) (W.failures writer.old) (W.failures writer.new) result }
     ensures memory { IfOk result (λ summary. summary.memory_refused ≡ was_refused (seen_as server.new)) }
     ensures later { Later (seen_as server.old) (seen_as server.new) }
     // The names of the server are those of all sessions that may have a join, so a later run has its influence too.
     ensures knows { KnowsItsSessions (seen_as server.new) }
     ensures sound { AreSound (seen (seen_as server.new)) }
 {
-    let ended = run_bounded(alloc, reader, writer, server, MOST_LINES, MOST_READS);
+    let ended = run_buffered(alloc, reader, writer, server, max_lines, max_reads);
     server.sound();
     ended
 }
 
-/// The same with other bounds.
-pub(crate) fn run_bounded<R: Source, W: Sink>(
+/// The run, for which buffers are made first.
+fn run_buffered<R: Source, W: Sink>(
     alloc: Global,
     reader: &mut R,
     writer: &mut W,
@@ -238,12 +270,12 @@ pub(crate) fn run_bounded<R: Source, W: Sink>(
     max_reads: u64,
 ) -> Result<Summary, RunFault>
     ensures runs { (input : List ℕ) → R.left reader.old ≡ Some input
-        → Runs max_lines max_reads input (W.held writer.old) (seen_as server.old) (W.held writer.new) (seen_as server.new) result }
+        → Runs max_lines max_reads (R.calls reader.old) (R.calls reader.new) input (R.left reader.new) (W.held writer.old) (seen_as server.old) (W.held writer.new) (seen_as server.new) result }
     ensures all_read { (input : List ℕ) → R.left reader.old ≡ Some input → IsOk result → R.left reader.new ≡ Some [] }
+    ensures asked { R.calls reader.new ≤ R.calls reader.old + max_reads }
+    ensures failed { DevicesFail (R.failures reader.old) (R.failures reader.new) (W.failures writer.old) (W.failures writer.new) result }
     ensures memory { IfOk result (λ summary. summary.memory_refused ≡ was_refused (seen_as server.new)) }
     ensures later { Later (seen_as server.old) (seen_as server.new) }
-    ensures read_fails { ReadFails (R.failures reader.old) (R.failures reader.new) result }
-    ensures write_fails { WriteFails (W.failures writer.old) (W.failures writer.new) result }
 {
     let mut stream = Stream::new(alloc, max_lines)?;
     let mut chunk = vec![in alloc; 0; CHUNK_BYTES]?;

@@ -1,42 +1,39 @@
-use Rattle.std.proofs.Common.{[], Ok, Err, sym, subst}
-use Rattle.server_world.specs.Server.{seen_as, was_refused}
-use Rattle.wire_lines.specs.declared.stream.Summary.{Summary}
-use Rattle.wire_lines.specs.Feeding.{at}
-use Rattle.wire_lines.specs.Run.{Runs}
-use Rattle.wire_lines.proofs.Kept.{err_is}
-use Rattle.wire_lines.proofs.Whole.{Ends-beginning, Runs-stopped, Runs-unbegun, Runs-done, ReadFails-fault, WriteFails-fault}
+use Rattle.server_world.specs.Server.{seen_as, states, settings}
+use Rattle.server_world.proofs.ServerLemmas.{knows_all}
+use Rattle.wire_lines.proofs.Whole.{Runs-answered, Runs-well, Runs-lines, Runs-prefix, Runs-endless, Runs-unread}
+use Rattle.wire_lines.proofs.Isolated.{told_as_alone, told_as_without}
 use Rattle.wire_lines.proofs.stream.run_bounded.Goals as goal
-
-pub returns-in_err-stream-clause-runs : goal.returns-in_err-stream-clause-runs
-returns-in_err-stream-clause-runs g c = λ input known.
-    let held = g.W.Sink.held c.args.writer.now in
-    subst (Runs c.args.max_lines c.args.max_reads input held (seen_as c.args.server.now) held (seen_as c.args.server.now)) (sym (err_is _ _ c.from_residual.ensures.1)) (Runs-unbegun c.args.max_lines c.args.max_reads input held (seen_as c.args.server.now))
-
-pub returns-in_err-serve_to_end-clause-runs : goal.returns-in_err-serve_to_end-clause-runs
-returns-in_err-serve_to_end-clause-runs g c = λ input known.
-    let made = c.in_ok-stream.ensures in
-    let served = c.serve_to_end in
-    let end = at (g.W.Sink.held served.new.writer) served.new.self.lines (seen_as served.new.server) [] in
-    let fault = c.in_err-serve_to_end.field-0.0 in
-    let ends = Ends-beginning {T = Unit {0}} c.args.max_lines c.args.max_reads _ _ _ _ input (g.W.Sink.held c.args.writer.now) (seen_as c.args.server.now) end (Err fault) made.most made.output made.count made.begun
-    (c.in_err-serve_to_end.ensures.ends input known) in
-    let runs = Runs-stopped c.args.max_lines c.args.max_reads input (g.W.Sink.held c.args.writer.now) (g.W.Sink.held served.new.writer) (seen_as c.args.server.now) (seen_as served.new.server) served.new.self.lines.output.gathered served.new.self.lines.count (Unit {0}) fault ends in
-    subst (Runs c.args.max_lines c.args.max_reads input (g.W.Sink.held c.args.writer.now) (seen_as c.args.server.now) (g.W.Sink.held served.new.writer) (seen_as served.new.server)) (sym (err_is _ _ c.from_residual-in_err-serve_to_end.ensures.1)) runs
-
-pub returns-in_err-serve_to_end-clause-read_fails : goal.returns-in_err-serve_to_end-clause-read_fails
-returns-in_err-serve_to_end-clause-read_fails g c = ReadFails-fault (Unit {0}) _ _ c.in_err-serve_to_end.field-0.0 _ c.in_err-serve_to_end.ensures.read_fails (err_is _ _ c.from_residual-in_err-serve_to_end.ensures.1)
-
-pub returns-in_err-serve_to_end-clause-write_fails : goal.returns-in_err-serve_to_end-clause-write_fails
-returns-in_err-serve_to_end-clause-write_fails g c = WriteFails-fault (Unit {0}) _ _ c.in_err-serve_to_end.field-0.0 _ c.in_err-serve_to_end.ensures.write_fails (err_is _ _ c.from_residual-in_err-serve_to_end.ensures.1)
 
 pub returns-clause-runs : goal.returns-clause-runs
 returns-clause-runs g c = λ input known.
-    let made = c.in_ok-stream.ensures in
-    let served = c.serve_to_end in
-    let end = at (g.W.Sink.held served.new.writer) served.new.self.lines (seen_as served.new.server) [] in
-    let done = Ends-beginning c.args.max_lines c.args.max_reads _ _ _ _ input (g.W.Sink.held c.args.writer.now) (seen_as c.args.server.now) end (Ok c.in_ok-serve_to_end.field-0) made.most made.output made.count made.begun
-    (c.in_ok-serve_to_end.ensures.ends input known) in
-    let count = served.new.self.lines.count in
-    let runs = Runs-done c.args.max_lines c.args.max_reads input (g.W.Sink.held c.args.writer.now) (g.W.Sink.held served.new.writer) (seen_as c.args.server.now) (seen_as served.new.server) served.new.self.lines.output.gathered
-    (record { lines = count; memory_refused = was_refused (seen_as served.new.server) }) c.in_ok-serve_to_end.ensures.emptied done in
-    subst (λ (summary : Summary). Runs c.args.max_lines c.args.max_reads input (g.W.Sink.held c.args.writer.now) (seen_as c.args.server.now) (g.W.Sink.held served.new.writer) (seen_as served.new.server) (Ok summary)) (sym c.summary.ensures) runs
+    let old = (seen_as c.args.server.now) in
+    let new = (seen_as c.run_buffered-ended.new.server) in
+    let held = g.W.Sink.held c.args.writer.now in
+    let held_after = g.W.Sink.held c.run_buffered-ended.new.writer in
+    let runs = c.run_buffered-ended.ensures.runs input known in
+    record {
+      well = λ well.
+          let all = Runs-well _ _ _ _ input _ held held_after old new c.run_buffered-ended.result runs well.0 well.1 in
+          record {
+            written = all.0;
+            behind = all.1;
+            alone = told_as_alone (settings old) (states old) input;
+            left_out = told_as_without old input;
+          };
+      stopped = Runs-prefix _ _ _ _ input _ held held_after old new c.run_buffered-ended.result runs;
+      endless = Runs-endless _ _ _ _ input _ held held_after old new c.run_buffered-ended.result runs;
+      unread = Runs-unread _ _ _ _ input _ held held_after old new c.run_buffered-ended.result runs;
+      answered = Runs-answered _ _ _ _ input _ held held_after old new c.run_buffered-ended.result runs;
+      all_read = c.run_buffered-ended.ensures.all_read input known;
+      counted = Runs-lines _ _ _ _ input _ held held_after old new c.run_buffered-ended.result runs;
+    }
+
+pub returns-clause-knows : goal.returns-clause-knows
+returns-clause-knows g c = knows_all (settings (seen_as c.run_buffered-ended.new.server)) (seen_as c.run_buffered-ended.new.server).engine
+
+pub returns-clause-devices : goal.returns-clause-devices
+returns-clause-devices g c = record {
+  asked = c.run_buffered-ended.ensures.asked;
+  read = c.run_buffered-ended.ensures.failed.0;
+  write = c.run_buffered-ended.ensures.failed.1;
+}

@@ -8,7 +8,7 @@ pub returns-then-self-clause-fed : goal.returns-then-self-clause-fed
 returns-then-self-clause-fed g c = λ rest.
     let here = out (g.W.Sink.held c.args.writer.now) c.args.self.now.output.gathered in (
       Cut-nothing (seen_as c.args.server.now) here _ _ rest,
-      IsOver-line _ c.args.self.now.count (seen_as c.args.server.now) here c.args.line.now rest c.requires c.if-self.true,
+      IsOver-line _ c.args.self.now.count (seen_as c.args.server.now) here c.args.line.now rest c.requires c.args.self.now.within c.if-self.true,
     )
 
 pub returns-then-is_blank-clause-fed : goal.returns-then-is_blank-clause-fed

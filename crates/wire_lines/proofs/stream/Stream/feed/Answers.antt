@@ -18,7 +18,7 @@ returns-in_err-end_line-clause-fed g c =
     let next = at (g.W.Sink.held c.end_line.new.writer) c.end_line.new.self.lines (seen_as c.end_line.new.server) [] in
     let line = (c.lines.self.begun ++ c.in-Some.line.now) ++ 10 ∷ [] in
     let so_far : Fed start (here (line ++ c.in-Some.behind.now)) = subst (λ (begun : List ℕ). Fed start (here begun)) (line_in_front _ _ _ _ c.in-Some.ensures.whole) c.lines.invariant.fed in
-    let stopped = Feeds-stopped c.lines.self.lines.most c.in_err-end_line.field-0.0 start (here line) next c.in-Some.behind.now c.end_line.new.self.lines.count c.end_line.new.self.begun c.from_residual.result
+    let stopped = Feeds-stopped c.lines.self.lines.most c.in_err-end_line.field-0.0 start (here line) next c.in-Some.behind.now c.end_line.new.self.begun c.from_residual.result
     so_far c.in_err-end_line.ensures.fed (err_is _ _ c.from_residual.ensures.1) in
     subst (λ (most : ℕ). Feeds most start (at (g.W.Sink.held c.end_line.new.writer) c.end_line.new.self.lines (seen_as c.end_line.new.server) c.end_line.new.self.begun) c.from_residual.result) c.lines.invariant.most stopped
 

@@ -1,14 +1,15 @@
-use Rattle.std.proofs.Common.{◌≡◌, ◌<◌, ◌∙◌, ℕ, List, [], ◌++◌, length, take, inr, arith, append-nil, length-append, refl, sym, ap, subst}
+use Rattle.std.proofs.Common.{Result, ◌≡◌, ◌<◌, ◌∙◌, ℕ, List, [], ◌++◌, length, take, inr, arith, append-nil, length-append, refl, sym, ap, subst}
 use Rattle.std.specs.Io.KnownBytes.{Consumes}
-use Rattle.std.proofs.KnownBytes.{Consumes-nil, Consumes-trans}
-use Rattle.wire_lines.specs.declared.fault.RunFault.TheVariants.{Write}
-use Rattle.wire_lines.specs.Stream.{Fed}
+use Rattle.std.proofs.KnownBytes.{Consumes-nil, Consumes-kept, Consumes-trans}
+use Rattle.wire_lines.specs.declared.fault.RunFault.{RunFault}
+use Rattle.wire_lines.specs.declared.fault.RunFault.TheVariants.{Read, Write, Endless}
+use Rattle.wire_lines.specs.Stream.{Fed, SinkFails}
 use Rattle.wire_lines.specs.Feeding.{at}
 use Rattle.wire_lines.specs.Run.{Ends}
 use Rattle.wire_lines.proofs.Answering.{Later-trans}
-use Rattle.wire_lines.proofs.Feeding.{and_then, Fed-later, Fed-refl, Fed-trans, Cut-after, Cut-later, Finishes-later, Stops-cut, Stops-anywhere}
+use Rattle.wire_lines.proofs.Feeding.{and_then, Fed-later, Fed-refl, Fed-trans, Cut-after, Cut-later, Finishes-later, Stops-cut, Stops-anywhere, SinkFails-unread}
 use Rattle.wire_lines.proofs.Kept.{err_is}
-use Rattle.wire_lines.proofs.Reading.{known_rest, known_end, Fed-flushed, Cut-flushed, Cut-here, Cut-known, Stops-known, Fed-read, Stops-read, Ends-stopped, Ends-finished}
+use Rattle.wire_lines.proofs.Reading.{known_rest, known_end, Fed-flushed, Cut-flushed, Cut-here, Cut-known, Stops-known, Fed-read, Stops-read, Ends-stopped, Ends-finished, not_read, counted_read}
 use Rattle.server_world.specs.Server.{seen_as}
 use Rattle.wire_lines.proofs.stream.Stream.serve_all.Goals as goal
 
@@ -22,9 +23,9 @@ returns-in_err-flush-clause-ends g c = λ input known.
     let here = at (g.W.Sink.held c.reads.writer) c.reads.self.lines (seen_as c.reads.server) c.reads.self.begun in
     let end = at (g.W.Sink.held c.flush.new.writer) c.flush.new.self (seen_as c.reads.server) [] in
     let flushed = c.in_err-flush.ensures in
-    let cut = Cut-flushed (seen_as c.reads.server) (g.W.Sink.held c.reads.writer) (g.W.Sink.held c.flush.new.writer) c.reads.self.lines.output.gathered c.flush.new.self.output.gathered c.reads.self.begun [] rest c.reads.self.lines.count c.flush.new.self.count flushed.emptied flushed.bytes in
-    Ends-stopped old.lines.most c.args.max_reads Write (and_then start input) end c.from_residual.result
-    (Cut-known start end bytes rest input is (Cut-after (and_then start bytes) here end rest so_far.fed cut))
+    let cut = Cut-flushed (seen_as c.reads.server) (g.W.Sink.held c.reads.writer) (g.W.Sink.held c.flush.new.writer) c.reads.self.lines.output.gathered c.flush.new.self.output.gathered c.reads.self.begun [] rest c.reads.self.lines.count c.flush.new.self.count flushed.emptied flushed.bytes flushed.count in
+    Ends-stopped old.lines.most c.args.max_reads (g.R.Source.calls c.args.reader.now) (g.R.Source.calls c.reads.reader) (g.R.Source.left c.reads.reader) Write (and_then start input) end c.from_residual.result not_read
+    (Cut-known start end bytes rest input is Write (Cut-after Write (and_then start bytes) here end rest so_far.fed cut))
     (err_is _ _ c.from_residual.ensures.1)
 
 pub returns-in_default-clause-ends : goal.returns-in_default-clause-ends
@@ -33,14 +34,17 @@ returns-in_default-clause-ends g c = λ input known.
     let start = at (g.W.Sink.held c.args.writer.now) old.lines (seen_as c.args.server.now) old.begun in
     let so_far = c.reads.invariant.1 in
     let bytes = c.reads.invariant.0 in
-    let (rest, left, is) = known_rest _ _ bytes input so_far.consumed known in
     let here = at (g.W.Sink.held c.reads.writer) c.reads.self.lines (seen_as c.reads.server) c.reads.self.begun in
     let next = at (g.W.Sink.held c.flush.new.writer) c.flush.new.self (seen_as c.reads.server) c.reads.self.begun in
     let flushed = c.in_ok-flush.ensures in
     let fed : Fed here next = Fed-flushed (seen_as c.reads.server) (g.W.Sink.held c.reads.writer) (g.W.Sink.held c.flush.new.writer) c.reads.self.lines.output.gathered c.flush.new.self.output.gathered c.reads.self.begun c.reads.self.lines.count c.flush.new.self.count flushed.emptied flushed.bytes flushed.count in
     let fed_all : Fed (and_then start bytes) next = Fed-trans (and_then start bytes) here next so_far.fed fed in
     let end = at (g.W.Sink.held c.flush.new.writer) c.flush.new.self (seen_as c.reads.server) [] in
-    Cut-known start end bytes rest input is (Cut-after (and_then start bytes) next end rest fed_all (Cut-here next [] rest))
+    let kept = Consumes-kept _ _ _ bytes so_far.consumed c.in_default.ensures.bytes in
+    let (rest, left, is) = known_rest _ _ bytes input kept known in (
+      Cut-known start end bytes rest input is Read (Cut-after Read (and_then start bytes) next end rest fed_all (Cut-here Read next [] rest)),
+      counted_read start next bytes rest input (g.R.Source.left c.read.new.self) [] is left fed_all c.reads.self.no_end,
+    )
 
 pub returns-then-count-eq0-clause-ends : goal.returns-then-count-eq0-clause-ends
 returns-then-count-eq0-clause-ends g c = λ input known.
@@ -60,9 +64,9 @@ returns-then-count-eq0-clause-ends g c = λ input known.
     let nothing = known_end _ rest (read.1 c.if-count-eq0.true (omega arith)) left in
     let whole : bytes ≡ input = sym (is ∙ ap (λ l. (bytes ++ take c.in-Ok.count c.read.new.buffer) ++ l) nothing ∙ append-nil (bytes ++ take c.in-Ok.count c.read.new.buffer) ∙ ap (λ l. bytes ++ l) none ∙ append-nil bytes) in
     let end = at (g.W.Sink.held c.finish.new.writer) c.finish.new.self.lines (seen_as c.finish.new.server) [] in
-    let ends = Ends-finished c.flush.new.self.most c.args.max_reads (and_then start bytes) next end c.finish.result fed_all c.finish.ensures.done in
-    let all = subst (λ (b : List ℕ). Ends c.flush.new.self.most c.args.max_reads (and_then start b) end c.finish.result) whole ends in
-    subst (λ (most : ℕ). Ends most c.args.max_reads (and_then start input) end c.finish.result) (flushed.most ∙ so_far.most) all
+    let ends = Ends-finished c.flush.new.self.most c.args.max_reads (g.R.Source.calls c.args.reader.now) (g.R.Source.calls c.read.new.self) (g.R.Source.left c.read.new.self) (and_then start bytes) next end c.finish.result _ _ c.finish.ensures.failed fed_all c.finish.ensures.done in
+    let all = subst (λ (b : List ℕ). Ends c.flush.new.self.most c.args.max_reads (g.R.Source.calls c.args.reader.now) (g.R.Source.calls c.read.new.self) (g.R.Source.left c.read.new.self) (and_then start b) end c.finish.result) whole ends in
+    subst (λ (most : ℕ). Ends most c.args.max_reads (g.R.Source.calls c.args.reader.now) (g.R.Source.calls c.read.new.self) (g.R.Source.left c.read.new.self) (and_then start input) end c.finish.result) (flushed.most ∙ so_far.most) all
 
 pub returns-in_err-flush-clause-later : goal.returns-in_err-flush-clause-later
 returns-in_err-flush-clause-later g c = Fed-later _ _ c.reads.invariant.1.fed
@@ -79,7 +83,7 @@ returns-clause-later g c = Fed-later _ _ c.reads.invariant.1.fed
 
 pub returns-in_err-feed-clause-later : goal.returns-in_err-feed-clause-later
 returns-in_err-feed-clause-later g c =
-    Later-trans (seen_as c.args.server.now) (seen_as c.reads.server) (seen_as c.feed.new.server) (Fed-later _ _ c.reads.invariant.1.fed) (Cut-later _ _ [] (Stops-cut _ _ _ _ [] (c.in_err-feed.ensures.fed [])))
+    Later-trans (seen_as c.args.server.now) (seen_as c.reads.server) (seen_as c.feed.new.server) (Fed-later _ _ c.reads.invariant.1.fed) (Cut-later _ _ _ [] (Stops-cut _ _ _ _ [] (c.in_err-feed.ensures.fed [])))
 
 pub returns-in_err-feed-clause-ends : goal.returns-in_err-feed-clause-ends
 returns-in_err-feed-clause-ends g c = λ input known.
@@ -100,10 +104,10 @@ returns-in_err-feed-clause-ends g c = λ input known.
     let end = at (g.W.Sink.held c.feed.new.writer) c.feed.new.self.lines (seen_as c.feed.new.server) [] in
     let fault = c.in_err-feed.field-0.0 in
     let stops = Stops-read c.flush.new.self.most fault start here next after bytes chunk rest so_far.fed fed (c.in_err-feed.ensures.fed rest) in
-    let ended = Stops-anywhere c.flush.new.self.most fault (and_then start (bytes ++ chunk)) after c.feed.new.self.lines.count [] rest stops in
-    let ends = Ends-stopped c.flush.new.self.most c.args.max_reads fault (and_then start input) end c.from_residual-in_err-feed.result
+    let ended = Stops-anywhere c.flush.new.self.most fault (and_then start (bytes ++ chunk)) after [] rest stops in
+    let ends = Ends-stopped c.flush.new.self.most c.args.max_reads (g.R.Source.calls c.args.reader.now) (g.R.Source.calls c.read.new.self) (g.R.Source.left c.read.new.self) fault (and_then start input) end c.from_residual-in_err-feed.result (SinkFails-unread (Unit {0}) _ _ fault c.in_err-feed.ensures.failed)
     (Stops-known start end (bytes ++ chunk) rest input is c.flush.new.self.most fault ended) (err_is _ _ c.from_residual-in_err-feed.ensures.1) in
-    subst (λ (most : ℕ). Ends most c.args.max_reads (and_then start input) end c.from_residual-in_err-feed.result) (flushed.most ∙ so_far.most) ends
+    subst (λ (most : ℕ). Ends most c.args.max_reads (g.R.Source.calls c.args.reader.now) (g.R.Source.calls c.read.new.self) (g.R.Source.left c.read.new.self) (and_then start input) end c.from_residual-in_err-feed.result) (flushed.most ∙ so_far.most) ends
 
 pub reads-preserved : goal.reads-preserved
 reads-preserved g c =
@@ -124,6 +128,8 @@ reads-preserved g c =
       bytes ++ chunk,
       record {
         consumed = Consumes-trans _ _ _ bytes chunk so_far.consumed read.0;
+        asked = omega (arith, so_far.asked, c.in-Ok.ensures.asked);
+        counted = omega (arith, so_far.counted, c.in-Ok.ensures.asked);
         enough = omega (arith, so_far.enough, c.in-Ok.ensures.bound.1);
         fed = Fed-read start here next after bytes chunk so_far.fed fed fed_more.fed;
         most = fed_more.most ∙ flushed.most ∙ so_far.most;
@@ -143,8 +149,13 @@ returns-clause-ends g c = λ input known.
     let end = at (g.W.Sink.held c.reads.writer) c.reads.self.lines (seen_as c.reads.server) [] in
     let count = length-append old.begun input in
     let all = ap length is in
-    let parts = length-append bytes rest in
-    (Cut-known start end bytes rest input is (Cut-after (and_then start bytes) here end rest so_far.fed (Cut-here here [] rest)), inr (omega (arith, so_far.enough)))
+    let parts = length-append bytes rest in (
+      Cut-known start end bytes rest input is Endless (Cut-after Endless (and_then start bytes) here end rest so_far.fed (Cut-here Endless here [] rest)),
+      inr (
+        (omega (arith, so_far.counted), omega (arith, so_far.enough, count, all, parts)),
+        counted_read start here bytes rest input (g.R.Source.left c.reads.reader) [] is left so_far.fed c.reads.self.no_end,
+      ),
+    )
 
 pub reads-init : goal.reads-init
 reads-init g c =
@@ -153,6 +164,8 @@ reads-init g c =
       [],
       record {
         consumed = Consumes-nil (g.R.Source.left c.args.reader.now);
+        asked = omega arith;
+        counted = omega arith;
         enough = omega arith;
         fed = subst (λ (begun : List ℕ). Fed (here begun) (here old.begun)) (sym (append-nil old.begun)) (Fed-refl (here old.begun));
         most = refl;
@@ -160,3 +173,36 @@ reads-init g c =
         write_fails = refl;
       },
     )
+
+pub returns-in_err-flush-clause-written : goal.returns-in_err-flush-clause-written
+returns-in_err-flush-clause-written g c = λ reads. c.in_err-flush.ensures.emptied
+
+pub returns-in_default-clause-written : goal.returns-in_default-clause-written
+returns-in_default-clause-written g c = λ reads. c.in_ok-flush.ensures.emptied
+
+pub returns-then-count-eq0-clause-written : goal.returns-then-count-eq0-clause-written
+returns-then-count-eq0-clause-written g c = λ reads. absurd (subst (λ (r : Result (Unit {0}) RunFault). SinkFails (g.W.Sink.failures c.flush.new.writer) (g.W.Sink.failures c.finish.new.writer) r) reads c.finish.ensures.failed)
+
+pub returns-in_err-feed-clause-written : goal.returns-in_err-feed-clause-written
+returns-in_err-feed-clause-written g c = λ reads.
+    let both = sym (err_is _ _ c.from_residual-in_err-feed.ensures.1) ∙ reads in
+    let read : c.in_err-feed.field-0.0 ≡ Read = cc in
+    absurd (SinkFails-unread (Unit {0}) _ _ c.in_err-feed.field-0.0 c.in_err-feed.ensures.failed read)
+
+pub returns-clause-written : goal.returns-clause-written
+returns-clause-written g c = λ reads. absurd (cc reads)
+
+pub returns-in_err-flush-clause-within : goal.returns-in_err-flush-clause-within
+returns-in_err-flush-clause-within g c = omega (arith, c.flush.new.self.within, c.in_err-flush.ensures.most, c.reads.invariant.1.most)
+
+pub returns-in_default-clause-within : goal.returns-in_default-clause-within
+returns-in_default-clause-within g c = omega (arith, c.flush.new.self.within, c.in_ok-flush.ensures.most, c.reads.invariant.1.most)
+
+pub returns-then-count-eq0-clause-within : goal.returns-then-count-eq0-clause-within
+returns-then-count-eq0-clause-within g c = omega (arith, c.finish.new.self.lines.within, c.finish.ensures.most, c.in_ok-flush.ensures.most, c.reads.invariant.1.most)
+
+pub returns-in_err-feed-clause-within : goal.returns-in_err-feed-clause-within
+returns-in_err-feed-clause-within g c = omega (arith, c.feed.new.self.lines.within, c.in_err-feed.ensures.most, c.in_ok-flush.ensures.most, c.reads.invariant.1.most)
+
+pub returns-clause-within : goal.returns-clause-within
+returns-clause-within g c = omega (arith, c.reads.self.lines.within, c.reads.invariant.1.most)

@@ -1,5 +1,5 @@
 //! Sources and sinks by themselves.
-use crate::fakes::{SlowSink, Troubled};
+use crate::fakes::Troubled;
 use std::alloc::Global;
 use std::io::ErrorKind;
 use wire_devices::{Counted, Failed, Sink, Source, write_all};
@@ -78,32 +78,5 @@ fn a_sink_that_is_full_goes_on(rt: HostRuntime) {
     for (bytes, failures) in [(b"abc".as_slice(), 1), (b"", 1)] {
         let written = write_all(&mut full, bytes);
         assert!(rt; written.is_err() == (bytes.len() == 3) && full.failures() == failures);
-    }
-}
-
-/// How many bytes a sink has taken that fails at one call or takes nothing at one, by how many calls, and
-/// how often it failed.
-fn taken(alloc: Global, failing: u32, idle: u32) -> (usize, u32, u64) {
-    let text: &[u8] = b"twenty bytes of text";
-    let mut sink = SlowSink::new(alloc, failing, idle);
-    let written = write_all(&mut sink, text);
-    if written.is_err() == (sink.failures == 0) || !text.starts_with(&sink.held) {
-        return (0, 0, 0);
-    }
-    (sink.held.len(), sink.calls, sink.failures)
-}
-
-#[test]
-fn sinks_may_fail_at_any_call(rt: HostRuntime) {
-    for (failing, idle, wanted) in [
-        (0, 0, (20, 3, 0)),
-        (3, 0, (14, 3, 1)),
-        (0, 3, (14, 3, 1)),
-        (1, 0, (0, 1, 1)),
-    ] {
-        assert!(rt;
-            taken(rt.alloc(), failing, idle) == wanted,
-            "at {failing}, {idle}"
-        );
     }
 }
