@@ -1,8 +1,7 @@
 //! Tests of what only a call can show of the crates below sessions: which texts are read without a tree, which
-//! calls of a device are made again, examples from outside of what no command reaches so far, that a closure with its fact is taken and
-//! answers, that calls of the shared tables succeed where memory is found, and that the definitions mean
-//! what the rules say. What lines and class files show of these crates stands in the rows and the tools of
-//! the built program.
+//! calls of a device are made again, examples from outside of what no command reaches so far, that calls of
+//! the shared tables succeed where memory is found, and that the definitions mean what the rules say. What lines
+//! and class files show of these crates stands in the rows and the tools of the built program.
 #![tactic(auto)]
 
 #[cfg(test)]
@@ -26,13 +25,8 @@ mod expressions;
 #[cfg(test)]
 mod fakes;
 #[cfg(test)]
-mod functors;
-#[cfg(test)]
 mod gaps;
-mod handing;
 #[cfg(test)]
 mod members;
 #[cfg(test)]
 mod states;
-
-pub use handing::answers;

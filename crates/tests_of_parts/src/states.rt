@@ -11,21 +11,21 @@ use variant_value::Value;
 
 /// What gives the next state, the state that a call finds, its argument, and the state that follows, or
 /// why there is none. In order: what stays and what counts, at the largest state too; what is no state; a
-/// fault, and one in the branch that is not taken; then what is none of the forms, and what is too large.
+/// fault, and one in the branch that is not taken; then what is none of the forms.
 const NEXT: &str = r#"[
-[{"state":true}, 7, 1, 7],
-[{"+":[{"state":true},{"const":1}]}, 7, 1, 8],
-[{"+":[{"state":true},{"const":1}]}, 18446744073709551615, 1, 18446744073709551615],
-[{"-":[{"state":true},{"const":1}]}, 18446744073709551615, 1, 18446744073709551614],
-[{"-":[{"state":true},{"const":1}]}, 0, 1, 0],
-[{"arg":0}, 7, 5, 5],
-[{"arg":0}, 7, -5, 7],
-[{"const":"5"}, 7, 1, 7],
-[{"const":true}, 7, 1, 7],
-[{"const":18446744073709551615}, 7, 1, 18446744073709551615],
-[{"+":[{"state":true},{"const":"1"}]}, 7, 1, 7],
-[{"if":[{"<":[{"state":true},{"arg":0}]},{"+":[{"state":true},{"arg":0}]},{"const":"1"}]}, 2, 5, 7],
-[{"if":[{"<":[{"state":true},{"arg":0}]},{"+":[{"state":true},{"arg":0}]},{"const":"1"}]}, 5, 5, 5],
+[{"state":true}, 7, 1, "7"],
+[{"+":[{"state":true},{"const":1}]}, 7, 1, "8"],
+[{"+":[{"state":true},{"const":1}]}, 18446744073709551615, 1, "18446744073709551615"],
+[{"-":[{"state":true},{"const":1}]}, 18446744073709551615, 1, "18446744073709551614"],
+[{"-":[{"state":true},{"const":1}]}, 0, 1, "0"],
+[{"arg":0}, 7, 5, "5"],
+[{"arg":0}, 7, -5, "7"],
+[{"const":"5"}, 7, 1, "7"],
+[{"const":true}, 7, 1, "7"],
+[{"const":18446744073709551615}, 7, 1, "18446744073709551615"],
+[{"+":[{"state":true},{"const":"1"}]}, 7, 1, "7"],
+[{"if":[{"<":[{"state":true},{"arg":0}]},{"+":[{"state":true},{"arg":0}]},{"const":"1"}]}, 2, 5, "7"],
+[{"if":[{"<":[{"state":true},{"arg":0}]},{"+":[{"state":true},{"arg":0}]},{"const":"1"}]}, 5, 5, "5"],
 [{"arg":1}, 7, 1, "E22"],
 [{"prop":"x"}, 7, 1, "E22"],
 [{"prop":"x","of":1}, 7, 1, "E22"],
@@ -34,45 +34,20 @@ const NEXT: &str = r#"[
 [{"state":true,"of":"self"}, 7, 1, "E22"]]"#;
 
 /// The state that follows, as text, or the code by which what gives it is refused.
-fn follows(alloc: Global, next: &Json, state: u64, given: i32) -> Result<String, AllocError> {
-    match Expr::next_from_json(alloc, next, 1) {
-        Ok(next) => after(alloc, &next, state, &[Value::Int(given)])?.to_string(alloc),
-        Err(Fault::Refused(code)) => String::from_str(alloc, code.text()),
-        Err(Fault::Memory) => Err(AllocError),
+fn follows(alloc: Global, case: &Json) -> Result<String, Fault> {
+    let state = part(case, 1).as_u64().unwrap_or(0);
+    let given = Value::infer(alloc, part(case, 2))?;
+    match Expr::next_from_json(alloc, part(case, 0), 1) {
+        Ok(next) => Ok(after(alloc, &next, state, &[given])?.to_string(alloc)?),
+        Err(Fault::Refused(code)) => Ok(String::from_str(alloc, code.text())?),
+        Err(Fault::Memory) => Err(Fault::Memory),
     }
-}
-
-/// A number from 0 of a case.
-fn number(case: &Json, at: usize) -> u64 {
-    part(case, at).as_u64().unwrap_or(0)
-}
-
-/// A number of a case that may be below 0.
-fn given(case: &Json) -> i32 {
-    match part(case, 2).as_i64() {
-        Some(number) => i32::try_from(number).unwrap_or(0),
-        None => 0,
-    }
-}
-
-/// A number or a text of a case, as text.
-fn wanted(alloc: Global, case: &Json) -> Result<String, AllocError> {
-    match part(case, 3).as_u64() {
-        Some(number) => number.to_string(alloc),
-        None => String::from_str(alloc, word(case, 3)),
-    }
-}
-
-fn follows_so(alloc: Global, case: &Json) -> Result<bool, AllocError> {
-    let found = follows(alloc, part(case, 0), number(case, 1), given(case))?;
-    let wanted = wanted(alloc, case)?;
-    Ok(found.as_str() == wanted.as_str())
 }
 
 /// The place of the first case in which another state follows.
-fn first_wrong_state(alloc: Global, cases: &[Json]) -> Result<Option<usize>, AllocError> {
+fn first_wrong_state(alloc: Global, cases: &[Json]) -> Result<Option<usize>, Fault> {
     for (at, case) in cases.iter().enumerate() {
-        if !follows_so(alloc, case)? {
+        if follows(alloc, case)?.as_str() != word(case, 3) {
             return Ok(Some(at));
         }
     }

@@ -26,7 +26,7 @@ use Rattle.thread_model.specs.Acts.{acts}
 use Rattle.thread_model.specs.Arriving.{posts_of}
 use Rattle.binding_values.specs.declared.property.BindingError.{BindingError}
 use Rattle.property_store.specs.declared.property.Property.{Property}
-use Rattle.thread_model.specs.Agenda.{binding_line, call_line, callee_called, called, calls_of, connection_of, emitted, functor_called, functor_line, functor_ran, is_held_back, method_called, method_items, ran, step, with_turn}
+use Rattle.thread_model.specs.Agenda.{binding_line, call_line, callee_called, called, calls_of, connection_of, emitted, functor_called, functor_ran, is_held_back, method_called, method_items, ran, step, with_turn}
 use Rattle.thread_model.specs.Doing.{Doing, in_state, lost, posted, posting, shot, told, turn_taken, used_up}
 use Rattle.thread_model.specs.Items.{Call, Emit, Run, RunFunctor, Warn, WarnOf, puts}
 use Rattle.thread_model.specs.Functors.{functor_at}

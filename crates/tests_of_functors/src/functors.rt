@@ -25,7 +25,7 @@ fn value_of(alloc: Global, expr: &Expr) -> Result<Option<Value>, AllocError> {
 
 /// The number that actions set a property to, through branches that are nested as deep as those of
 /// `clamp`.
-fn number_set(alloc: Global, actions: &[Action]) -> Result<Option<i32>, AllocError> {
+pub fn number_set(alloc: Global, actions: &[Action]) -> Result<Option<i32>, AllocError> {
     let mut left = actions;
     for _ in 0..3 {
         let Some(action) = left.first() else {
