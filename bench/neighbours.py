@@ -3,8 +3,8 @@
 
 Usage: neighbours.py PROGRAM [--seconds N] [--write]. One session asks for a text again and again, in turn alone and right
 behind a line of another session, so that it waits for the whole of that line; so for N seconds with each kind of line. What
-is printed are ratios of round trips within one run: the median beside the other session to the median alone, and the same of
-the 99th of a hundred. With --write the table of docs/MEASURES.md is written anew.
+is printed are ratios of round trips within one run: the median, and the 99th of a hundred, to the median alone. With --write
+the table of docs/MEASURES.md is written anew.
 """
 
 from __future__ import annotations
@@ -169,13 +169,25 @@ class Felt:
     alone: list[float]
     beside: list[float]
 
-    def ratio(self, share: float) -> float:
-        """How many times a round trip takes as long, of those that this share is quicker than."""
-        of_both = (sorted(them)[int(share * len(them))] for them in (self.beside, self.alone))
-        return next(of_both) / next(of_both)
-
     def row(self) -> str:
-        return f"| {self.name} | {self.told:,} | {shown(self.ratio(0.5))} | {shown(self.ratio(0.99))} | {len(self.beside):,} |"
+        return row_of(self.name, self.told, self.beside, quantile(self.alone, 0.5))
+
+
+def quantile(times: list[float], share: float) -> float:
+    """The time of which this share of others is below."""
+    return sorted(times)[int(share * len(times))]
+
+
+def row_of(name: str, told: int, times: list[float], alone: float) -> str:
+    """A row of the table, where a round trip alone takes so long."""
+    median, late = (shown(quantile(times, share) / alone) for share in (0.5, 0.99))
+    return f"| {name} | {told:,} | {median} | {late} | {len(times):,} |"
+
+
+def row_alone(found: list[Felt]) -> str:
+    """The row of all round trips alone."""
+    times = [it for felt_once in found for it in felt_once.alone]
+    return row_of("none", 0, times, quantile(times, 0.5))
 
 
 def shown(ratio: float) -> str:
@@ -231,14 +243,15 @@ def options() -> argparse.Namespace:
 
 
 def main() -> None:
-    given, rows = options(), []
+    given, found = options(), []
     try:
         print(HEAD, end="", flush=True)
         for other in neighbours():
-            rows.append(felt(str(Path(given.program).resolve()), other, given.seconds).row())
-            print(rows[-1], flush=True)
+            found.append(felt(str(Path(given.program).resolve()), other, given.seconds))
+            print(found[-1].row(), flush=True)
+        print(row_alone(found))
         if given.write:
-            write_page(rows)
+            write_page([row_alone(found), *(it.row() for it in found)])
     except Fault as fault:
         sys.exit(str(fault))
     except BrokenPipeError:

@@ -7,10 +7,13 @@ from concurrent.futures import ProcessPoolExecutor, ThreadPoolExecutor
 from dataclasses import replace
 from functools import partial
 from itertools import islice
+from pathlib import Path
 from subprocess import CompletedProcess
+from tempfile import TemporaryDirectory
 
 from .generators import bindings, mixed, repeating
 from .generators.growing import growing_row
+from .generators.long_lines import long_line_row
 from .plain.lines import answer, server_of
 from .support.bounded import NOT_LOADED, UNLOADED, came_of, run_bounded
 from .support.by_chance import listeners_by_chance, session_by_chance
@@ -43,7 +46,7 @@ SESSIONS = 1_000
 COMMANDS = 200
 REFUSED = 400  # one of so many requests for memory behind the start is refused, if the program comes to it
 LISTENERS = 200  # runs of sessions that listen to each other
-REFUSED_OF_LISTENERS = 3  # requests of each that are refused, each in a run by itself
+OF_WHICH_ALL = 2  # of these runs have all their requests refused one after another
 
 
 def refuse_with_bindings(program, preloaded, seed):
@@ -51,15 +54,18 @@ def refuse_with_bindings(program, preloaded, seed):
     made = bindings.Watching(seed)
     with session_by_chance(made, seed, COMMANDS) as session:
         trial = Trial(program, preloaded, session.row, count_start(program, preloaded, session.row))
-        return trial.refuse_some([trial.start + made.randint(1, REFUSED)])
+        return trial.refuse_one(trial.start + made.randint(1, REFUSED))
 
 
 def refuse_among_listeners(program, preloaded, seed):
-    """What comes of sessions that listen to each other where one growth of theirs is refused, taken from all by chance."""
+    """What comes of sessions that listen to each other where one growth of theirs is refused, taken from all by chance; of the
+    first ones where each is, in turn."""
     made = mixed.Chance(seed)
     with listeners_by_chance(made, seed) as row:
         trial = Trial(program, preloaded, row, count_start(program, preloaded, row))
-        return trial.refuse_some(made.sample(range(trial.start + 1, trial.count() + 1), REFUSED_OF_LISTENERS))
+        if seed <= OF_WHICH_ALL:
+            return trial.refuse_each(trial.start + 1)
+        return trial.refuse_one(made.randint(trial.start + 1, trial.count()))
 
 
 class RefusedGrowths(ProgramCases):
@@ -79,7 +85,8 @@ class RefusedGrowths(ProgramCases):
 
     def test_refused_growths(self):
         """Each leads to one of the allowed outcomes, and each of these comes about."""
-        rows, preloaded, first_rows = rows_in(ROWS), library("refuse_growth"), {}
+        room = Path(self.enterContext(TemporaryDirectory(prefix="metad-growths-")))
+        rows, preloaded, first_rows = [*rows_in(ROWS), long_line_row(room)], library("refuse_growth"), {}
         for row in rows:
             first_rows.setdefault(start_of(row), row)
         with ThreadPoolExecutor(AT_ONCE) as pool:
@@ -120,7 +127,7 @@ class RefusedGrowths(ProgramCases):
         self.check_by_chance(SESSIONS, refuse_with_bindings, {FAILED: SESSIONS // 10})
 
     def test_sessions_that_listen(self):
-        """So do some, each in a run of its own, of sessions that publish, join, bind and call functors."""
+        """So does one of each of many runs of sessions that publish, join, bind and call functors, and each of the first runs."""
         self.check_by_chance(LISTENERS, refuse_among_listeners, {FAILED: LISTENERS // 10, RECEIVER_FAILED: 1})
 
 

@@ -198,7 +198,7 @@ class Trial:
             made, most = (middle, most) if self.run(middle)[1] else (made, middle)
         return made
 
-    def refuse_each(self, first, part):
+    def refuse_each(self, first, part=None):
         """Refuses one growth after another, from the first one on; with a part, at distances that grow by it."""
         outcomes, number = Counter(), first
         for _ in range(MOST):
@@ -213,16 +213,11 @@ class Trial:
             number += 1 + (number // part if part else 0)
         return Tried(outcomes, "no end of growths", self.neighbours)
 
-    def refuse_some(self, numbers):
-        """Refuses these growths, each in a run by itself."""
-        outcomes = Counter()
-        for number in numbers:
-            ran, _was_refused = self.run(number)
-            outcome = self.outcome(ran, number)
-            if outcome is None:
-                return Tried(outcomes, self.refusal_fault(number, ran), self.neighbours)
-            outcomes[outcome] += 1
-        return Tried(outcomes, neighbours=self.neighbours)
+    def refuse_one(self, number):
+        """Refuses this growth."""
+        ran, _was_refused = self.run(number)
+        outcome = self.outcome(ran, number)
+        return Tried(Counter([outcome]), None if outcome else self.refusal_fault(number, ran), self.neighbours)
 
     def refusal_fault(self, number, ran):
         """What is said of a refused growth that led to something else."""

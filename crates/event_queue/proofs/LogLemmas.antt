@@ -8,8 +8,9 @@ use Rattle.event_queue.specs.declared.event.Event.{Event}
 use Rattle.event_queue.specs.declared.object_counts.ObjectCounts.{ObjectCounts}
 use Rattle.event_queue.specs.declared.table.Log.{Log}
 use Rattle.event_queue.specs.declared.table.TheConstants.{EVENTS}
-use Rattle.event_queue.specs.Queue.{object_of, others}
+use Rattle.event_queue.specs.Queue.{object_of, others, placed}
 use Rattle.event_queue.specs.Inside.{IsCounted, IsLogged, count_of}
+use Rattle.event_queue.proofs.PlacedLemmas.{count_placed, length_placed}
 
 abbrev names : ℕ → Event → Bool
 names object event = object_of event == object
@@ -48,18 +49,18 @@ module _ {events : List Event} {log : Log} (is : IsLogged events log) (objects :
   pub log_same : ((other : ℕ) → count_of objects other ≡ count_of log.objects other) → IsLogged events (record log { objects = objects })
   log_same same = record { few = is.few; counted = λ other. same other ∙ is.counted other; lost = is.lost; mismatched = is.mismatched }
 
-  pub log_posted : (event : Event) → length events < EVENTS → IsCounted log.objects objects (object_of event) (count_of log.objects (object_of event) + 1) → IsLogged (events ++ event ∷ []) (record log { objects = objects })
-  log_posted event room counted = record { few = omega (arith, room, length_push events event); counted = now; lost = is.lost; mismatched = is.mismatched }
+  pub log_posted : (event : Event) → length events < EVENTS → IsCounted log.objects objects (object_of event) (count_of log.objects (object_of event) + 1) → IsLogged (placed event events) (record log { objects = objects })
+  log_posted event room counted = record { few = omega (arith, room, length_placed event events); counted = now; lost = is.lost; mismatched = is.mismatched }
     where
-      now : (other : ℕ) → count_of objects other ≡ count_by (names other) (events ++ event ∷ [])
+      now : (other : ℕ) → count_of objects other ≡ count_by (names other) (placed event events)
       now other = ⊎_elim
           (λ (named : names other event ≡ true).
           let same : object_of event ≡ other = eqb-true (object_of event) other named in
-          let more : count_by (names other) (events ++ event ∷ []) ≡ count_by (names other) events + 1 = rw named at (sum_by_push (λ e. cond (names other e) 1 0) events event) in
+          let more : count_by (names other) (placed event events) ≡ count_by (names other) events + 1 = rw named at (count_placed event events (names other)) in
           let new : count_of objects other ≡ count_of log.objects (object_of event) + 1 = rw named at (counted other) in
           new ∙ (ap (λ n. count_of log.objects n + 1) same ∙ (ap (λ n. n + 1) (is.counted other) ∙ sym more)))
           (λ (passed : names other event ≡ false).
-          let more : count_by (names other) (events ++ event ∷ []) ≡ count_by (names other) events + 0 = rw passed at (sum_by_push (λ e. cond (names other e) 1 0) events event) in
+          let more : count_by (names other) (placed event events) ≡ count_by (names other) events + 0 = rw passed at (count_placed event events (names other)) in
           let new : count_of objects other ≡ count_of log.objects other = rw passed at (counted other) in
           omega (arith, more, new, is.counted other))
           (cases_Bool (names other event))

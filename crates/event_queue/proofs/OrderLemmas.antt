@@ -11,7 +11,7 @@ use Rattle.shared_rows.specs.Rows.{IsAtPosition, IsSound, Keyed, row_under, rows
 use Rattle.event_queue.specs.declared.event.Event.{Event}
 use Rattle.event_queue.specs.declared.event.Posted.{Posted}
 use Rattle.event_queue.specs.Queue.{object_of, others}
-use Rattle.event_queue.specs.Inside.{HasEvents, events_at, events_of}
+use Rattle.event_queue.specs.Inside.{HasEvents, events_at, events_of, number_of}
 
 module _ {X : Type 0} (keep : X → Bool) where
   -- those from a position on are sifted
@@ -93,7 +93,7 @@ pub record IsUnderWay (old now : Table (List (Keyed Posted))) (place object left
   pub has : HasEvents old now place (sifted (stays object) (events_at old place) left)
 
 module _ (old : Table (List (Keyed Posted))) (place object : ℕ) where
-  pub way_begins : (count : ℕ) → count ≡ length (rows_at old place) → IsSound (λ posted. posted.number) (rows_at old place) → IsUnderWay old old place object count
+  pub way_begins : (count : ℕ) → count ≡ length (rows_at old place) → IsSound number_of (rows_at old place) → IsUnderWay old old place object count
   way_begins count is sound =
       let whole : count ≡ length (events_at old place) = is ∙ sym (length-map (rows_at old place) (λ keyed. keyed.row.event)) in
       record { within = omega (arith, whole); apart = sound.apart; has = record { changed = changes_same [] old old place refl; now = sym (ap (sifted (stays object) (events_at old place)) whole ∙ sifted_whole (stays object) (events_at old place)) } }

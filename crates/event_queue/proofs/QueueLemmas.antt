@@ -15,7 +15,7 @@ use Rattle.event_queue.specs.declared.event.Posted.{Posted}
 use Rattle.event_queue.specs.declared.object_counts.ObjectCounts.{ObjectCounts}
 use Rattle.event_queue.specs.declared.table.Log.{Log}
 use Rattle.event_queue.specs.declared.table.TheConstants.{EVENTS}
-use Rattle.event_queue.specs.Queue.{IsSound, Queue, counts_of, dropped, empty_queue, has_room, noted, object_of, others, posted, taken, with_lost, with_mismatched}
+use Rattle.event_queue.specs.Queue.{IsSound, Queue, counts_of, dropped, empty_queue, has_room, noted, object_of, others, placed, posted, taken, with_lost, with_mismatched}
 use Rattle.event_queue.specs.Table.{queue_at, with_queue}
 use Rattle.event_queue.specs.Inside.{AreLogged, HasEvents, IsCounted, IsLogged, count_of, events_at, events_of, queue_of}
 use Rattle.event_queue.proofs.LogLemmas.{counted_back, log_dropped, log_posted, log_same, log_taken, others_all}
@@ -126,13 +126,13 @@ module _ {rows : Table (List (Keyed Posted))} {logs : Table Log} (are : AreLogge
     pub takes_more : length (rows_at rows place) < EVENTS → has_room (queue_at table place) ≡ true
     takes_more room = ap has_room (seen log stood) ∙ (let long = length-map (rows_at rows place) (λ keyed. keyed.row.event) in grind (arith, nat_tests, long, room))
 
-    pub one_posted : (rows' : Table (List (Keyed Posted))) (event : Event) → length (rows_at rows place) < EVENTS → HasEvents rows rows' place (events_at rows place ++ event ∷ []) → (objects : ObjectCounts)
+    pub one_posted : (rows' : Table (List (Keyed Posted))) (event : Event) → length (rows_at rows place) < EVENTS → HasEvents rows rows' place (placed event (events_at rows place)) → (objects : ObjectCounts)
         → IsCounted log.objects objects (object_of event) (count_of log.objects (object_of event) + 1) → IsAfter rows' (with_place logs place (record log { objects = objects })) (posted (queue_at table place) event)
     one_posted rows' event room has objects counted =
         let fits : length (events_at rows place) < EVENTS = omega (arith, room, length-map (rows_at rows place) (λ keyed. keyed.row.event)) in
-        after rows' (events_at rows place ++ event ∷ []) has (record log { objects = objects }) (log_posted (logged log stood) objects event fits counted)
+        after rows' (placed event (events_at rows place)) has (record log { objects = objects }) (log_posted (logged log stood) objects event fits counted)
         (posted (queue_at table place) event)
-        (rw (takes_more room) (ap (λ (queue : Queue). record { events = queue.events ++ event ∷ []; lost = queue.lost; mismatched = queue.mismatched }) (sym (seen log stood))))
+        (rw (takes_more room) (ap (λ (queue : Queue). record { events = placed event queue.events; lost = queue.lost; mismatched = queue.mismatched }) (sym (seen log stood))))
 
     pub back_again : with_queue table place (queue_at table place) ≡ table
     back_again = with_same empty_queue table place

@@ -1,5 +1,6 @@
 -- How the queues stand in rows and logs. No public clause cites this module.
-use Rattle.std.specs.Prelude.{◌≡◌, ℕ, ◌^◌, ◌<◌, ◌≤◌, ◌==◌, if◌then◌else◌, List, [], length, map, count_by, slice_index_or}
+use Rattle.std.specs.Prelude.{◌≡◌, ℕ, ◌+◌, ◌*◌, ◌%◌, ◌^◌, ◌<◌, ◌≤◌, ◌==◌, ◌⊎◌, if◌then◌else◌, List, [], length, map, count_by, slice_index_or}
+use Rattle.std.specs.List.{All, AllWithin}
 use Rattle.std.specs.Option.{unwrap_or}
 use Rattle.std.specs.Ordering.{nat_cmp}
 use Rattle.std.specs.BTreeMap.{get}
@@ -10,7 +11,7 @@ use Rattle.event_queue.specs.declared.event.Posted.{Posted}
 use Rattle.event_queue.specs.declared.object_counts.ObjectCounts.{ObjectCounts}
 use Rattle.event_queue.specs.declared.table.Log.{Log}
 use Rattle.event_queue.specs.declared.table.TheConstants.{EVENTS}
-use Rattle.event_queue.specs.Queue.{Queue, object_of}
+use Rattle.event_queue.specs.Queue.{Queue, object_of, priority_of, rank_of}
 
 -- how many events are counted for an object
 abbrev pub count_of : ObjectCounts → ℕ → ℕ
@@ -19,6 +20,20 @@ count_of objects object = unwrap_or (get nat_cmp objects.counts object) 0
 -- so many are counted for one object now, and for others what was
 abbrev pub IsCounted : ObjectCounts → ObjectCounts → ℕ → ℕ → Type 0
 IsCounted old new object count = (other : ℕ) → count_of new other ≡ (if object == other then count else count_of old other)
+
+-- the number of an event among all of its place: those of a priority follow those of all above it
+abbrev pub number_of : Posted → ℕ
+number_of posted = rank_of (priority_of posted.event) * 2 ^ 62 + posted.number % 2 ^ 62
+
+-- so many rows, the first ones, are below a number
+pub record IsCountBelow (rows : List (Keyed Posted)) (number count : ℕ) : Type 0 where
+  pub in_range : count ≤ length rows
+  pub below : AllWithin (λ keyed. number_of keyed.row < number) rows 0 count
+  pub above : AllWithin (λ keyed. number ≤ number_of keyed.row) rows count (length rows)
+
+-- each row is below a number, or not below an end
+abbrev pub IsSeat : List (Keyed Posted) → ℕ → ℕ → Type 0
+IsSeat rows number end = All (λ keyed. (number_of keyed.row < number) ⊎ (end ≤ number_of keyed.row)) rows
 
 abbrev pub events_of : List (Keyed Posted) → List Event
 events_of rows = map (λ keyed. keyed.row.event) rows

@@ -1,3 +1,4 @@
 pub mod Queue
 pub mod Table
+pub mod Laws
 pub mod Inside

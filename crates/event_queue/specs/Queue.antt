@@ -1,12 +1,14 @@
 -- What contracts see of a queue.
-use Rattle.std.specs.Prelude.{ℕ, ◌+◌, ◌-◌, ◌^◌, ◌<◌, ◌≤◌, ◌==◌, Bool, not, nat_lt, min, if◌then◌else◌, List, [], ◌∷◌, ◌++◌, length, filter, drop}
+use Rattle.std.specs.Prelude.{ℕ, ◌+◌, ◌-◌, ◌^◌, ◌<◌, ◌≤◌, ◌==◌, Bool, not, nat_le, nat_lt, min, if◌then◌else◌, List, [], ◌∷◌, ◌++◌, length, filter, drop}
 use Rattle.event_queue.specs.declared.event.Event.{Event}
 use Rattle.event_queue.specs.declared.event.Event.TheVariants.{Call, Deletion}
+use Rattle.event_queue.specs.declared.event.Priority.{Priority}
+use Rattle.event_queue.specs.declared.event.Priority.TheVariants.{Low, Normal, High}
 use Rattle.event_queue.specs.declared.table.Counts.{Counts}
 use Rattle.event_queue.specs.declared.table.TheConstants.{EVENTS}
 
 pub record Queue : Type 0 where
-  -- the events that wait, in the order of posting
+  -- the events that wait, in the order in which they are taken
   pub events : List Event
   pub lost : ℕ
   pub mismatched : ℕ
@@ -18,6 +20,25 @@ empty_queue = record { events = []; lost = 0; mismatched = 0 }
 abbrev pub object_of : Event → ℕ
 object_of (Call call) = call.object
 object_of (Deletion object) = object
+
+-- the priority of an event; a deletion is posted without any, as emissions and arrivals post their calls
+abbrev pub priority_of : Event → Priority
+priority_of (Call call) = call.priority
+priority_of (Deletion object) = Normal
+
+-- where a priority stands among all, the highest first
+abbrev pub rank_of : Priority → ℕ
+rank_of High = 0
+rank_of Normal = 1
+rank_of Low = 2
+
+-- is an event taken before one that is posted later: it is of no lower priority
+abbrev pub is_before : Event → Event → Bool
+is_before event later = nat_le (rank_of (priority_of event)) (rank_of (priority_of later))
+
+-- events with one more, behind those of its priority and above, and before those below
+abbrev pub placed : Event → List Event → List Event
+placed event events = filter (λ earlier. is_before earlier event) events ++ event ∷ filter (λ earlier. not (is_before earlier event)) events
 
 -- the events that do not name the object
 abbrev pub others : ℕ → List Event → List Event
@@ -37,9 +58,9 @@ pub record IsSound (queue : Queue) : Type 0 where
 abbrev pub has_room : Queue → Bool
 has_room queue = nat_lt (length queue.events) EVENTS
 
--- with an event behind all others, where it takes one
+-- with an event in its place, where it takes one
 abbrev pub posted : Queue → Event → Queue
-posted queue event = if has_room queue then record queue { events = queue.events ++ event ∷ [] } else queue
+posted queue event = if has_room queue then record queue { events = placed event queue.events } else queue
 
 -- without its first event
 abbrev pub taken : Queue → Queue

@@ -1,10 +1,37 @@
 //! An event.
-ghost use Rattle.std.specs.Prelude.{◌≡◌};
-ghost use Rattle.event_queue.specs.Queue.{object_of};
+ghost use Rattle.std.specs.Prelude.{◌≡◌, ◌≤◌};
+ghost use Rattle.event_queue.specs.Queue.{object_of, priority_of, rank_of};
+ghost use Rattle.event_queue.specs.Inside.{number_of};
 
 use connection_types::Callee;
 use shared_rows::Numbered;
 use variant_value::Args;
+
+/// How soon an event is taken (`Qt::EventPriority`): before those of a lower priority, and behind those
+/// of its own that were posted earlier.
+#[derive(Clone, Copy, PartialEq, Eq)]
+pub enum Priority {
+    /// `Qt::LowEventPriority`, -1.
+    Low,
+    /// `Qt::NormalEventPriority`, 0.
+    Normal,
+    /// `Qt::HighEventPriority`, 1.
+    High,
+}
+
+impl Priority {
+    /// Where it stands among all, the highest first.
+    pub(crate) fn rank(self) -> u64
+        ensures rank { result ≡ rank_of self }
+        ensures few { result ≤ 2 }
+    {
+        match self {
+            Priority::High => 0,
+            Priority::Normal => 1,
+            Priority::Low => 2,
+        }
+    }
+}
 
 /// A call that waits in the queue (`QMetaCallEvent`).
 pub struct QueuedCall {
@@ -15,6 +42,7 @@ pub struct QueuedCall {
     pub sender: u32,
     /// The connection that called, or 0 where none did. It may be broken before the call is made.
     pub connection: u32,
+    pub priority: Priority,
     pub args: Args,
 }
 
@@ -25,6 +53,7 @@ impl Drop for QueuedCall {
             callee: _,
             sender: _,
             connection: _,
+            priority: _,
             args: _,
         } = self;
     }
@@ -55,12 +84,26 @@ impl Event {
             Event::Deletion(object) => *object,
         }
     }
+
+    /// How soon the event is taken; a deletion has the priority `Normal`.
+    pub fn priority(&self) -> Priority
+        ensures { result ≡ priority_of self.now }
+    {
+        match self {
+            Event::Call(call) => call.priority,
+            Event::Deletion(_) => Priority::Normal,
+        }
+    }
 }
+
+/// How many numbers each priority has.
+pub(crate) const NUMBERS: u64 = 1 << 62;
 
 /// An event as it stands in its queue.
 #[derive(Drop)]
 pub(crate) struct Posted {
-    /// Above those of all events that were posted before it and are still queued.
+    /// Less than `NUMBERS`, and above those of all events of its priority that were posted before it and
+    /// are still queued.
     pub(crate) number: u64,
     pub(crate) event: Event,
 }
@@ -68,9 +111,9 @@ pub(crate) struct Posted {
 impl Numbered for Posted {
     type Number = u64;
 
-    ghost number = { λ posted. posted.number };
+    ghost number = { number_of };
 
     fn number(&self) -> u64 {
-        self.number
+        self.event.priority().rank() * NUMBERS + self.number % NUMBERS
     }
 }

@@ -1,44 +1,83 @@
 //! The events of a place in their order.
-ghost use Rattle.std.specs.Prelude.{◌≡◌, ◌<◌, ◌∷◌, ◌++◌, [], All, IfOk, OnOk, OnErr, drop};
+ghost use Rattle.std.specs.Prelude.{◌≡◌, ◌+◌, ◌*◌, ◌^◌, ◌<◌, ◌≤◌, IfOk, OnOk, OnErr, drop};
 ghost use Rattle.std.specs.List.{slice_get};
 ghost use Rattle.places.specs.Table.{IsPlace};
-ghost use Rattle.shared_rows.specs.Rows.{rows_at};
-ghost use Rattle.event_queue.specs.Queue.{others};
-ghost use Rattle.event_queue.specs.Inside.{HasEvents, events_at};
+ghost use Rattle.shared_rows.specs.Rows.{IsSound, rows_at};
+ghost use Rattle.event_queue.specs.Queue.{others, placed};
+ghost use Rattle.event_queue.specs.Inside.{HasEvents, IsCountBelow, IsSeat, events_at, number_of};
 
-use crate::event::{Event, Posted};
-use shared_rows::SharedRows;
+use crate::event::{Event, NUMBERS, Posted};
+use shared_rows::{Numbered, SharedRows};
 use std::alloc::AllocError;
 
-/// Puts an event behind all others of the place.
-pub(crate) fn append(
+/// Puts an event behind those of its priority and above, and before those below.
+pub(crate) fn place_event(
     rows: &mut SharedRows<Posted>,
     place: usize,
     event: Event,
 ) -> Result<(), AllocError>
     requires { IsPlace rows.old place }
-    ensures ok { OnOk result (HasEvents rows.old rows.new place (events_at rows.old place ++ event ∷ [])) }
+    ensures ok { OnOk result (HasEvents rows.old rows.new place (placed event (events_at rows.old place))) }
     ensures err { OnErr result (rows.new ≡ rows.old) }
 {
-    let number = next_number(rows, place)?;
-    rows.push(place, Posted { number, event })?;
+    let start = event.priority().rank() * NUMBERS;
+    let before = count_below(rows, place, start + NUMBERS);
+    let number = next_number(rows, place, before, start)?;
+    let posted = Posted { number, event };
+    if before == rows.len(place) {
+        rows.push(place, posted)?;
+    } else {
+        rows.insert(place, posted)?;
+    }
     Ok(())
 }
 
-/// A number above those of all events of the place.
-fn next_number(rows: &SharedRows<Posted>, place: usize) -> Result<u64, AllocError>
+/// How many events of the place have a number below this one; they stand before the others.
+fn count_below(rows: &SharedRows<Posted>, place: usize, number: u64) -> usize
     requires { IsPlace rows.now place }
-    ensures { IfOk result (λ number. All (λ keyed. keyed.row.number < number) (rows_at rows.now place)) }
+    ensures count { IsCountBelow (rows_at rows.now place) number result }
+    ensures sound { IsSound number_of (rows_at rows.now place) }
 {
-    let len = rows.len(place);
-    if len == 0 {
-        return Ok(1);
+    let mut low = 0;
+    let mut high = rows.len(place);
+    // Mostly all of them have, so that the first look is at the last one.
+    let mut at = high.saturating_sub(1);
+    'looks: while low < high {
+        let (_, posted) = rows.at(place, at);
+        if posted.number() < number {
+            low = at + 1;
+        } else {
+            high = at;
+        }
+        at = low + (high - low) / 2;
     }
-    let (_, last) = rows.at(place, len - 1);
-    if last.number == u64::MAX {
+    low
+}
+
+/// A number of the priority whose numbers begin at `start`, less `start`: it is above those of the events
+/// of that priority, of which the last one stands before this position, if there are any.
+fn next_number(
+    rows: &SharedRows<Posted>,
+    place: usize,
+    before: usize,
+    start: u64,
+) -> Result<u64, AllocError>
+    requires place { IsPlace rows.now place }
+    requires sound { IsSound number_of (rows_at rows.now place) }
+    requires start { start ≤ 2 * 2 ^ 62 }
+    requires before { IsCountBelow (rows_at rows.now place) (start + 2 ^ 62) before }
+    ensures few { IfOk result (λ number. number < 2 ^ 62) }
+    ensures seat { IfOk result (λ number. IsSeat (rows_at rows.now place) (start + number) (start + 2 ^ 62)) }
+{
+    if before == 0 {
+        return Ok(0);
+    }
+    let (_, last) = rows.at(place, before - 1);
+    let next = last.number() + 1;
+    if next == start + NUMBERS {
         return Err(AllocError);
     }
-    Ok(last.number + 1)
+    Ok(next.saturating_sub(start))
 }
 
 /// Takes out the first event of the place.

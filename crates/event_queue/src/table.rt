@@ -8,7 +8,7 @@ ghost use Rattle.event_queue.specs.Inside.{IsLogged};
 
 use crate::event::{Event, Posted};
 use crate::object_counts::ObjectCounts;
-use crate::order::{append, drop_events, take_first};
+use crate::order::{drop_events, place_event, take_first};
 use places::Places;
 use shared_rows::SharedRows;
 use std::alloc::{AllocError, Global};
@@ -114,9 +114,10 @@ impl Queues {
         *self.logs.get_mut(place) = Log::new(self.alloc);
     }
 
-    /// Puts an event behind all others, and returns whether it did: a queue of `EVENTS` takes no more.
-    /// It fails where memory is short, and besides where 2^32 events wait at all places, or where 2^64 - 1
-    /// were posted at this one since its queue was last empty.
+    /// Puts an event behind those of its priority and above, and before those below, and returns whether it
+    /// did: a queue of `EVENTS` takes no more, of whatever priorities. It fails where memory is short, and
+    /// besides where 2^32 events wait at all places, or where 2^62 of this priority were posted at this one
+    /// since none of it waited.
     pub fn post(&mut self, place: usize, event: Event) -> Result<bool, AllocError>
         requires { IsPlace self.old place }
         ensures answer { IfOk result (λ answer. answer ≡ has_room (queue_at self.old place)) }
@@ -128,7 +129,7 @@ impl Queues {
         }
         let object = event.object();
         self.logs.get_mut(place).objects.add(object)?;
-        if let Err(error) = append(&mut self.rows, place, event) {
+        if let Err(error) = place_event(&mut self.rows, place, event) {
             self.logs.get_mut(place).objects.subtract(object);
             return Err(error);
         }

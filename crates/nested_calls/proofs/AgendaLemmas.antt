@@ -24,6 +24,7 @@ use Rattle.connection_list.specs.Rows.{IsRising, IsSound, has_number, is_next}
 use Rattle.connection_list.proofs.RowsLemmas.{rising_head, rising_tail}
 use Rattle.event_queue.specs.declared.event.Event.TheVariants as event
 use Rattle.event_queue.specs.declared.event.QueuedCall.{QueuedCall}
+use Rattle.event_queue.specs.declared.event.Priority.TheVariants.{Normal}
 use Rattle.event_queue.specs.Queue.{has_room}
 use Rattle.object_tree.specs.declared.row.Row.{Row}
 use Rattle.object_tree.specs.Rows.{row_of}
@@ -418,7 +419,7 @@ module _ (caller : Caller) (connection : Connection) (args : List Value) (depth 
         -- the event that a queued connection posts
         module _ (given : List Value) where
           abbrev pub posted_call : QueuedCall
-          posted_call = record { object = connection.receiver; callee = connection.callee; sender = connection.sender; connection = connection.number; args = given }
+          posted_call = record { object = connection.receiver; callee = connection.callee; sender = connection.sender; connection = connection.number; priority = Normal; args = given }
 
         module _ (method : class.Method) (has : Some method ≡ method_at its_settings (state_at new caller.place) connection.receiver index) (given : List Value) (cut : given ≡ take (length method.signature.kinds) args) where
           abbrev its_call : QueuedCall
@@ -427,9 +428,9 @@ module _ (caller : Caller) (connection : Connection) (args : List Value) (depth 
           abbrev pub its_later : Bool → State
           its_later room = if room then with_event (state_at new caller.place) (event.Call its_call) else with_lost (state_at new caller.place)
 
-          later_is : record { object = connection.receiver; callee = Method index; sender = connection.sender; connection = connection.number; args = take (length method.signature.kinds) args } ≡ its_call
-          later_is = ap (λ (called : Callee). record { object = connection.receiver; callee = called; sender = connection.sender; connection = connection.number; args = take (length method.signature.kinds) args }) (sym is)
-              ∙ ap (λ (values : List Value). record { object = connection.receiver; callee = connection.callee; sender = connection.sender; connection = connection.number; args = values }) (sym cut)
+          later_is : record { object = connection.receiver; callee = Method index; sender = connection.sender; connection = connection.number; priority = Normal; args = take (length method.signature.kinds) args } ≡ its_call
+          later_is = ap (λ (called : Callee). record { object = connection.receiver; callee = called; sender = connection.sender; connection = connection.number; priority = Normal; args = take (length method.signature.kinds) args }) (sym is)
+              ∙ ap (λ (values : List Value). record { object = connection.receiver; callee = connection.callee; sender = connection.sender; connection = connection.number; priority = Normal; args = values }) (sym cut)
 
           posted_is : (final : Tables) → IsPlaced new caller.place → final ≡ with_state new caller.place (with_event (state_at new caller.place) (event.Call its_call)) → posted (doing_at caller.place new taken earlier) (event.Call its_call) ≡ doing_at caller.place final taken earlier
           unfolding posted

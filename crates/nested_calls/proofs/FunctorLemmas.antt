@@ -15,6 +15,7 @@ use Rattle.connection_types.specs.declared.callee.Callee.TheVariants.{Functor}
 use Rattle.connection_list.specs.declared.connection.Connection.{Connection}
 use Rattle.event_queue.specs.declared.event.Event.TheVariants as event
 use Rattle.event_queue.specs.declared.event.QueuedCall.{QueuedCall}
+use Rattle.event_queue.specs.declared.event.Priority.TheVariants.{Normal}
 use Rattle.event_queue.specs.Queue.{has_room}
 use Rattle.stored_slots.specs.declared.functor.Functor as stored
 use Rattle.thread_model.specs.Acts as model
@@ -87,7 +88,7 @@ module _ (settings : Settings) (connection : Connection) (index : ℕ) (args : L
 
   module _ (functor : stored.Functor) (has : Some functor ≡ functor_at settings index) (given : List Value) (cut : given ≡ take (length functor.params) args) where
     abbrev later_call : Callee → List Value → QueuedCall
-    later_call called values = record { object = connection.receiver; callee = called; sender = connection.sender; connection = connection.number; args = values }
+    later_call called values = record { object = connection.receiver; callee = called; sender = connection.sender; connection = connection.number; priority = Normal; args = values }
 
     -- a queued connection calls it later
     pub functor_queued : (done : Doing) → connection.callee ≡ Functor index → is_queued connection.mode ≡ true → queued doing (later_call connection.callee given) ≡ done → ran its_next ≡ done

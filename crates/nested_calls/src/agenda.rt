@@ -5,6 +5,7 @@ ghost use Rattle.std.specs.Prelude.{◌≡◌, ◌∷◌, [], ◌≤◌, ◌<◌
 ghost use Rattle.connection_list.specs.Rows.{IsSound, is_next};
 ghost use Rattle.connection_types.specs.declared.callee.Callee.TheVariants as callee;
 ghost use Rattle.term_core.specs.Act.{acts_of, effect};
+ghost use Rattle.event_queue.specs.declared.event.Priority.TheVariants.{Normal};
 ghost use Rattle.thread_model.specs.declared.call.TheConstants.{NESTED_SIGNALS};
 ghost use Rattle.thread_model.specs.Acts as model;
 ghost use Rattle.thread_model.specs.Agenda.{call_line, callee_called, connection_of, functor_line};
@@ -31,7 +32,7 @@ use crate::telling::Telling;
 use class_table::Method;
 use connection_list::Connection;
 use connection_types::{Callee, ConnectionType};
-use event_queue::QueuedCall;
+use event_queue::{Priority, QueuedCall};
 use refusals::Code;
 use session_effects::{Caller, Slot, change, deleted, functor_at, method_at, sent, set, truth};
 use session_tables::Tables;
@@ -188,7 +189,7 @@ fn call_later(
 ) -> Result<(), AllocError>
     requires { IsPlaced tables.old caller.now.place }
     ensures ok { OnOk result (tables.new ≡ session.with_state tables.old caller.now.place (with_call (state_at tables.old caller.now.place)
-        (record { object = connection.now.receiver; callee = connection.now.callee; sender = connection.now.sender; connection = connection.now.number; args = args.now }))) }
+        (record { object = connection.now.receiver; callee = connection.now.callee; sender = connection.now.sender; connection = connection.now.number; priority = Normal; args = args.now }))) }
     ensures err { OnErr result (tables.new ≡ tables.old) }
 {
     let call = QueuedCall {
@@ -196,6 +197,7 @@ fn call_later(
         callee: connection.callee,
         sender: connection.sender,
         connection: connection.number,
+        priority: Priority::Normal,
         args: Args::copied(caller.setup.alloc, args)?,
     };
     tables.post_call(caller.place, call)

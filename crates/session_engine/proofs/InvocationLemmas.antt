@@ -15,6 +15,7 @@ use Rattle.variant_value.specs.declared.value.Value.{Value}
 use Rattle.class_table.specs.declared.class.Method.{Method}
 use Rattle.class_table.specs.Lookup.{is_same, method_number}
 use Rattle.term_core.specs.Act.{acts_of}
+use Rattle.event_queue.specs.declared.event.Priority.{Priority}
 use Rattle.thread_model.specs.declared.line.Answer.TheVariants as a
 use Rattle.thread_model.specs.declared.line.Line.TheVariants as line
 use Rattle.thread_model.specs.Absence.{absence}
@@ -130,7 +131,7 @@ run_sent caller object index values tables telling fresh method has done signal 
     ∙ does
 
 -- why a method is not invoked, where the object is there and the signature spelled
-module _ (caller : Caller) (object : ℕ) (text : List ℕ) (args : List Data) (mode : ConnectionType) (old new : Tables) (signature : Signature)
+module _ (caller : Caller) (object : ℕ) (text : List ℕ) (args : List Data) (mode : ConnectionType) (priority : Priority) (old new : Tables) (signature : Signature)
     (there : None ≡ absence (state_at old caller.place) object) (spelled : ok_or (signature_of text) BadSignature ≡ Ok signature) where
   abbrev the_settings : Settings
   the_settings = settings_of caller.setup.now
@@ -139,12 +140,12 @@ module _ (caller : Caller) (object : ℕ) (text : List ℕ) (args : List Data) (
   the_state = state_at old caller.place
 
   abbrev the_refusal : Option Code
-  the_refusal = its_refusal caller (Invoke object text args mode) old new
+  the_refusal = its_refusal caller (Invoke object text args mode priority) old new
 
   -- then it goes by the method that is found
   pub refusal_found : (found : Option ℕ) → asked_method the_settings the_state object text ≡ found → the_refusal ≡ option_or (values_refusal the_settings the_state object args found) (later_refusal the_state mode found)
   refusal_found found asked =
-      refusal_invoke the_settings caller.name.now the_state object text args mode ∙ or_second _ _ there
+      refusal_invoke the_settings caller.name.now the_state object text args mode priority ∙ or_second _ _ there
       ∙ ap (λ (signature : Found Signature). option_or (result_err signature) (option_or (values_refusal the_settings the_state object args (asked_method the_settings the_state object text)) (later_refusal the_state mode (asked_method the_settings the_state object text)))) spelled
       ∙ ap (λ (found : Option ℕ). option_or (values_refusal the_settings the_state object args found) (later_refusal the_state mode found)) asked
 
@@ -169,30 +170,30 @@ module _ (caller : Caller) (object : ℕ) (text : List ℕ) (args : List Data) (
     refusal_later later = refusal_given ∙ ap (λ (b : Bool). cond (b && true) (post_refusal the_state.queue) None) later
 
 -- what is invoked at once tells its reply last
-pub invoke_runs : (caller : Caller) (object : ℕ) (text : List ℕ) (args : List Data) (mode : ConnectionType) (old new : Tables) (index : ℕ) (values : List Value)
+pub invoke_runs : (caller : Caller) (object : ℕ) (text : List ℕ) (args : List Data) (mode : ConnectionType) (priority : Priority) (old new : Tables) (index : ℕ) (values : List Value)
     → is_queued mode ≡ false → asked_method (settings_of caller.setup.now) (state_at old caller.place) object text ≡ Some index
     → asked_values (settings_of caller.setup.now) (state_at old caller.place) object index args ≡ Ok values
     → let next = invoked (settings_of caller.setup.now) (state_at old caller.place) object index values in
-    its_effect caller (Invoke object text args mode) old new ≡ ended (told (run (settings_of caller.setup.now) next.items next.doing) (line.Reply (a.Truth true)))
-invoke_runs caller object text args mode old new index values at_once found given =
+    its_effect caller (Invoke object text args mode priority) old new ≡ ended (told (run (settings_of caller.setup.now) next.items next.doing) (line.Reply (a.Truth true)))
+invoke_runs caller object text args mode priority old new index values at_once found given =
     let settings = settings_of caller.setup.now in
     let state = state_at old caller.place in
-    performs_invoke settings caller.name.now state object text args mode
-    ∙ ap (invokes settings state object args mode) found
+    performs_invoke settings caller.name.now state object text args mode priority
+    ∙ ap (invokes settings state object args mode priority) found
     ∙ cond-false (is_queued mode) _ _ at_once
     ∙ ap (λ (given : Found (List Value)). does_next settings (invoked settings state object index (result_unwrap_or given [])) (a.Truth true)) given
     ∙ replies_last settings (invoked settings state object index values) (a.Truth true)
 
 -- so it is performed
-pub performs_invoked : {T E : Type 0} (caller : Caller) (object : ℕ) (text : List ℕ) (args : List Data) (mode : ConnectionType) (old new : Tables) (before after : Telling) (value : T) (index : ℕ) (values : List Value) → before ≡ fresh_telling caller.setup.now.turns
-    → is_queued mode ≡ false → its_refusal caller (Invoke object text args mode) old new ≡ None
+pub performs_invoked : {T E : Type 0} (caller : Caller) (object : ℕ) (text : List ℕ) (args : List Data) (mode : ConnectionType) (priority : Priority) (old new : Tables) (before after : Telling) (value : T) (index : ℕ) (values : List Value) → before ≡ fresh_telling caller.setup.now.turns
+    → is_queued mode ≡ false → its_refusal caller (Invoke object text args mode priority) old new ≡ None
     → asked_method (settings_of caller.setup.now) (state_at old caller.place) object text ≡ Some index
     → asked_values (settings_of caller.setup.now) (state_at old caller.place) object index args ≡ Ok values
     → DoesAtFirst {E = E} caller (invoked (settings_of caller.setup.now) (state_at old caller.place) object index values) old new before after (Ok value)
-    → Performs caller (Invoke object text args mode) old new after.failing (reply_after after.lines) (Ok (a.Truth true))
-performs_invoked caller object text args mode old new before after value index values fresh at_once passed found given does =
-    replied_last caller (Invoke object text args mode) old new after (a.Truth true) does.posts passed
-    (invoke_runs caller object text args mode old new index values at_once found given
+    → Performs caller (Invoke object text args mode priority) old new after.failing (reply_after after.lines) (Ok (a.Truth true))
+performs_invoked caller object text args mode priority old new before after value index values fresh at_once passed found given does =
+    replied_last caller (Invoke object text args mode priority) old new after (a.Truth true) does.posts passed
+    (invoke_runs caller object text args mode priority old new index values at_once found given
     ∙ ap (λ done. ended (told done (line.Reply (a.Truth true)))) does.runs)
     (at_first_reaches caller old new before after does.posts fresh does.reaches)
 
@@ -208,15 +209,15 @@ at_first caller next begins old new before between after result same by does = r
 }
 
 -- what is invoked later is posted, and replied at once
-pub posts_invoked : (caller : Caller) (object : ℕ) (text : List ℕ) (args : List Data) (mode : ConnectionType) (state : State) (index : ℕ) (values : List Value)
+pub posts_invoked : (caller : Caller) (object : ℕ) (text : List ℕ) (args : List Data) (mode : ConnectionType) (priority : Priority) (state : State) (index : ℕ) (values : List Value)
     → is_queued mode ≡ true → asked_method (settings_of caller.setup.now) state object text ≡ Some index → asked_values (settings_of caller.setup.now) state object index args ≡ Ok values
-    → performs (settings_of caller.setup.now) caller.name.now state (Invoke object text args mode) ≡ invoked_later state object index values
-posts_invoked caller object text args mode state index values later found given =
+    → performs (settings_of caller.setup.now) caller.name.now state (Invoke object text args mode priority) ≡ invoked_later state object index values priority
+posts_invoked caller object text args mode priority state index values later found given =
     let settings = settings_of caller.setup.now in
-    performs_invoke settings caller.name.now state object text args mode
-    ∙ ap (invokes settings state object args mode) found
+    performs_invoke settings caller.name.now state object text args mode priority
+    ∙ ap (invokes settings state object args mode priority) found
     ∙ cond-true (is_queued mode) _ _ later
-    ∙ ap (λ (given : Found (List Value)). invoked_later state object index (result_unwrap_or given [])) given
+    ∙ ap (λ (given : Found (List Value)). invoked_later state object index (result_unwrap_or given []) priority) given
 
 -- a method that has a number is there
 pub method_there : (methods : List Method) (signature : Signature) (index : ℕ) → method_number signature methods ≡ Some index → IsSome (slice_get methods index)

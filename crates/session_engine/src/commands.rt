@@ -156,6 +156,7 @@ fn perform<F: Answering>(
             method,
             args,
             mode,
+            priority,
         } => invoke(
             actor,
             tables,
@@ -164,6 +165,7 @@ fn perform<F: Answering>(
             method,
             args.as_slice(),
             *mode,
+            *priority,
         ),
         Command::Spin => spin(actor, tables, telling),
         Command::Do(deed) => deed_command(&actor.caller, tables, *deed),

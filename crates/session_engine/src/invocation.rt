@@ -16,7 +16,7 @@ ghost use Rattle.session_engine.specs.Invocation.{is_limit};
 ghost use Rattle.nested_calls.specs.Telling.{fresh_telling};
 
 use connection_types::{Callee, ConnectionType};
-use event_queue::{Event, QueuedCall};
+use event_queue::{Event, Priority, QueuedCall};
 use nested_calls::{Actor, Answering, Telling, emit, is_queued, run_slot};
 use plain_types::{Items, Text};
 use refusals::{Code, Fault};
@@ -37,10 +37,11 @@ pub fn invoke<F: Answering>(
     method: &Text,
     args: &[serde_json::Value],
     mode: ConnectionType,
+    priority: Priority,
 ) -> Result<Answer, Fault>
     requires placed { IsPlaced tables.old actor.now.caller.place }
     requires fresh { telling.old ≡ fresh_telling actor.now.caller.setup.now.turns }
-    ensures { Performs actor.now.caller (Invoke object method.now (map view args.now) mode) tables.old tables.new telling.new.failing (reply_after telling.new.lines) result }
+    ensures { Performs actor.now.caller (Invoke object method.now (map view args.now) mode priority) tables.old tables.new telling.new.failing (reply_after telling.new.lines) result }
 {
     tables.check_object(actor.caller.place, object)?;
     let signature = Signature::normalise(actor.caller.setup.alloc, method.as_str())?;
@@ -50,25 +51,26 @@ pub fn invoke<F: Answering>(
     let kinds = kinds_at(&actor.caller, tables, object, index);
     let values = values_of(actor.caller.setup.alloc, kinds, args)?;
     if is_queued(mode) {
-        post(&actor.caller, tables, object, index, values.as_slice())?;
+        post(&actor.caller, tables, object, index, values.as_slice(), priority)?;
         return Ok(Answer::Truth(true));
     }
     run(actor, tables, telling, object, index, values.as_slice())?;
     Ok(Answer::Truth(true))
 }
 
-/// Posts a call of the method of this index, which no object has sent.
+/// Posts a call of the method of this index, which no object has sent, with a priority.
 fn post(
     caller: &Caller,
     tables: &mut Tables,
     object: u32,
     index: u32,
     values: &[Value],
+    priority: Priority,
 ) -> Result<(), Fault>
     requires { IsPlaced tables.old caller.now.place }
     ensures refusal { RefusedBy (post_refusal (state_at tables.old caller.now.place).queue) result }
     ensures ok { OnOk result (tables.new ≡ with_state tables.old caller.now.place
-        (with_event (state_at tables.old caller.now.place) (Call (record { object = object; callee = Method index; sender = 0; connection = 0; args = values.now })))) }
+        (with_event (state_at tables.old caller.now.place) (Call (record { object = object; callee = Method index; sender = 0; connection = 0; priority = priority; args = values.now })))) }
     ensures err { OnErr result (tables.new ≡ tables.old) }
 {
     tables.check_room(caller.place)?;
@@ -77,6 +79,7 @@ fn post(
         callee: Callee::Method(index),
         sender: 0,
         connection: 0,
+        priority,
         args: Args::copied(caller.setup.alloc, values)?,
     };
     tables.post(caller.place, Event::Call(call))?;

@@ -14,7 +14,7 @@ ghost use Rattle.session_tables.specs.Tables.{ChangesOnly, IsPlaced, failed_at, 
 use crate::tables::Tables;
 use class_table::ClassTable;
 use connection_types::Callee;
-use event_queue::{Event, QueuedCall, Queues};
+use event_queue::{Event, Priority, QueuedCall, Queues};
 use object_tree::Forests;
 use plain_types::Text;
 use publish_board::{Join, Publication};
@@ -221,6 +221,7 @@ fn arrive_by(
         callee: Callee::Method(join.method),
         sender: 0,
         connection: 0,
+        priority: Priority::Normal,
         args: Args::copied(posting.alloc, first(posting.args, wanted))?,
     };
     post_call(queues, at, call)

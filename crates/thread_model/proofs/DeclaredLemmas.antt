@@ -13,6 +13,7 @@ use Rattle.class_table.specs.declared.class.Class.{Class}
 use Rattle.connection_types.specs.declared.connection_type.ConnectionType.{ConnectionType}
 use Rattle.connection_list.specs.declared.connection.Connection.{Connection}
 use Rattle.connection_list.specs.Rows.{has_number as has_connection_number}
+use Rattle.event_queue.specs.declared.event.Priority.{Priority}
 use Rattle.event_queue.specs.declared.event.Event.{Event}
 use Rattle.object_tree.specs.declared.row.Row.{Row}
 use Rattle.object_tree.specs.Forest.{Forest}
@@ -254,10 +255,10 @@ module _ (settings : Settings) (state : State) (declared : IsDeclared settings.c
       (λ slot. cond_both (doing.turns == 0) (puts [] (used_up doing)) (puts (Run target index 0 values 0 ∷ []) (turn_taken doing)) (Keeps settings.classes)
       (λ none. used_up_declared settings.classes doing declared) (λ some. turn_declared settings.classes doing declared))
 
-  invokes_declared : (target : ℕ) (args : List Data) (mode : ConnectionType) (index : Option ℕ) → IsDeclared settings.classes (invokes settings state target args mode index).state
-  invokes_declared target args mode None = declared
-  invokes_declared target args mode (Some index) =
-      cond_both (is_queued mode) (invoked_later state target index _) (does_next settings (invoked settings state target index _) (a.Truth true)) (λ (effect : Effect State Line Post). IsDeclared settings.classes effect.state)
+  invokes_declared : (target : ℕ) (args : List Data) (mode : ConnectionType) (priority : Priority) (index : Option ℕ) → IsDeclared settings.classes (invokes settings state target args mode priority index).state
+  invokes_declared target args mode priority None = declared
+  invokes_declared target args mode priority (Some index) =
+      cond_both (is_queued mode) (invoked_later state target index _ priority) (does_next settings (invoked settings state target index _) (a.Truth true)) (λ (effect : Effect State Line Post). IsDeclared settings.classes effect.state)
       (λ later. declared)
       (λ now. done_declared (invoked settings state target index _) (a.Truth true) (invoked_declared target index _))
 
@@ -302,7 +303,7 @@ module _ (settings : Settings) (state : State) (declared : IsDeclared settings.c
   performed_declared self (ConnectFunctor sender signal context functor mode unique single) sound = found_declared' (asked_connect_functor settings state sender signal context functor mode unique single)
   performed_declared self (DisconnectOne connection) sound = declared
   performed_declared self (Disconnect sender signal receiver method) sound = found_declared' (asked_disconnect settings state sender signal receiver method)
-  performed_declared self (Invoke target method args mode) sound = invokes_declared target args mode (asked_method settings state target method)
+  performed_declared self (Invoke target method args mode priority) sound = invokes_declared target args mode priority (asked_method settings state target method)
   performed_declared self TakeEvents sound = run_declared settings (Spin ∷ ReplySpun ∷ []) (begun settings state) declared
   performed_declared self (Do deed) sound = found_declared' (Ok deed)
   performed_declared self Status sound = declared

@@ -14,6 +14,7 @@ use Rattle.connection_list.specs.declared.connection.Connection.{Connection}
 use Rattle.connection_list.specs.Rows.{has_number}
 use Rattle.event_queue.specs.declared.event.Event.TheVariants as event
 use Rattle.event_queue.specs.declared.event.QueuedCall.{QueuedCall}
+use Rattle.event_queue.specs.declared.event.Priority.TheVariants.{Normal}
 use Rattle.event_queue.specs.Queue.{has_room}
 use Rattle.object_tree.specs.declared.row.Row.{Row}
 use Rattle.object_tree.specs.Forest.{Forest}
@@ -143,7 +144,7 @@ module _ (settings : Settings) (number : ℕ) (args : List Value) (depth : ℕ) 
         module _ (method : Method) (has : method_at settings doing.state connection.receiver index ≡ Some method) where
           -- a queued connection calls later, with the same arguments
           abbrev pub call_later : QueuedCall
-          call_later = record { object = connection.receiver; callee = callee.Method index; sender = connection.sender; connection = connection.number; args = take (length method.signature.kinds) args }
+          call_later = record { object = connection.receiver; callee = callee.Method index; sender = connection.sender; connection = connection.number; priority = Normal; args = take (length method.signature.kinds) args }
 
           module _ (later : is_queued connection.mode ≡ true) where
             is_later : (room : Bool) → has_room doing.state.queue ≡ room → step settings (Call number args depth) doing ≡ puts [] (cond room (posted after (event.Call call_later)) (lost after))

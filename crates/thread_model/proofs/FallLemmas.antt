@@ -14,6 +14,7 @@ use Rattle.connection_list.specs.Ends.{calls}
 use Rattle.event_queue.specs.declared.event.Event.{Event}
 use Rattle.event_queue.specs.declared.event.Event.TheVariants as event
 use Rattle.event_queue.specs.declared.event.QueuedCall.{QueuedCall}
+use Rattle.event_queue.specs.declared.event.Priority.TheVariants.{Normal}
 use Rattle.property_store.specs.declared.property.Property.{Property}
 use Rattle.object_tree.specs.declared.row.Row.{Row}
 use Rattle.object_tree.specs.Rows.{children, row_of}
@@ -121,7 +122,7 @@ module _ (settings : Settings) (item : Item) (doing new : Doing) (shrinks : Shri
   method_falls : (connection : Connection) (index : ℕ) (args : List Value) (depth : ℕ) (method : Method) → FallsTo settings item doing (method_called connection index args depth new method)
   method_falls connection index args depth method =
       let given = take (length method.signature.kinds) args in
-      let call : QueuedCall = record { object = connection.receiver; callee = callee.Method index; sender = connection.sender; connection = connection.number; args = given } in
+      let call : QueuedCall = record { object = connection.receiver; callee = callee.Method index; sender = connection.sender; connection = connection.number; priority = Normal; args = given } in
       let later = queued_shrinks new call in
       let few = method_weight (most settings doing) connection.receiver index connection.sender given (depth + 1) depth method in
       cond_both (is_queued connection.mode) (puts [] (queued new call)) (puts (method_items connection.receiver index connection.sender given (depth + 1) depth method) new) (FallsTo settings item doing)
@@ -132,7 +133,7 @@ module _ (settings : Settings) (item : Item) (doing new : Doing) (shrinks : Shri
   functor_falls : (connection : Connection) (index : ℕ) (args : List Value) (depth : ℕ) (functor : Functor) → FallsTo settings item doing (functor_called connection index args depth new functor)
   functor_falls connection index args depth functor =
       let given = take (length functor.params) args in
-      let call : QueuedCall = record { object = connection.receiver; callee = callee.Functor index; sender = connection.sender; connection = connection.number; args = given } in
+      let call : QueuedCall = record { object = connection.receiver; callee = callee.Functor index; sender = connection.sender; connection = connection.number; priority = Normal; args = given } in
       let later = queued_shrinks new call in
       let items = RunFunctor connection.receiver index connection.sender connection.number given depth ∷ [] in
       cond_both (is_queued connection.mode) (puts [] (queued new call)) (puts items new) (FallsTo settings item doing)

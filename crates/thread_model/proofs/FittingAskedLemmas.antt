@@ -21,7 +21,7 @@ asked_fits settings state (c.Connect sender signal receiver method mode unique s
 asked_fits settings state (c.ConnectFunctor sender signal context functor mode unique single) = tt
 asked_fits settings state (c.DisconnectOne connection) = tt
 asked_fits settings state (c.Disconnect sender signal receiver method) = tt
-asked_fits settings state (c.Invoke target method args mode) = tt
+asked_fits settings state (c.Invoke target method args mode priority) = tt
 asked_fits settings state c.Spin = tt
 asked_fits settings state (c.DeleteLater target) = tt
 asked_fits settings state (c.Block target on) = tt

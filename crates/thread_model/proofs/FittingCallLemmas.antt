@@ -18,6 +18,7 @@ use Rattle.connection_list.proofs.RowsLemmas.{rising_head, rising_tail}
 use Rattle.event_queue.specs.declared.event.Event.{Event}
 use Rattle.event_queue.specs.declared.event.Event.TheVariants as event
 use Rattle.event_queue.specs.declared.event.QueuedCall.{QueuedCall}
+use Rattle.event_queue.specs.declared.event.Priority.TheVariants.{Normal}
 use Rattle.object_tree.specs.declared.row.Row.{Row}
 use Rattle.object_tree.specs.Rows.{is_there, row_of}
 use Rattle.publish_board.specs.Rows.{publishes}
@@ -129,7 +130,7 @@ module _ (settings : Settings) (doing : Doing) (on : Carries settings doing.stat
       by (Some functor) is =
           let params : option_map_or (λ (functor : Functor). functor.params) (functor_at settings index) [] ≡ functor.params = ap (λ found. option_map_or (λ (functor : Functor). functor.params) found []) is in
           let given = take (length functor.params) args in
-          let call : QueuedCall = record { object = connection.receiver; callee = callee.Functor index; sender = connection.sender; connection = connection.number; args = given } in
+          let call : QueuedCall = record { object = connection.receiver; callee = callee.Functor index; sender = connection.sender; connection = connection.number; priority = Normal; args = given } in
           let its : IsCall settings rows connection.receiver (callee.Functor index) given = record {
             callee = may.callee;
             arguments = subst (λ kinds. AreArguments kinds given) (sym params)
@@ -145,7 +146,7 @@ module _ (settings : Settings) (doing : Doing) (on : Carries settings doing.stat
       by (Some method) is =
           let params : kinds_of settings.classes rows connection.receiver index ≡ method.signature.kinds = ap (λ found. option_map_or (λ (method : Method). method.signature.kinds) found []) is in
           let given = take (length method.signature.kinds) args in
-          let call : QueuedCall = record { object = connection.receiver; callee = callee.Method index; sender = connection.sender; connection = connection.number; args = given } in
+          let call : QueuedCall = record { object = connection.receiver; callee = callee.Method index; sender = connection.sender; connection = connection.number; priority = Normal; args = given } in
           let arguments : AreArguments (kinds_of settings.classes rows connection.receiver index) given = subst (λ kinds. AreArguments kinds given) (sym params)
           (fitting_arguments (kinds_of settings.classes rows connection.sender connection.signal) method.signature.kinds args (ap (fits (kinds_of settings.classes rows connection.sender connection.signal)) (sym params) ∙ may.fitting) all) in
           let its : IsCall settings rows connection.receiver (callee.Method index) given = record { callee = may.callee; arguments = arguments } in

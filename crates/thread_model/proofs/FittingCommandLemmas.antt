@@ -217,9 +217,9 @@ module _ (settings : Settings) (are : AreSettings settings) (state : State) (sou
   performed_fits self (DisconnectOne connection) passed may = (without_fits (has_number connection), none)
   performed_fits self (Disconnect sender signal receiver method) passed may =
       found_fits (asked_disconnect settings state sender signal receiver method) passed (pattern_fits settings rows _ _ (asked_pattern settings state sender signal receiver method))
-  performed_fits self (Invoke target method args mode) passed may =
+  performed_fits self (Invoke target method args mode priority) passed may =
       let rest = or_none (values_refusal settings state target args (asked_method settings state target method)) _ (or_none (result_err (signature_in method)) _ (or_none (absence state target) _ passed).1).1 in
-      invokes_fits settings are state sound declared fit target method args mode (asked_method settings state target method) refl rest.0
+      invokes_fits settings are state sound declared fit target method args mode priority (asked_method settings state target method) refl rest.0
   performed_fits self Spin passed may = run_fits settings are (to_do.Spin ∷ to_do.ReplySpun ∷ []) (begun settings state) (first_starts settings are state sound declared fit (to_do.Spin ∷ to_do.ReplySpun ∷ []) refl
       (All-cons (IsFittingItem settings state) to_do.Spin (to_do.ReplySpun ∷ []) tt (All-cons (IsFittingItem settings state) to_do.ReplySpun [] tt (All-nil (IsFittingItem settings state)))))
   performed_fits self (Do deed) passed may = found_fits (Ok deed) passed (λ other is. let same : deed ≡ other = cc in subst (IsFittingDeed settings rows) same may)

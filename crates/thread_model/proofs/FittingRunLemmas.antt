@@ -14,6 +14,7 @@ use Rattle.variant_value.specs.declared.value.Value.{Value}
 use Rattle.class_table.specs.Lookup.{method_number}
 use Rattle.connection_types.specs.declared.callee.Callee.TheVariants as callee
 use Rattle.connection_types.specs.declared.connection_type.ConnectionType.{ConnectionType}
+use Rattle.event_queue.specs.declared.event.Priority.{Priority}
 use Rattle.event_queue.specs.declared.event.Event.TheVariants as event
 use Rattle.object_tree.specs.declared.row.Row.{Row}
 use Rattle.property_store.specs.declared.property.Property.{Property as At}
@@ -201,10 +202,10 @@ module _ (settings : Settings) (are : AreSettings settings) (state : State) (sou
       (λ some. done_fits settings are (puts (Run target index 0 values 0 ∷ []) (turn_taken doing)) answer
       (same_starts settings (Run target index 0 values 0 ∷ []) doing (turn_taken doing) (turn_state doing) (turn_posts doing) (one_starts (Run target index 0 values 0) refl (λ there. call)))))
 
-  pub invokes_fits : (target : ℕ) (method : List ℕ) (args : List Data) (mode : ConnectionType) (index : Option ℕ) → asked_method settings state target method ≡ index → values_refusal settings state target args index ≡ None → Keep (invokes settings state target args mode index)
-  invokes_fits target method args mode None is passed = kept
-  invokes_fits target method args mode (Some index) is passed =
-      cond_both (is_queued mode) (invoked_later state target index values) (does_next settings (invoked settings state target index values) (a.Truth true)) Keep
+  pub invokes_fits : (target : ℕ) (method : List ℕ) (args : List Data) (mode : ConnectionType) (priority : Priority) (index : Option ℕ) → asked_method settings state target method ≡ index → values_refusal settings state target args index ≡ None → Keep (invokes settings state target args mode priority index)
+  invokes_fits target method args mode priority None is passed = kept
+  invokes_fits target method args mode priority (Some index) is passed =
+      cond_both (is_queued mode) (invoked_later state target index values priority) (does_next settings (invoked settings state target index values) (a.Truth true)) Keep
       (λ later. (event_kept, no_posts))
       (λ now. invoked_fits target index values call (a.Truth true))
     where
@@ -228,10 +229,10 @@ module _ (settings : Settings) (are : AreSettings settings) (state : State) (sou
       call : IsCall settings rows target (callee.Method index) values
       call = record { callee = there; arguments = given }
 
-      event_kept : IsFitting settings (with_event state (event.Call (record { object = target; callee = callee.Method index; sender = 0; connection = 0; args = values })))
+      event_kept : IsFitting settings (with_event state (event.Call (record { object = target; callee = callee.Method index; sender = 0; connection = 0; priority = priority; args = values })))
       event_kept = record {
         objects = fit.objects;
-        events = each_posted (IsFittingEvent settings rows) state.queue (event.Call (record { object = target; callee = callee.Method index; sender = 0; connection = 0; args = values })) call fit.events;
+        events = each_posted (IsFittingEvent settings rows) state.queue (event.Call (record { object = target; callee = callee.Method index; sender = 0; connection = 0; priority = priority; args = values })) call fit.events;
         connections = fit.connections;
         publications = fit.publications;
         joins = fit.joins;

@@ -16,6 +16,7 @@ use Rattle.connection_list.specs.Rows.{has_number}
 use Rattle.event_queue.specs.declared.event.Event.{Event}
 use Rattle.event_queue.specs.declared.event.Event.TheVariants as event
 use Rattle.event_queue.specs.declared.event.QueuedCall.{QueuedCall}
+use Rattle.event_queue.specs.declared.event.Priority.TheVariants.{Normal}
 use Rattle.property_store.specs.declared.property.Property.{Property}
 use Rattle.object_tree.specs.declared.row.Row.{Row}
 use Rattle.object_tree.specs.Rows.{children, row_of}
@@ -112,7 +113,7 @@ module _ (settings : Settings) (agenda : List Item) (doing : Doing) (under : IsU
       by None = under
       by (Some functor) =
           let given = take (length functor.params) args in
-          let call : QueuedCall = record { object = connection.receiver; callee = callee.Functor index; sender = connection.sender; connection = connection.number; args = given } in
+          let call : QueuedCall = record { object = connection.receiver; callee = callee.Functor index; sender = connection.sender; connection = connection.number; priority = Normal; args = given } in
           let items = RunFunctor connection.receiver index connection.sender connection.number given depth ∷ [] in
           cond_both (is_queued connection.mode) (puts [] (queued doing call)) (puts items doing) (Keeps agenda)
           (λ later. queued_under agenda doing under connection call tied broken refl)
@@ -123,7 +124,7 @@ module _ (settings : Settings) (agenda : List Item) (doing : Doing) (under : IsU
       by None = under
       by (Some method) =
           let given = take (length method.signature.kinds) args in
-          let call : QueuedCall = record { object = connection.receiver; callee = callee.Method index; sender = connection.sender; connection = connection.number; args = given } in
+          let call : QueuedCall = record { object = connection.receiver; callee = callee.Method index; sender = connection.sender; connection = connection.number; priority = Normal; args = given } in
           let items = method_items connection.receiver index connection.sender given (depth + 1) depth method in
           cond_both (is_queued connection.mode) (puts [] (queued doing call)) (puts items doing) (Keeps agenda)
           (λ later. queued_under agenda doing under connection call tied broken refl)

@@ -11,6 +11,7 @@ use Rattle.serde_json.specs.Data.{Data}
 use Rattle.variant_value.specs.declared.value.Value.{Value}
 use Rattle.class_table.specs.declared.class.Class.{Class}
 use Rattle.connection_types.specs.declared.connection_type.ConnectionType.{ConnectionType}
+use Rattle.event_queue.specs.declared.event.Priority.{Priority}
 use Rattle.event_queue.specs.Queue.{Queue, with_mismatched}
 use Rattle.publish_board.specs.declared.join.Join.{Join}
 use Rattle.publish_board.specs.declared.publication.Publication.{Publication}
@@ -82,10 +83,10 @@ module _ (settings : Settings) (state : State) where
       (λ signal test held. held)
       (λ slot. cond_both (doing.turns == 0) (puts [] (used_up doing)) (puts (Run target index 0 values 0 ∷ []) (turn_taken doing)) (λ (next : Next). Falls state next.doing.state) (λ spent. (used_up_shrinks doing).joins) (λ some. (turn_shrinks doing).joins))
 
-  invokes_falls : (target : ℕ) (args : List Data) (mode : ConnectionType) (index : Option ℕ) → Falls state (invokes settings state target args mode index).state
-  invokes_falls target args mode None = λ test held. held
-  invokes_falls target args mode (Some index) =
-      cond_both (is_queued mode) (invoked_later state target index _) (does_next settings (invoked settings state target index _) (a.Truth true)) (λ (effect : Effect State Line Post). Falls state effect.state)
+  invokes_falls : (target : ℕ) (args : List Data) (mode : ConnectionType) (priority : Priority) (index : Option ℕ) → Falls state (invokes settings state target args mode priority index).state
+  invokes_falls target args mode priority None = λ test held. held
+  invokes_falls target args mode priority (Some index) =
+      cond_both (is_queued mode) (invoked_later state target index _ priority) (does_next settings (invoked settings state target index _) (a.Truth true)) (λ (effect : Effect State Line Post). Falls state effect.state)
       (λ later test held. held)
       (λ now. done_falls (invoked settings state target index _) (a.Truth true) (invoked_falls target index _))
 
@@ -128,7 +129,7 @@ module _ (settings : Settings) (state : State) where
   performed_falls self (ConnectFunctor sender signal context functor mode unique single) plain = found_falls (asked_connect_functor settings state sender signal context functor mode unique single)
   performed_falls self (DisconnectOne connection) plain = λ test held. held
   performed_falls self (Disconnect sender signal receiver method) plain = found_falls (asked_disconnect settings state sender signal receiver method)
-  performed_falls self (Invoke target method args mode) plain = invokes_falls target args mode (asked_method settings state target method)
+  performed_falls self (Invoke target method args mode priority) plain = invokes_falls target args mode priority (asked_method settings state target method)
   performed_falls self TakeEvents plain = (run_shrinks settings (Spin ∷ ReplySpun ∷ []) (begun settings state)).joins
   performed_falls self (Do deed) plain = deed_falls deed
   performed_falls self Status plain = λ test held. held

@@ -18,6 +18,7 @@ use Rattle.class_table.specs.declared.class.Class.{Class}
 use Rattle.connection_types.specs.declared.callee.Callee.TheVariants.{Method}
 use Rattle.connection_types.specs.declared.connection_type.ConnectionType.{ConnectionType}
 use Rattle.connection_list.specs.Rows.{has_number}
+use Rattle.event_queue.specs.declared.event.Priority.{Priority}
 use Rattle.event_queue.specs.declared.event.Event.{Event}
 use Rattle.event_queue.specs.declared.event.Event.TheVariants.{Call}
 use Rattle.event_queue.specs.Queue as events
@@ -180,12 +181,12 @@ invoked_begins settings state target index values sound =
 posted_sound : (state : State) (event : Event) → IsMeant state event → IsSound state → IsSound (with_event state event)
 posted_sound state event there sound = record { whole = whole_with_event state event there sound.whole; living = sound.living }
 
-invokes_sound : (settings : Settings) (state : State) (target : ℕ) (args : List Data) (mode : ConnectionType) (index : Option ℕ) → is_there state.forest.rows target ≡ true → IsSound state → IsSound (invokes settings state target args mode index).state
-invokes_sound settings state target args mode None there sound = sound
-invokes_sound settings state target args mode (Some index) there sound =
+invokes_sound : (settings : Settings) (state : State) (target : ℕ) (args : List Data) (mode : ConnectionType) (priority : Priority) (index : Option ℕ) → is_there state.forest.rows target ≡ true → IsSound state → IsSound (invokes settings state target args mode priority index).state
+invokes_sound settings state target args mode priority None there sound = sound
+invokes_sound settings state target args mode priority (Some index) there sound =
     let begins = invoked_begins settings state target index _ sound in
-    cond_both (is_queued mode) (invoked_later state target index _) (does_next settings (invoked settings state target index _) (a.Truth true)) (λ (effect : Effect State Line Post). IsSound effect.state)
-    (λ later. posted_sound state (Call (record { object = target; callee = Method index; sender = 0; connection = 0; args = _ })) there sound)
+    cond_both (is_queued mode) (invoked_later state target index _ priority) (does_next settings (invoked settings state target index _) (a.Truth true)) (λ (effect : Effect State Line Post). IsSound effect.state)
+    (λ later. posted_sound state (Call (record { object = target; callee = Method index; sender = 0; connection = 0; priority = priority; args = _ })) there sound)
     (λ now. done_sound settings (invoked settings state target index _) (a.Truth true) (begins.none _) begins.sound)
 
 spins_sound : (settings : Settings) (state : State) → IsSound state → IsSound (spins settings state).state
@@ -252,8 +253,8 @@ performed_sound settings self state (Connect sender signal receiver method mode 
 performed_sound settings self state (ConnectFunctor sender signal context functor mode unique single) passed sound = found_sound settings state (asked_connect_functor settings state sender signal context functor mode unique single) passed sound
 performed_sound settings self state (DisconnectOne connection) passed sound = record { whole = whole_without_connections state (has_number connection) sound.whole; living = sound.living }
 performed_sound settings self state (Disconnect sender signal receiver method) passed sound = found_sound settings state (asked_disconnect settings state sender signal receiver method) passed sound
-performed_sound settings self state (Invoke target method args mode) passed sound =
-    invokes_sound settings state target args mode (asked_method settings state target method) (is_present state target (or_none (absence state target) _ passed).0) sound
+performed_sound settings self state (Invoke target method args mode priority) passed sound =
+    invokes_sound settings state target args mode priority (asked_method settings state target method) (is_present state target (or_none (absence state target) _ passed).0) sound
 performed_sound settings self state Spin passed sound = spins_sound settings state sound
 performed_sound settings self state (Do deed) passed sound = found_sound settings state (Ok deed) passed sound
 performed_sound settings self state Status passed sound = sound

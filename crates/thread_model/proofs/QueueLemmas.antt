@@ -2,13 +2,14 @@
 use Rattle.std.proofs.Common.{◌≡◌, ◌<◌, ◌==◌, ℕ, Bool, true, false, not, cond, List, [], ◌∷◌, ◌++◌, All, filter, length, refl, arith}
 use Rattle.std.specs.List.{AllByRecursion}
 use Rattle.std.proofs.lemmas.Bool.Decides.{nat_tests}
-use Rattle.std.proofs.lemmas.List.Elements.{All-drop, All-filter, All-from_recursion, All-push, All-weaker, recursion_from_All}
-use Rattle.std.proofs.lemmas.List.{length-append, length-drop}
+use Rattle.std.proofs.lemmas.List.Elements.{All-drop, All-filter, All-from_recursion, All-weaker, recursion_from_All}
+use Rattle.std.proofs.lemmas.List.{length-drop}
 use Rattle.std.proofs.lemmas.List.Sums.{count_by-le-length, length-filter}
 use Rattle.object_tree.specs.Rows.{numbers}
 use Rattle.event_queue.specs.declared.event.Event.{Event}
 use Rattle.event_queue.specs.declared.table.TheConstants.{EVENTS}
-use Rattle.event_queue.specs.Queue.{IsSound, Queue, dropped, empty_queue, has_room, object_of, others, posted, taken, with_lost, with_mismatched}
+use Rattle.event_queue.specs.Queue.{IsSound, Queue, dropped, empty_queue, has_room, object_of, others, placed, posted, taken, with_lost, with_mismatched}
+use Rattle.event_queue.proofs.PlacedLemmas.{All_placed, length_placed}
 use Rattle.thread_model.specs.State.{IsMeant, State}
 use Rattle.thread_model.proofs.ConnectionLemmas.{there_more, there_same, there_without}
 
@@ -19,10 +20,10 @@ sound_none = record { few = omega arith; lost = omega arith; mismatched = omega 
 pub sound_posted : (queue : Queue) (event : Event) → IsSound queue → IsSound (posted queue event)
 sound_posted queue event sound = by (has_room queue) refl
   where
-    by : (room : Bool) → has_room queue ≡ room → IsSound (cond room (record queue { events = queue.events ++ event ∷ [] }) queue)
+    by : (room : Bool) → has_room queue ≡ room → IsSound (cond room (record queue { events = placed event queue.events }) queue)
     by true is =
         let room : length queue.events < EVENTS = grind (arith, nat_tests, is) in
-        record { few = omega (arith, room, length-append queue.events (event ∷ [])); lost = sound.lost; mismatched = sound.mismatched }
+        record { few = omega (arith, room, length_placed event queue.events); lost = sound.lost; mismatched = sound.mismatched }
     by false is = sound
 
 pub sound_taken : (queue : Queue) → IsSound queue → IsSound (taken queue)
@@ -43,8 +44,8 @@ sound_mismatched queue sound = record { few = sound.few; lost = sound.lost; mism
 pub each_posted : (P : Event → Type 0) (queue : Queue) (event : Event) → P event → All P queue.events → All P (posted queue event).events
 each_posted P queue event new all = by (has_room queue)
   where
-    by : (room : Bool) → All P (cond room (record queue { events = queue.events ++ event ∷ [] }) queue).events
-    by true = All-push P queue.events event all new
+    by : (room : Bool) → All P (cond room (record queue { events = placed event queue.events }) queue).events
+    by true = All_placed event queue.events P new all
     by false = all
 
 pub each_taken : (P : Event → Type 0) (queue : Queue) → All P queue.events → All P (taken queue).events

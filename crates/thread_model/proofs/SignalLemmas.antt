@@ -7,6 +7,7 @@ use Rattle.std.proofs.lemmas.Bool.{cond-false}
 use Rattle.serde_json.specs.Data.{Data}
 use Rattle.variant_value.specs.declared.value.Value.{Value}
 use Rattle.connection_types.specs.declared.connection_type.ConnectionType.{ConnectionType}
+use Rattle.event_queue.specs.declared.event.Priority.{Priority}
 use Rattle.thread_model.specs.declared.line.Answer.TheVariants as a
 use Rattle.thread_model.specs.Absence.{absence}
 use Rattle.thread_model.specs.Agenda.{with_turn}
@@ -57,28 +58,28 @@ module _ (settings : Settings) (self : List ℕ) (state : State) where
     unfolding performs
     performs_disconnect = refl
 
-  module _ (target : ℕ) (method : List ℕ) (args : List Data) (mode : ConnectionType) where
+  module _ (target : ℕ) (method : List ℕ) (args : List Data) (mode : ConnectionType) (priority : Priority) where
     abbrev invoke : Asked
-    invoke = Invoke target method args mode
+    invoke = Invoke target method args mode priority
 
     pub refusal_invoke : refusal settings self state invoke
         ≡ option_or (absence state target) (option_or (result_err (signature_in method)) (option_or (values_refusal settings state target args (asked_method settings state target method)) (later_refusal state mode (asked_method settings state target method))))
     unfolding refusal
     refusal_invoke = refl
 
-    pub performs_invoke : performs settings self state invoke ≡ invokes settings state target args mode (asked_method settings state target method)
+    pub performs_invoke : performs settings self state invoke ≡ invokes settings state target args mode priority (asked_method settings state target method)
     unfolding performs
     performs_invoke = refl
 
     -- an object that has no such method is told of as false
     pub invoke_none : asked_method settings state target method ≡ None → performs settings self state invoke ≡ replies state (a.Truth false)
-    invoke_none none = performs_invoke ∙ ap (invokes settings state target args mode) none
+    invoke_none none = performs_invoke ∙ ap (invokes settings state target args mode priority) none
 
     module _ (index : ℕ) (values : List Value) (found : asked_method settings state target method ≡ Some index) (given : asked_values settings state target index args ≡ Ok values) where
-      is_found : performs settings self state invoke ≡ cond (is_queued mode) (invoked_later state target index values) (does_next settings (invoked settings state target index values) (a.Truth true))
+      is_found : performs settings self state invoke ≡ cond (is_queued mode) (invoked_later state target index values priority) (does_next settings (invoked settings state target index values) (a.Truth true))
       is_found =
-          performs_invoke ∙ ap (invokes settings state target args mode) found
-          ∙ ap (λ given. let values = result_unwrap_or given [] in cond (is_queued mode) (invoked_later state target index values) (does_next settings (invoked settings state target index values) (a.Truth true))) given
+          performs_invoke ∙ ap (invokes settings state target args mode priority) found
+          ∙ ap (λ given. let values = result_unwrap_or given [] in cond (is_queued mode) (invoked_later state target index values priority) (does_next settings (invoked settings state target index values) (a.Truth true))) given
 
       module _ (at_once : is_queued mode ≡ false) where
         comes_to : (next : Next) → invoked settings state target index values ≡ next → performs settings self state invoke ≡ does_next settings next (a.Truth true)

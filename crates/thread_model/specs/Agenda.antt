@@ -16,6 +16,7 @@ use Rattle.connection_list.specs.Ends.{calls}
 use Rattle.event_queue.specs.declared.event.Event.{Event}
 use Rattle.event_queue.specs.declared.event.Event.TheVariants as event
 use Rattle.event_queue.specs.declared.event.QueuedCall.{QueuedCall}
+use Rattle.event_queue.specs.declared.event.Priority.TheVariants.{Normal}
 use Rattle.event_queue.specs.Queue.{has_room}
 use Rattle.connection_list.specs.Rows.{has_number}
 use Rattle.object_tree.specs.declared.row.Row.{Row}
@@ -93,7 +94,7 @@ abbrev pub method_called : Connection → ℕ → List Value → ℕ → Doing �
 method_called connection index args depth doing method =
     let given = take (length method.signature.kinds) args in
     if is_queued connection.mode
-    then puts [] (queued doing (record { object = connection.receiver; callee = callee.Method index; sender = connection.sender; connection = connection.number; args = given }))
+    then puts [] (queued doing (record { object = connection.receiver; callee = callee.Method index; sender = connection.sender; connection = connection.number; priority = Normal; args = given }))
     else puts (method_items connection.receiver index connection.sender given (depth + 1) depth method) doing
 
 -- the same of a functor, whose context object is the receiver
@@ -101,7 +102,7 @@ abbrev pub functor_called : Connection → ℕ → List Value → ℕ → Doing 
 functor_called connection index args depth doing functor =
     let given = take (length functor.params) args in
     if is_queued connection.mode
-    then puts [] (queued doing (record { object = connection.receiver; callee = callee.Functor index; sender = connection.sender; connection = connection.number; args = given }))
+    then puts [] (queued doing (record { object = connection.receiver; callee = callee.Functor index; sender = connection.sender; connection = connection.number; priority = Normal; args = given }))
     else puts (RunFunctor connection.receiver index connection.sender connection.number given depth ∷ []) doing
 
 -- what a connection calls

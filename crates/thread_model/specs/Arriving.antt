@@ -7,6 +7,7 @@ use Rattle.variant_value.specs.declared.value.Value.{Value}
 use Rattle.connection_types.specs.declared.callee.Callee.TheVariants.{Method}
 use Rattle.event_queue.specs.declared.event.Event.TheVariants.{Call}
 use Rattle.event_queue.specs.declared.event.QueuedCall.{QueuedCall}
+use Rattle.event_queue.specs.declared.event.Priority.TheVariants.{Normal}
 use Rattle.event_queue.specs.Queue.{Queue, has_room, posted, with_lost, with_mismatched}
 use Rattle.object_tree.specs.declared.row.Row.{Row}
 use Rattle.publish_board.specs.declared.join.Join.{Join}
@@ -38,9 +39,9 @@ is_matched kinds join = fits kinds join.kinds && fits join.kinds kinds
 
 -- the call of a join, which no object has sent: its method gets as many of the first arguments as it has parameters
 abbrev pub joined_call : List Class → List Row → List Value → Join → QueuedCall
-joined_call classes rows args join = record { object = join.object; callee = Method join.method; sender = 0; connection = 0; args = take (length (kinds_of classes rows join.object join.method)) args }
+joined_call classes rows args join = record { object = join.object; callee = Method join.method; sender = 0; connection = 0; priority = Normal; args = take (length (kinds_of classes rows join.object join.method)) args }
 
--- a call behind all events; where there is no room for it, it is lost
+-- a call among all events; where there is no room for it, it is lost
 abbrev pub with_call : Queue → QueuedCall → Queue
 with_call queue call = if has_room queue then posted queue (Call call) else with_lost queue
 

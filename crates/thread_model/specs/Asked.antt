@@ -4,6 +4,7 @@ use Rattle.serde_json.specs.Data.{Data}
 use Rattle.serde_json.specs.View.{view}
 use Rattle.isolation.specs.Machine as theory
 use Rattle.connection_types.specs.declared.connection_type.ConnectionType.{ConnectionType}
+use Rattle.event_queue.specs.declared.event.Priority.{Priority}
 use Rattle.thread_model.specs.declared.command.Command.{Command}
 use Rattle.thread_model.specs.declared.command.Command.TheVariants as c
 use Rattle.thread_model.specs.declared.command.Tagged.{Tagged}
@@ -36,8 +37,8 @@ pub data Asked : Type 0 where
   DisconnectOne : (connection : ℕ) → Asked
   -- break the connections of the sender that match where signal, receiver and method are given
   Disconnect : (sender : ℕ) (signal : Option (List ℕ)) (receiver : Option ℕ) (method : Option (List ℕ)) → Asked
-  -- call a slot of this object, or send a signal of it, at once or later
-  Invoke : (target : ℕ) (method : List ℕ) (args : List Data) (mode : ConnectionType) → Asked
+  -- call a slot of this object, or send a signal of it, at once or later; how soon, where later
+  Invoke : (target : ℕ) (method : List ℕ) (args : List Data) (mode : ConnectionType) (priority : Priority) → Asked
   -- take the events that there are
   Spin : Asked
   -- do a deed
@@ -80,7 +81,7 @@ asked (c.Connect sender signal receiver method mode unique single) = Connect sen
 asked (c.ConnectFunctor sender signal context functor mode unique single) = ConnectFunctor sender signal context functor mode unique single
 asked (c.DisconnectOne connection) = DisconnectOne connection
 asked (c.Disconnect sender signal receiver method) = Disconnect sender signal receiver method
-asked (c.Invoke target method args mode) = Invoke target method (map view args) mode
+asked (c.Invoke target method args mode priority) = Invoke target method (map view args) mode priority
 asked c.Spin = Spin
 asked (c.DeleteLater target) = Do (DeleteLater target)
 asked (c.Block target on) = Do (Block target on)

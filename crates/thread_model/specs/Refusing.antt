@@ -59,7 +59,7 @@ refusal settings self state (Connect sender signal receiver method mode unique s
 refusal settings self state (ConnectFunctor sender signal context functor mode unique single) = found_refusal state (asked_connect_functor settings state sender signal context functor mode unique single)
 refusal settings self state (DisconnectOne connection) = None
 refusal settings self state (Disconnect sender signal receiver method) = found_refusal state (asked_disconnect settings state sender signal receiver method)
-refusal settings self state (Invoke target method args mode) =
+refusal settings self state (Invoke target method args mode priority) =
     option_or (absence state target) (
     option_or (result_err (signature_in method)) (
     option_or (values_refusal settings state target args (asked_method settings state target method))

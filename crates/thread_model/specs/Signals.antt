@@ -13,6 +13,7 @@ use Rattle.variant_value.specs.Values.{value_of}
 use Rattle.class_table.specs.Lookup.{method_number}
 use Rattle.connection_types.specs.declared.connection_type.ConnectionType.{ConnectionType}
 use Rattle.connection_types.specs.declared.callee.Callee.TheVariants.{Method}
+use Rattle.event_queue.specs.declared.event.Priority.{Priority}
 use Rattle.event_queue.specs.declared.event.Event.TheVariants.{Call}
 use Rattle.connection_list.specs.declared.connection.NewConnection.{NewConnection}
 use Rattle.connection_list.specs.declared.pattern.Pattern.{Pattern}
@@ -116,13 +117,13 @@ invoked settings state target index values =
     else with_turn (begun settings state) (puts (Run target index 0 values 0 ∷ []))
 
 -- a call that is asked for later is posted as an event, which no object has sent
-abbrev pub invoked_later : State → ℕ → ℕ → List Value → Effect State Line Post
-invoked_later state target index values = replies (with_event state (Call (record { object = target; callee = Method index; sender = 0; connection = 0; args = values }))) (a.Truth true)
+abbrev pub invoked_later : State → ℕ → ℕ → List Value → Priority → Effect State Line Post
+invoked_later state target index values priority = replies (with_event state (Call (record { object = target; callee = Method index; sender = 0; connection = 0; priority = priority; args = values }))) (a.Truth true)
 
 -- invoking a method replies true at the end, and false where the object has no such method
-abbrev pub invokes : Settings → State → ℕ → List Data → ConnectionType → Option ℕ → Effect State Line Post
-invokes settings state target args mode (Some index) =
+abbrev pub invokes : Settings → State → ℕ → List Data → ConnectionType → Priority → Option ℕ → Effect State Line Post
+invokes settings state target args mode priority (Some index) =
     let values = result_unwrap_or (asked_values settings state target index args) [] in
-    if is_queued mode then invoked_later state target index values
+    if is_queued mode then invoked_later state target index values priority
     else does_next settings (invoked settings state target index values) (a.Truth true)
-invokes settings state target args mode None = replies state (a.Truth false)
+invokes settings state target args mode priority None = replies state (a.Truth false)

@@ -129,7 +129,7 @@ with_functor_state state number next = record state { connections = list.with_st
 abbrev pub without_connections : State → (Connection → Bool) → State
 without_connections state test = record state { connections = without test state.connections }
 
--- the state with one more event, behind all others
+-- the state with one more event, in its place among the others
 abbrev pub with_event : State → Event → State
 with_event state event = record state { queue = posted state.queue event }
 

@@ -36,7 +36,7 @@ performs settings self state (Connect sender signal receiver method mode unique 
 performs settings self state (ConnectFunctor sender signal context functor mode unique single) = does_found state (asked_connect_functor settings state sender signal context functor mode unique single)
 performs settings self state (DisconnectOne connection) = disconnects_one state connection
 performs settings self state (Disconnect sender signal receiver method) = does_found state (asked_disconnect settings state sender signal receiver method)
-performs settings self state (Invoke target method args mode) = invokes settings state target args mode (asked_method settings state target method)
+performs settings self state (Invoke target method args mode priority) = invokes settings state target args mode priority (asked_method settings state target method)
 performs settings self state Spin = spins settings state
 performs settings self state (Do deed) = does_found state (Ok deed)
 performs settings self state Status = counts state

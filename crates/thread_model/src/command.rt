@@ -1,5 +1,6 @@
 //! What clients ask.
 use connection_types::ConnectionType;
+use event_queue::Priority;
 use plain_types::{Items, Text};
 
 /// A command of a session.
@@ -97,6 +98,8 @@ pub enum Command {
         args: Items<serde_json::Value>,
         /// With `Queued` the call is posted as an event.
         mode: ConnectionType,
+        /// How soon the event is taken.
+        priority: Priority,
     },
     /// Takes events until there is none or the turns are used up, and replies how many, how many are left,
     /// and how many calls were ever lost.

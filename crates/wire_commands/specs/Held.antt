@@ -1,12 +1,14 @@
 -- What a line holds at the keys of its command.
-use Rattle.std.specs.Prelude.{◌-◌, ◌^◌, ◌&&◌, ◌||◌, ℕ, Bool, false, List, [], ◌∷◌, codes, bytes_eq, map, nat_le, if◌then◌else◌, Option, Some, None, option_and_then, option_map, is_some}
+use Rattle.std.specs.Prelude.{◌-◌, ◌^◌, ◌&&◌, ◌||◌, ℕ, zero, suc, ℤ, pos, negsuc, Bool, false, List, [], ◌∷◌, codes, bytes_eq, map, nat_le, if◌then◌else◌, Option, Some, None, option_and_then, option_map, is_some}
 use Rattle.std.specs.List.{list_any}
 use Rattle.std.specs.Option.{option_map_or}
 use Rattle.plain_types.specs.Names.{is_name}
 use Rattle.serde_json.specs.Data.{Data}
-use Rattle.serde_json.specs.Find.{get, as_array, as_bool, as_null, as_object, as_str, as_number, as_u64}
+use Rattle.serde_json.specs.Find.{get, as_array, as_bool, as_null, as_object, as_str, as_number, as_i64, as_u64}
 use Rattle.connection_types.specs.declared.connection_type.ConnectionType.{ConnectionType}
-use Rattle.connection_types.specs.declared.connection_type.ConnectionType.TheVariants.{Auto}
+use Rattle.connection_types.specs.declared.connection_type.ConnectionType.TheVariants.{Auto, Queued}
+use Rattle.event_queue.specs.declared.event.Priority.{Priority}
+use Rattle.event_queue.specs.declared.event.Priority.TheVariants.{Low, Normal, High}
 use Rattle.connection_types.specs.Modes.{mode_named}
 use Rattle.json_reading.specs.Fields.{◌>>=◌, when, all_keys, elements_of}
 use Rattle.json_reading.specs.Members.{data_of}
@@ -24,6 +26,7 @@ pub data Held : Type 0 where
   text : List ℕ → Held
   truth : Bool → Held
   mode : ConnectionType → Held
+  priority : Priority → Held
   list : List Data → Held
   any : Data → Held
 
@@ -34,6 +37,7 @@ held_seen (code.Number n) = number n
 held_seen (code.Text t) = text t.now
 held_seen (code.Truth t) = truth t
 held_seen (code.Mode m) = mode m
+held_seen (code.Priority p) = priority p
 held_seen (code.List field) = list (elements_of (data_of field.now))
 held_seen (code.Any field) = any (data_of field.now)
 
@@ -57,6 +61,12 @@ abbrev pub mode_of : Held → ConnectionType
 mode_of (mode m) = m
 mode_of held = Auto
 
+-- how soon the event of a call is taken that is made in this way, `Normal` where nothing is held; only one that is queued is an event
+abbrev pub priority_for : ConnectionType → Held → Option Priority
+priority_for mode absent = Some Normal
+priority_for Queued (priority p) = Some p
+priority_for mode held = None
+
 -- the elements of the array that is held, if one is
 abbrev pub list_of : Held → Option (List Data)
 list_of (list elements) = Some elements
@@ -74,6 +84,21 @@ number_in json = do
   n ← as_u64 figure
   when (nat_le 1 n && nat_le n (2 ^ 32 - 1)) n
 
+-- the whole number that a value is, with its sign
+abbrev pub signed_in : Data → Option ℤ
+signed_in json = option_and_then as_i64 (as_number json)
+
+-- the priority of a number: of -1, 0 and 1
+abbrev pub priority_numbered : ℤ → Option Priority
+priority_numbered (negsuc zero) = Some Low
+priority_numbered (pos zero) = Some Normal
+priority_numbered (pos (suc zero)) = Some High
+priority_numbered number = None
+
+-- the priority that a value is
+abbrev pub priority_in : Data → Option Priority
+priority_in json = option_and_then priority_numbered (signed_in json)
+
 -- a value, as a key holds it
 abbrev pub reads : Holds → Data → Option Held
 reads h.Name json = do
@@ -84,6 +109,7 @@ reads h.Number json = option_map number (number_in json)
 reads h.NumberOrNull json = if is_some (as_null json) then Some none else option_map number (number_in json)
 reads h.Truth json = option_map truth (as_bool json)
 reads h.Mode json = option_map mode (option_and_then mode_named (as_str json))
+reads h.Priority json = option_map priority (priority_in json)
 reads h.List json = when (is_some (as_array json)) (list (elements_of json))
 reads h.Any json = Some (any json)
 

@@ -2,9 +2,9 @@
 use Rattle.std.specs.Prelude.{List, [], ◌∷◌, Option, Some, None, codes}
 use Rattle.json_reading.specs.Fields.{◌>>=◌}
 use Rattle.thread_model.specs.Asked.{Asked, Connect, ConnectFunctor, DisconnectOne, Disconnect, Invoke}
-use Rattle.wire_commands.specs.declared.keys.Holds.TheVariants.{Name, Number, Text, Truth, Mode, List as AList}
+use Rattle.wire_commands.specs.declared.keys.Holds.TheVariants.{Name, Number, Text, Truth, Mode, Priority, List as AList}
 use Rattle.wire_commands.specs.Form.{Form}
-use Rattle.wire_commands.specs.Held.{Held, absent, number, number_of, text_of, truth_of, mode_of, list_of}
+use Rattle.wire_commands.specs.Held.{Held, absent, number, number_of, text_of, truth_of, mode_of, priority_for, list_of}
 use Rattle.wire_commands.specs.Keys.{needed, optional}
 
 -- `connect` connects a signal of the sender to a method of the receiver
@@ -43,14 +43,15 @@ disconnect_of held = None
 abbrev pub disconnect : Form
 disconnect = record { word = codes "disconnect"; keys = optional (codes "connection") Number ∷ optional (codes "sender") Number ∷ optional (codes "signal") Text ∷ optional (codes "receiver") Number ∷ optional (codes "method") Text ∷ []; asks = disconnect_of }
 
--- `invoke` calls a slot of an object, or sends a signal of it, at once or later
+-- `invoke` calls a slot of an object, or sends a signal of it, at once or later, and then with a priority
 abbrev pub invoke_of : List Held → Option Asked
-invoke_of (target ∷ method ∷ args ∷ calls ∷ []) = do
+invoke_of (target ∷ method ∷ args ∷ calls ∷ soon ∷ []) = do
   to ← number_of target
+  priority ← priority_for (mode_of calls) soon
   called ← text_of method
   given ← list_of args
-  Some (Invoke to called given (mode_of calls))
+  Some (Invoke to called given (mode_of calls) priority)
 invoke_of held = None
 
 abbrev pub invoke : Form
-invoke = record { word = codes "invoke"; keys = needed (codes "object") Number ∷ needed (codes "method") Text ∷ needed (codes "args") AList ∷ optional (codes "type") Mode ∷ []; asks = invoke_of }
+invoke = record { word = codes "invoke"; keys = needed (codes "object") Number ∷ needed (codes "method") Text ∷ needed (codes "args") AList ∷ optional (codes "type") Mode ∷ optional (codes "priority") Priority ∷ []; asks = invoke_of }

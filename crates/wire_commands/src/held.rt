@@ -5,11 +5,12 @@ ghost use Rattle.serde_json.specs.Data.{object};
 ghost use Rattle.serde_json.specs.View.{view};
 ghost use Rattle.json_reading.specs.Members.{data_of, members_in};
 ghost use Rattle.wire_commands.specs.Keys.{Key, key_seen, key_word};
-ghost use Rattle.wire_commands.specs.Held.{held_at, held_by, held_seen, has_only, is_known, json_of, list_of, mode_of, number_in, number_of, reads, text_of, truth_of};
+ghost use Rattle.wire_commands.specs.Held.{held_at, held_by, held_seen, has_only, is_known, json_of, list_of, mode_of, number_in, number_of, priority_for, priority_in, reads, signed_in, text_of, truth_of};
 
 use crate::keys::{Holds, Key};
 use connection_types::ConnectionType;
-use json_reading::{Field, Member, value_at};
+use event_queue::Priority;
+use json_reading::{Field, Member, Scalar, value_at};
 use plain_types::{Items, Text, is_name};
 use serde_json::Value;
 use std::alloc::{AllocError, Global};
@@ -24,6 +25,7 @@ pub enum Held<'m, 'a> {
     Text(&'a str),
     Truth(bool),
     Mode(ConnectionType),
+    Priority(Priority),
     /// The value is an array.
     List(&'m Field<'a>),
     Any(&'m Field<'a>),
@@ -67,6 +69,18 @@ impl Held<'_, '_> {
         match self {
             Held::Mode(mode) => *mode,
             _ => ConnectionType::Auto,
+        }
+    }
+
+    /// How soon the event of a call is taken that is made in this way, `Normal` where nothing is held. None
+    /// where a priority is held for a call that is no event.
+    pub(crate) fn priority(&self, mode: ConnectionType) -> Option<Priority>
+        ensures { result ≡ priority_for mode (held_seen self.now) }
+    {
+        match (self, mode) {
+            (Held::Absent, _) => Some(Priority::Normal),
+            (Held::Priority(priority), ConnectionType::Queued) => Some(*priority),
+            _ => None,
         }
     }
 
@@ -141,6 +155,7 @@ fn read<'m, 'a>(holds: Holds, field: &'m Field<'a>) -> Option<Held<'m, 'a>>
         Holds::NumberOrNull => Some(Held::Number(number_in(field)?)),
         Holds::Truth => Some(Held::Truth(field.as_truth()?)),
         Holds::Mode => Some(Held::Mode(ConnectionType::from_name(field.as_text()?)?)),
+        Holds::Priority => Some(Held::Priority(priority_in(field)?)),
         Holds::List if field.is_list() => Some(Held::List(field)),
         Holds::List => None,
         Holds::Any => Some(Held::Any(field)),
@@ -154,6 +169,29 @@ fn number_in(field: &Field<'_>) -> Option<u32>
     match field.as_number()? {
         0 => None,
         number => u32::try_from(number).ok(),
+    }
+}
+
+/// The priority that the value is: -1, 0 or 1.
+fn priority_in(field: &Field<'_>) -> Option<Priority>
+    ensures { result ≡ priority_in (data_of field.now) }
+{
+    match signed_in(field)? {
+        -1 => Some(Priority::Low),
+        0 => Some(Priority::Normal),
+        1 => Some(Priority::High),
+        _ => None,
+    }
+}
+
+/// The whole number that the value is, where it has 64 bits with its sign.
+fn signed_in(field: &Field<'_>) -> Option<i64>
+    ensures { result ≡ signed_in (data_of field.now) }
+{
+    match field {
+        Field::Plain(Scalar::Number(number)) => i64::try_from(*number).ok(),
+        Field::Plain(_) | Field::List(_) => None,
+        Field::Tree(value) => value.as_i64(),
     }
 }
 

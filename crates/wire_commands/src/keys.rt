@@ -18,6 +18,8 @@ pub enum Holds {
     Truth,
     /// How calls are made: `auto`, `direct` or `queued`.
     Mode,
+    /// How soon an event is taken: -1, 0 or 1.
+    Priority,
     /// An array of any JSON.
     List,
     /// Any JSON.

@@ -126,21 +126,22 @@ pub(crate) fn disconnect_of(
     }
 }
 
-pub(crate) const INVOKE: [Key; 4] = [
+pub(crate) const INVOKE: [Key; 5] = [
     Key::Needed("object", Holds::Number),
     Key::Needed("method", Holds::Text),
     Key::Needed("args", Holds::List),
     Key::Optional("type", Holds::Mode),
+    Key::Optional("priority", Holds::Priority),
 ];
 
-/// `invoke`: a method of an object, what it is given, and how it is called.
+/// `invoke`: a method of an object, what it is given, how it is called, and how soon where it is queued.
 pub(crate) fn invoke_of(alloc: Global, held: &[Held<'_, '_>]) -> Result<Option<Command>, AllocError>
     ensures { IfOk result (λ command. option_map asked command ≡ invoke_of (map held_seen held.now)) }
 {
-    let [object, method, args, mode] = held else {
+    let [object, method, args, mode, priority] = held else {
         return Ok(None);
     };
-    let Some(object) = object.number() else {
+    let (Some(object), Some(priority)) = (object.number(), priority.priority(mode.mode())) else {
         return Ok(None);
     };
     match (method.text(alloc)?, args.list(alloc)?) {
@@ -149,6 +150,7 @@ pub(crate) fn invoke_of(alloc: Global, held: &[Held<'_, '_>]) -> Result<Option<C
             method,
             args,
             mode: mode.mode(),
+            priority,
         })),
         _ => Ok(None),
     }

@@ -1,10 +1,17 @@
-use Rattle.std.proofs.Common.{◌+◌, ◌-◌, arith}
+use Rattle.std.proofs.Common.{◌+◌, ◌-◌, ◌^◌, arith}
 use Rattle.shared_rows.specs.Rows.{rows_at}
-use Rattle.shared_rows.proofs.RowsLemmas.{below_last}
-use Rattle.event_queue.specs.declared.event.Posted.{Posted}
+use Rattle.event_queue.proofs.SeatLemmas.{last_below, seat_behind, seat_first}
 use Rattle.event_queue.proofs.order.next_number.Goals as goal
 
-pub returns : goal.returns
-returns c =
-    below_last (λ (posted : Posted). posted.number) (rows_at c.args.rows.now c.args.place) c.len-len.ensures.sound (c.len-len.result - 1) c.at.result.0 (c.at.result.1.now.number + 1) c.at.result.1.now c.at.ensures
-    (omega (arith, c.len-len.ensures.len)) (omega (arith, c.len-len.ensures.len, c.if-len-eq0.false)) (omega arith)
+pub returns-then-before-eq0-clause-seat : goal.returns-then-before-eq0-clause-seat
+returns-then-before-eq0-clause-seat c = seat_first (rows_at c.args.rows.now c.args.place) (c.args.start + 2 ^ 62) c.args.before (c.args.start + 0) c.requires.before c.if-before-eq0.true
+
+pub returns-clause-few : goal.returns-clause-few
+returns-clause-few c =
+    let below = last_below (rows_at c.args.rows.now c.args.place) (c.args.start + 2 ^ 62) c.args.before (c.args.before - 1) c.at.result.0 c.at.result.1.now c.requires.before (omega (arith, c.if-before-eq0.false)) c.at.ensures in
+    omega (arith, below, c.number-next.ensures, c.if-next-start.false, c.saturating_sub.ensures)
+
+pub returns-clause-seat : goal.returns-clause-seat
+returns-clause-seat c =
+    seat_behind (rows_at c.args.rows.now c.args.place) (c.args.start + 2 ^ 62) c.requires.sound c.args.before (c.args.before - 1) (c.args.start + c.saturating_sub.result) c.at.result.0 c.at.result.1.now c.requires.before
+    (omega (arith, c.if-before-eq0.false)) c.at.ensures (omega (arith, c.number-next.ensures, c.saturating_sub.ensures))

@@ -15,7 +15,7 @@ use Rattle.session_engine.proofs.InvocationLemmas.{asked_is, invoke_runs, method
 use Rattle.session_engine.proofs.invocation.invoke.Goals as goal
 
 pub returns-in_err-check_object : goal.returns-in_err-check_object
-returns-in_err-check_object g c = quietly _ _ _ _ _ _ _ c.requires.fresh (stopped _ _ _ _ _ c.in_err-check_object.field-0.0 _ c.from_residual.ensures.1 (refusal_invoke _ _ _ _ _ _ _ ∙ or_first _ _ _ c.in_err-check_object.ensures) refl)
+returns-in_err-check_object g c = quietly _ _ _ _ _ _ _ c.requires.fresh (stopped _ _ _ _ _ c.in_err-check_object.field-0.0 _ c.from_residual.ensures.1 (refusal_invoke _ _ _ _ _ _ _ _ ∙ or_first _ _ _ c.in_err-check_object.ensures) refl)
 
 pub returns-in_err-signature : goal.returns-in_err-signature
 returns-in_err-signature g c =
@@ -23,7 +23,7 @@ returns-in_err-signature g c =
     let state = state_at c.args.tables.now c.args.actor.now.caller.place in
     let asked = asked_method settings state c.args.object c.args.method.now in
     quietly _ _ _ _ _ _ _ c.requires.fresh (found_fault _ _ _ _ (λ found. option_or (result_err found) (option_or (values_refusal settings state c.args.object (map view c.args.args.now) asked) (later_refusal state c.args.mode asked))) _ c.in_err-signature.field-0.0 _
-    c.from_residual-in_err-signature.ensures.1 (refusal_invoke _ _ _ _ _ _ _ ∙ or_second _ _ c.in_ok-check_object.ensures) (λ code. refl) (rw c.as_str.ensures at c.in_err-signature.ensures.exact))
+    c.from_residual-in_err-signature.ensures.1 (refusal_invoke _ _ _ _ _ _ _ _ ∙ or_second _ _ c.in_ok-check_object.ensures) (λ code. refl) (rw c.as_str.ensures at c.in_err-signature.ensures.exact))
 
 pub returns-in_default : goal.returns-in_default
 returns-in_default g c =
@@ -33,8 +33,8 @@ returns-in_default g c =
     let asked : asked_method settings state c.args.object c.args.method.now ≡ None =
     asked_is settings state c.args.object c.args.method.now c.in_ok-signature.signature None spelled (number_none (method_number c.in_ok-signature.signature (methods_of settings state c.args.object)) _ c.in_default.ensures) in
     silently _ _ _ _ _ _ c.requires.fresh
-    (replied_by _ _ _ _ (refusal_absent c.args.actor.now.caller c.args.object c.args.method.now (map view c.args.args.now) c.args.mode c.args.tables.now c.args.tables.now c.in_ok-signature.signature c.in_ok-check_object.ensures spelled asked)
-    (invoke_none _ _ _ _ _ _ _ asked))
+    (replied_by _ _ _ _ (refusal_absent c.args.actor.now.caller c.args.object c.args.method.now (map view c.args.args.now) c.args.mode c.args.priority c.args.tables.now c.args.tables.now c.in_ok-signature.signature c.in_ok-check_object.ensures spelled asked)
+    (invoke_none _ _ _ _ _ _ _ _ asked))
 
 pub returns-in_err-values : goal.returns-in_err-values
 returns-in_err-values g c =
@@ -44,7 +44,7 @@ returns-in_err-values g c =
     let asked : asked_method settings state c.args.object c.args.method.now ≡ Some c.in-Ok.index =
     asked_is settings state c.args.object c.args.method.now c.in_ok-signature.signature (Some c.in-Ok.index) spelled (number_is (method_number c.in_ok-signature.signature (methods_of settings state c.args.object)) _ c.in-Ok.ensures) in
     quietly _ _ _ _ _ _ _ c.requires.fresh (found_fault _ _ _ _ (λ given. option_or (result_err given) (later_refusal state c.args.mode (Some c.in-Ok.index))) (asked_values settings state c.args.object c.in-Ok.index (map view c.args.args.now)) c.in_err-values.field-0.0 _ c.from_residual-in_err-values.ensures.1
-    (refusal_found c.args.actor.now.caller c.args.object c.args.method.now (map view c.args.args.now) c.args.mode c.args.tables.now c.args.tables.now c.in_ok-signature.signature c.in_ok-check_object.ensures spelled (Some c.in-Ok.index) asked)
+    (refusal_found c.args.actor.now.caller c.args.object c.args.method.now (map view c.args.args.now) c.args.mode c.args.priority c.args.tables.now c.args.tables.now c.in_ok-signature.signature c.in_ok-check_object.ensures spelled (Some c.in-Ok.index) asked)
     (λ code. refl) (rw c.kinds_at-kinds.ensures at c.in_err-values.ensures))
 
 pub returns-in_err-post : goal.returns-in_err-post
@@ -56,7 +56,7 @@ returns-in_err-post g c =
     asked_is settings state c.args.object c.args.method.now c.in_ok-signature.signature (Some c.in-Ok.index) spelled (number_is (method_number c.in_ok-signature.signature (methods_of settings state c.args.object)) _ c.in-Ok.ensures) in
     let given : asked_values settings state c.args.object c.in-Ok.index (map view c.args.args.now) ≡ Ok c.in_ok-values.values = rw c.kinds_at-kinds.ensures at c.in_ok-values.ensures in
     quietly _ _ _ _ _ _ _ c.requires.fresh (made_fault _ _ _ _ _ _ c.in_err-post.field-0.0 _ c.from_residual-in_err-post.ensures.1
-    (refusal_later c.args.actor.now.caller c.args.object c.args.method.now (map view c.args.args.now) c.args.mode c.args.tables.now c.post.new.tables c.in_ok-signature.signature c.in_ok-check_object.ensures spelled c.in-Ok.index c.in_ok-values.values asked given
+    (refusal_later c.args.actor.now.caller c.args.object c.args.method.now (map view c.args.args.now) c.args.mode c.args.priority c.args.tables.now c.post.new.tables c.in_ok-signature.signature c.in_ok-check_object.ensures spelled c.in-Ok.index c.in_ok-values.values asked given
     (sym c.if-is_queued.ensures))
     c.in_err-post.ensures.refusal (on_refused _ c.in_err-post.ensures.err) (changes_same _ _ _ c.in_err-post.ensures.err))
 
@@ -70,9 +70,9 @@ returns-then-is_queued g c =
     let given : asked_values settings state c.args.object c.in-Ok.index (map view c.args.args.now) ≡ Ok c.in_ok-values.values = rw c.kinds_at-kinds.ensures at c.in_ok-values.ensures in
     silently _ _ _ _ _ _ c.requires.fresh
     (replied _ _ _ _ _ _ c.requires.placed
-    (refusal_later c.args.actor.now.caller c.args.object c.args.method.now (map view c.args.args.now) c.args.mode c.args.tables.now c.post.new.tables c.in_ok-signature.signature c.in_ok-check_object.ensures spelled c.in-Ok.index c.in_ok-values.values asked given
+    (refusal_later c.args.actor.now.caller c.args.object c.args.method.now (map view c.args.args.now) c.args.mode c.args.priority c.args.tables.now c.post.new.tables c.in_ok-signature.signature c.in_ok-check_object.ensures spelled c.in-Ok.index c.in_ok-values.values asked given
     (sym c.if-is_queued.ensures) ∙ c.in_ok-post.ensures.refusal)
-    (posts_invoked c.args.actor.now.caller c.args.object c.args.method.now (map view c.args.args.now) c.args.mode state c.in-Ok.index c.in_ok-values.values (sym c.if-is_queued.ensures) asked given)
+    (posts_invoked c.args.actor.now.caller c.args.object c.args.method.now (map view c.args.args.now) c.args.mode c.args.priority state c.in-Ok.index c.in_ok-values.values (sym c.if-is_queued.ensures) asked given)
     (rw c.as_slice.ensures at c.in_ok-post.ensures.ok))
 
 pub run-requires-clause-there : goal.run-requires-clause-there
@@ -88,8 +88,8 @@ returns g c =
     let asked : asked_method settings state c.args.object c.args.method.now ≡ Some c.in-Ok.index =
     asked_is settings state c.args.object c.args.method.now c.in_ok-signature.signature (Some c.in-Ok.index) spelled (number_is (method_number c.in_ok-signature.signature (methods_of settings state c.args.object)) _ c.in-Ok.ensures) in
     let given : asked_values settings state c.args.object c.in-Ok.index (map view c.args.args.now) ≡ Ok c.in_ok-values.values = rw c.kinds_at-kinds.ensures at c.in_ok-values.ensures in
-    performs_invoked c.args.actor.now.caller c.args.object c.args.method.now (map view c.args.args.now) c.args.mode c.args.tables.now c.run.new.tables c.args.telling.now c.run.new.telling _ c.in-Ok.index c.in_ok-values.values c.requires.fresh (sym c.if-is_queued.ensures)
-    (refusal_now c.args.actor.now.caller c.args.object c.args.method.now (map view c.args.args.now) c.args.mode c.args.tables.now c.run.new.tables c.in_ok-signature.signature c.in_ok-check_object.ensures spelled c.in-Ok.index c.in_ok-values.values asked given
+    performs_invoked c.args.actor.now.caller c.args.object c.args.method.now (map view c.args.args.now) c.args.mode c.args.priority c.args.tables.now c.run.new.tables c.args.telling.now c.run.new.telling _ c.in-Ok.index c.in_ok-values.values c.requires.fresh (sym c.if-is_queued.ensures)
+    (refusal_now c.args.actor.now.caller c.args.object c.args.method.now (map view c.args.args.now) c.args.mode c.args.priority c.args.tables.now c.run.new.tables c.in_ok-signature.signature c.in_ok-check_object.ensures spelled c.in-Ok.index c.in_ok-values.values asked given
     (sym c.if-is_queued.ensures))
     asked given (rw c.as_slice-2.ensures at c.in_ok-run.ensures)
 
@@ -104,8 +104,8 @@ returns-in_err-run g c =
     let given : asked_values settings state c.args.object c.in-Ok.index (map view c.args.args.now) ≡ Ok c.in_ok-values.values = rw c.kinds_at-kinds.ensures at c.in_ok-values.ensures in
     let runs = rw c.as_slice-2.ensures at c.in_err-run.ensures in
     starved_last caller _ c.args.tables.now c.run.new.tables c.run.new.telling runs.posts _ _ _ _ c.from_residual-in_err-run.ensures.1
-    (refusal_now caller c.args.object c.args.method.now (map view c.args.args.now) c.args.mode c.args.tables.now c.run.new.tables c.in_ok-signature.signature c.in_ok-check_object.ensures spelled c.in-Ok.index c.in_ok-values.values asked given
+    (refusal_now caller c.args.object c.args.method.now (map view c.args.args.now) c.args.mode c.args.priority c.args.tables.now c.run.new.tables c.in_ok-signature.signature c.in_ok-check_object.ensures spelled c.in-Ok.index c.in_ok-values.values asked given
     (sym c.if-is_queued.ensures))
-    (invoke_runs caller c.args.object c.args.method.now (map view c.args.args.now) c.args.mode c.args.tables.now c.run.new.tables c.in-Ok.index c.in_ok-values.values (sym c.if-is_queued.ensures) asked given)
+    (invoke_runs caller c.args.object c.args.method.now (map view c.args.args.now) c.args.mode c.args.priority c.args.tables.now c.run.new.tables c.in-Ok.index c.in_ok-values.values (sym c.if-is_queued.ensures) asked given)
     runs.front
     (at_first_reaches caller c.args.tables.now c.run.new.tables c.args.telling.now c.run.new.telling runs.posts c.requires.fresh runs.reaches)

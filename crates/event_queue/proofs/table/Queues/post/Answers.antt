@@ -29,8 +29,8 @@ invariant_of-self c = (unposted c.self.invariant c.args.self.now c.self.view_is 
 pub returns-in_err-add-clause-err : goal.returns-in_err-add-clause-err
 returns-in_err-add-clause-err c = on_err c.from_residual.result ((unposted c.self.invariant c.args.self.now c.self.view_is c.args.place c.requires c.get_mut.result.now c.get_mut.ensures.value c.add.new.self c.in_err-add.ensures.err).view ∙ back_again c.self.invariant c.args.self.now c.self.view_is c.args.place c.requires c.get_mut.result.now c.get_mut.ensures.value)
 
-pub append-requires : goal.append-requires
-append-requires c = of_rows c.self.invariant c.args.self.now c.self.view_is c.args.place c.requires
+pub place_event-requires : goal.place_event-requires
+place_event-requires c = of_rows c.self.invariant c.args.self.now c.self.view_is c.args.place c.requires
 
 pub get_mut-requires-in-Err : goal.get_mut-requires-in-Err
 get_mut-requires-in-Err c = omega (arith, of_logs c.self.invariant c.args.self.now c.self.view_is c.args.place c.requires, length-set c.self.inside.logs.places c.args.place (record c.get_mut.result.now { objects = c.add.new.self }))
@@ -42,10 +42,10 @@ pub returns-in-Err-clause-err : goal.returns-in-Err-clause-err
 returns-in-Err-clause-err c = rw c.in-Err.ensures.err ((taken_back c.self.invariant c.args.self.now c.self.view_is c.args.place c.requires c.get_mut.result.now c.get_mut.ensures.value c.add.new.self c.subtract.new.self c.get_mut-in-Err.result.now c.object-object.result c.get_mut-in-Err.ensures.value c.in_ok-add.ensures.ok c.subtract.ensures).view ∙ back_again c.self.invariant c.args.self.now c.self.view_is c.args.place c.requires c.get_mut.result.now c.get_mut.ensures.value)
 
 pub invariant_of-self-in_default : goal.invariant_of-self-in_default
-invariant_of-self-in_default c = (one_posted c.self.invariant c.args.self.now c.self.view_is c.args.place c.requires c.get_mut.result.now c.get_mut.ensures.value c.append.new.rows c.args.event (omega (arith, c.len.ensures.len, c.if-len-ge-EVENTS.false)) c.in_default.ensures.ok c.add.new.self (rw c.object-object.ensures at c.in_ok-add.ensures.ok)).kept
+invariant_of-self-in_default c = (one_posted c.self.invariant c.args.self.now c.self.view_is c.args.place c.requires c.get_mut.result.now c.get_mut.ensures.value c.place_event.new.rows c.args.event (omega (arith, c.len.ensures.len, c.if-len-ge-EVENTS.false)) c.in_default.ensures.ok c.add.new.self (rw c.object-object.ensures at c.in_ok-add.ensures.ok)).kept
 
 pub returns-clause-answer : goal.returns-clause-answer
 returns-clause-answer c = sym (takes_more c.self.invariant c.args.self.now c.self.view_is c.args.place c.requires c.get_mut.result.now c.get_mut.ensures.value (omega (arith, c.len.ensures.len, c.if-len-ge-EVENTS.false)))
 
 pub returns-clause-ok : goal.returns-clause-ok
-returns-clause-ok c = (one_posted c.self.invariant c.args.self.now c.self.view_is c.args.place c.requires c.get_mut.result.now c.get_mut.ensures.value c.append.new.rows c.args.event (omega (arith, c.len.ensures.len, c.if-len-ge-EVENTS.false)) c.in_default.ensures.ok c.add.new.self (rw c.object-object.ensures at c.in_ok-add.ensures.ok)).view
+returns-clause-ok c = (one_posted c.self.invariant c.args.self.now c.self.view_is c.args.place c.requires c.get_mut.result.now c.get_mut.ensures.value c.place_event.new.rows c.args.event (omega (arith, c.len.ensures.len, c.if-len-ge-EVENTS.false)) c.in_default.ensures.ok c.add.new.self (rw c.object-object.ensures at c.in_ok-add.ensures.ok)).view

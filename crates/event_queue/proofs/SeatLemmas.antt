@@ -1,0 +1,194 @@
+-- Where the row of an event stands among the rows of its place.
+use Rattle.std.proofs.Common.{◌≡◌, ◌≢◌, ◌∙◌, ◌⊎◌, ℕ, suc, ◌+◌, ◌-◌, ◌*◌, ◌/◌, ◌%◌, ◌^◌, ◌<◌, ◌≤◌, ◌==◌, Bool, true, false, not, cond, nat_lt, nat_le, List, [], ◌∷◌, ◌++◌, Option, None, length, filter, find, map, get_or, refl, sym, ap, inl, inr, subst, arith, ⊎_elim}
+use Rattle.std.specs.List.{All, AllWithin}
+use Rattle.std.specs.Option.{option_map}
+use Rattle.std.proofs.lemmas.Bool.{cases_lt, ne_eqb}
+use Rattle.std.proofs.lemmas.Bool.Decides.{nat_tests}
+use Rattle.std.proofs.lemmas.List.{map-append}
+use Rattle.std.proofs.lemmas.List.Elements.{All-map}
+use Rattle.shared_rows.specs.Rows.{IsAtPosition, IsSound, Keyed, added, inserted, key_of}
+use Rattle.event_queue.specs.declared.event.Event.{Event}
+use Rattle.event_queue.specs.declared.event.Posted.{Posted}
+use Rattle.event_queue.specs.Queue.{is_before, placed, priority_of, rank_of}
+use Rattle.event_queue.specs.Inside.{IsCountBelow, IsSeat, events_of, number_of}
+use Rattle.event_queue.proofs.PlacedLemmas.{placed_last}
+
+-- what is below the end of a priority is not of a lower one
+below_end : (posted : Posted) (rank : ℕ) → number_of posted < rank * 2 ^ 62 + 2 ^ 62 → rank_of (priority_of posted.event) ≤ rank
+below_end posted rank below = omega (arith, below)
+
+behind_end : (posted : Posted) (rank : ℕ) → rank * 2 ^ 62 + 2 ^ 62 ≤ number_of posted → rank < rank_of (priority_of posted.event)
+behind_end posted rank behind = omega (arith, behind)
+
+-- tests that agree
+both_pass : (a b c d : ℕ) → a < b → c ≤ d → nat_lt a b ≡ nat_le c d
+both_pass a b c d low le = grind (arith, nat_tests)
+
+both_fail : (a b c d : ℕ) → b ≤ a → d < c → nat_lt a b ≡ nat_le c d
+both_fail a b c d high gt = grind (arith, nat_tests)
+
+other_fail : (a b c d : ℕ) → a < b → c ≤ d → nat_lt b a ≡ not (nat_le c d)
+other_fail a b c d low le = grind (arith, nat_tests)
+
+other_pass : (a b c d : ℕ) → b < a → d < c → nat_lt b a ≡ not (nat_le c d)
+other_pass a b c d high gt = grind (arith, nat_tests)
+
+-- of rows that pass a test the events are those that pass one that agrees
+shown_filter : (test : Keyed Posted → Bool) (keep : Event → Bool) (rows : List (Keyed Posted)) → All (λ keyed. test keyed ≡ keep keyed.row.event) rows → events_of (filter test rows) ≡ filter keep (events_of rows)
+shown_filter test keep [] agree = refl
+shown_filter test keep (first ∷ rows) agree = rw (agree 0 first (omega arith)) (by (keep first.row.event) (shown_filter test keep rows (λ k d within. agree (suc k) d (omega arith))))
+  where
+    by : (b : Bool) → events_of (filter test rows) ≡ filter keep (events_of rows) → events_of (cond b (first ∷ filter test rows) (filter test rows)) ≡ cond b (first.row.event ∷ filter keep (events_of rows)) (filter keep (events_of rows))
+    by true later = ap (λ rest. first.row.event ∷ rest) later
+    by false later = later
+
+key_absent : (rows : List (Keyed Posted)) (number : ℕ) → All (λ keyed. number_of keyed.row ≢ number) rows → key_of number_of rows number ≡ None
+key_absent [] number apart = refl
+key_absent (first ∷ rows) number apart =
+    let other : (number_of first.row == number) ≡ false = ne_eqb (number_of first.row) number (apart 0 first (omega arith)) in
+    rw other (key_absent rows number (λ k d within. apart (suc k) d (omega arith)))
+
+module _ (rows : List (Keyed Posted)) (row : Posted) (start : ℕ) (is : start ≡ rank_of (priority_of row.event) * 2 ^ 62) (low : number_of row < start + 2 ^ 62) (seat : IsSeat rows (number_of row) (start + 2 ^ 62)) where
+  -- a row of the number stands where the event has its place
+  pub shown_inserted : (key : ℕ) → events_of (inserted number_of rows key row) ≡ placed row.event (events_of rows)
+  shown_inserted key =
+      map-append (λ (keyed : Keyed Posted). keyed.row.event) (filter (λ keyed. nat_lt (number_of keyed.row) (number_of row)) rows) (record { key = key; row = row } ∷ filter (λ keyed. nat_lt (number_of row) (number_of keyed.row)) rows)
+      ∙ (ap (λ front. front ++ row.event ∷ events_of (filter (λ keyed. nat_lt (number_of row) (number_of keyed.row)) rows)) (shown_filter (λ keyed. nat_lt (number_of keyed.row) (number_of row)) (λ earlier. is_before earlier row.event) rows front)
+      ∙ ap (λ rest. filter (λ earlier. is_before earlier row.event) (events_of rows) ++ row.event ∷ rest) (shown_filter (λ keyed. nat_lt (number_of row) (number_of keyed.row)) (λ earlier. not (is_before earlier row.event)) rows back))
+    where
+      front : All (λ keyed. nat_lt (number_of keyed.row) (number_of row) ≡ is_before keyed.row.event row.event) rows
+      front k d within =
+          let other = (get_or rows k d).row in
+          ⊎_elim
+          (λ (below : number_of other < number_of row). both_pass (number_of other) (number_of row) (rank_of (priority_of other.event)) (rank_of (priority_of row.event)) below (below_end other (rank_of (priority_of row.event)) (omega (arith, below, low, is))))
+          (λ (behind : start + 2 ^ 62 ≤ number_of other). both_fail (number_of other) (number_of row) (rank_of (priority_of other.event)) (rank_of (priority_of row.event)) (omega (arith, behind, low)) (behind_end other (rank_of (priority_of row.event)) (omega (arith, behind, is))))
+          (seat k d within)
+
+      back : All (λ keyed. nat_lt (number_of row) (number_of keyed.row) ≡ not (is_before keyed.row.event row.event)) rows
+      back k d within =
+          let other = (get_or rows k d).row in
+          ⊎_elim
+          (λ (below : number_of other < number_of row). other_fail (number_of other) (number_of row) (rank_of (priority_of other.event)) (rank_of (priority_of row.event)) below (below_end other (rank_of (priority_of row.event)) (omega (arith, below, low, is))))
+          (λ (behind : start + 2 ^ 62 ≤ number_of other). other_pass (number_of other) (number_of row) (rank_of (priority_of other.event)) (rank_of (priority_of row.event)) (omega (arith, behind, low)) (behind_end other (rank_of (priority_of row.event)) (omega (arith, behind, is))))
+          (seat k d within)
+
+  -- no row has the number yet
+  pub number_absent : key_of number_of rows (number_of row) ≡ None
+  number_absent = key_absent rows (number_of row) apart
+    where
+      apart : All (λ keyed. number_of keyed.row ≢ number_of row) rows
+      apart k d within same = ⊎_elim (λ (below : number_of (get_or rows k d).row < number_of row). omega (arith, below, same)) (λ (behind : start + 2 ^ 62 ≤ number_of (get_or rows k d).row). omega (arith, behind, low, same)) (seat k d within)
+
+  module _ (count : IsCountBelow rows (start + 2 ^ 62) (length rows)) where
+    -- where no row is of a lower priority the event stands behind all others
+    pub shown_added : (key : ℕ) → events_of (added rows key row) ≡ placed row.event (events_of rows)
+    shown_added key =
+        map-append (λ (keyed : Keyed Posted). keyed.row.event) rows (record { key = key; row = row } ∷ [])
+        ∙ sym (placed_last row.event (events_of rows) (All-map (λ earlier. is_before earlier row.event ≡ true) (λ (keyed : Keyed Posted). keyed.row.event) rows before))
+      where
+        before : All (λ keyed. is_before keyed.row.event row.event ≡ true) rows
+        before k d within =
+            let no_lower = below_end (get_or rows k d).row (rank_of (priority_of row.event)) (omega (arith, count.below k d (omega arith) within, is)) in
+            grind (arith, nat_tests, no_lower)
+
+-- the row that is made for an event, of a number of its priority that has a seat
+module _ (rows : List (Keyed Posted)) (event : Event) (number start : ℕ) (is : start ≡ rank_of (priority_of event) * 2 ^ 62) (few : number < 2 ^ 62) (seat : IsSeat rows (start + number) (start + 2 ^ 62)) where
+  abbrev made : Posted
+  made = record { number = number; event = event }
+
+  numbered : number_of made ≡ start + number
+  numbered = omega (arith, few, is)
+
+  in_end : number_of made < start + 2 ^ 62
+  in_end = omega (arith, few, numbered)
+
+  seated : IsSeat rows (number_of made) (start + 2 ^ 62)
+  seated = subst (λ n. IsSeat rows n (start + 2 ^ 62)) (sym numbered) seat
+
+  pub made_absent : key_of number_of rows (number_of made) ≡ None
+  made_absent = number_absent rows made start is in_end seated
+
+  pub made_inserted : (key : ℕ) → events_of (inserted number_of rows key made) ≡ placed event (events_of rows)
+  made_inserted = shown_inserted rows made start is in_end seated
+
+  pub made_added : IsCountBelow rows (start + 2 ^ 62) (length rows) → (key : ℕ) → events_of (added rows key made) ≡ placed event (events_of rows)
+  made_added = shown_added rows made start is in_end seated
+
+module _ (rows : List (Keyed Posted)) (end : ℕ) where
+  pub last_below : (count at key : ℕ) (row : Posted) → IsCountBelow rows end count → count ≡ at + 1 → IsAtPosition rows at key row → number_of row < end
+  last_below count at key row below is stands =
+      let d : Keyed Posted = record { key = key; row = row } in
+      let under = below.below at d (omega arith) (omega (arith, is)) in
+      let same : number_of (get_or rows at d).row ≡ number_of row = ap (λ (keyed : Keyed Posted). number_of keyed.row) (stands d) in
+      omega (arith, under, same)
+
+  -- where all rows are behind the end, any number does
+  pub seat_first : (count number : ℕ) → IsCountBelow rows end count → count ≡ 0 → IsSeat rows number end
+  seat_first count number below none k d within = inr (below.above k d (omega (arith, none)) within)
+
+  -- a number above that of the last row below the end
+  pub seat_behind : IsSound number_of rows → (count at number key : ℕ) (row : Posted) → IsCountBelow rows end count → count ≡ at + 1 → IsAtPosition rows at key row → number_of row < number → IsSeat rows number end
+  seat_behind sound count at number key row below is stands above k d within = ⊎_elim
+      (λ (before : k < count).
+      let last : number_of (get_or rows at d).row ≡ number_of row = ap (λ (keyed : Keyed Posted). number_of keyed.row) (stands d) in
+      inl (⊎_elim
+      (λ (lower : k < at). let rises = sound.rising k at d lower (omega (arith, below.in_range, is)) in omega (arith, rises, last, above))
+      (λ (upper : at ≤ k). let same : k ≡ at = omega (arith, before, is, upper) in let here : number_of (get_or rows k d).row ≡ number_of row = ap (λ i. number_of (get_or rows i d).row) same ∙ last in omega (arith, here, above))
+      (cases_lt k at)))
+      (λ (behind : count ≤ k). inr (below.above k d behind within))
+      (cases_lt k count)
+
+-- all rows before `low` are below the number, all from `high` on are not, and the next look is between
+pub record IsLooking (rows : List (Keyed Posted)) (number low high at : ℕ) : Type 0 where
+  pub in_range : (low ≤ high) × (high ≤ length rows)
+  pub between : low < high → (low ≤ at) × (at < high)
+  pub below : AllWithin (λ keyed. number_of keyed.row < number) rows 0 low
+  pub above : AllWithin (λ keyed. number ≤ number_of keyed.row) rows high (length rows)
+
+module _ (rows : List (Keyed Posted)) (sound : IsSound number_of rows) (number : ℕ) where
+  pub look_begins : (high at : ℕ) → high ≡ length rows → at ≡ high - 1 → IsLooking rows number 0 high at
+  look_begins high at is last = record {
+    in_range = (omega arith, omega (arith, is));
+    between = λ some. (omega arith, omega (arith, some, last));
+    below = λ k d from until. absurd (omega (arith, from, until));
+    above = λ k d from until. absurd (omega (arith, from, until, is));
+  }
+
+  pub look_ends : (low high at : ℕ) → IsLooking rows number low high at → high ≤ low → IsCountBelow rows number low
+  look_ends low high at looking end = record {
+    in_range = omega (arith, looking.in_range.0, looking.in_range.1);
+    below = looking.below;
+    above = λ k d from until. looking.above k d (omega (arith, from, end)) until;
+  }
+
+  module _ (low high at next key : ℕ) (row : Posted) (looking : IsLooking rows number low high at) (some : low < high) (stands : IsAtPosition rows at key row) where
+    within : at < length rows
+    within = omega (arith, (looking.between some).1, looking.in_range.1)
+
+    -- what stands before a row that is below is below
+    pub look_right : number_of row < number → next ≡ at + 1 + (high - (at + 1)) / 2 → IsLooking rows number (at + 1) high next
+    look_right under is = record {
+      in_range = (omega (arith, (looking.between some).1), looking.in_range.1);
+      between = λ left. (omega (arith, is), omega (arith, is, left));
+      below = λ k d from until.
+          let last : number_of (get_or rows at d).row ≡ number_of row = ap (λ (keyed : Keyed Posted). number_of keyed.row) (stands d) in
+          ⊎_elim
+          (λ (lower : k < at). let rises = sound.rising k at d lower within in omega (arith, rises, last, under))
+          (λ (upper : at ≤ k). let same : k ≡ at = omega (arith, until, upper) in let here : number_of (get_or rows k d).row ≡ number_of row = ap (λ i. number_of (get_or rows i d).row) same ∙ last in omega (arith, here, under))
+          (cases_lt k at);
+      above = looking.above;
+    }
+
+    -- and what stands behind one that is not is not
+    pub look_left : number ≤ number_of row → next ≡ low + (at - low) / 2 → IsLooking rows number low at next
+    look_left over is = record {
+      in_range = ((looking.between some).0, omega (arith, within));
+      between = λ left. (omega (arith, is), omega (arith, is, left));
+      below = looking.below;
+      above = λ k d from until.
+          let first : number_of (get_or rows at d).row ≡ number_of row = ap (λ (keyed : Keyed Posted). number_of keyed.row) (stands d) in
+          ⊎_elim
+          (λ (upper : at < k). let rises = sound.rising at k d upper until in omega (arith, rises, first, over))
+          (λ (lower : k ≤ at). let same : k ≡ at = omega (arith, from, lower) in let here : number_of (get_or rows k d).row ≡ number_of row = ap (λ i. number_of (get_or rows i d).row) same ∙ first in omega (arith, here, over))
+          (cases_lt at k);
+    }
