@@ -1,4 +1,3 @@
-//! What a run returns.
 use plain_types::Items;
 use thread_model::Line;
 

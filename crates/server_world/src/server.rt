@@ -1,4 +1,4 @@
-//! The server.
+//! Sessions that come with their first command, and runs of their commands.
 ghost use Rattle.std.specs.Prelude.{◌≡◌, ◌⊎◌, ◌≤◌, ◌<◌, [], List, ℕ, Some, length, IsTrue, IsFalse, IfOk, OnOk, OnErr};
 ghost use Rattle.std.specs.Result.{result_ok};
 ghost use Rattle.thread_model.specs.Asked.{asked, tag};

@@ -2,14 +2,14 @@
 use Rattle.std.proofs.Common.{◌≡◌, ℕ, Bool, true, false, true≢false, List, [], ◌∷◌, Option, Some, None, Result, Ok, Err, OnOk, OnErr, IsTrue, IsFalse, eqb, refl, sym, ap, subst, ◌∙◌, ⊎_elim, arith}
 use Rattle.std.specs.Prelude.{bytes_eq}
 use Rattle.std.specs.Option.{option_map_or}
-use Rattle.std.specs.Result.{is_err}
+use Rattle.std.specs.Result.{is_err, result_ok}
 use Rattle.std.proofs.lemmas.Bool.{cases_Bool, both_ways}
+use Rattle.std.proofs.lemmas.List.Elements.{All-cons, All-nil}
 use Rattle.std.proofs.lemmas.Bool.Decides.{nat_tests}
 use Rattle.std.proofs.lemmas.Slice.Eq.{bytes_eq-Decides}
 use Rattle.property_store.specs.Store.{fields_in}
 use Rattle.thread_model.specs.declared.post.Post.{Post}
-use Rattle.thread_model.proofs.DeclaredLemmas.{keeps_declared}
-use Rattle.thread_model.proofs.LawLemmas.{keeps_sound}
+use Rattle.thread_model.specs.Fitting.{IsRightPost}
 use Rattle.session_tables.specs.declared.tables.Tables.{Tables}
 use Rattle.session_tables.specs.Reaching.{AreShaped, heard}
 use Rattle.session_tables.specs.Session.{Session, fresh, gone}
@@ -21,7 +21,7 @@ use Rattle.session_engine.specs.Core.{Contents, IsKept, IsWhole, place, seen, se
 use Rattle.session_engine.specs.Items.{BeginsAnew, HasArrived}
 use Rattle.session_engine.specs.Sessions.{Fails}
 use Rattle.session_engine.proofs.EngineLemmas.{one_name, placed, sessions-place, sound_by_name}
-use Rattle.session_engine.proofs.StepLemmas.{heard_state, kept_gone, kept_heard}
+use Rattle.session_engine.proofs.SessionLemmas.{heard_state, kept_fresh, kept_gone, kept_heard}
 
 -- with these tables, and this mark that memory was refused
 abbrev pub changed : Contents → Tables → Bool → Contents
@@ -44,11 +44,12 @@ module _ (engine : Contents) (new : Tables) (refused : Bool) (at : ℕ) (name : 
           (cases_Bool (eqb other' at)) in
           sessions-place (changed engine new refused) other other' e ∙ session_unchanged engine.tables new at other' changes apart ∙ sym (sessions-place engine other other' e)
 
-  module _ (less : IsFalse refused → IsFalse engine.memory_refused) (own : IsKept engine.settings.classes refused (session_at new at)) where
+  module _ (less : IsFalse refused → IsFalse engine.memory_refused) (own : IsKept engine.settings refused (session_at new at)) where
     pub whole_changed : IsWhole (changed engine new refused)
     whole_changed =
         let shape : AreShaped engine.tables new = shaped_changed engine.tables new at changes in
         record {
+          settings = whole.settings;
           even = shape.even whole.even;
           paired = whole.paired ∙ sym shape.places;
           named = whole.named;
@@ -56,13 +57,13 @@ module _ (engine : Contents) (new : Tables) (refused : Bool) (at : ℕ) (name : 
           kept = λ other. by other (eqb other at) refl;
         }
       where
-        by : (other : ℕ) (same : Bool) → eqb other at ≡ same → IsKept engine.settings.classes refused (session_at new other)
-        by other true e = let is : at ≡ other = grind (arith, nat_tests, e) in subst (λ other. IsKept engine.settings.classes refused (session_at new other)) is own
-        by other false e = subst (IsKept engine.settings.classes refused) (sym (session_unchanged engine.tables new at other changes e))
-            (record { well = λ found. (whole.kept other).well (less found); sound = (whole.kept other).sound; declared = (whole.kept other).declared })
+        by : (other : ℕ) (same : Bool) → eqb other at ≡ same → IsKept engine.settings refused (session_at new other)
+        by other true e = let is : at ≡ other = grind (arith, nat_tests, e) in subst (λ other. IsKept engine.settings refused (session_at new other)) is own
+        by other false e = subst (IsKept engine.settings refused) (sym (session_unchanged engine.tables new at other changes e))
+            (record { well = λ found. (whole.kept other).well (less found); sound = (whole.kept other).sound })
 
 -- a post has come to the session at a place
-module _ {T E : Type 0} (engine : Contents) (new : Tables) (refused : Bool) (at : ℕ) (name from : List ℕ) (post : Post) (result : Result T E) (whole : IsWhole engine) (there : place engine name ≡ Some at) (changes : ChangesOnly at engine.tables new)
+module _ {T E : Type 0} (engine : Contents) (new : Tables) (refused : Bool) (at : ℕ) (name from : List ℕ) (post : Post) (result : Result T E) (whole : IsWhole engine) (right : IsRightPost post) (there : place engine name ≡ Some at) (changes : ChangesOnly at engine.tables new)
     (ok : OnOk result (session_at new at ≡ heard engine.settings.classes from (post ∷ []) (session_at engine.tables at))) (err : OnErr result ((session_at new at ≡ gone) × IsFalse (failed_at engine.tables at)))
     (found : OnOk result (refused ≡ engine.memory_refused)) (memory : OnErr result (IsTrue refused)) where
   found_before : IsFalse refused → IsFalse engine.memory_refused
@@ -72,18 +73,18 @@ module _ {T E : Type 0} (engine : Contents) (new : Tables) (refused : Bool) (at 
       by (Ok done) found memory = sym found ∙ fine
       by (Err error) found memory = absurd (both_ways _ fine memory)
 
-  kept_arrived : IsKept engine.settings.classes refused (session_at new at)
+  kept_arrived : IsKept engine.settings refused (session_at new at)
   kept_arrived = by result ok err memory
     where
       by : (result : Result T E) → OnOk result (session_at new at ≡ heard engine.settings.classes from (post ∷ []) (session_at engine.tables at)) → OnErr result ((session_at new at ≡ gone) × IsFalse (failed_at engine.tables at)) → OnErr result (IsTrue refused)
-          → IsKept engine.settings.classes refused (session_at new at)
-      by (Ok done) ok err memory = subst (IsKept engine.settings.classes refused) (sym ok) (kept_heard engine.settings.classes engine.memory_refused refused from (post ∷ []) (session_at engine.tables at) found_before (whole.kept at))
-      by (Err error) ok err memory = subst (λ mark. IsKept engine.settings.classes mark (session_at new at)) (sym memory) (subst (IsKept engine.settings.classes true) (sym err.0) (kept_gone engine.settings.classes))
+          → IsKept engine.settings refused (session_at new at)
+      by (Ok done) ok err memory = subst (IsKept engine.settings refused) (sym ok) (kept_heard engine.settings engine.memory_refused refused from (post ∷ []) (session_at engine.tables at) found_before (All-cons IsRightPost post [] right (All-nil IsRightPost)) (whole.kept at))
+      by (Err error) ok err memory = subst (λ mark. IsKept engine.settings mark (session_at new at)) (sym memory) (subst (IsKept engine.settings true) (sym err.0) (kept_gone engine.settings))
 
   pub whole_arrived : IsWhole (changed engine new refused)
   whole_arrived = whole_changed engine new refused at name whole there changes found_before kept_arrived
 
-  pub has_arrived : HasArrived (seen engine) (seen (changed engine new refused)) name from post result
+  pub has_arrived : HasArrived (seen engine) (seen (changed engine new refused)) name from post (result_ok result)
   has_arrived = by result ok err found memory
     where
       own : sessions engine name ≡ session_at engine.tables at
@@ -93,7 +94,7 @@ module _ {T E : Type 0} (engine : Contents) (new : Tables) (refused : Bool) (at 
       now = own_changed engine new refused at name whole there changes
 
       by : (result : Result T E) → OnOk result (session_at new at ≡ heard engine.settings.classes from (post ∷ []) (session_at engine.tables at)) → OnErr result ((session_at new at ≡ gone) × IsFalse (failed_at engine.tables at)) → OnOk result (refused ≡ engine.memory_refused)
-          → OnErr result (IsTrue refused) → HasArrived (seen engine) (seen (changed engine new refused)) name from post result
+          → OnErr result (IsTrue refused) → HasArrived (seen engine) (seen (changed engine new refused)) name from post (result_ok result)
       by (Ok done) ok err found memory =
           let heard_it : sessions (changed engine new refused) name ≡ heard engine.settings.classes from (post ∷ []) (sessions engine name) = now ∙ ok ∙ ap (heard engine.settings.classes from (post ∷ [])) (sym own) in
           record {
@@ -126,8 +127,8 @@ module _ (engine : Contents) (new : Tables) (at : ℕ) (name : List ℕ) (sessio
   put_there : session_at new at ≡ session
   put_there = ap (λ tables. session_at tables at) is ∙ session_there engine.tables at session (placed engine name at whole there)
 
-  whole_put : (refused : Bool) → (IsFalse refused → IsFalse engine.memory_refused) → IsKept engine.settings.classes refused session → IsWhole (changed engine new refused)
-  whole_put refused less kept = whole_changed engine new refused at name whole there put_changes less (subst (IsKept engine.settings.classes refused) (sym put_there) kept)
+  whole_put : (refused : Bool) → (IsFalse refused → IsFalse engine.memory_refused) → IsKept engine.settings refused session → IsWhole (changed engine new refused)
+  whole_put refused less kept = whole_changed engine new refused at name whole there put_changes less (subst (IsKept engine.settings refused) (sym put_there) kept)
 
   own_put : (refused : Bool) → sessions (changed engine new refused) name ≡ session
   own_put refused = own_changed engine new refused at name whole there put_changes ∙ put_there
@@ -138,7 +139,7 @@ module _ (engine : Contents) (new : Tables) (at : ℕ) (name : List ℕ) (sessio
 -- the session at a place begins anew
 module _ (engine : Contents) (new : Tables) (at : ℕ) (name : List ℕ) (whole : IsWhole engine) (there : place engine name ≡ Some at) (is : new ≡ with_session engine.tables at fresh) where
   pub whole_anew : IsWhole (changed engine new engine.memory_refused)
-  whole_anew = whole_put engine new at name fresh whole there is engine.memory_refused (λ found. found) (record { well = λ found. refl; sound = keeps_sound.at_first; declared = keeps_declared.at_first engine.settings.classes })
+  whole_anew = whole_put engine new at name fresh whole there is engine.memory_refused (λ found. found) (kept_fresh engine.settings engine.memory_refused)
 
   pub begins_anew : BeginsAnew (seen engine) (seen (changed engine new engine.memory_refused)) name
   begins_anew = record {
@@ -152,7 +153,7 @@ module _ (engine : Contents) (new : Tables) (at : ℕ) (name : List ℕ) (whole 
 -- the session at a place has failed for memory that was refused
 module _ (engine : Contents) (new : Tables) (at : ℕ) (name : List ℕ) (whole : IsWhole engine) (there : place engine name ≡ Some at) (is : new ≡ with_session engine.tables at gone) where
   pub whole_failed : IsWhole (changed engine new true)
-  whole_failed = whole_put engine new at name gone whole there is true (λ found. absurd (true≢false found)) (kept_gone engine.settings.classes)
+  whole_failed = whole_put engine new at name gone whole there is true (λ found. absurd (true≢false found)) (kept_gone engine.settings)
 
   pub fails_now : Fails (seen engine) (seen (changed engine new true)) name
   fails_now = record {

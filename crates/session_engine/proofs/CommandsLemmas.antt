@@ -22,6 +22,7 @@ use Rattle.thread_model.specs.Deeds.{behind, deed_answer, deed_refusal, found_re
 use Rattle.thread_model.specs.Signals.{does_found}
 use Rattle.thread_model.specs.Doing as doing
 use Rattle.thread_model.specs.Effects.{ended, replies, unless}
+use Rattle.thread_model.specs.Fitting.{IsFittingAsked}
 use Rattle.thread_model.specs.Methods.{Found}
 use Rattle.thread_model.specs.Refusing.{refusal}
 use Rattle.thread_model.specs.State.{State, empty}
@@ -47,7 +48,8 @@ use Rattle.session_engine.specs.Returning.{Returns, told, wants_memory}
 use Rattle.session_engine.specs.Sessions.{IsStep, is_reset, is_shut, session_after, session_does, session_refusal}
 use Rattle.session_effects.specs.Setup.{settings_of}
 use Rattle.session_engine.proofs.EngineLemmas.{named_at, sessions-place}
-use Rattle.session_engine.proofs.StepLemmas.{Ended, GaveUp, Loud, Marks, Quiet, Told, does_fine, not_shut, refused_after, some_none_of, step_of, whole_after}
+use Rattle.session_engine.proofs.SessionLemmas.{does_fine, not_shut, refused_after}
+use Rattle.session_engine.proofs.StepLemmas.{Ended, GaveUp, Loud, Marks, Quiet, Told, some_none_of, step_of, whole_after}
 
 -- what changes one session alone is not heard by the others
 pub others_changed : (classes : List Class) (from : List ℕ) (old new : Tables) (place : ℕ) → ChangesOnly place old new → OthersHear classes from place [] old new false
@@ -245,7 +247,9 @@ not_reset (c.DisconnectOne connection) other = refl
 not_reset (c.Disconnect sender signal receiver method) other = refl
 not_reset (c.Invoke target method args mode priority) other = refl
 not_reset c.Spin other = refl
-not_reset (c.Do deed) other = refl
+not_reset (c.SetParent target parent) other = refl
+not_reset (c.DeleteLater target) other = refl
+not_reset (c.Block target on) other = refl
 not_reset (c.Publish target signal name) other = refl
 not_reset (c.Unpublish name) other = refl
 not_reset (c.Join from name types target method) other = refl
@@ -420,7 +424,7 @@ module _ (caller : Caller) (asked : Asked) (old new : Tables) where
 
 -- an engine whose session at a place did a command
 module _ (caller : Caller) (asked : Asked) (old new : Tables) (result : Result (List Line) Fault) (failing : Bool) (obeyed : Obeys caller asked old new failing result)
-    (names : List (List ℕ)) (was now : Bool) (mark : Marks was now failing (told result)) (engine : Contents) (whole : IsWhole (contents caller.setup.now names old was)) (is : contents caller.setup.now names old was ≡ engine) (given : Some caller.name.now ≡ slice_get names caller.place) where
+    (names : List (List ℕ)) (was now : Bool) (mark : Marks was now failing (told result)) (engine : Contents) (whole : IsWhole (contents caller.setup.now names old was)) (fits : (state : State) → IsFittingAsked (settings_of caller.setup.now) state asked) (is : contents caller.setup.now names old was ≡ engine) (given : Some caller.name.now ≡ slice_get names caller.place) where
   module _ (name : List ℕ) (there : place engine name ≡ Some caller.place) where
     same : name ≡ caller.name.now
     same = named_at (contents caller.setup.now names old was) name caller.place caller.name.now (ap (λ engine. place engine name) is ∙ there) given
@@ -432,12 +436,12 @@ module _ (caller : Caller) (asked : Asked) (old new : Tables) (result : Result (
     its_ending = ends caller asked old new failing names was now result obeyed mark
 
     pub done_whole : IsWhole (contents caller.setup.now names new now)
-    done_whole = whole_after _ _ caller.place caller.name.now asked (told result) failing whole here its_ending
+    done_whole = whole_after _ _ caller.place caller.name.now asked (told result) failing whole fits here its_ending
 
     pub done_step : IsStep (seen engine) (seen (contents caller.setup.now names new now)) name asked (told result)
     done_step = subst (λ (engine : Contents). IsStep (seen engine) (seen (contents caller.setup.now names new now)) name asked (told result)) is
         (subst (λ name. IsStep (seen (contents caller.setup.now names old was)) (seen (contents caller.setup.now names new now)) name asked (told result)) (sym same)
-        (step_of _ _ caller.place caller.name.now asked (told result) failing whole here its_ending))
+        (step_of _ _ caller.place caller.name.now asked (told result) failing whole fits here its_ending))
 
     -- what the call returns, by the name of its session
     ReturnsIn : Contents → List ℕ → Session → Type 0

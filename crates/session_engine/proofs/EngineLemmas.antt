@@ -17,16 +17,16 @@ use Rattle.std.proofs.lemmas.Slice.Eq.{bytes_eq-Decides}
 use Rattle.indexmap.specs.IndexSet.{insert_key}
 use Rattle.property_store.specs.declared.field.Field.{Field}
 use Rattle.property_store.specs.Store.{fields_in}
+use Rattle.thread_model.specs.Fitting.{AreSettings}
 use Rattle.thread_model.specs.State.{fields_of}
 use Rattle.thread_model.specs.Thread.{Settings}
-use Rattle.thread_model.proofs.DeclaredLemmas.{keeps_declared}
-use Rattle.thread_model.proofs.LawLemmas.{keeps_sound}
 use Rattle.session_tables.specs.declared.tables.Tables.{Tables}
 use Rattle.session_tables.specs.Session.{Session, fresh}
 use Rattle.session_tables.specs.Tables.{AreEven, AreSame, IsPlaced, session_at}
 use Rattle.session_tables.proofs.TablesLemmas.{even_opened, even_same, placed_by, session_opened, session_past, session_same}
 use Rattle.session_engine.specs.Core.{Contents, IsKept, IsWhole, opened, place, seen, sessions}
-use Rattle.session_engine.specs.Sessions.{AreSound}
+use Rattle.session_engine.specs.Sessions.{AreSound, IsSoundSession}
+use Rattle.session_engine.proofs.SessionLemmas.{kept_fresh}
 
 -- where nothing has a place, nothing passes
 none_passes : {X : Type 0} (p : X → Bool) (xs : List X) → length xs ≤ position_or_len p xs → list_any p xs ≡ false
@@ -91,12 +91,18 @@ named_at engine name at given there is =
     cc
 
 -- what holds of each session holds of that of a name
-pub kept_by_name : (engine : Contents) (name : List ℕ) → IsWhole engine → IsKept engine.settings.classes engine.memory_refused (sessions engine name)
-kept_by_name engine name whole = subst (IsKept engine.settings.classes engine.memory_refused) (sym (sessions-first engine name whole)) (whole.kept (first engine name))
+pub kept_by_name : (engine : Contents) (name : List ℕ) → IsWhole engine → IsKept engine.settings engine.memory_refused (sessions engine name)
+kept_by_name engine name whole = subst (IsKept engine.settings engine.memory_refused) (sym (sessions-first engine name whole)) (whole.kept (first engine name))
 
 -- so all are sound
 pub sound_by_name : (engine : Contents) → IsWhole engine → AreSound (seen engine)
-sound_by_name engine whole = λ name. ((kept_by_name engine name whole).sound, (kept_by_name engine name whole).declared)
+sound_by_name engine whole = λ name. (kept_by_name engine name whole).sound
+
+-- and they stay so where none of them changes
+pub sound_still : (old new : Contents) → sessions new ≡ sessions old → new.settings ≡ old.settings → AreSound (seen old) → AreSound (seen new)
+sound_still old new same fixed sound = λ name.
+    subst (λ (settings : Settings). IsSoundSession settings (sessions new name)) (sym fixed)
+    (subst (λ (sessions : List ℕ → Session). IsSoundSession old.settings (sessions name)) (sym same) (sound name))
 
 -- where a name is, it is the first
 first_at : (p : List ℕ → Bool) (names : List (List ℕ)) (at : ℕ) → position p names ≡ Some at → (position_or_len p names ≡ at) × (at < length names)
@@ -138,11 +144,12 @@ module _ (engine : Contents) (whole : IsWhole engine) where
   -- a new place changes no session: the new one is fresh, and was so before
   pub whole_opened : (name : List ℕ) → place engine name ≡ None → IsWhole (opened engine name)
   whole_opened name absent = record {
+    settings = whole.settings;
     even = even_opened engine.tables whole.even;
     paired = grind (arith, common_steps, whole.paired);
     named = named_opened engine.names name absent whole.named;
     laid = whole.laid;
-    kept = λ at. subst (IsKept engine.settings.classes engine.memory_refused) (sym (session_opened engine.tables at)) (whole.kept at);
+    kept = λ at. subst (IsKept engine.settings engine.memory_refused) (sym (session_opened engine.tables at)) (whole.kept at);
   }
 
   pub sessions-opened : (name other : List ℕ) → place engine name ≡ None → sessions (opened engine name) other ≡ sessions engine other
@@ -166,11 +173,12 @@ with_tables engine tables = record { settings = engine.settings; names = engine.
 -- more room changes no session
 pub whole_same : (engine : Contents) (ready : Tables) → AreSame engine.tables ready → IsWhole engine → IsWhole (with_tables engine ready)
 whole_same engine ready same whole = record {
+  settings = whole.settings;
   even = even_same engine.tables ready same whole.even;
   paired = whole.paired ∙ sym (ap length same.failed);
   named = whole.named;
   laid = λ class. ap (λ layouts. fields_in layouts class) same.layouts ∙ whole.laid class;
-  kept = λ at. subst (IsKept engine.settings.classes engine.memory_refused) (sym (session_same engine.tables ready at same)) (whole.kept at);
+  kept = λ at. subst (IsKept engine.settings engine.memory_refused) (sym (session_same engine.tables ready at same)) (whole.kept at);
 }
 
 pub sessions-same : (engine : Contents) (ready : Tables) → AreSame engine.tables ready → sessions (with_tables engine ready) ≡ sessions engine
@@ -178,17 +186,18 @@ sessions-same engine ready same =
     ap (λ (session : ℕ → Session). λ name. option_map_or session (place engine name) fresh) (fun_ext (λ at. session_same engine.tables ready at same))
 
 -- with no place there is none to speak of
-pub whole_new : (settings : Settings) (names : List (List ℕ)) (layouts : List (List Field)) (tables : Tables) → names ≡ [] → tables.forests.places ≡ [] → tables.stores.shelves.table.places ≡ [] → tables.stores.graphs.places ≡ [] → tables.connections.places ≡ [] → tables.queues.places ≡ [] → tables.desks.places ≡ [] → tables.failed.places ≡ []
+pub whole_new : (settings : Settings) → AreSettings settings → (names : List (List ℕ)) (layouts : List (List Field)) (tables : Tables) → names ≡ [] → tables.forests.places ≡ [] → tables.stores.shelves.table.places ≡ [] → tables.stores.graphs.places ≡ [] → tables.connections.places ≡ [] → tables.queues.places ≡ [] → tables.desks.places ≡ [] → tables.failed.places ≡ []
     → tables.stores.shelves.layouts ≡ layouts → ((class : ℕ) → fields_in layouts class ≡ fields_of settings.classes class) → IsWhole (record { settings = settings; names = names; tables = tables; memory_refused = false })
-whole_new settings names layouts tables no_names forests stores graphs connections queues desks failed same laid =
+whole_new settings are names layouts tables no_names forests stores graphs connections queues desks failed same laid =
     let even : AreEven tables = record { forests = ap length forests ∙ sym (ap length failed); stores = ap length stores ∙ sym (ap length failed); graphs = ap length graphs ∙ sym (ap length failed); connections = ap length connections ∙ sym (ap length failed); queues = ap length queues ∙ sym (ap length failed); desks = ap length desks ∙ sym (ap length failed) } in
     let none : length tables.failed.places ≡ 0 = ap length failed in
     record {
+      settings = are;
       even = even;
       paired = ap length no_names ∙ sym none;
       named = λ at within. let nothing : length names ≡ 0 = ap length no_names in absurd (omega (arith, nothing, within));
       laid = λ class. ap (λ layouts. fields_in layouts class) same ∙ laid class;
-      kept = λ at. subst (IsKept settings.classes false) (sym (session_past tables at even (omega (arith, none)))) (record { well = λ found. refl; sound = keeps_sound.at_first; declared = keeps_declared.at_first settings.classes });
+      kept = λ at. subst (IsKept settings false) (sym (session_past tables at even (omega (arith, none)))) (kept_fresh settings false);
     }
 
 -- a new name has the new place

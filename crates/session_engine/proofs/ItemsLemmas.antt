@@ -1,11 +1,11 @@
 -- What items make of a session and of all others, one after another.
-use Rattle.std.proofs.Common.{◌≡◌, inl, inr, ℕ, ◌+◌, ◌<◌, Bool, true, false, List, [], ◌∷◌, ◌++◌, append-nil, append_assoc, length, map, take, get_or, add-one, Option, Some, None, Result, Ok, Err, OnOk, OnErr, IsErr, IsTrue, IsFalse, refl, sym, ap, ◌∙◌, ⊎_elim}
+use Rattle.std.proofs.Common.{◌≡◌, ◌⊎◌, inl, inr, ℕ, suc, ◌+◌, ◌<◌, Bool, true, false, List, [], ◌∷◌, ◌++◌, append-nil, append_assoc, length, map, take, drop, get_or, add-one, Option, Some, None, IfSome, Result, Ok, Err, OnOk, IsErr, IsTrue, IsFalse, refl, sym, ap, subst, ◌∙◌, ⊎_elim}
 use Rattle.std.specs.Prelude.{bytes_eq}
 use Rattle.std.specs.Option.{option_map}
 use Rattle.std.specs.Result.{result_ok}
-use Rattle.std.proofs.Math.Seq.{take-suc}
+use Rattle.std.proofs.Math.Seq.{drop-cons, take-suc}
 use Rattle.std.proofs.lemmas.Bool.{cases_Bool, both_ways, cond-true}
-use Rattle.std.proofs.lemmas.List.{map-append}
+use Rattle.std.proofs.lemmas.List.{map-append, take-append-drop}
 use Rattle.std.proofs.lemmas.Slice.Eq.{bytes_eq-Decides}
 use Rattle.isolation.specs.Alone as theory
 use Rattle.isolation.specs.Alone.{alone_after, alone_lines, alone_posts}
@@ -23,8 +23,9 @@ use Rattle.thread_model.proofs.Lawful.{lawful}
 use Rattle.session_tables.specs.Reaching.{Hears, heard}
 use Rattle.session_tables.specs.Session.{Session}
 use Rattle.session_engine.specs.declared.item.Item.{Item}
-use Rattle.session_engine.specs.Items.{Coming, HasArrived, RunsAlone, all_lines, item_of}
-use Rattle.session_engine.specs.Sessions.{AnotherFails, AreSound, Fails, IsStep, Sessions, given_by, states_of}
+use Rattle.session_engine.specs.Core.{Contents, seen}
+use Rattle.session_engine.specs.Items.{Coming, HasArrived, HasAdded, HasCome, HaveCome, RunsAlone, all_lines, item_of}
+use Rattle.session_engine.specs.Sessions.{AnotherFails, AreSound, IsStep, Sessions, given_by, states_of}
 
 -- what was found after was found before
 found_before : (was now : Bool) → (IsTrue was → IsTrue now) → IsFalse now → IsFalse was
@@ -39,9 +40,21 @@ deaf : (classes : List Class) (from : List ℕ) (posts : List Post) (old new : S
 deaf classes from posts old new failed (inl heard) = heard ∙ cond-true old.failed old (record { state = arrive_all classes old.state from posts; failed = false }) failed
 deaf classes from posts old new failed (inr (fine, gone)) = absurd (both_ways _ fine failed)
 
+-- what follows of items that have come, whatever they are: where memory was never refused, what a session alone
+-- is told and how it is left; who has failed, and why memory was refused
+record Follows (old new : Sessions) (name : List ℕ) (items : List Coming) (told : Option (List Line)) : Type 0 where
+  lines : IsFalse new.memory_refused → told ≡ Some (all_lines (alone_lines (machine old.settings) name (states_of old name) items))
+  own : IsFalse new.memory_refused → states_of new name ≡ alone_after (machine old.settings) name (states_of old name) items
+  others : IsFalse new.memory_refused → (other : List ℕ) → IsFalse (bytes_eq other name) → states_of new other ≡ all_arrive (machine old.settings) (states_of old other) name (alone_posts (machine old.settings) name (states_of old name) items)
+  settings : new.settings ≡ old.settings
+  stay : (other : List ℕ) → IsFalse (bytes_eq other name) → IsTrue (old.session other).failed → new.session other ≡ old.session other
+  kept : IsTrue old.memory_refused → IsTrue new.memory_refused
+  memory : told ≡ None → IsTrue new.memory_refused
+  blame : IsFalse old.memory_refused → IsTrue new.memory_refused → (told ≡ None) ⊎ AnotherFails old new name
+
 -- nothing has come yet
-pub runs_nothing : (sessions : Sessions) (name : List ℕ) → AreSound sessions → RunsAlone sessions sessions name [] (Some [])
-runs_nothing sessions name sound = record {
+follows_nothing : (sessions : Sessions) (name : List ℕ) → Follows sessions sessions name [] (Some [])
+follows_nothing sessions name = record {
   lines = λ found. refl;
   own = λ found. refl;
   others = λ found other elsewhere. refl;
@@ -50,7 +63,6 @@ runs_nothing sessions name sound = record {
   kept = λ was. was;
   memory = λ nothing. absurd (cc);
   blame = λ was now. absurd (both_ways _ was now);
-  sound = sound;
 }
 
 pub none_of_err : {T E : Type 0} (result : Result T E) → IsErr result → result_ok result ≡ None
@@ -59,8 +71,8 @@ none_of_err (Err error) h = refl
 
 module _ (old new : Sessions) (name : List ℕ) where
   -- a command of its own
-  pub runs_own : (asked : Asked) (told : Option (List Line)) → IsStep old new name asked told → RunsAlone old new name (theory.Own asked ∷ []) told
-  runs_own asked told step =
+  follows_own : (asked : Asked) (told : Option (List Line)) → IsStep old new name asked told → Follows old new name (theory.Own asked ∷ []) told
+  follows_own asked told step =
       let m = machine old.settings in
       let itself : bytes_eq name name ≡ true = (bytes_eq-Decides name name).1 refl in
       record {
@@ -73,57 +85,42 @@ module _ (old new : Sessions) (name : List ℕ) where
         kept = step.kept;
         memory = step.memory;
         blame = step.blame;
-        sound = step.sound;
       }
 
-  module _ (from : List ℕ) (post : Post) where
-    -- a post of another session
-    pub runs_arrival : {T E : Type 0} (result : Result T E) (lines : List Line) → HasArrived old new name from post result → lines ≡ [] → OnOk result (RunsAlone old new name (theory.Arrival from post ∷ []) (Some lines))
-    runs_arrival (Ok done) lines has none = record {
-      lines = λ found. ap Some none;
-      own = has.state;
-      others = λ found other elsewhere. ap (λ (session : Session). session.state) (has.others other elsewhere);
-      settings = has.settings;
-      stay = λ other elsewhere failed. has.others other elsewhere;
-      kept = λ was. has.found ∙ was;
-      memory = λ nothing. absurd (cc);
-      blame = λ was now. absurd (both_ways _ was (sym has.found ∙ now));
-      sound = has.sound;
-    }
-    runs_arrival (Err error) lines has none = tt
+  -- a post of another session, or one for which memory was wanted
+  follows_arrival : (from : List ℕ) (post : Post) (told : Option (List Line)) → HasArrived old new name from post told → IfSome told (λ lines. lines ≡ []) → Follows old new name (theory.Arrival from post ∷ []) told
+  follows_arrival from post (Some lines) has none = record {
+    lines = λ found. ap Some none;
+    own = has.state;
+    others = λ found other elsewhere. ap (λ (session : Session). session.state) (has.others other elsewhere);
+    settings = has.settings;
+    stay = λ other elsewhere failed. has.others other elsewhere;
+    kept = λ was. has.found ∙ was;
+    memory = λ nothing. absurd (cc);
+    blame = λ was now. absurd (both_ways _ was (sym has.found ∙ now));
+  }
+  follows_arrival from post None has none = record {
+    lines = λ found. absurd (both_ways _ found has.memory);
+    own = λ found. absurd (both_ways _ found has.memory);
+    others = λ found. absurd (both_ways _ found has.memory);
+    settings = has.settings;
+    stay = λ other elsewhere failed. has.others other elsewhere;
+    kept = λ was. has.memory;
+    memory = λ nothing. has.memory;
+    blame = λ was now. inl refl;
+  }
 
-    -- for which memory was wanted
-    pub runs_deaf : {T E : Type 0} (result : Result T E) → HasArrived old new name from post result → OnErr result (RunsAlone old new name (theory.Arrival from post ∷ []) None)
-    runs_deaf (Ok done) has = tt
-    runs_deaf (Err error) has = record {
-      lines = λ found. absurd (both_ways _ found has.memory);
-      own = λ found. absurd (both_ways _ found has.memory);
-      others = λ found. absurd (both_ways _ found has.memory);
-      settings = has.settings;
-      stay = λ other elsewhere failed. has.others other elsewhere;
-      kept = λ was. has.memory;
-      memory = λ nothing. has.memory;
-      blame = λ was now. inl refl;
-      sound = has.sound;
-    }
+  follows_one : (item : Coming) (told : Option (List Line)) → HasCome old new name item told → Follows old new name (item ∷ []) told
+  follows_one (theory.Own asked) told step = follows_own asked told step
+  follows_one (theory.Arrival from post) told (has, none) = follows_arrival from post told has none
 
--- where the lines that it was told find no memory
-pub runs_failing : (old middle new : Sessions) (name : List ℕ) (items : List Coming) (told : Option (List Line)) → RunsAlone old middle name items told → Fails middle new name → RunsAlone old new name items None
-runs_failing old middle new name items told runs fails = record {
-  lines = λ found. absurd (both_ways _ found fails.memory);
-  own = λ found. absurd (both_ways _ found fails.memory);
-  others = λ found. absurd (both_ways _ found fails.memory);
-  settings = fails.settings ∙ runs.settings;
-  stay = λ other elsewhere failed. fails.others other elsewhere ∙ runs.stay other elsewhere failed;
-  kept = λ was. fails.memory;
-  memory = λ nothing. fails.memory;
-  blame = λ was now. inl refl;
-  sound = fails.sound;
-}
+  one_sound : (item : Coming) (told : Option (List Line)) → HasCome old new name item told → AreSound new
+  one_sound (theory.Own asked) told step = step.sound
+  one_sound (theory.Arrival from post) told (has, none) = has.sound
 
 -- the rest does not come any more
-pub runs_stop : (old new : Sessions) (name : List ℕ) (some all : List Coming) → RunsAlone old new name some None → RunsAlone old new name all None
-runs_stop old new name some all runs =
+follows_stop : (old new : Sessions) (name : List ℕ) (some all : List Coming) → Follows old new name some None → Follows old new name all None
+follows_stop old new name some all runs =
     let refused = runs.memory refl in
     record {
       lines = λ found. absurd (both_ways _ found refused);
@@ -134,16 +131,15 @@ runs_stop old new name some all runs =
       kept = runs.kept;
       memory = runs.memory;
       blame = runs.blame;
-      sound = runs.sound;
     }
 
 -- items after other items
-module _ (old middle new : Sessions) (name : List ℕ) (xs ys : List Coming) (before : List Line) (told : Option (List Line)) (first : RunsAlone old middle name xs (Some before)) (second : RunsAlone middle new name ys told) where
+module _ (old middle new : Sessions) (name : List ℕ) (xs ys : List Coming) (before : List Line) (told : Option (List Line)) (first : Follows old middle name xs (Some before)) (second : Follows middle new name ys told) where
   found_middle : IsFalse new.memory_refused → IsFalse middle.memory_refused
   found_middle found = found_before middle.memory_refused new.memory_refused second.kept found
 
-  pub runs_then : RunsAlone old new name (xs ++ ys) (option_map (λ lines. before ++ lines) told)
-  runs_then =
+  follows_then : Follows old new name (xs ++ ys) (option_map (λ lines. before ++ lines) told)
+  follows_then =
       let m = machine old.settings in
       let start = states_of old name in
       record {
@@ -176,7 +172,6 @@ module _ (old middle new : Sessions) (name : List ℕ) (xs ys : List Coming) (be
             (λ refused. ⊎_elim (λ nothing. absurd (some_none nothing)) (λ another. inr (failed_still another)) (first.blame was refused))
             (λ fine. ⊎_elim (λ nothing. inl (ap (option_map (λ lines. before ++ lines)) nothing)) (λ another. inr (failed_first another)) (second.blame fine now))
             (cases_Bool middle.memory_refused);
-        sound = second.sound;
       }
     where
       some_is : {a b : List Line} → Some a ≡ Some b → a ≡ b
@@ -194,6 +189,64 @@ module _ (old middle new : Sessions) (name : List ℕ) (xs ys : List Coming) (be
 
       failed_first : AnotherFails middle new name → AnotherFails old new name
       failed_first (other, elsewhere, was, now) = (other, elsewhere, ⊎_elim (λ failed. absurd (both_ways _ was (ap (λ (session : Session). session.failed) (first.stay other elsewhere failed) ∙ failed))) (λ fine. fine) (cases_Bool (old.session other).failed), now)
+
+-- so of all that have come, one after another
+follows : (old new : Sessions) (name : List ℕ) (items : List Coming) (told : Option (List Line)) → HaveCome old new name items told → Follows old new name items told
+follows old new name [] told (same, none) =
+    subst (λ (end : Sessions). Follows old end name [] told) (sym same) (subst (Follows old old name []) (sym none) (follows_nothing old name))
+follows old new name (item ∷ items) told (inl (came, none)) =
+    subst (Follows old new name (item ∷ items)) (sym none) (follows_stop old new name (item ∷ []) (item ∷ items) (follows_one old new name item None came))
+follows old new name (item ∷ items) told (inr (between, lines, rest, came, others, is)) =
+    subst (Follows old new name (item ∷ items)) (sym is)
+    (follows_then old between new name (item ∷ []) items lines rest (follows_one old between name item (Some lines) came) (follows between new name items rest others))
+
+come_sound : (old new : Sessions) (name : List ℕ) (items : List Coming) (told : Option (List Line)) → HaveCome old new name items told → AreSound old → AreSound new
+come_sound old new name [] told (same, none) sound = subst AreSound (sym same) sound
+come_sound old new name (item ∷ items) told (inl (came, none)) sound = one_sound old new name item None came
+come_sound old new name (item ∷ items) told (inr (between, lines, rest, came, others, is)) sound =
+    come_sound between new name items rest others (one_sound old between name item (Some lines) came)
+
+pub runs_alone : (old new : Sessions) (name : List ℕ) (items : List Coming) (told : Option (List Line)) → AreSound old → HaveCome old new name items told → RunsAlone old new name items told
+runs_alone old new name items told sound come =
+    let it = follows old new name items told come in
+    record { come = come; lines = it.lines; own = it.own; others = it.others; blame = it.blame; sound = come_sound old new name items told come sound }
+
+-- a command of its own has come, and its lines are put behind others, unless memory is wanted for that
+pub own_added : {T E : Type 0} (old middle new : Contents) (name : List ℕ) (asked : Asked) (before after lines : List Line) (result : Result T E) → IsStep (seen old) (seen middle) name asked (Some lines)
+    → OnOk result (new ≡ middle) → OnOk result (after ≡ before ++ lines) → OnOk result (HasAdded (seen old) (seen new) name (theory.Own asked) before after)
+own_added old middle new name asked before after lines (Ok done) step same is = (lines, subst (λ (end : Contents). IsStep (seen old) (seen end) name asked (Some lines)) (sym same) step, is)
+own_added old middle new name asked before after lines (Err error) step same is = tt
+
+-- a post has come as an item, of which nothing is told
+pub arrival_comes : {T E : Type 0} (old new : Sessions) (name from : List ℕ) (post : Post) (before : List Line) (result : Result T E) → HasArrived old new name from post (result_ok result) → OnOk result (HasAdded old new name (theory.Arrival from post) before before)
+arrival_comes old new name from post before (Ok done) has = ([], (record { state = has.state; hears = has.hears; fails = tt; others = has.others; settings = has.settings; found = has.found; memory = tt; sound = has.sound }, refl), sym (append-nil before))
+arrival_comes old new name from post before (Err error) has = tt
+
+-- one more item behind those that have come
+pub come_more : (old now next : Sessions) (name : List ℕ) (items : List Coming) (item : Coming) (before lines : List Line) → HaveCome old now name items (Some before) → HasCome now next name item (Some lines) → HaveCome old next name (items ++ item ∷ []) (Some (before ++ lines))
+come_more old now next name [] item before lines (same, none) came =
+    let start : before ≡ [] = cc in
+    inr (next, lines, Some [], subst (λ (begin : Sessions). HasCome begin next name item (Some lines)) same came, (refl, refl), ap (λ before. Some (before ++ lines)) start ∙ ap Some (sym (append-nil lines)))
+come_more old now next name (first ∷ items) item before lines (inl (came_first, none)) came = absurd (cc)
+come_more old now next name (first ∷ items) item before lines (inr (between, its, None, came_first, others, is)) came = absurd (cc)
+come_more old now next name (first ∷ items) item before lines (inr (between, its, Some more, came_first, others, is)) came =
+    let all : before ≡ its ++ more = cc in
+    inr (between, its, Some (more ++ lines), came_first, come_more between now next name items item more lines others came, ap (λ before. Some (before ++ lines)) all ∙ ap Some (append_assoc its more lines))
+
+-- or one for which memory was wanted, and the rest does not come any more
+pub come_last : (old now new : Sessions) (name : List ℕ) (items : List Coming) (item : Coming) (rest : List Coming) (before : List Line) → HaveCome old now name items (Some before) → HasCome now new name item None → HaveCome old new name (items ++ item ∷ rest) None
+come_last old now new name [] item rest before (same, none) came = inl (subst (λ (begin : Sessions). HasCome begin new name item None) same came, refl)
+come_last old now new name (first ∷ items) item rest before (inl (came_first, none)) came = absurd (cc)
+come_last old now new name (first ∷ items) item rest before (inr (between, its, None, came_first, others, is)) came = absurd (cc)
+come_last old now new name (first ∷ items) item rest before (inr (between, its, Some more, came_first, others, is)) came =
+    inr (between, its, None, came_first, come_last between now new name items item rest more others came, refl)
+
+-- the items so far, the next, and the rest
+pub items_split : (list : List Item) (i : ℕ) (item : Item) → i < length list → item ≡ get_or list i item → map item_of list ≡ map item_of (take i list) ++ item_of item ∷ map item_of (drop (suc i) list)
+items_split list i item within is =
+    ap (map item_of) (sym (take-append-drop i list)) ∙ map-append item_of (take i list) (drop i list)
+    ∙ ap (λ rest. map item_of (take i list) ++ map item_of rest) (drop-cons list i item within)
+    ∙ ap (λ item. map item_of (take i list) ++ item_of item ∷ map item_of (drop (suc i) list)) (sym is)
 
 -- the items so far, with the next
 pub items_more : (list : List Item) (i : ℕ) (item : Item) → i < length list → item ≡ get_or list i item → map item_of (take (i + 1) list) ≡ map item_of (take i list) ++ item_of item ∷ []

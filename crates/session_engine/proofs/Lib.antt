@@ -1,3 +1,4 @@
+pub mod SessionLemmas
 pub mod EngineLemmas
 pub mod StepLemmas
 pub mod EventsLemmas
@@ -6,7 +7,6 @@ pub mod ToldLemmas
 pub mod BindingsLemmas
 pub mod PropertiesLemmas
 pub mod ClassesLemmas
-pub mod ValuesLemmas
 pub mod InvocationLemmas
 pub mod ItemsLemmas
 pub mod ChangedLemmas

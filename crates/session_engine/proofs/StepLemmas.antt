@@ -1,11 +1,11 @@
 -- What a command of one session makes of an engine, by names.
-use Rattle.std.proofs.Common.{◌≡◌, ◌<◌, ◌≤◌, ◌⊎◌, ◌&&◌, not, inl, inr, ℕ, Bool, true, false, true≢false, cond, eqb, ltb, List, [], ◌∷◌, length, position, get_or, Option, Some, None, is_some, Result, Ok, Err, IfOk, OnOk, OnErr, IfSome, IsSome, OnSome, IsFalse, IsTrue, refl, sym, ap, subst, ◌∙◌, ⊎_elim, arith}
-use Rattle.std.specs.Prelude.{bytes_eq, if◌then◌else◌}
+use Rattle.std.proofs.Common.{◌≡◌, ◌<◌, ◌≤◌, ◌⊎◌, inl, inr, ℕ, Bool, true, false, true≢false, eqb, ltb, List, [], ◌∷◌, length, position, get_or, All, Option, Some, None, is_some, Result, Ok, Err, IfOk, OnOk, OnErr, IfSome, IsSome, OnSome, IsFalse, IsTrue, refl, sym, ap, subst, ◌∙◌, ⊎_elim, arith}
+use Rattle.std.specs.Prelude.{bytes_eq}
 use Rattle.std.specs.Result.{result_ok}
 use Rattle.std.specs.declared.alloc.AllocError.{AllocError}
 use Rattle.std.proofs.Math.Path.{fun_ext}
 use Rattle.std.specs.Option.{option_map_or}
-use Rattle.std.proofs.lemmas.Bool.{cases_Bool, both_ways, cond-false}
+use Rattle.std.proofs.lemmas.Bool.{cases_Bool, both_ways}
 use Rattle.std.proofs.lemmas.Bool.Decides.{nat_tests}
 use Rattle.class_table.specs.declared.class.Class.{Class}
 use Rattle.property_store.specs.Store.{fields_in}
@@ -13,20 +13,16 @@ use Rattle.std.proofs.lemmas.Slice.Eq.{bytes_eq-Decides}
 use Rattle.isolation.specs.World.{after, all_arrive}
 use Rattle.isolation.proofs.Worlds.{after-other, after-own}
 use Rattle.refusals.specs.declared.code.Code.{Code}
-use Rattle.refusals.specs.declared.code.Code.TheVariants.{SessionFailed}
 use Rattle.thread_model.specs.declared.line.Line.{Line}
 use Rattle.thread_model.specs.declared.line.Line.TheVariants.{Error}
-use Rattle.thread_model.specs.Asked.{Asked, Reset}
-use Rattle.thread_model.specs.Effects.{unless}
+use Rattle.thread_model.specs.Asked.{Asked}
+use Rattle.thread_model.specs.Fitting.{AreSettings, IsFittingAsked, IsRightPost}
 use Rattle.thread_model.specs.Machine.{machine}
 use Rattle.thread_model.specs.Refusing.{refusal}
 use Rattle.thread_model.specs.declared.post.Post.{Post}
-use Rattle.thread_model.specs.State.{IsDeclared, IsSound, State, fields_of}
-use Rattle.thread_model.specs.Thread.{Settings, arrive_all, arrives, does, performs}
-use Rattle.thread_model.proofs.DeclaredLemmas.{keeps_declared}
+use Rattle.thread_model.specs.State.{State, fields_of}
+use Rattle.thread_model.specs.Thread.{Settings, does}
 use Rattle.thread_model.proofs.Lawful.{lawful}
-use Rattle.thread_model.proofs.LawLemmas.{keeps_sound}
-use Rattle.thread_model.proofs.ArrivingLemmas.{arrive_all-is}
 use Rattle.session_tables.specs.Session.{Session, fresh, gone}
 use Rattle.session_tables.specs.Reaching.{Hears, heard}
 use Rattle.session_tables.specs.Tables.{AreEven, IsPlaced, session_at}
@@ -36,8 +32,9 @@ use Rattle.nested_calls.specs.Front.{IsFront}
 use Rattle.nested_calls.proofs.FrontLemmas.{front_same}
 use Rattle.session_engine.specs.Commands.{OthersHear}
 use Rattle.session_engine.specs.Core.{Contents, IsKept, IsWhole, place, seen, sessions, states}
-use Rattle.session_engine.specs.Sessions.{AnotherFails, Fails, IsStep, Sessions, given_by, is_reset, is_shut, session_after, session_does, session_refusal}
+use Rattle.session_engine.specs.Sessions.{AnotherFails, Fails, IsStep, Sessions, given_by, session_after, session_does, session_refusal}
 use Rattle.session_engine.proofs.EngineLemmas.{kept_by_name, one_name, placed, sessions-place, sound_by_name}
+use Rattle.session_engine.proofs.SessionLemmas.{does_fine, heard_state, kept_fresh, kept_gone, kept_heard, not_shut, right_front, right_posts, sound_after}
 
 some_if : {T : Type 0} (P : T → Type 0) (value : Option T) (x : T) → value ≡ Some x → P x → IfSome value P
 some_if P value x e h = subst (λ value. IfSome value P) (sym e) h
@@ -54,52 +51,6 @@ on_none P value e = subst (λ value. OnSome value P) (sym e) tt
 
 pub some_none : {T : Type 0} (x : T) → Some x ≡ None → ⊥
 some_none x e = cc
-
-module _ (settings : Settings) (name : List ℕ) (session : Session) (asked : Asked) where
-  -- a session that has not failed is not shut
-  pub not_shut : session.failed ≡ false → is_shut session asked ≡ false
-  not_shut fine = ap (λ failed. failed && not (is_reset asked)) fine
-
-  -- and does the command
-  pub does_fine : session.failed ≡ false → session_does settings name session asked ≡ does settings name session.state asked
-  unfolding does
-  does_fine fine = ap (λ b. unless (if b then Some SessionFailed else refusal settings name session.state asked) session.state (performs settings name session.state asked)) (not_shut fine)
-
-  -- the one that begins anew is not refused
-  mends : is_reset asked ≡ true → refusal settings name session.state asked ≡ None
-  unfolding refusal
-  mends reset = by asked reset
-    where
-      by : (asked : Asked) → is_reset asked ≡ true → refusal settings name session.state asked ≡ None
-      by Reset reset = refl
-      by _ reset = absurd (cc)
-
-  -- a refused command leaves the session
-  pub refused_after : (code : Code) → session_refusal settings name session asked ≡ Some code → session_after settings name session asked ≡ session
-  refused_after code e =
-      ap (λ refusal. record { state = (unless refusal session.state (performs settings name session.state asked)).state; failed = is_shut session asked }) e
-      ∙ ap (λ failed. record { state = session.state; failed = failed }) (same session.failed (is_reset asked) refl refl)
-    where
-      same : (failed reset : Bool) → session.failed ≡ failed → is_reset asked ≡ reset → (failed && not reset) ≡ session.failed
-      same true true was reset = absurd (some_none code (sym e ∙ ap (λ b. if b then Some SessionFailed else refusal settings name session.state asked) (ap (λ failed. failed && not (is_reset asked)) was ∙ ap not reset) ∙ mends reset))
-      same true false was reset = sym was
-      same false reset was is = sym was
-
-  pub sound_after : IsSound session.state → IsSound (session_does settings name session asked).state
-  unfolding does
-  sound_after sound = by (is_shut session asked)
-    where
-      by : (shut : Bool) → IsSound (unless (if shut then Some SessionFailed else refusal settings name session.state asked) session.state (performs settings name session.state asked)).state
-      by true = sound
-      by false = keeps_sound.by_command settings name session.state asked sound
-
-  pub declared_after : IsSound session.state → IsDeclared settings.classes session.state → IsDeclared settings.classes (session_does settings name session asked).state
-  unfolding does
-  declared_after sound declared = by (is_shut session asked)
-    where
-      by : (shut : Bool) → IsDeclared settings.classes (unless (if shut then Some SessionFailed else refusal settings name session.state asked) session.state (performs settings name session.state asked)).state
-      by true = declared
-      by false = keeps_declared.by_command settings name session.state asked sound declared
 
 -- what is refused is no value
 pub some_none_of : {T P : Type 0} (refusal : Option T) → refusal ≡ None → IsSome refusal → P
@@ -130,31 +81,7 @@ pub record Ended (old new : Contents) (at : ℕ) (name : List ℕ) (asked : Aske
 heard_fresh : (classes : List Class) (from : List ℕ) (posts : List Post) → fresh ≡ heard classes from posts fresh
 heard_fresh classes from posts = sym (heard_stranger classes from posts fresh refl)
 
--- a session that has not failed is in the state that posts leave
-pub heard_state : (settings : Settings) (from : List ℕ) (posts : List Post) (session : Session) → session.failed ≡ false → (heard settings.classes from posts session).state ≡ all_arrive (machine settings) session.state from posts
-heard_state settings from posts session fine =
-    ap (λ (session : Session). session.state) (cond-false session.failed session (record { state = arrive_all settings.classes session.state from posts; failed = false }) fine) ∙ sym (arrive_all-is settings session.state from posts)
-
--- what a session must be, it is when it has heard posts
-pub kept_heard : (classes : List Class) (was now : Bool) (from : List ℕ) (posts : List Post) (session : Session) → (IsFalse now → IsFalse was) → IsKept classes was session → IsKept classes now (heard classes from posts session)
-kept_heard classes was now from posts session less kept = by session.failed refl
-  where
-    arrived : (state : State) (posts : List Post) → IsSound state → IsSound (arrive_all classes state from posts)
-    arrived state [] sound = sound
-    arrived state (post ∷ posts) sound = arrived (arrives classes state from post) posts (keeps_sound.by_post classes state from post sound)
-
-    declares : (state : State) (posts : List Post) → IsDeclared classes state → IsDeclared classes (arrive_all classes state from posts)
-    declares state [] declared = declared
-    declares state (post ∷ posts) declared = declares (arrives classes state from post) posts (keeps_declared.by_post classes state from post declared)
-
-    by : (failed : Bool) → session.failed ≡ failed → IsKept classes now (cond failed session (record { state = arrive_all classes session.state from posts; failed = false }))
-    by true e = record { well = λ none. kept.well (less none); sound = kept.sound; declared = kept.declared }
-    by false e = record { well = λ none. refl; sound = arrived session.state posts kept.sound; declared = declares session.state posts kept.declared }
-
-pub kept_gone : (classes : List Class) → IsKept classes true gone
-kept_gone classes = record { well = λ none. absurd (true≢false none); sound = keeps_sound.at_first; declared = keeps_declared.at_first classes }
-
-module _ (old new : Contents) (at : ℕ) (name : List ℕ) (asked : Asked) (told : Option (List Line)) (failing : Bool) (whole : IsWhole old) (there : place old name ≡ Some at) (ended : Ended old new at name asked told failing) where
+module _ (old new : Contents) (at : ℕ) (name : List ℕ) (asked : Asked) (told : Option (List Line)) (failing : Bool) (whole : IsWhole old) (named : (state : State) → IsFittingAsked old.settings state asked) (there : place old name ≡ Some at) (ended : Ended old new at name asked told failing) where
   own : sessions old name ≡ session_at old.tables at
   own = sessions-place old name at there
 
@@ -205,53 +132,64 @@ module _ (old new : Contents) (at : ℕ) (name : List ℕ) (asked : Asked) (told
       by (Quiet none some e) = sym e ∙ found
       by (Loud either e) = absurd (both_ways _ found e)
 
-  kept_own : IsKept old.settings.classes new.memory_refused (session_at new.tables at)
+  kept_own : IsKept old.settings new.memory_refused (session_at new.tables at)
   kept_own = by ended.own ended.mark
     where
-      by : Own old.settings name asked told ended.posts (session_at old.tables at) (session_at new.tables at) → Marks old.memory_refused new.memory_refused failing told → IsKept old.settings.classes new.memory_refused (session_at new.tables at)
-      by (Told lines e posts) mark = subst (IsKept old.settings.classes new.memory_refused) (sym e)
+      by : Own old.settings name asked told ended.posts (session_at old.tables at) (session_at new.tables at) → Marks old.memory_refused new.memory_refused failing told → IsKept old.settings new.memory_refused (session_at new.tables at)
+      by (Told lines e posts) mark = subst (IsKept old.settings new.memory_refused) (sym e)
           (record {
             well = λ found. not_shut old.settings name (session_at old.tables at) asked ((whole.kept at).well (less found));
-            sound = sound_after old.settings name (session_at old.tables at) asked (whole.kept at).sound;
-            declared = declared_after old.settings name (session_at old.tables at) asked (whole.kept at).sound (whole.kept at).declared;
+            sound = sound_after old.settings name (session_at old.tables at) asked whole.settings (named (session_at old.tables at).state) (whole.kept at).sound;
           })
       by (GaveUp nothing e front) (Quiet none some f) = let no : false ≡ true = ap is_some (sym nothing) ∙ some in absurd (true≢false (sym no))
-      by (GaveUp nothing e front) (Loud either f) = subst (λ mark. IsKept old.settings.classes mark (session_at new.tables at)) (sym f) (subst (IsKept old.settings.classes true) (sym e) (kept_gone old.settings.classes))
+      by (GaveUp nothing e front) (Loud either f) = subst (λ mark. IsKept old.settings mark (session_at new.tables at)) (sym f) (subst (IsKept old.settings true) (sym e) (kept_gone old.settings))
 
-  kept_other : (other : ℕ) → eqb other at ≡ false → IsPlaced old.tables other → IsKept old.settings.classes new.memory_refused (session_at new.tables other)
+  -- what it has posted is right
+  right : All IsRightPost ended.posts
+  right = by ended.own
+    where
+      own_front : (posts : List Post) → IsFront posts (session_does old.settings name (session_at old.tables at) asked).posts → All IsRightPost posts
+      own_front = right_front old.settings name (session_at old.tables at) asked whole.settings (named (session_at old.tables at).state) (whole.kept at).sound
+
+      by : Own old.settings name asked told ended.posts (session_at old.tables at) (session_at new.tables at) → All IsRightPost ended.posts
+      by (Told lines e posts) = subst (All IsRightPost) (sym posts) (right_posts old.settings name (session_at old.tables at) asked whole.settings (named (session_at old.tables at).state) (whole.kept at).sound)
+      by (GaveUp nothing e front) = own_front ended.posts front
+
+  kept_other : (other : ℕ) → eqb other at ≡ false → IsPlaced old.tables other → IsKept old.settings new.memory_refused (session_at new.tables other)
   kept_other other apart placed = by ended.mark
     where
-      heard_one : IsKept old.settings.classes new.memory_refused (heard old.settings.classes name ended.posts (session_at old.tables other))
-      heard_one = kept_heard old.settings.classes old.memory_refused new.memory_refused name ended.posts (session_at old.tables other) less (whole.kept other)
+      heard_one : IsKept old.settings new.memory_refused (heard old.settings.classes name ended.posts (session_at old.tables other))
+      heard_one = kept_heard old.settings old.memory_refused new.memory_refused name ended.posts (session_at old.tables other) less right (whole.kept other)
 
-      by : Marks old.memory_refused new.memory_refused failing told → IsKept old.settings.classes new.memory_refused (session_at new.tables other)
-      by (Quiet none some e) = subst (IsKept old.settings.classes new.memory_refused) (sym (ended.others.all none other apart placed)) heard_one
+      by : Marks old.memory_refused new.memory_refused failing told → IsKept old.settings new.memory_refused (session_at new.tables other)
+      by (Quiet none some e) = subst (IsKept old.settings new.memory_refused) (sym (ended.others.all none other apart placed)) heard_one
       by (Loud either e) = either_way (ended.others.hear other apart placed)
         where
-          either_way : Hears old.settings.classes name ended.posts (session_at old.tables other) (session_at new.tables other) → IsKept old.settings.classes new.memory_refused (session_at new.tables other)
-          either_way (inl f) = subst (IsKept old.settings.classes new.memory_refused) (sym f) heard_one
-          either_way (inr f) = subst (λ mark. IsKept old.settings.classes mark (session_at new.tables other)) (sym e) (subst (IsKept old.settings.classes true) (sym f.1) (kept_gone old.settings.classes))
+          either_way : Hears old.settings.classes name ended.posts (session_at old.tables other) (session_at new.tables other) → IsKept old.settings new.memory_refused (session_at new.tables other)
+          either_way (inl f) = subst (IsKept old.settings new.memory_refused) (sym f) heard_one
+          either_way (inr f) = subst (λ mark. IsKept old.settings mark (session_at new.tables other)) (sym e) (subst (IsKept old.settings true) (sym f.1) (kept_gone old.settings))
 
   pub whole_after : IsWhole new
   whole_after = record {
+    settings = subst AreSettings (sym ended.settings) whole.settings;
     even = even;
     paired = ap length ended.names ∙ whole.paired ∙ sym ended.others.shape.places;
     named = subst (λ (names : List (List ℕ)). (at : ℕ) → at < length names → position (bytes_eq (get_or names at [])) names ≡ Some at) (sym ended.names) whole.named;
     laid = λ class. ap (λ layouts. fields_in layouts class) ended.others.shape.layouts ∙ whole.laid class ∙ ap (λ (settings : Settings). fields_of settings.classes class) (sym ended.settings);
-    kept = λ other. subst (λ (settings : Settings). IsKept settings.classes new.memory_refused (session_at new.tables other)) (sym ended.settings) (kept other);
+    kept = λ other. subst (λ (settings : Settings). IsKept settings new.memory_refused (session_at new.tables other)) (sym ended.settings) (kept other);
   }
     where
       even : AreEven new.tables
       even = ended.others.shape.even whole.even
 
-      kept : (other : ℕ) → IsKept old.settings.classes new.memory_refused (session_at new.tables other)
+      kept : (other : ℕ) → IsKept old.settings new.memory_refused (session_at new.tables other)
       kept other = by (eqb other at) (ltb other (length new.tables.failed.places)) refl refl
         where
-          by : (same within : Bool) → eqb other at ≡ same → ltb other (length new.tables.failed.places) ≡ within → IsKept old.settings.classes new.memory_refused (session_at new.tables other)
-          by true within e f = let is : at ≡ other = grind (arith, nat_tests, e) in subst (λ other. IsKept old.settings.classes new.memory_refused (session_at new.tables other)) is kept_own
+          by : (same within : Bool) → eqb other at ≡ same → ltb other (length new.tables.failed.places) ≡ within → IsKept old.settings new.memory_refused (session_at new.tables other)
+          by true within e f = let is : at ≡ other = grind (arith, nat_tests, e) in subst (λ other. IsKept old.settings new.memory_refused (session_at new.tables other)) is kept_own
           by false true e f = let less : other < length old.tables.failed.places = grind (arith, nat_tests, f, ended.others.shape.places) in kept_other other e (placed_by old.tables other whole.even less)
           by false false e f = let past : length new.tables.failed.places ≤ other = grind (arith, nat_tests, f) in
-              subst (IsKept old.settings.classes new.memory_refused) (sym (session_past new.tables other even past)) (record { well = λ found. refl; sound = keeps_sound.at_first; declared = keeps_declared.at_first old.settings.classes })
+              subst (IsKept old.settings new.memory_refused) (sym (session_past new.tables other even past)) (kept_fresh old.settings new.memory_refused)
 
   -- where memory was never refused no session had failed
   fine : IsFalse new.memory_refused → (other : List ℕ) → (sessions old other).failed ≡ false

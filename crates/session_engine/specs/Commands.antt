@@ -6,6 +6,8 @@ use Rattle.refusals.specs.declared.fault.Fault.{Fault}
 use Rattle.thread_model.specs.declared.line.Answer.{Answer}
 use Rattle.thread_model.specs.declared.line.Line.{Line}
 use Rattle.thread_model.specs.declared.line.Line.TheVariants.{Reply}
+use Rattle.thread_model.specs.declared.command.Command.{Command}
+use Rattle.thread_model.specs.declared.command.Command.TheVariants as c
 use Rattle.thread_model.specs.Asked.{Asked}
 use Rattle.thread_model.specs.Refusing.{refusal}
 use Rattle.thread_model.specs.Thread.{does, performs}
@@ -32,6 +34,38 @@ reply_lines answer = Reply answer ∷ []
 -- the same of a reply behind what was told before it
 abbrev pub reply_after : List Line → Answer → List Line
 reply_after lines answer = lines ++ Reply answer ∷ []
+
+-- the families of commands, in the order in which they are asked for: 0 for objects, their classes and properties;
+-- 1 for bindings, calls and events; 2 for connections; 3 for publications and joins
+abbrev pub family : Command → ℕ
+family (c.New class parent) = 0
+family (c.Delete target) = 0
+family (c.SetParent target parent) = 0
+family (c.Children target) = 0
+family (c.Find target title class) = 0
+family (c.Meta class) = 0
+family (c.Set target property value) = 0
+family (c.Get target property) = 0
+family (c.DynamicNames target) = 0
+family (c.Bind target property to) = 1
+family (c.Unbind target property) = 1
+family (c.BindingError target property) = 1
+family c.Begin = 1
+family c.End = 1
+family (c.Invoke target method args mode) = 1
+family c.Spin = 1
+family (c.DeleteLater target) = 1
+family (c.Block target on) = 1
+family c.Status = 1
+family (c.Connect sender signal receiver method mode unique single) = 2
+family (c.ConnectFunctor sender signal context functor mode unique single) = 2
+family (c.DisconnectOne connection) = 2
+family (c.Disconnect sender signal receiver method) = 2
+family (c.Publish target signal name) = 3
+family (c.Unpublish name) = 3
+family (c.Join from name types target method) = 3
+family (c.Leave from name target method) = 3
+family c.Reset = 3
 
 -- the tables know the properties that each class declares, and those of each object of the caller's session
 pub record KnowsProperties (caller : Caller) (tables : Tables) : Type 0 where

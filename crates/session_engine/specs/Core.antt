@@ -1,15 +1,15 @@
 -- What contracts see of the core of an engine.
 use Rattle.std.specs.Prelude.{◌≡◌, ℕ, Bool, List, ◌∷◌, ◌++◌, [], Option, Some, IsFalse, bytes_eq, length, position, ◌<◌, slice_index_or as get_or}
 use Rattle.std.specs.Option.{option_map_or}
-use Rattle.class_table.specs.declared.class.Class.{Class}
-use Rattle.thread_model.specs.State.{IsDeclared, IsSound, State}
+use Rattle.thread_model.specs.Fitting.{AreSettings}
+use Rattle.thread_model.specs.State.{State}
 use Rattle.thread_model.specs.Thread.{Settings}
 use Rattle.session_tables.specs.declared.tables.Tables.{Tables}
 use Rattle.session_tables.specs.Session.{Session, fresh}
 use Rattle.session_tables.specs.Tables as tables
 use Rattle.session_tables.specs.Tables.{AreEven, AreLaid, session_at}
 use Rattle.session_effects.specs.declared.setup.Setup.{Setup}
-use Rattle.session_engine.specs.Sessions.{Sessions}
+use Rattle.session_engine.specs.Sessions.{IsSoundSession, Sessions}
 use Rattle.session_effects.specs.Setup.{settings_of}
 
 pub record Contents : Type 0 where
@@ -71,18 +71,18 @@ OfSession engine at P = (name : List ℕ) → place engine name ≡ Some at → 
 abbrev pub opened : Contents → List ℕ → Contents
 opened engine name = record { settings = engine.settings; names = engine.names ++ name ∷ []; tables = tables.opened engine.tables; memory_refused = engine.memory_refused }
 
--- what holds of every session: it has failed only where memory was refused, its state is sound, and each
--- object has the properties that its class declares
-pub record IsKept (classes : List Class) (memory_refused : Bool) (session : Session) : Type 0 where
+-- what holds of every session: it has failed only where memory was refused, and it is sound
+pub record IsKept (settings : Settings) (memory_refused : Bool) (session : Session) : Type 0 where
   pub well : IsFalse memory_refused → IsFalse session.failed
-  pub sound : IsSound session.state
-  pub declared : IsDeclared classes session.state
+  pub sound : IsSoundSession settings session
 
--- each name has its place in every table, the tables know the classes, and every session is as it must be
+-- the classes and functors are sound, each name has its place in every table, the tables know the classes, and
+-- every session is as it must be
 pub record IsWhole (engine : Contents) : Type 0 where
+  pub settings : AreSettings engine.settings
   pub even : AreEven engine.tables
   pub paired : length engine.names ≡ length engine.tables.failed.places
   -- no two places have one name
   pub named : (at : ℕ) → at < length engine.names → place engine (get_or engine.names at []) ≡ Some at
   pub laid : AreLaid engine.settings.classes engine.tables
-  pub kept : (at : ℕ) → IsKept engine.settings.classes engine.memory_refused (session_at engine.tables at)
+  pub kept : (at : ℕ) → IsKept engine.settings engine.memory_refused (session_at engine.tables at)

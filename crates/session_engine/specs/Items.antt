@@ -1,18 +1,19 @@
 -- What comes to a session, one thing after another, and what becomes of the session and of all others.
-use Rattle.std.specs.Prelude.{◌≡◌, ◌⊎◌, ℕ, List, [], ◌∷◌, ◌++◌, Option, Some, None, Result, OnOk, OnErr, IsTrue, IsFalse, bytes_eq}
+use Rattle.std.specs.Prelude.{◌≡◌, ◌⊎◌, ℕ, List, [], ◌∷◌, ◌++◌, Option, Some, None, IfNone, IfSome, OnSome, IsTrue, IsFalse, bytes_eq, option_map}
 use Rattle.isolation.specs.Alone as theory
 use Rattle.isolation.specs.Alone.{alone_after, alone_lines, alone_posts}
 use Rattle.isolation.specs.World.{all_arrive}
 use Rattle.thread_model.specs.declared.line.Line.{Line}
 use Rattle.thread_model.specs.declared.post.Post.{Post}
 use Rattle.thread_model.specs.Asked.{Asked, asked}
+use Rattle.thread_model.specs.Fitting.{IsRightPost}
 use Rattle.thread_model.specs.Machine.{machine}
 use Rattle.thread_model.specs.Thread.{arrives}
 use Rattle.session_tables.specs.Reaching.{heard}
 use Rattle.session_tables.specs.Session.{fresh, gone}
 use Rattle.session_engine.specs.declared.item.Item.{Item}
 use Rattle.session_engine.specs.declared.item.Item.TheVariants as code
-use Rattle.session_engine.specs.Sessions.{AnotherFails, AreSound, OthersStay, Sessions, states_of}
+use Rattle.session_engine.specs.Sessions.{AnotherFails, AreSound, IsStep, OthersStay, Sessions, states_of}
 
 abbrev pub Coming : Type 0
 Coming = theory.Item (List ℕ) Asked Post
@@ -27,34 +28,53 @@ abbrev pub all_lines : List (List Line) → List Line
 all_lines [] = []
 all_lines (lines ∷ rest) = lines ++ all_lines rest
 
--- a post of the session `from` has come to the session of this name
-pub record HasArrived {T E : Type 0} (old new : Sessions) (name from : List ℕ) (post : Post) (result : Result T E) : Type 0 where
+-- the post that comes, where one does, is right
+abbrev pub IsRightItem : Item → Type 0
+IsRightItem (code.Own command) = Unit {0}
+IsRightItem (code.Arrival from post) = IsRightPost post
+
+-- a post of the session `from` has come to the session of this name, unless memory was wanted for it
+pub record HasArrived {T : Type 0} (old new : Sessions) (name from : List ℕ) (post : Post) (done : Option T) : Type 0 where
   -- where memory was never refused it has done what a post does
   pub state : IsFalse new.memory_refused → states_of new name ≡ arrives old.settings.classes (states_of old name) from post
   -- and always the session has heard it, or has ignored it, having failed before
-  pub hears : OnOk result (new.session name ≡ heard old.settings.classes from (post ∷ []) (old.session name))
+  pub hears : OnSome done (new.session name ≡ heard old.settings.classes from (post ∷ []) (old.session name))
   -- unless memory was wanted for it: then this session alone has failed
-  pub fails : OnErr result ((new.session name ≡ gone) × IsFalse (old.session name).failed)
+  pub fails : IfNone done ((new.session name ≡ gone) × IsFalse (old.session name).failed)
   pub others : OthersStay old new name
   pub settings : new.settings ≡ old.settings
-  pub found : OnOk result (new.memory_refused ≡ old.memory_refused)
-  pub memory : OnErr result (IsTrue new.memory_refused)
+  pub found : OnSome done (new.memory_refused ≡ old.memory_refused)
+  pub memory : IfNone done (IsTrue new.memory_refused)
   pub sound : AreSound new
 
--- these items have come to the session of this name, in order, up to the first for which memory was wanted in vain
+-- one item has come to the session of this name: a command is its step, a post has arrived; and what the
+-- session is told of it, unless memory was wanted for it in vain
+abbrev pub HasCome : Sessions → Sessions → List ℕ → Coming → Option (List Line) → Type 0
+HasCome old new name (theory.Own command) told = IsStep old new name command told
+HasCome old new name (theory.Arrival from post) told = HasArrived old new name from post told × IfSome told (λ lines. lines ≡ [])
+
+-- one item has come, and its lines are put behind those that were told before
+abbrev pub HasAdded : Sessions → Sessions → List ℕ → Coming → List Line → List Line → Type 0
+HasAdded old new name item before after = (lines : List Line) × HasCome old new name item (Some lines) × (after ≡ before ++ lines)
+
+-- items have come in order, each to where the one before has left all sessions, up to the first for which
+-- memory was wanted in vain; what is told is the lines of each, in that order, or nothing where memory was wanted
+abbrev pub HaveCome : Sessions → Sessions → List ℕ → List Coming → Option (List Line) → Type 0
+HaveCome old new name [] told = (new ≡ old) × (told ≡ Some [])
+HaveCome old new name (item ∷ items) told =
+    (HasCome old new name item None × (told ≡ None))
+    ⊎ ((between : Sessions) × (lines : List Line) × (rest : Option (List Line)) × HasCome old between name item (Some lines) × HaveCome between new name items rest × (told ≡ option_map (λ more. lines ++ more) rest))
+
+-- what comes of items for a session and for all others
 pub record RunsAlone (old new : Sessions) (name : List ℕ) (items : List Coming) (told : Option (List Line)) : Type 0 where
+  -- whatever memory was refused, before them or in them
+  pub come : HaveCome old new name items told
   -- where memory was never refused it is told what a session alone is told, and is left so
   pub lines : IsFalse new.memory_refused → told ≡ Some (all_lines (alone_lines (machine old.settings) name (states_of old name) items))
   pub own : IsFalse new.memory_refused → states_of new name ≡ alone_after (machine old.settings) name (states_of old name) items
   -- and every other session has heard what it posts
   pub others : IsFalse new.memory_refused → (other : List ℕ) → IsFalse (bytes_eq other name) → states_of new other ≡ all_arrive (machine old.settings) (states_of old other) name (alone_posts (machine old.settings) name (states_of old name) items)
-  pub settings : new.settings ≡ old.settings
-  -- another session that has failed stays as it is
-  pub stay : (other : List ℕ) → IsFalse (bytes_eq other name) → IsTrue (old.session other).failed → new.session other ≡ old.session other
-  -- that memory was refused is remembered
-  pub kept : IsTrue old.memory_refused → IsTrue new.memory_refused
-  pub memory : told ≡ None → IsTrue new.memory_refused
-  -- and comes only of an item that has found none, or of another session that has failed by a post
+  -- memory is refused first only for an item that has found none, or for another session that has failed by a post
   pub blame : IsFalse old.memory_refused → IsTrue new.memory_refused → (told ≡ None) ⊎ AnotherFails old new name
   pub sound : AreSound new
 

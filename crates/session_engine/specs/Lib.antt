@@ -1,6 +1,5 @@
 pub mod Returning
 pub mod Sessions
-pub mod Invocation
 pub mod Commands
 pub mod Core
 pub mod Engine

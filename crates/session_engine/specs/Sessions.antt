@@ -8,6 +8,7 @@ use Rattle.thread_model.specs.declared.line.Line.{Line}
 use Rattle.thread_model.specs.declared.post.Post.{Post}
 use Rattle.thread_model.specs.Asked.{Asked, Reset}
 use Rattle.thread_model.specs.Effects.{unless}
+use Rattle.thread_model.specs.Fitting.{IsFitting}
 use Rattle.thread_model.specs.Machine.{machine}
 use Rattle.thread_model.specs.Refusing.{refusal}
 use Rattle.thread_model.specs.State.{IsDeclared, IsSound, State}
@@ -65,9 +66,19 @@ AnotherFails old new name = (other : List ℕ) × IsFalse (bytes_eq other name) 
 abbrev pub AreWell : Sessions → Type 0
 AreWell sessions = IsFalse sessions.memory_refused → (name : List ℕ) → IsFalse (sessions.session name).failed
 
--- the state of every session is sound, and each object has the properties that its class declares
+-- what holds of every session between commands, whatever memory was refused
+pub record IsSoundSession (settings : Settings) (session : Session) : Type 0 where
+  pub sound : IsSound session.state
+  -- each object has the properties that its class declares
+  pub declared : IsDeclared settings.classes session.state
+  -- what it holds fits the classes and the functors
+  pub fitting : IsFitting settings session.state
+  -- one that has failed holds nothing
+  pub empty : IsTrue session.failed → session ≡ gone
+
+-- so it is with every session
 abbrev pub AreSound : Sessions → Type 0
-AreSound sessions = (name : List ℕ) → IsSound (states_of sessions name) × IsDeclared sessions.settings.classes (states_of sessions name)
+AreSound sessions = (name : List ℕ) → IsSoundSession sessions.settings (sessions.session name)
 
 -- the session of this name has failed for memory that was refused
 pub record Fails (old new : Sessions) (name : List ℕ) : Type 0 where

@@ -1,4 +1,4 @@
-//! The commands for bindings and groups.
+//! The commands that bind properties to expressions, and that begin and end groups of changes.
 ghost use Rattle.std.specs.Prelude.{◌≡◌, ◌∷◌, [], Ok, false};
 ghost use Rattle.std.specs.Result.{result_err};
 ghost use Rattle.refusals.specs.Answers.{Answers};

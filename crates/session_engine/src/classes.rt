@@ -1,4 +1,4 @@
-//! The commands for classes.
+//! The command that describes a class.
 ghost use Rattle.std.specs.Prelude.{◌≡◌, IfOk, map, option_and_then, string_bytes, false};
 ghost use Rattle.thread_model.specs.Asked.{Meta};
 ghost use Rattle.thread_model.specs.Classes.{class_name};

@@ -1,26 +1,28 @@
 //! What a command does to the session that gives it.
-ghost use Rattle.std.specs.Prelude.{◌≡◌, ◌∷◌, [], IfOk, IsFalse, false};
-ghost use Rattle.thread_model.specs.Asked.{Do, asked};
+ghost use Rattle.std.specs.Prelude.{◌≡◌, ◌≤◌, ◌∷◌, [], IfOk, IsFalse, false};
+ghost use Rattle.thread_model.specs.Asked.{asked};
 ghost use Rattle.session_tables.specs.Tables.{IsPlaced};
-ghost use Rattle.session_engine.specs.Commands.{KnowsProperties, Obeys, Performs, reply_after, reply_lines};
+ghost use Rattle.session_engine.specs.Commands.{KnowsProperties, Obeys, Performs, family, reply_after, reply_lines};
 ghost use Rattle.nested_calls.specs.Telling.{fresh_telling};
 ghost use Rattle.session_engine.specs.Returning.{wants_memory};
 
 use crate::bindings::{begin, bind, binding_error, end, unbind};
 use crate::classes::describe;
 use crate::connections::{connect, connect_functor, disconnect, disconnect_one};
+use crate::deeds::{block, delete_later, set_parent};
 use crate::events::{spin, status};
 use crate::invocation::invoke;
 use crate::properties::{dynamic_names, get, set};
 use crate::sharing::{join, leave, publish, renew, reset, unpublish};
 use crate::trees::{children, delete_object, find, new_object};
+use connection_types::ConnectionType;
 use nested_calls::{Actor, Answering, Telling};
 use plain_types::Items;
 use refusals::{Code, Fault};
-use session_effects::{Caller, Options, do_deed};
+use session_effects::{Caller, Options};
 use session_tables::Tables;
 use std::alloc::{AllocError, Global};
-use thread_model::{Answer, Command, Deed, Line};
+use thread_model::{Answer, Command, Line};
 
 /// Lets a session do a command; one that has failed can only begin anew. Where memory is wanted and not
 /// found, it has failed.
@@ -66,7 +68,8 @@ fn reply<F: Answering>(
     Ok(telling.lines)
 }
 
-/// Does a command, tells what it tells before its reply, and returns what is replied.
+/// Does a command, tells what it tells before its reply, and returns what is replied: one for objects, their
+/// classes and properties.
 #[tactic(auto, using(crate::proofs::CommandsLemmas::silently))]
 fn perform<F: Answering>(
     actor: &Actor<F>,
@@ -82,12 +85,16 @@ fn perform<F: Answering>(
     match command {
         Command::New { class, parent } => new_object(&actor.caller, tables, class, *parent),
         Command::Delete { object } => delete_object(actor, tables, telling, *object),
+        Command::SetParent { object, parent } => {
+            set_parent(&actor.caller, tables, *object, *parent)
+        }
         Command::Children { object } => children(&actor.caller, tables, *object),
         Command::Find {
             object,
             name,
             class,
         } => find(&actor.caller, tables, *object, name, class),
+        Command::Meta { class } => describe(&actor.caller, tables, class),
         Command::Set {
             object,
             property,
@@ -95,109 +102,25 @@ fn perform<F: Answering>(
         } => set(actor, tables, telling, *object, property, value),
         Command::Get { object, property } => get(&actor.caller, tables, *object, property),
         Command::DynamicNames { object } => dynamic_names(&actor.caller, tables, *object),
-        Command::Meta { class } => describe(&actor.caller, tables, class),
-        Command::Connect {
-            sender,
-            signal,
-            receiver,
-            method,
-            mode,
-            unique,
-            single,
-        } => {
-            let options = Options {
-                mode: *mode,
-                unique: *unique,
-                single: *single,
-            };
-            connect(
-                &actor.caller,
-                tables,
-                *sender,
-                signal,
-                *receiver,
-                method,
-                options,
-            )
-        }
-        Command::ConnectFunctor {
-            sender,
-            signal,
-            context,
-            functor,
-            mode,
-            unique,
-            single,
-        } => {
-            let options = Options {
-                mode: *mode,
-                unique: *unique,
-                single: *single,
-            };
-            connect_functor(
-                &actor.caller,
-                tables,
-                *sender,
-                signal,
-                *context,
-                functor,
-                options,
-            )
-        }
-        Command::DisconnectOne { connection } => disconnect_one(&actor.caller, tables, *connection),
-        Command::Disconnect {
-            sender,
-            signal,
-            receiver,
-            method,
-        } => disconnect(&actor.caller, tables, *sender, signal, *receiver, method),
-        Command::Invoke {
-            object,
-            method,
-            args,
-            mode,
-            priority,
-        } => invoke(
-            actor,
-            tables,
-            telling,
-            *object,
-            method,
-            args.as_slice(),
-            *mode,
-            *priority,
-        ),
-        Command::Spin => spin(actor, tables, telling),
-        Command::Do(deed) => deed_command(&actor.caller, tables, *deed),
-        Command::Status => status(&actor.caller, tables),
-        Command::Publish {
-            object,
-            signal,
-            name,
-        } => publish(&actor.caller, tables, *object, signal, name),
-        Command::Unpublish { name } => unpublish(&actor.caller, tables, name),
-        Command::Join {
-            from,
-            name,
-            types,
-            object,
-            method,
-        } => join(
-            &actor.caller,
-            tables,
-            from,
-            name,
-            types.as_slice(),
-            *object,
-            method,
-        ),
-        Command::Leave {
-            from,
-            name,
-            object,
-            method,
-        } => leave(&actor.caller, tables, from, name, *object, method),
-        Command::Reset => reset(&actor.caller, tables),
+        _ => perform_bound(actor, tables, telling, command),
+    }
+}
+
+/// The same of a command for bindings, calls and events, or for what other sessions may see.
+#[tactic(auto, using(crate::proofs::CommandsLemmas::silently))]
+fn perform_bound<F: Answering>(
+    actor: &Actor<F>,
+    tables: &mut Tables,
+    telling: &mut Telling,
+    command: &Command,
+) -> Result<Answer, Fault>
+    requires placed { IsPlaced tables.old actor.now.caller.place }
+    requires known { KnowsProperties actor.now.caller tables.old }
+    requires fresh { telling.old ≡ fresh_telling actor.now.caller.setup.now.turns }
+    requires family { 1 ≤ family command.now }
+    ensures { Performs actor.now.caller (asked command.now) tables.old tables.new telling.new.failing (reply_after telling.new.lines) result }
+{
+    match command {
         Command::Bind {
             object,
             property,
@@ -209,15 +132,115 @@ fn perform<F: Answering>(
         }
         Command::Begin => begin(&actor.caller, tables),
         Command::End => end(actor, tables, telling),
+        Command::Invoke {
+            object,
+            method,
+            args,
+            mode,
+            priority,
+        } => {
+            let args = args.as_slice();
+            invoke(
+                actor, tables, telling, *object, method, args, *mode, *priority,
+            )
+        }
+        Command::Spin => spin(actor, tables, telling),
+        Command::DeleteLater { object } => delete_later(&actor.caller, tables, *object),
+        Command::Block { object, on } => block(&actor.caller, tables, *object, *on),
+        Command::Status => status(&actor.caller, tables),
+        _ => perform_connection(&actor.caller, tables, command),
     }
 }
 
-/// Does a deed.
-fn deed_command(caller: &Caller, tables: &mut Tables, deed: Deed) -> Result<Answer, Fault>
-    requires { IsPlaced tables.old caller.now.place }
-    ensures { Performs caller.now (Do deed) tables.old tables.new false reply_lines result }
+/// Does a command for connections, or for publications and joins.
+fn perform_connection(
+    caller: &Caller,
+    tables: &mut Tables,
+    command: &Command,
+) -> Result<Answer, Fault>
+    requires placed { IsPlaced tables.old caller.now.place }
+    requires family { 2 ≤ family command.now }
+    ensures { Performs caller.now (asked command.now) tables.old tables.new false reply_lines result }
 {
-    do_deed(tables, caller.place, deed)
+    match command {
+        Command::Connect {
+            sender,
+            signal,
+            receiver,
+            method,
+            mode,
+            unique,
+            single,
+        } => {
+            let options = options(*mode, *unique, *single);
+            connect(caller, tables, *sender, signal, *receiver, method, options)
+        }
+        Command::ConnectFunctor {
+            sender,
+            signal,
+            context,
+            functor,
+            mode,
+            unique,
+            single,
+        } => {
+            let options = options(*mode, *unique, *single);
+            connect_functor(caller, tables, *sender, signal, *context, functor, options)
+        }
+        Command::DisconnectOne { connection } => disconnect_one(caller, tables, *connection),
+        Command::Disconnect {
+            sender,
+            signal,
+            receiver,
+            method,
+        } => disconnect(caller, tables, *sender, signal, *receiver, method),
+        _ => perform_sharing(caller, tables, command),
+    }
+}
+
+/// What a command asks of its connection.
+fn options(mode: ConnectionType, unique: bool, single: bool) -> Options
+    ensures { result ≡ record { mode = mode; unique = unique; single = single } }
+{
+    Options {
+        mode,
+        unique,
+        single,
+    }
+}
+
+/// Does a command for publications and joins, or the one that begins anew.
+fn perform_sharing(caller: &Caller, tables: &mut Tables, command: &Command) -> Result<Answer, Fault>
+    requires placed { IsPlaced tables.old caller.now.place }
+    requires family { 3 ≤ family command.now }
+    ensures { Performs caller.now (asked command.now) tables.old tables.new false reply_lines result }
+{
+    match command {
+        Command::Publish {
+            object,
+            signal,
+            name,
+        } => publish(caller, tables, *object, signal, name),
+        Command::Unpublish { name } => unpublish(caller, tables, name),
+        Command::Join {
+            from,
+            name,
+            types,
+            object,
+            method,
+        } => {
+            let types = types.as_slice();
+            join(caller, tables, from, name, types, *object, method)
+        }
+        Command::Leave {
+            from,
+            name,
+            object,
+            method,
+        } => leave(caller, tables, from, name, *object, method),
+        Command::Reset => reset(caller, tables),
+        _ => unreachable!(),
+    }
 }
 
 /// A list of one line.

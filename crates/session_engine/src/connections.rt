@@ -1,4 +1,4 @@
-//! The commands for connections.
+//! The commands that tie signals to what they call, and untie them.
 ghost use Rattle.std.specs.Prelude.{false};
 ghost use Rattle.thread_model.specs.Asked.{Connect, ConnectFunctor, Disconnect, DisconnectOne};
 ghost use Rattle.session_tables.specs.Tables.{IsPlaced};

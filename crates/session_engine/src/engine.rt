@@ -34,15 +34,17 @@ impl Drop for Engine {
 }
 
 impl Engine {
-    ghost use Rattle.std.specs.Prelude.{◌≤◌, length, List, ℕ, ◌++◌, ◌∷◌, [], Some, None, IsTrue, IsFalse, IfOk, OnOk, OnErr, map};
+    ghost use Rattle.std.specs.Prelude.{◌≤◌, length, All, List, ℕ, ◌++◌, ◌∷◌, [], Some, None, IsTrue, IsFalse, IfOk, OnOk, OnErr, map};
     ghost use Rattle.std.specs.Result.{result_ok};
     ghost use Rattle.refusals.specs.Answers.{OnMemory};
     ghost use Rattle.stored_slots.specs.declared.limit.TheConstants.{FUNCTORS};
+    ghost use Rattle.stored_slots.specs.Functors.{IsFunctor};
     ghost use Rattle.thread_model.specs.Asked.{asked};
+    ghost use Rattle.thread_model.specs.Fitting.{IsRightPost};
     ghost use Rattle.thread_model.specs.Thread.{performs};
     ghost use Rattle.session_tables.specs.Refused.{OnRefused};
     ghost use Rattle.session_tables.specs.Session.{fresh, gone};
-    ghost use Rattle.session_engine.specs.Items.{BeginsAnew, HasArrived, RunsAlone, item_of};
+    ghost use Rattle.session_engine.specs.Items.{BeginsAnew, HasArrived, IsRightItem, RunsAlone, item_of};
     ghost use Rattle.session_engine.specs.Returning.{Returns, told};
     ghost use Rattle.session_engine.specs.Sessions.{AreSound, AreWell, Fails, IsStep, is_shut, session_refusal};
     ghost use Rattle.session_engine.specs.Core.{IsPlace, OfSession, failed, names, place, seen, sessions, states, was_refused};
@@ -61,6 +63,7 @@ impl Engine {
     ) -> Result<Engine, AllocError>
         requires rows { rows ≡ functors_of functors }
         requires few { length rows ≤ FUNCTORS }
+        requires each { All IsFunctor rows }
         ensures sessions { IfOk result (λ engine. (name : List ℕ) → sessions (held engine) name ≡ fresh) }
         ensures names { IfOk result (λ engine. names (held engine) ≡ []) }
         ensures settings { IfOk result (λ engine. settings (held engine) ≡ record { turns = turns; classes = classes; functors = functors_of functors }) }
@@ -97,6 +100,7 @@ impl Engine {
         ensures settings { settings (held self.new) ≡ settings (held self.old) }
         ensures ok { OnOk result (was_refused (held self.new) ≡ was_refused (held self.old)) }
         ensures err { OnErr result (IsTrue (was_refused (held self.new)) × (names (held self.new) ≡ names (held self.old))) }
+        ensures sound { AreSound (seen (held self.new)) }
     {
         self.core.open(name)
     }
@@ -133,11 +137,13 @@ impl Engine {
         self.core.told(&self.functors, at, command)
     }
 
-    /// Lets a post of the session `from` come to a session. One that has failed ignores it; where memory is
-    /// wanted for it and not found, the session has failed.
+    /// Lets a post of the session `from` come to a session; it has as many arguments as kinds, each of its
+    /// kind. A session that has failed ignores it; where memory is wanted for it and not found, the session
+    /// has failed.
     pub fn arrive(&mut self, at: usize, from: &Text, post: &Post) -> Result<(), AllocError>
-        requires { IsPlace (held self.old) at }
-        ensures arrives { OfSession (held self.old) at (λ name. HasArrived (seen (held self.old)) (seen (held self.new)) name from.now post.now result) }
+        requires there { IsPlace (held self.old) at }
+        requires right { IsRightPost post.now }
+        ensures arrives { OfSession (held self.old) at (λ name. HasArrived (seen (held self.old)) (seen (held self.new)) name from.now post.now (result_ok result)) }
         ensures names { names (held self.new) ≡ names (held self.old) }
         ensures there { IsPlace (held self.new) at }
     {
@@ -147,7 +153,8 @@ impl Engine {
     /// Lets items come to a session, in order, and returns what its commands are told; a refusal is told by
     /// its line. The first for which memory is wanted and not found is the last, and the session has failed.
     pub fn alone(&mut self, at: usize, items: &[Item]) -> Result<Items<Line>, AllocError>
-        requires { IsPlace (held self.old) at }
+        requires there { IsPlace (held self.old) at }
+        requires right { All IsRightItem items.now }
         ensures alone { OfSession (held self.old) at (λ name. RunsAlone (seen (held self.old)) (seen (held self.new)) name (map item_of items.now) (result_ok result)) }
         ensures fails { OfSession (held self.old) at (λ name. OnErr result (sessions (held self.new) name ≡ gone)) }
         ensures names { names (held self.new) ≡ names (held self.old) }

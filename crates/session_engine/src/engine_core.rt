@@ -1,27 +1,29 @@
 //! What an engine has besides its functors, and what a command of one of its sessions does to all.
-ghost use Rattle.std.specs.Prelude.{◌≡◌, ◌≤◌, length, List, ℕ, ◌++◌, ◌∷◌, [], Some, None, IsTrue, IsFalse, IfOk, OnOk, OnErr, map};
+ghost use Rattle.std.specs.Prelude.{◌≡◌, ◌≤◌, length, All, List, ℕ, ◌++◌, ◌∷◌, [], Some, None, IsTrue, IsFalse, IfOk, OnOk, OnErr, map};
 ghost use Rattle.std.specs.Result.{result_ok};
 ghost use Rattle.refusals.specs.Answers.{OnMemory};
 ghost use Rattle.stored_slots.specs.declared.limit.TheConstants.{FUNCTORS};
+ghost use Rattle.stored_slots.specs.Functors.{IsFunctor};
 ghost use Rattle.thread_model.specs.declared.line.Line.TheVariants.{Error};
 ghost use Rattle.thread_model.specs.Asked.{asked};
+ghost use Rattle.thread_model.specs.Fitting.{IsRightPost};
 ghost use Rattle.thread_model.specs.Thread.{performs};
 ghost use Rattle.session_tables.specs.Refused.{OnRefused};
 ghost use Rattle.session_tables.specs.Session.{fresh, gone};
-ghost use Rattle.session_engine.specs.Items.{BeginsAnew, HasArrived, RunsAlone, item_of};
+ghost use Rattle.session_engine.specs.Items.{BeginsAnew, HasAdded, HasArrived, HasCome, IsRightItem, RunsAlone, item_of};
 ghost use Rattle.session_engine.specs.Returning.{Returns, told};
 ghost use Rattle.session_engine.specs.Sessions.{AreSound, AreWell, Fails, IsStep, is_shut, session_refusal};
 ghost use Rattle.session_engine.specs.Core.{IsPlace, KeepsPlaces, OfSession, failed, names, place, seen, sessions, settings, states, was_refused};
 
 use crate::commands::{obey, one_line, wants_memory};
 use crate::item::Item;
-use crate::layouts::layouts;
 use class_table::ClassTable;
 use indexmap::IndexSet;
 use nested_calls::{Actor, Answering};
 use plain_types::{Items, Text};
 use refusals::{Code, Fault};
 use session_effects::{Caller, Setup};
+use session_inputs::layouts;
 use session_tables::Tables;
 use std::alloc::{AllocError, Global};
 use std::hash::RandomState;
@@ -66,11 +68,14 @@ impl Core {
         hashing: RandomState,
     ) -> Result<Core, AllocError>
         requires few { length functors ≤ FUNCTORS }
+        requires each { All IsFunctor functors }
         ensures sessions { IfOk result (λ engine. (name : List ℕ) → sessions engine name ≡ fresh) }
         ensures names { IfOk result (λ engine. names engine ≡ []) }
         ensures settings { IfOk result (λ engine. settings engine ≡ record { turns = turns; classes = classes; functors = functors }) }
         ensures refused { IfOk result (λ engine. IsFalse (was_refused engine)) }
     {
+        // The look-up is for the proof, which then knows what holds of the table.
+        let _base = classes.class_row(0);
         let layouts = layouts(alloc, &classes)?;
         Ok(Core {
             names: IndexSet::with_hasher(alloc, hashing),
@@ -111,7 +116,9 @@ impl Core {
         ensures settings { settings self.new ≡ settings self.old }
         ensures ok { OnOk result (was_refused self.new ≡ was_refused self.old) }
         ensures err { OnErr result (IsTrue (was_refused self.new) × (names self.new ≡ names self.old)) }
+        ensures sound { AreSound (seen self.new) }
     {
+        self.sound();
         let entered = self.enter(name);
         if entered.is_err() {
             self.memory_refused = true;
@@ -211,8 +218,9 @@ impl Core {
     /// Lets a post of the session `from` come to a session. One that has failed ignores it; where memory is
     /// wanted for it and not found, the session has failed.
     pub fn arrive(&mut self, at: usize, from: &Text, post: &Post) -> Result<(), AllocError>
-        requires { IsPlace self.old at }
-        ensures arrives { OfSession self.old at (λ name. HasArrived (seen self.old) (seen self.new) name from.now post.now result) }
+        requires there { IsPlace self.old at }
+        requires right { IsRightPost post.now }
+        ensures arrives { OfSession self.old at (λ name. HasArrived (seen self.old) (seen self.new) name from.now post.now (result_ok result)) }
         ensures places { KeepsPlaces self.old self.new at }
     {
         let arrived = self
@@ -234,37 +242,40 @@ impl Core {
     ) -> Result<Items<Line>, AllocError>
         requires there { IsPlace self.old at }
         requires known { F.functors answering.now ≡ (settings self.old).functors }
+        requires right { All IsRightItem items.now }
         ensures alone { OfSession self.old at (λ name. RunsAlone (seen self.old) (seen self.new) name (map item_of items.now) (result_ok result)) }
         ensures fails { OfSession self.old at (λ name. OnErr result (sessions self.new name ≡ gone)) }
         ensures places { KeepsPlaces self.old self.new at }
     {
         let mut told = Items::new(self.setup.alloc);
         'items: for item in items {
-            let lines = self.come(answering, at, item)?;
-            self.append(at, &mut told, lines)?;
+            self.come(answering, at, item, &mut told)?;
         }
         Ok(told)
     }
 
-    /// Lets one item come to a session.
+    /// Lets one item come to a session, and puts what it is told of that behind what it was told before.
     fn come<F: Answering>(
         &mut self,
         answering: &F,
         at: usize,
         item: &Item,
-    ) -> Result<Items<Line>, AllocError>
+        told: &mut Items<Line>,
+    ) -> Result<(), AllocError>
         requires there { IsPlace self.old at }
         requires known { F.functors answering.now ≡ (settings self.old).functors }
-        ensures alone { OfSession self.old at (λ name. RunsAlone (seen self.old) (seen self.new) name (item_of item.now ∷ []) (result_ok result)) }
+        requires right { IsRightItem item.now }
+        ensures ok { OfSession self.old at (λ name. OnOk result (HasAdded (seen self.old) (seen self.new) name (item_of item.now) told.old told.new)) }
+        ensures err { OfSession self.old at (λ name. OnErr result (HasCome (seen self.old) (seen self.new) name (item_of item.now) None)) }
         ensures fails { OfSession self.old at (λ name. OnErr result (sessions self.new name ≡ gone)) }
         ensures places { KeepsPlaces self.old self.new at }
     {
         match item {
-            Item::Own(command) => self.told(answering, at, command),
-            Item::Arrival(from, post) => {
-                self.arrive(at, from, post)?;
-                Ok(Items::new(self.setup.alloc))
+            Item::Own(command) => {
+                let lines = self.told(answering, at, command)?;
+                self.append(at, told, lines)
             }
+            Item::Arrival(from, post) => self.arrive(at, from, post),
         }
     }
 

@@ -1,4 +1,4 @@
-//! The commands for events.
+//! The commands that take what waits in the session, and tell how much there is.
 ghost use Rattle.std.specs.Prelude.{◌≡◌, ◌∷◌, [], OnOk, false};
 ghost use Rattle.connection_types.specs.declared.callee.Callee.TheVariants.{Functor};
 ghost use Rattle.thread_model.specs.Agenda.{call_items, event_items};

@@ -1,7 +1,7 @@
 //! The command that calls a slot or sends a signal.
 ghost use Rattle.std.specs.Prelude.{◌≡◌, OnOk, OnErr, IsSome, map, slice_get};
 ghost use Rattle.serde_json.specs.View.{view};
-ghost use Rattle.refusals.specs.Answers.{Answers, RefusedBy};
+ghost use Rattle.refusals.specs.Answers.{RefusedBy};
 ghost use Rattle.connection_types.specs.declared.callee.Callee.TheVariants.{Method};
 ghost use Rattle.event_queue.specs.declared.event.Event.TheVariants.{Call};
 ghost use Rattle.thread_model.specs.Posting.{post_refusal};
@@ -12,18 +12,18 @@ ghost use Rattle.session_tables.specs.Tables.{IsPlaced, state_at, with_state};
 ghost use Rattle.session_effects.specs.Methods.{its_methods};
 ghost use Rattle.session_effects.specs.Setup.{settings_of};
 ghost use Rattle.session_engine.specs.Commands.{DoesAtFirst, Performs, reply_after};
-ghost use Rattle.session_engine.specs.Invocation.{is_limit};
 ghost use Rattle.nested_calls.specs.Telling.{fresh_telling};
 
 use connection_types::{Callee, ConnectionType};
 use event_queue::{Event, Priority, QueuedCall};
 use nested_calls::{Actor, Answering, Telling, emit, is_queued, run_slot};
-use plain_types::{Items, Text};
-use refusals::{Code, Fault};
+use plain_types::Text;
+use refusals::Fault;
 use session_effects::{Caller, Slot, kinds_at, method_at, method_with};
+use session_inputs::values_of;
 use session_tables::Tables;
-use signature_core::{Kind, Signature};
-use std::alloc::{AllocError, Global};
+use signature_core::Signature;
+use std::alloc::AllocError;
 use thread_model::Answer;
 use variant_value::{Args, Value};
 
@@ -51,7 +51,14 @@ pub fn invoke<F: Answering>(
     let kinds = kinds_at(&actor.caller, tables, object, index);
     let values = values_of(actor.caller.setup.alloc, kinds, args)?;
     if is_queued(mode) {
-        post(&actor.caller, tables, object, index, values.as_slice(), priority)?;
+        post(
+            &actor.caller,
+            tables,
+            object,
+            index,
+            values.as_slice(),
+            priority,
+        )?;
         return Ok(Answer::Truth(true));
     }
     run(actor, tables, telling, object, index, values.as_slice())?;
@@ -118,50 +125,4 @@ fn run<F: Answering>(
         depth: 1,
     };
     run_slot(actor, tables, telling, method, &slot)
-}
-
-/// As many values as there are kinds, each as one of its kind. Of two faults one that is no value comes
-/// before a text that is too long.
-fn values_of(
-    alloc: Global,
-    kinds: &[Kind],
-    args: &[serde_json::Value],
-) -> Result<Items<Value>, Fault>
-    ensures { Answers result (values_of kinds.now (map view args.now)) }
-{
-    let mut values = Items::new(alloc);
-    let mut is_long = false;
-    let mut at = 0;
-    for json in args {
-        let Some(kind) = kinds.get(at) else {
-            return Err(Fault::Refused(Code::BadValue));
-        };
-        match Value::from_json(alloc, *kind, json) {
-            Ok(value) => values.push(value)?,
-            Err(Fault::Refused(code)) => {
-                if !is_limit(code) {
-                    return Err(Fault::Refused(code));
-                }
-                is_long = true;
-            }
-            Err(Fault::Memory) => return Err(Fault::Memory),
-        }
-        at += 1;
-    }
-    if at < kinds.len() {
-        return Err(Fault::Refused(Code::BadValue));
-    }
-    if is_long {
-        return Err(Fault::Refused(Code::Limit));
-    }
-    Ok(values)
-}
-
-fn is_limit(code: Code) -> bool
-    ensures { result ≡ is_limit code }
-{
-    match code {
-        Code::Limit => true,
-        _ => false,
-    }
 }

@@ -1,4 +1,3 @@
-//! What comes to a session.
 use plain_types::Text;
 use thread_model::{Command, Post};
 

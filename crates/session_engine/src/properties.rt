@@ -1,4 +1,4 @@
-//! The commands for properties.
+//! The commands that write and read what an object holds under a name.
 ghost use Rattle.std.specs.Prelude.{◌≡◌, false};
 ghost use Rattle.serde_json.specs.View.{view};
 ghost use Rattle.thread_model.specs.Asked.{DynamicNames, Get, Set};

@@ -1,4 +1,4 @@
-//! The commands for publications and joins, and the one that begins anew.
+//! The commands by which sessions hear of each other, and the one that begins anew.
 ghost use Rattle.std.specs.Prelude.{◌≡◌, IsTrue, false};
 ghost use Rattle.refusals.specs.Answers.{Answers};
 ghost use Rattle.thread_model.specs.Asked as model;

@@ -1,7 +1,9 @@
 //! Sessions alone: what comes to one of them tells, on an engine of its own, what it tells beside the others.
-ghost use Rattle.std.specs.Prelude.{◌≡◌, Some, IfOk};
+ghost use Rattle.std.specs.Prelude.{◌≡◌, All, Some, IfOk};
+ghost use Rattle.thread_model.specs.Fitting.{IsRightPost};
 ghost use Rattle.session_engine.specs.Core.{place};
 ghost use Rattle.session_engine.specs.Engine.{held};
+ghost use Rattle.session_engine.specs.Items.{IsRightItem};
 
 use crate::fakes::hashing;
 use crate::lines::{classes_of, given, text_of};
@@ -38,7 +40,9 @@ fn engine(alloc: Global) -> Result<Engine, AllocError> {
     )
 }
 
-fn post_of(alloc: Global, number: u16) -> Result<Post, AllocError> {
+fn post_of(alloc: Global, number: u16) -> Result<Post, AllocError>
+    ensures { IfOk result (λ post. IsRightPost post) }
+{
     let mut kinds = Items::new(alloc);
     kinds.push(Kind::Int)?;
     let mut arguments = Items::new(alloc);
@@ -50,7 +54,9 @@ fn post_of(alloc: Global, number: u16) -> Result<Post, AllocError> {
     })
 }
 
-fn item_of(alloc: Global, coming: &Coming) -> Result<Item, AllocError> {
+fn item_of(alloc: Global, coming: &Coming) -> Result<Item, AllocError>
+    ensures { IfOk result (λ item. IsRightItem item) }
+{
     match coming {
         Coming::Own(line) => {
             let mut given = given(alloc, line)?;
@@ -63,7 +69,9 @@ fn item_of(alloc: Global, coming: &Coming) -> Result<Item, AllocError> {
     }
 }
 
-fn items_of(alloc: Global, comings: &[Coming]) -> Result<Vec<Item>, AllocError> {
+fn items_of(alloc: Global, comings: &[Coming]) -> Result<Vec<Item>, AllocError>
+    ensures { IfOk result (λ items. All IsRightItem items.items) }
+{
     let mut items = Vec::new(alloc);
     for coming in comings {
         items.push(item_of(alloc, coming)?)?;
@@ -87,7 +95,9 @@ fn told_by(
     engine: &mut Engine,
     name: &Text,
     items: &[Item],
-) -> Result<String, AllocError> {
+) -> Result<String, AllocError>
+    requires { All IsRightItem items.now }
+{
     let place = place_of(engine, name)?;
     let told = engine.alone(place, items)?;
     if engine.memory_refused() {
@@ -272,11 +282,15 @@ fn all_given(alloc: Global) -> Result<Vec<Tagged>, AllocError> {
     Ok(list)
 }
 
-fn own_item(alloc: Global, session: u16, step: u16) -> Result<Item, AllocError> {
+fn own_item(alloc: Global, session: u16, step: u16) -> Result<Item, AllocError>
+    ensures { IfOk result (λ item. IsRightItem item) }
+{
     item_of(alloc, &Coming::Own(line_of(alloc, session, step)?.as_str()))
 }
 
-fn arrival_at(alloc: Global, session: u16) -> Result<Item, AllocError> {
+fn arrival_at(alloc: Global, session: u16) -> Result<Item, AllocError>
+    ensures { IfOk result (λ item. IsRightItem item) }
+{
     let from = filled(alloc, "s@", before(session), 0)?;
     let number = written_by(before(session));
     item_of(alloc, &Coming::Posted(from.as_str(), number))
@@ -284,7 +298,9 @@ fn arrival_at(alloc: Global, session: u16) -> Result<Item, AllocError> {
 
 /// What comes to one of them: its own lines, and what the one before it posts, before its own turn where that
 /// one has its turn earlier.
-fn ring_items(alloc: Global, session: u16) -> Result<Vec<Item>, AllocError> {
+fn ring_items(alloc: Global, session: u16) -> Result<Vec<Item>, AllocError>
+    ensures { IfOk result (λ items. All IsRightItem items.items) }
+{
     let mut items = Vec::new(alloc);
     for step in 0..WRITING + 2 {
         if step == WRITING && session > 0 {

@@ -1,10 +1,10 @@
 use Rattle.std.proofs.Common.{◌≡◌, ℕ, List, Some, map, take}
 use Rattle.session_engine.specs.Core.{KeepsPlaces, place, seen}
-use Rattle.session_engine.specs.Items.{RunsAlone, item_of}
+use Rattle.session_engine.specs.Items.{HaveCome, item_of}
 use Rattle.session_engine.proofs.engine_core.Core.alone.Given as goal
 
 abbrev pub invariant-items : goal.invariant-items
 invariant-items g l = record {
-  alone : (name : List ℕ) → place l.initial.self name ≡ Some l.at → RunsAlone (seen l.initial.self) (seen l.self) name (map item_of (take l.item-index l.items)) (Some l.told);
+  come : (name : List ℕ) → place l.initial.self name ≡ Some l.at → HaveCome (seen l.initial.self) (seen l.self) name (map item_of (take l.item-index l.items)) (Some l.told);
   places : KeepsPlaces l.initial.self l.self l.at;
 }

@@ -1,6 +1,15 @@
-use Rattle.std.proofs.Common.{ap, ◌∙◌}
-use Rattle.session_engine.specs.Core.{sessions}
+use Rattle.std.proofs.Common.{ap, sym, subst, ◌∙◌}
+use Rattle.session_engine.specs.Core.{Contents, seen, sessions}
+use Rattle.session_engine.specs.Sessions.{AreSound}
+use Rattle.session_engine.proofs.EngineLemmas.{sound_still}
 use Rattle.session_engine.proofs.engine_core.Core.open.Goals as goal
 
 pub returns-then-is_err-clause-sessions : goal.returns-then-is_err-clause-sessions
 returns-then-is_err-clause-sessions c = ap sessions c.self.view_is ∙ c.enter-entered.ensures.sessions
+
+pub returns-then-is_err-clause-sound : goal.returns-then-is_err-clause-sound
+returns-then-is_err-clause-sound c = subst (λ (engine : Contents). AreSound (seen engine)) (sym c.self.view_is)
+    (sound_still c.args.self.now c.enter-entered.new.self c.enter-entered.ensures.sessions c.enter-entered.ensures.settings c.sound.ensures.sound)
+
+pub returns-else-is_err-clause-sound : goal.returns-else-is_err-clause-sound
+returns-else-is_err-clause-sound c = sound_still c.args.self.now c.enter-entered.new.self c.enter-entered.ensures.sessions c.enter-entered.ensures.settings c.sound.ensures.sound

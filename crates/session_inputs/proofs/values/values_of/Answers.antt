@@ -3,8 +3,8 @@ use Rattle.std.proofs.lemmas.Grind.{common_steps}
 use Rattle.std.proofs.lemmas.List.{drop_all, drop_more}
 use Rattle.serde_json.specs.View.{view}
 use Rattle.signature_core.specs.declared.kind.Kind.TheVariants as k
-use Rattle.session_engine.proofs.ValuesLemmas.{values_refused, values_short}
-use Rattle.session_engine.proofs.invocation.values_of.Goals as goal
+use Rattle.session_inputs.proofs.ValuesLemmas.{values_refused, values_short}
+use Rattle.session_inputs.proofs.values.values_of.Goals as goal
 
 pub returns-then-at-kinds : goal.returns-then-at-kinds
 returns-then-at-kinds c =

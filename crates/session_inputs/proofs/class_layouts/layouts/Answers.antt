@@ -8,7 +8,7 @@ use Rattle.property_store.specs.declared.field.Field.{Field}
 use Rattle.property_store.specs.Store.{fields_in}
 use Rattle.thread_model.specs.State.{field_of, fields_of}
 use Rattle.std.proofs.lemmas.Grind.{common_steps}
-use Rattle.session_engine.proofs.layouts.layouts.Goals as goal
+use Rattle.session_inputs.proofs.class_layouts.layouts.Goals as goal
 
 -- past the last class there are no properties
 all_laid : (layouts : List (List Field)) (classes : List Class) → length layouts ≡ length classes → ((class : ℕ) → class < length classes → fields_in layouts class ≡ fields_of classes class) → (class : ℕ) → fields_in layouts class ≡ fields_of classes class

@@ -2,7 +2,7 @@ use Rattle.std.proofs.Common.{◌∙◌, ◌++◌, ◌∷◌, ◌≤◌, [], sym
 use Rattle.class_table.specs.Lookup.{properties}
 use Rattle.class_table.proofs.ListLemmas.{map-taken, taken-whole}
 use Rattle.thread_model.specs.State.{field_of}
-use Rattle.session_engine.proofs.layouts.fields.Goals as goal
+use Rattle.session_inputs.proofs.class_layouts.fields.Goals as goal
 
 pub loop-number-preserved : goal.loop-number-preserved
 loop-number-preserved c =

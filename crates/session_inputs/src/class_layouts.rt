@@ -10,10 +10,7 @@ use std::alloc::{AllocError, Global};
 
 /// The properties of each class by number, those of its superclasses among them; a class is known by
 /// its index in the table.
-pub(crate) fn layouts(
-    alloc: Global,
-    classes: &ClassTable,
-) -> Result<Items<Items<Field>>, AllocError>
+pub fn layouts(alloc: Global, classes: &ClassTable) -> Result<Items<Items<Field>>, AllocError>
     ensures length { IfOk result (λ layouts. length layouts ≡ length classes.now) }
     ensures each { IfOk result (λ layouts. (class : ℕ) → fields_in layouts class ≡ fields_of classes.now class) }
 {

@@ -1,7 +1,7 @@
 use Rattle.std.proofs.Common.{◌≡◌, ◌<◌, ℕ, length}
 use Rattle.property_store.specs.Store.{fields_in}
 use Rattle.thread_model.specs.State.{fields_of}
-use Rattle.session_engine.proofs.layouts.layouts.Given as goal
+use Rattle.session_inputs.proofs.class_layouts.layouts.Given as goal
 
 abbrev pub invariant-loop-class : goal.invariant-loop-class
 invariant-loop-class l = record {

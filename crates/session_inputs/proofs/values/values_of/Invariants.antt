@@ -1,8 +1,8 @@
 use Rattle.std.proofs.Common.{◌≡◌, ◌≤◌, drop, length, map}
 use Rattle.serde_json.specs.View.{view}
 use Rattle.thread_model.specs.Signals.{values_of}
-use Rattle.session_engine.proofs.ValuesLemmas.{read_behind}
-use Rattle.session_engine.proofs.invocation.values_of.Given as goal
+use Rattle.session_inputs.proofs.ValuesLemmas.{read_behind}
+use Rattle.session_inputs.proofs.values.values_of.Given as goal
 
 abbrev pub invariant-loop-json : goal.invariant-loop-json
 invariant-loop-json l = record {

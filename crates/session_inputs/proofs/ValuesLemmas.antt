@@ -8,7 +8,7 @@ use Rattle.variant_value.specs.declared.value.Value.{Value}
 use Rattle.variant_value.specs.Values.{value_of}
 use Rattle.thread_model.specs.Methods.{Found}
 use Rattle.thread_model.specs.Signals.{values_of, with_value}
-use Rattle.session_engine.specs.Invocation.{is_limit}
+use Rattle.session_inputs.specs.Values.{is_limit}
 
 -- what was read before, where a text among it may be too long, and then the rest
 abbrev pub read_behind : Bool → List Value → Found (List Value) → Found (List Value)
