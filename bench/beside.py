@@ -211,9 +211,10 @@ def ahead_rate(session: metad.Session, lamp: int) -> float:
     return 10 * TRIPS / (time.perf_counter() - begun)
 
 
-def shares_of_trips(program: str) -> Dict[str, float]:
-    """The round trips of each kind, and commands that are sent ahead, as shares of those of the bare loop."""
+def shares_of_trips(program: str) -> Tuple[float, Dict[str, float]]:
+    """The round trips a second of the bare loop, and those of each kind and commands sent ahead as shares of them."""
     shares: Dict[str, List[float]] = {}
+    bare: List[float] = []
     with ExitStack() as stack:
         loops = loops_of(program, stack)
         session = stack.enter_context(metad.start(program)).session("a")
@@ -221,9 +222,10 @@ def shares_of_trips(program: str) -> Dict[str, float]:
         for _ in range(TURNS):
             rates = {name: rate(ask) for name, ask in loops.items()}
             rates["client, sent ahead"] = ahead_rate(session, lamp)
+            bare.append(rates.pop("bare"))
             for name, it in rates.items():
-                shares.setdefault(name, []).append(it / rates["bare"])
-    return {name: statistics.median(found) for name, found in shares.items()}
+                shares.setdefault(name, []).append(it / bare[-1])
+    return statistics.median(bare), {name: statistics.median(found) for name, found in shares.items()}
 
 
 def bytes_behind_front(program: str) -> float:
@@ -280,8 +282,10 @@ def bytes_of_qt() -> Optional[float]:
 
 def measure(program: str) -> None:
     """Measures, and prints what came of it."""
-    for name, share in shares_of_trips(program).items():
-        print(f"{name}: {share:.4f} of the round trips of the bare loop")
+    bare, shares = shares_of_trips(program)
+    print(f"bare loop: {bare:,.0f} round trips a second")
+    for name, share in shares.items():
+        print(f"{name}: {share:.4f} of them")
     taken = {"a client of the front": bytes_behind_front(program), "a client of the D-Bus daemon": bytes_on_bus()}
     taken["a metad of its own"] = bytes_of_processes([program], b"".join(MAKE))
     taken["a process of Qt 6"] = bytes_of_qt()

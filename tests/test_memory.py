@@ -46,7 +46,7 @@ SESSIONS = 1_000
 COMMANDS = 200
 REFUSED = 400  # one of so many requests for memory behind the start is refused, if the program comes to it
 LISTENERS = 200  # runs of sessions that listen to each other
-OF_WHICH_ALL = 2  # of these runs have all their requests refused one after another
+GROWTHS_OF_LINE = 8  # requests for memory that a line of theirs makes, about
 
 
 def refuse_with_bindings(program, preloaded, seed):
@@ -58,14 +58,14 @@ def refuse_with_bindings(program, preloaded, seed):
 
 
 def refuse_among_listeners(program, preloaded, seed):
-    """What comes of sessions that listen to each other where one growth of theirs is refused, taken from all by chance; of the
-    first ones where each is, in turn."""
+    """What comes of sessions that listen to each other where one growth of theirs is refused, taken by chance; of the first
+    ones where each is, in turn."""
     made = mixed.Chance(seed)
     with listeners_by_chance(made, seed) as row:
         trial = Trial(program, preloaded, row, count_start(program, preloaded, row))
-        if seed <= OF_WHICH_ALL:
+        if seed == 1:
             return trial.refuse_each(trial.start + 1)
-        return trial.refuse_one(made.randint(trial.start + 1, trial.count()))
+        return trial.refuse_one(trial.start + made.randint(1, GROWTHS_OF_LINE * len(trial.lines)))
 
 
 class RefusedGrowths(ProgramCases):
@@ -127,7 +127,7 @@ class RefusedGrowths(ProgramCases):
         self.check_by_chance(SESSIONS, refuse_with_bindings, {FAILED: SESSIONS // 10})
 
     def test_sessions_that_listen(self):
-        """So does one of each of many runs of sessions that publish, join, bind and call functors, and each of the first runs."""
+        """So does one of each of many runs of sessions that publish, join, bind and call functors, and each of the first run."""
         self.check_by_chance(LISTENERS, refuse_among_listeners, {FAILED: LISTENERS // 10, RECEIVER_FAILED: 1})
 
 

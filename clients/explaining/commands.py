@@ -7,7 +7,7 @@ from typing import Any, Callable, Iterable, Iterator, Mapping
 
 from . import replies as said
 from .expressions import objects_of
-from .held import Holds, are, has, is_any, is_list, is_number, is_text, is_true, is_truth, is_whole, json_object, or_null
+from .held import Holds, are, has, is_any, is_list, is_number, is_priority, is_text, is_true, is_truth, is_whole, json_object, or_null
 from .replies import Asked
 from .words import ERRORS, misfit
 
@@ -120,7 +120,7 @@ CONNECTION_FORMS = {
         said.said_of_invoke,
         is_truth,
         {**ONE_OBJECT, "method": is_text, "args": is_list},
-        {"type": is_text},
+        {"type": is_text, "priority": is_priority},
         {
             "E06": "the text of the method is no signature",
             "E14": "a text is too long, or the session has as many events as it may",

@@ -14,6 +14,10 @@ def is_whole(value: Any) -> bool:
     return isinstance(value, int) and not isinstance(value, bool) and value >= 0
 
 
+def is_priority(value: Any) -> bool:
+    return isinstance(value, int) and not isinstance(value, bool) and -1 <= value <= 1
+
+
 def is_number(value: Any) -> bool:
     return is_whole(value) and value > 0
 

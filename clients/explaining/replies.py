@@ -145,7 +145,8 @@ def said_of_invoke(asked: Asked, reply: Any) -> str:
     if not reply:
         return f"{target} has no method {method}, and nothing is done"
     if asked.get("type") == "queued":
-        return f"{method} of {target} waits as an event, {arguments(asked['args'])}"
+        priority = f" of priority {asked['priority']}" if "priority" in asked else ""
+        return f"{method} of {target} waits as an event{priority}, {arguments(asked['args'])}"
     return f"{method} of {target} was called or sent, {arguments(asked['args'])}"
 
 

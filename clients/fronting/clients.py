@@ -10,9 +10,48 @@ from typing import Deque, List
 from .lines import CHUNK, WHITE, Lines
 from .watch import READ, WRITE
 
+PIECE = 65_536  # bytes that a piece of what is unread has, or more, before the next one begins
 UNREAD_SLOW = 65_536  # bytes that a client has not read, above which its commands wait
 UNREAD_MOST = 16 * 1024 * 1024  # bytes that a connection has not read, above which it is closed
 EXPECTED_AT_FIRST = 1_024  # bytes of an answer, of a client that was not answered yet
+
+
+class Unread:
+    """What the other side of a connection is told and has not taken, in pieces: taking some of it moves nothing else."""
+
+    def __init__(self) -> None:
+        self.pieces: Deque[bytearray] = deque()
+        self.size = 0
+        self.taken = 0  # bytes of the first piece
+
+    def __len__(self) -> int:
+        return self.size
+
+    def __iadd__(self, told: bytes) -> Unread:
+        self.size += len(told)
+        if self.pieces and len(self.pieces[-1]) < PIECE:
+            self.pieces[-1] += told
+        elif told:
+            self.pieces.append(bytearray(told))
+        return self
+
+    def send(self, link: socket.socket) -> bool:
+        """Gives as much of the first piece as is taken at once; says whether that was all of it."""
+        first = self.pieces[0]
+        with memoryview(first) as whole, whole[self.taken :] as rest:
+            sent = link.send(rest)
+        self.size -= sent
+        self.taken += sent
+        if self.taken < len(first):
+            return False
+        self.pieces.popleft()
+        self.taken = 0
+        return True
+
+    def clear(self) -> None:
+        """Forgets all of it."""
+        self.pieces.clear()
+        self.size = self.taken = 0
 
 
 @dataclass(eq=False)
@@ -22,7 +61,7 @@ class Connection:
     name: str
     link: socket.socket
     lines: Lines = field(default_factory=Lines)
-    unread: bytearray = field(default_factory=bytearray)  # what it is told and has not taken
+    unread: Unread = field(default_factory=Unread)
     has_spoken: bool = False  # its first line was read
     has_ended: bool = False  # it writes no more, or is not read any more
     is_broken: bool = False  # its connection is
@@ -44,10 +83,9 @@ class Connection:
 
     def write(self) -> None:
         """Gives it as much of what it is told as it takes."""
-        if not self.unread:
-            return
         try:
-            del self.unread[: self.link.send(self.unread)]
+            while self.unread and self.unread.send(self.link):
+                pass
         except BlockingIOError:
             pass
         except OSError:

@@ -33,6 +33,10 @@ def is_truth(value: Any) -> bool:
     return isinstance(value, bool)
 
 
+def is_priority(value: Any) -> bool:
+    return isinstance(value, int) and not isinstance(value, bool) and -1 <= value <= 1
+
+
 def are_texts(value: Any) -> bool:
     return isinstance(value, list) and all(map(is_text, value))
 
@@ -50,6 +54,7 @@ CHECKS: Dict[str, Check] = {
     "args": ("an array", lambda value: isinstance(value, list)),
     "types": ("an array of texts", are_texts),
     "type": ('"auto", "direct" or "queued"', lambda value: value in WAYS),
+    "priority": ("-1, 0 or 1", is_priority),
 }
 OTHERWISE: Dict[Tuple[str, str], Check] = {
     ("find", "name"): A_TEXT,
@@ -85,6 +90,8 @@ def faults_of_form(do: str, asked: Mapping[str, Any]) -> List[str]:
     faults += [f"{do} has no key {key}" for key in sorted(keys - required - optional)]
     if do == "disconnect" and "method" in keys and "receiver" not in keys:
         faults.append("disconnect has the key method only beside the key receiver")
+    if "priority" in keys & optional and asked.get("type") != "queued":
+        faults.append(f'{do} has the key priority only with the type "queued"')
     for key in sorted(keys & (required | optional)):
         faults += fault_at(do, key, asked)
     return faults

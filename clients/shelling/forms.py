@@ -148,7 +148,14 @@ def read_invoke(words: Words, scene: Scene) -> Request:
     """Reads a method by its signature, and the arguments as an array."""
     number, method = scene.method_of_object_at(words)
     args = words.take_value("the arguments as an array, `[5]`") if words.rest.startswith("[") else []
-    return Request("invoke", {"object": number, "method": method, "args": args, **given(type=words.maybe_word(*WAYS))})
+    return Request("invoke", {"object": number, "method": method, "args": args, **way_and_priority_at(words)})
+
+
+def way_and_priority_at(words: Words) -> Dict[str, Any]:
+    """How a method is to be called, and how soon where it is queued."""
+    way = words.maybe_word(*WAYS)
+    has_priority = way == "queued" and words.maybe_word("priority") is not None
+    return given(type=way, priority=words.take_value("a priority: -1, 0 or 1") if has_priority else None)
 
 
 def read_publish(words: Words, scene: Scene) -> Request:
@@ -208,7 +215,7 @@ FORMS = {
         "breaks the connection of a number, or all of a sender that match",
         read_disconnect,
     ),
-    "invoke": Form("invoke OBJECT.METHOD(TYPES) [[VALUE, ..]] [queued]", "sends a signal or calls a slot", read_invoke),
+    "invoke": Form("invoke OBJECT.METHOD(TYPES) [[VALUE, ..]] [queued [priority NUMBER]]", "sends a signal or calls a slot", read_invoke),
     "block": Form("block OBJECT", "blocks the signals of an object", of_object("block", on=True)),
     "unblock": Form("unblock OBJECT", "lets the signals of an object through", of_object("block", on=False)),
     "publish": Form("publish OBJECT.SIGNAL as NAME", "publishes a signal for other sessions", read_publish),

@@ -57,6 +57,7 @@ SLOTS = (
     *("not\\u0065()", "note ( void ) ", "nothing()", "note(int)", ""),
 )
 FUNCTORS = (*('"clamp"',) * 10, *('"count"',) * 10, '"c\\u006funt"', '"cl\\u0061mp"', '"\\u0063lamp"', '"clam"', '"Clamp"', '"clamp(int)"', '""', "0")
+PRIORITIES = (*("-1", "0", "1") * 4, "-0", "1.0", "1e0", "2", "-2", '"1"', "true", "null", "18446744073709551615")
 TYPES = (*('"auto"', '"direct"', '"queued"') * 4, '"dir\\u0065ct"', '"Queued"', '"blocking"', "0")
 TRUTHS = ("true", "false")
 JOINED = (*('"note()"',) * 9, *('"setX(int)"',) * 2, '"ping()"', '"late()"', '"seen(int)"')
@@ -163,6 +164,7 @@ class Chance(random.Random):
         if self.is_so(0.2):
             method, values = '"objectNameChanged ( const QString & )"', [self.text()]
         further = [("type", self.choice(TYPES))] if self.is_so(0.25) else []
+        further += [("priority", self.choice(PRIORITIES))] if self.is_so(0.4 if further else 0.02) else []
         number = self.old_object() if self.is_so(0.4) else self.object()
         return [("object", number), ("method", method), ("args", f"[{','.join(values)}]"), *further]
 

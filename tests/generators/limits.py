@@ -561,6 +561,17 @@ def deletions():
     yield STATUS, counted()
 
 
+def priorities():
+    """As many events as there may be, of all priorities by turns."""
+    hear, given = "hear(QString,int)", [(at, at % 3 - 1) for at in range(EVENTS)]
+    yield new(), reply(1)
+    yield from ((invoke(1, hear, "", at, type="queued", priority=priority), reply(True)) for at, priority in given)
+    yield from ((invoke(1, hear, "", 0, type="queued", priority=priority), E14) for priority in (-1, 0, 1))
+    yield delete_later(1), E14
+    yield STATUS, counted(objects=1, queued=EVENTS)
+    yield SPIN, *(call(hear, 1, 0, "", at) for taken in (1, 0, -1) for at, priority in given if priority == taken), spun(EVENTS)
+
+
 def lost_calls():
     """Calls that meet as many events as there may be, with one turn less than that."""
     turns, spent = EVENTS - 1, warning("E23")
@@ -611,6 +622,7 @@ def wide_rows():
     yield row_of(f"texts of {TEXT_BYTES} bytes", texts())
     yield row_of(f"{LEVELS * LEVELS} objects, and names of {TEXT_BYTES} bytes", objects())
     yield row_of(f"{EVENTS} deletions of one object", deletions())
+    yield row_of(f"{EVENTS} events of all priorities", priorities(), "--turns", str(EVENTS))
     yield row_of(f"calls that meet {EVENTS} events", lost_calls(), "--turns", str(EVENTS - 1))
     yield row_of(f"{DYNAMIC_PROPERTIES} dynamic properties of {TEXT_BYTES} bytes", values())
     yield row_of("a ring of objects that tell of their changes", ring(LEVELS * LEVELS))

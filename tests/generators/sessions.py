@@ -85,6 +85,10 @@ def life_of(session, listens=False):
         ends = {"sender": 1, "signal": "rang(int)", "receiver": ear, "method": "hear(int)"}
         return {"do": "connect", **ends, "type": chance.choice(("auto", "queued"))}
 
+    def hear_later(ear):
+        given = {"args": [chance.randrange(1_000)], "type": "queued", "priority": chance.choice((-1, 0, 1))}
+        return {"do": "invoke", "object": ear, "method": "hear(int)", **given}
+
     def clamp(ear):
         ends = {"sender": 1, "signal": "rang(int)", "context": ear, "functor": "clamp"}
         return {"do": "connectFunctor", **ends, "type": chance.choice(("auto", "queued"))}
@@ -102,6 +106,7 @@ def life_of(session, listens=False):
     yield from ({"do": "connect", "sender": ear, "signal": "destroyed()", "receiver": 1, "method": "tell()"} for ear in chance.sample(ears, 9))
     yield from ({"do": "connect", "sender": ear, "signal": "noted(int)", "receiver": 1, "method": "tell()"} for ear in chance.sample(ears, 5))
     yield ring()
+    yield from map(hear_later, chance.sample(ears, 9))
     yield {"do": "spin"}
     yield from bind_some(chance, ears)
     for ear in chance.sample(ears, 5):

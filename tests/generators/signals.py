@@ -66,6 +66,12 @@ class Chance(random.Random):
         """The type of a connection or an invocation, which is named by this share."""
         return {"type": self.choice(("auto", "direct", "queued", "queued"))} if self.is_so(share) else {}
 
+    def type_and_priority(self, share):
+        """The type of an invocation, and sometimes a priority where it is queued."""
+        named = self.type(share)
+        has_priority = named.get("type") == "queued" and self.is_so(0.6)
+        return {**named, "priority": self.choice((-1, -1, 0, 1, 1))} if has_priority else named
+
     def property_name(self, form=None):
         """The name of a property, most times of one of this form that some class declares."""
         declared = [it for it in (NAME, *PROPERTIES) if form in (None, form_of(kind_of(it)))]
@@ -207,7 +213,7 @@ class Chance(random.Random):
         if kind == "invoke":
             method = self.method()
             args = [self.value(it) for it in kinds_of(method)] if "(" in method else []
-            return {"do": kind, "object": one, "method": method, "args": args, **self.type(0.3)}
+            return {"do": kind, "object": one, "method": method, "args": args, **self.type_and_priority(0.3)}
         command = {"do": kind, "object": one}
         if kind == "setParent":
             command["parent"] = other if self.is_so(0.8) else None

@@ -161,6 +161,7 @@ class Event:
     sender: int = 0
     args: list = field(default_factory=list)
     connection: Connection | None = None
+    priority: int = 0
 
 
 @dataclass

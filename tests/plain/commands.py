@@ -100,7 +100,7 @@ def invoke(session, command):
     if any(map(is_long, args)):
         refuse("E14")
     if command.get("type") == "queued":
-        return session.post(Event(number, index, args=args)) or refuse("E14")
+        return session.post(Event(number, index, args=args, priority=command.get("priority", 0))) or refuse("E14")
     if method.is_signal:
         session.run([("emit", number, index, args, 0)])
     elif session.takes_turn():

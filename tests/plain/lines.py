@@ -74,6 +74,10 @@ def is_truth(value):
     return isinstance(value, bool)
 
 
+def is_priority(value):
+    return type(value) is int and -1 <= value <= 1
+
+
 def are_texts(value):
     return isinstance(value, list) and all(map(is_text, value))
 
@@ -84,6 +88,7 @@ HOLDS = {
     **dict.fromkeys(("object", "parent", "sender", "receiver", "context", "connection"), is_known_by),
     **dict.fromkeys(("unique", "single", "on"), is_truth),
     "type": lambda value: value in TYPES,
+    "priority": is_priority,
     "args": lambda value: isinstance(value, list),
     "types": are_texts,
     **dict.fromkeys(("value", "to"), lambda value: True),
@@ -114,6 +119,8 @@ def is_command(given):
     if not any(needed <= keys <= needed | further for needed, further in forms):
         return False
     if word == "disconnect" and "method" in keys and "receiver" not in keys:
+        return False
+    if "priority" in keys and given.get("type") != "queued":
         return False
     return all(may_hold(word, key, given[key]) for key in keys)
 

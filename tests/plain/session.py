@@ -3,6 +3,8 @@
 Nothing here is quick, and nothing is kept beside the rows: whatever is asked is looked for by going through them.
 """
 
+from bisect import insort
+
 from .bindings import At, Binding, Scene, Shown
 from .classes import DESTROYED, FUNCTORS, Classes, Connection, Event, Frame, Post, Publication, Row
 from .expressions import binding_of, evaluated, next_state, reads_of
@@ -293,10 +295,10 @@ class Session:
     # Events.
 
     def post(self, event):
-        """Puts an event behind all others, and answers whether there was room for it."""
+        """Puts an event behind all of its priority and above, and answers whether there was room for it."""
         has_room = len(self.queue) < EVENTS
         if has_room:
-            self.queue.append(event)
+            insort(self.queue, event, key=lambda waiting: -waiting.priority)
         return has_room
 
     def delete_later(self, number):

@@ -24,6 +24,10 @@ SHORT = [
         "invoke c.setX( const int & ) [5] direct",
         {"do": "invoke", "object": 2, "method": "setX( const int & )", "args": [5], "type": "direct"},
     ),
+    (
+        "invoke c.setX(int) [5] queued priority -1",
+        {"do": "invoke", "object": 2, "method": "setX(int)", "args": [5], "type": "queued", "priority": -1},
+    ),
     ("invoke p.note", {"do": "invoke", "object": 1, "method": "note()", "args": []}),
     ("c.x = -5", {"do": "set", "object": 2, "property": "x", "value": -5}),
     ('c.tag="a = (b) -> c"', {"do": "set", "object": 2, "property": "tag", "value": "a = (b) -> c"}),

@@ -121,13 +121,13 @@ class Method(BaseMethod[Proxy]):
     as many parameters as there are arguments.
     """
 
-    async def __call__(self, *args: Value, type: Optional[str] = None) -> None:
-        """Sends the signal or calls the slot; with the type `queued` it is posted as an event."""
-        await self.owner.session.invoke(self.owner.number, self._of_count(len(args)), args, type=type)
+    async def __call__(self, *args: Value, type: Optional[str] = None, priority: Optional[int] = None) -> None:
+        """Sends the signal or calls the slot; with the type `queued` it is posted as an event, with a priority if one is given."""
+        await self.owner.session.invoke(self.owner.number, self._of_count(len(args)), args, type=type, priority=priority)
 
-    async def emit(self, *args: Value, type: Optional[str] = None) -> None:
+    async def emit(self, *args: Value, type: Optional[str] = None, priority: Optional[int] = None) -> None:
         """Sends the signal, as a call does."""
-        await self(*args, type=type)
+        await self(*args, type=type, priority=priority)
 
     async def connect(
         self,

@@ -136,9 +136,19 @@ def disconnect(
     return Asked("disconnect", **_given(connection=connection), **pattern)
 
 
-def invoke(object: int, method: str, args: Sequence[Value] = (), *, type: Optional[str] = None) -> Asked[bool]:
-    """Sends a signal of an object, or calls its slot; False where it has no such method."""
-    return Asked("invoke", object=object, method=method, args=list(args), **_given(type=type))
+def invoke(
+    object: int,
+    method: str,
+    args: Sequence[Value] = (),
+    *,
+    type: Optional[str] = None,
+    priority: Optional[int] = None,
+) -> Asked[bool]:
+    """Sends a signal of an object, or calls its slot; False where it has no such method.
+
+    With the type `queued` this is posted as an event, which may have a priority of -1, 0 or 1.
+    """
+    return Asked("invoke", object=object, method=method, args=list(args), **_given(type=type, priority=priority))
 
 
 def block(object: int, on: bool) -> Asked[bool]:

@@ -130,13 +130,13 @@ class Method(BaseMethod[Proxy]):
     many parameters as there are arguments.
     """
 
-    def __call__(self, *args: Value, type: Optional[str] = None) -> None:
-        """Sends the signal or calls the slot; with the type `queued` it is posted as an event."""
-        self.owner.session.invoke(self.owner.number, self._of_count(len(args)), args, type=type)
+    def __call__(self, *args: Value, type: Optional[str] = None, priority: Optional[int] = None) -> None:
+        """Sends the signal or calls the slot; with the type `queued` it is posted as an event, with a priority if one is given."""
+        self.owner.session.invoke(self.owner.number, self._of_count(len(args)), args, type=type, priority=priority)
 
-    def emit(self, *args: Value, type: Optional[str] = None) -> None:
+    def emit(self, *args: Value, type: Optional[str] = None, priority: Optional[int] = None) -> None:
         """Sends the signal, as a call does."""
-        self(*args, type=type)
+        self(*args, type=type, priority=priority)
 
     def connect(
         self,

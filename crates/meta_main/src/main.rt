@@ -11,14 +11,12 @@ ghost use Rattle.term_evaluation.specs.Unfolding.{unfolded_body};
 ghost use Rattle.program_start.specs.Clamp.{clamp_body};
 ghost use Rattle.program_start.specs.Count.{count_body, one_more};
 
-use program_start::{
-    Beginning, add_count, clamped, count_actions, count_state, kept_state, start, with_clamp,
-};
+use program_start::{Beginning, add_count, clamp_answer, count_answer, start, with_clamp};
 use server_world::Server;
 use std::alloc::{AllocError, Global};
 use std::hash::RandomState;
 use std::process::ExitCode;
-use term_core::{Action, Expr, Node};
+use term_core::Action;
 use variant_value::Value;
 use wire_lines::{Counted, RunFault, Summary, run, status_of};
 
@@ -42,13 +40,9 @@ fn serve(rt: &HostRuntime, beginning: Beginning) -> Result<Summary, RunFault> {
         rt.alloc(),
         move |alloc: Global, found: u64, args: &[Value]| -> Result<(Vec<Action>, u64), AllocError>
             requires { AreArguments (Int ∷ []) args.now }
-            ensures { IfOk result (λ answer. (answer.0.items ≡ unfolded_body args.now (with_state found (clamp_body least most)))
-                × (answer.1 ≡ after state found args.now)) }
-        {
-            let node = Node::Const(args[0].copy(alloc)?);
-            let actions = clamped(alloc, least, most, &Expr { node })?;
-            Ok((actions, kept_state(found)))
-        },
+            ensures actions { IfOk result (λ answer. answer.0.items ≡ unfolded_body args.now (with_state found (clamp_body least most))) }
+            ensures next { IfOk result (λ answer. answer.1 ≡ after state found args.now) }
+        { clamp_answer(alloc, least, most, found, args) },
     ) else {
         return Err(RunFault::Memory);
     };
@@ -58,12 +52,9 @@ fn serve(rt: &HostRuntime, beginning: Beginning) -> Result<Summary, RunFault> {
     let Ok(count) = Box::new(
         rt.alloc(),
         |alloc: Global, found: u64, args: &[Value]| -> Result<(Vec<Action>, u64), AllocError>
-            ensures { IfOk result (λ answer. (answer.0.items ≡ unfolded_body args.now (with_state found count_body))
-                × (answer.1 ≡ after (one_more state) found args.now)) }
-        {
-            let actions = count_actions(alloc, found)?;
-            Ok((actions, count_state(found)))
-        },
+            ensures actions { IfOk result (λ answer. answer.0.items ≡ unfolded_body args.now (with_state found count_body)) }
+            ensures next { IfOk result (λ answer. answer.1 ≡ after (one_more state) found args.now) }
+        { count_answer(alloc, found, args) },
     ) else {
         return Err(RunFault::Memory);
     };

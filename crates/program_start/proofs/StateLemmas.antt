@@ -1,6 +1,6 @@
 -- States as values, and the states that follow them.
-use Rattle.std.proofs.Common.{◌≡◌, ◌∙◌, ℕ, ◌+◌, ◌-◌, ◌<◌, ◌≤◌, ◌&&◌, min, Bool, true, false, ℤ, pos, ◌+ℤ◌, List, [], Option, Some, None, Ok, Err, nat_le, refl, sym, ap, arith, ⊎_elim}
-use Rattle.std.specs.Prelude.{if◌then◌else◌, neg_ℤ, option_and_then, unsigned_abs, unwrap_or}
+use Rattle.std.proofs.Common.{◌≡◌, ◌∙◌, ℕ, ◌+◌, ◌<◌, ◌≤◌, ◌&&◌, min, Bool, true, false, pos, ◌+ℤ◌, List, Some, None, nat_le, refl, sym, ap, arith, ⊎_elim}
+use Rattle.std.specs.Prelude.{if◌then◌else◌, option_and_then, unsigned_abs, unwrap_or}
 use Rattle.std.specs.Option.{ok_or, option_or}
 use Rattle.std.proofs.lemmas.Bool.{cases_lt, le-leb}
 use Rattle.std.proofs.lemmas.Bool.Decides.{nat_tests}

@@ -4,7 +4,10 @@ ghost use Rattle.variant_value.specs.declared.value.Value.TheVariants as v;
 ghost use Rattle.term_core.specs.Act.{acts_of, when};
 ghost use Rattle.term_core.specs.Term as term;
 ghost use Rattle.term_core.specs.Term.{const, binary};
-ghost use Rattle.term_evaluation.specs.Stating.{after};
+ghost use Rattle.signature_core.specs.declared.kind.Kind.TheVariants.{Int};
+ghost use Rattle.stored_slots.specs.Functors.{AreArguments};
+ghost use Rattle.term_evaluation.specs.Stating.{after, with_state};
+ghost use Rattle.term_evaluation.specs.Unfolding.{unfolded_body};
 ghost use Rattle.variant_value.specs.declared.value.Value.{Value as ValueSeen};
 ghost use Rattle.term_core.specs.declared.operator.Operator.TheVariants.{Less};
 ghost use Rattle.program_start.specs.Clamp.{at_most, clamped, clamp_body, sets_x};
@@ -124,4 +127,34 @@ pub fn kept_state(state: u64) -> u64
     ensures { (args : List ValueSeen) → result ≡ after term.state state args }
 {
     state
+}
+
+/// The actions of `clamp` for the number that it is given.
+fn clamp_actions(
+    alloc: Global,
+    least: i32,
+    most: i32,
+    args: &[Value],
+) -> Result<Vec<Action>, AllocError>
+    requires { AreArguments (Int ∷ []) args.now }
+    ensures { IfOk result (λ actions. actions.items ≡ unfolded_body args.now (clamp_body least most)) }
+{
+    let node = Node::Const(args[0].copy(alloc)?);
+    clamped(alloc, least, most, &Expr { node })
+}
+
+/// What `clamp` answers over a state to the number that it is given.
+pub fn clamp_answer(
+    alloc: Global,
+    least: i32,
+    most: i32,
+    found: u64,
+    args: &[Value],
+) -> Result<(Vec<Action>, u64), AllocError>
+    requires { AreArguments (Int ∷ []) args.now }
+    ensures actions { IfOk result (λ answer. answer.0.items ≡ unfolded_body args.now (with_state found (clamp_body least most))) }
+    ensures next { IfOk result (λ answer. answer.1 ≡ after term.state found args.now) }
+{
+    let actions = clamp_actions(alloc, least, most, args)?;
+    Ok((actions, kept_state(found)))
 }

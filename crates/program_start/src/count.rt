@@ -40,7 +40,7 @@ fn counted(alloc: Global, number: Expr) -> Result<Vec<Action>, AllocError>
 }
 
 /// What `count` does over a state.
-pub fn count_actions(alloc: Global, state: u64) -> Result<Vec<Action>, AllocError>
+fn count_actions(alloc: Global, state: u64) -> Result<Vec<Action>, AllocError>
     ensures { IfOk result (λ actions. (args : List ValueSeen) → actions.items ≡ unfolded_body args (with_state state count_body)) }
 {
     let node = Node::Const(state_value(state));
@@ -49,10 +49,23 @@ pub fn count_actions(alloc: Global, state: u64) -> Result<Vec<Action>, AllocErro
 
 /// The state of `count` behind a call that finds this one: one more, up to the largest.
 #[tactic(auto, using(crate::proofs::StateLemmas::state_counts))]
-pub fn count_state(state: u64) -> u64
+fn count_state(state: u64) -> u64
     ensures { (args : List ValueSeen) → result ≡ after (one_more term.state) state args }
 {
     state.saturating_add(1)
+}
+
+/// What `count` answers over a state, whatever number it is given.
+pub fn count_answer(
+    alloc: Global,
+    found: u64,
+    args: &[Value],
+) -> Result<(Vec<Action>, u64), AllocError>
+    ensures actions { IfOk result (λ answer. answer.0.items ≡ unfolded_body args.now (with_state found count_body)) }
+    ensures next { IfOk result (λ answer. answer.1 ≡ after (one_more term.state) found args.now) }
+{
+    let actions = count_actions(alloc, found)?;
+    Ok((actions, count_state(found)))
 }
 
 /// What `count` does with its state.

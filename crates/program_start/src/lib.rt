@@ -15,12 +15,12 @@ mod refusal;
 mod starting;
 
 pub use beginning::Beginning;
-pub use clamp::{clamp_body, clamped, kept_state};
+pub use clamp::{clamp_answer, clamp_body, kept_state};
 pub use class_file::{
     ClassFileError, MOST_BYTES, classes_at, classes_in, classes_of, read_at_most,
 };
 pub use class_files::ClassFiles;
-pub use count::{count_actions, count_state};
+pub use count::count_answer;
 pub use demonstration::DEMONSTRATION;
 pub use ending::{Ending, Stream, class_text};
 pub use functors::{add_count, with_clamp};

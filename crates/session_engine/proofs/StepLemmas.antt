@@ -18,10 +18,9 @@ use Rattle.thread_model.specs.declared.line.Line.TheVariants.{Error}
 use Rattle.thread_model.specs.Asked.{Asked}
 use Rattle.thread_model.specs.Fitting.{AreSettings, IsFittingAsked, IsRightPost}
 use Rattle.thread_model.specs.Machine.{machine}
-use Rattle.thread_model.specs.Refusing.{refusal}
 use Rattle.thread_model.specs.declared.post.Post.{Post}
 use Rattle.thread_model.specs.State.{State, fields_of}
-use Rattle.thread_model.specs.Thread.{Settings, does}
+use Rattle.thread_model.specs.Thread.{Settings}
 use Rattle.thread_model.proofs.Lawful.{lawful}
 use Rattle.session_tables.specs.Session.{Session, fresh, gone}
 use Rattle.session_tables.specs.Reaching.{Hears, heard}

@@ -7,11 +7,11 @@ ghost use Rattle.term_evaluation.specs.Stating.{after, with_state};
 ghost use Rattle.term_evaluation.specs.Unfolding.{unfolded_body};
 ghost use Rattle.program_start.specs.Clamp.{clamp_body};
 
-use program_start::{clamped, kept_state, with_clamp};
+use program_start::{clamp_answer, with_clamp};
 use refusals::Fault;
 use std::alloc::{AllocError, Global};
 use stored_slots::Closure;
-use term_core::{Action, Expr, Node};
+use term_core::Action;
 use variant_value::Value;
 
 /// Hands in `clamp`, which keeps a number between the bounds 0 and 100 that its closure captures, and
@@ -22,13 +22,9 @@ pub fn answers(alloc: Global, given: &[i32]) -> Result<Vec<Vec<Action>>, Fault> 
         alloc,
         move |alloc: Global, found: u64, args: &[Value]| -> Result<(Vec<Action>, u64), AllocError>
             requires { AreArguments (Int ∷ []) args.now }
-            ensures { IfOk result (λ answer. (answer.0.items ≡ unfolded_body args.now (with_state found (clamp_body least most)))
-                × (answer.1 ≡ after state found args.now)) }
-        {
-            let node = Node::Const(args[0].copy(alloc)?);
-            let actions = clamped(alloc, least, most, &Expr { node })?;
-            Ok((actions, kept_state(found)))
-        },
+            ensures actions { IfOk result (λ answer. answer.0.items ≡ unfolded_body args.now (with_state found (clamp_body least most))) }
+            ensures next { IfOk result (λ answer. answer.1 ≡ after state found args.now) }
+        { clamp_answer(alloc, least, most, found, args) },
     )?;
     let functors = with_clamp(alloc, least, most, run)?;
     let mut answers = Vec::new(alloc);

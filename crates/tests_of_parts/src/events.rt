@@ -2,7 +2,7 @@
 ghost use Rattle.std.specs.Prelude.{◌≡◌, ◌<◌, length};
 
 use connection_types::Callee;
-use event_queue::{EVENTS, Event, QueuedCall, Queues};
+use event_queue::{EVENTS, Event, Priority, QueuedCall, Queues};
 use std::alloc::{AllocError, Global};
 use std::test::Fail;
 use variant_value::Args;
@@ -12,6 +12,8 @@ use variant_value::Args;
 enum Asked {
     /// A call of method 7 of a receiver, for a sender.
     Call(u32, u32),
+    /// The same with a priority.
+    CallOf(Priority, u32, u32),
     Deletion(u32),
     /// The event, as `told` has it.
     Take,
@@ -24,6 +26,7 @@ enum Asked {
 }
 
 use Asked::*;
+use Priority::{High, Low, Normal};
 
 /// A table with two places.
 #[derive(Drop)]
@@ -46,10 +49,8 @@ impl Bench {
     fn ask(&mut self, place: usize, asked: Asked) -> Result<u64, AllocError> {
         let place = place.min(1);
         match asked {
-            Call(object, sender) => {
-                let call = queued_call(self.alloc, object, sender)?;
-                Ok(self.table.post(place, call)? as u64)
-            }
+            Call(object, sender) => self.post_call(place, Normal, object, sender),
+            CallOf(priority, object, sender) => self.post_call(place, priority, object, sender),
             Deletion(object) => Ok(self.table.post(place, Event::Deletion(object))? as u64),
             Take => Ok(told(self.table.take(place))),
             DropObject(object) => Ok(self.drop_object(place, object)),
@@ -78,6 +79,19 @@ impl Bench {
             }
         }
         self.answers(&FULL)
+    }
+
+    fn post_call(
+        &mut self,
+        place: usize,
+        priority: Priority,
+        object: u32,
+        sender: u32,
+    ) -> Result<u64, AllocError>
+        requires { place < length self.old.table.places }
+    {
+        let call = queued_call(self.alloc, priority, object, sender)?;
+        Ok(self.table.post(place, call)? as u64)
     }
 
     fn drop_object(&mut self, place: usize, object: u32) -> u64
@@ -119,12 +133,18 @@ impl Bench {
     }
 }
 
-fn queued_call(alloc: Global, object: u32, sender: u32) -> Result<Event, AllocError> {
+fn queued_call(
+    alloc: Global,
+    priority: Priority,
+    object: u32,
+    sender: u32,
+) -> Result<Event, AllocError> {
     Ok(Event::Call(QueuedCall {
         object,
         callee: Callee::Method(7),
         sender,
         connection: 0,
+        priority,
         args: Args::copied(alloc, &[])?,
     }))
 }
@@ -181,6 +201,37 @@ fn take_in_order(alloc: Global) -> Result<bool, AllocError> {
 #[test]
 fn events_are_taken_in_the_order_of_posting(rt: HostRuntime) -> Result<(), Fail> {
     assert!(rt; take_in_order(rt.alloc())?);
+    Ok(())
+}
+
+const BY_PRIORITY: [Case; 17] = [
+    (0, CallOf(Low, 3, 1), 1),
+    (0, Call(3, 2), 1),
+    (0, CallOf(High, 3, 3), 1),
+    (0, Deletion(2), 1),
+    (0, CallOf(High, 3, 4), 1),
+    (0, CallOf(Low, 2, 5), 1),
+    (0, CallOf(Normal, 3, 6), 1),
+    (0, Counts, 700),
+    (0, Take, 33),
+    (0, DropObject(2), 400),
+    (0, Take, 34),
+    (0, Take, 32),
+    (0, CallOf(High, 3, 7), 1),
+    (0, Take, 37),
+    (0, Take, 36),
+    (0, Take, 31),
+    (0, Take, 0),
+];
+
+fn take_by_priority(alloc: Global) -> Result<bool, AllocError> {
+    let mut bench = Bench::new(alloc)?;
+    bench.answers(&BY_PRIORITY)
+}
+
+#[test]
+fn events_of_a_higher_priority_are_taken_first(rt: HostRuntime) -> Result<(), Fail> {
+    assert!(rt; take_by_priority(rt.alloc())?);
     Ok(())
 }
 

@@ -1,5 +1,5 @@
 //! Sessions alone: what comes to one of them tells, on an engine of its own, what it tells beside the others.
-ghost use Rattle.std.specs.Prelude.{◌≡◌, All, Some, IfOk};
+ghost use Rattle.std.specs.Prelude.{◌≡◌, All, Some, IfOk, OnOk};
 ghost use Rattle.thread_model.specs.Fitting.{IsRightPost};
 ghost use Rattle.session_engine.specs.Core.{place};
 ghost use Rattle.session_engine.specs.Engine.{held};
@@ -296,6 +296,23 @@ fn arrival_at(alloc: Global, session: u16) -> Result<Item, AllocError>
     item_of(alloc, &Coming::Posted(from.as_str(), number))
 }
 
+/// Puts behind these what comes to one of them in a step: its own line, and what the one before it posts.
+fn add_step(alloc: Global, items: &mut Vec<Item>, session: u16, step: u16) -> Result<(), AllocError>
+    requires { All IsRightItem items.old.items }
+    ensures { OnOk result (All IsRightItem items.new.items) }
+{
+    if step == WRITING && session > 0 {
+        items.push(arrival_at(alloc, session)?)?;
+        items.push(own_item(alloc, session, step)?)?;
+        return Ok(());
+    }
+    items.push(own_item(alloc, session, step)?)?;
+    if step == WRITING {
+        items.push(arrival_at(alloc, session)?)?;
+    }
+    Ok(())
+}
+
 /// What comes to one of them: its own lines, and what the one before it posts, before its own turn where that
 /// one has its turn earlier.
 fn ring_items(alloc: Global, session: u16) -> Result<Vec<Item>, AllocError>
@@ -303,13 +320,7 @@ fn ring_items(alloc: Global, session: u16) -> Result<Vec<Item>, AllocError>
 {
     let mut items = Vec::new(alloc);
     for step in 0..WRITING + 2 {
-        if step == WRITING && session > 0 {
-            items.push(arrival_at(alloc, session)?)?;
-        }
-        items.push(own_item(alloc, session, step)?)?;
-        if step == WRITING && session == 0 {
-            items.push(arrival_at(alloc, session)?)?;
-        }
+        add_step(alloc, &mut items, session, step)?;
     }
     Ok(items)
 }

@@ -10,12 +10,12 @@ ghost use Rattle.program_start.specs.Clamp.{clamp_body};
 use crate::fakes::hashing;
 use crate::lines::classes_of;
 use crate::served::{Host, TURNS, answers};
-use program_start::{DEMONSTRATION, clamped, kept_state, with_clamp};
+use program_start::{DEMONSTRATION, clamp_answer, with_clamp};
 use server_world::Server;
 use std::alloc::{AllocError, Global};
 use std::test::Fail;
 use stored_slots::Functors;
-use term_core::{Action, Expr, Node};
+use term_core::Action;
 use variant_value::Value;
 
 /// Lines and what is answered to them, line by line.
@@ -360,13 +360,9 @@ fn clamps(alloc: Global) -> Result<Functors, AllocError> {
         alloc,
         move |alloc: Global, found: u64, args: &[Value]| -> Result<(Vec<Action>, u64), AllocError>
             requires { AreArguments (Int ∷ []) args.now }
-            ensures { IfOk result (λ answer. (answer.0.items ≡ unfolded_body args.now (with_state found (clamp_body least most)))
-                × (answer.1 ≡ after state found args.now)) }
-        {
-            let node = Node::Const(args[0].copy(alloc)?);
-            let actions = clamped(alloc, least, most, &Expr { node })?;
-            Ok((actions, kept_state(found)))
-        },
+            ensures actions { IfOk result (λ answer. answer.0.items ≡ unfolded_body args.now (with_state found (clamp_body least most))) }
+            ensures next { IfOk result (λ answer. answer.1 ≡ after state found args.now) }
+        { clamp_answer(alloc, least, most, found, args) },
     )?;
     match with_clamp(alloc, least, most, clamp) {
         Ok(functors) => Ok(functors),

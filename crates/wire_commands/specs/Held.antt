@@ -63,9 +63,9 @@ mode_of held = Auto
 
 -- how soon the event of a call is taken that is made in this way, `Normal` where nothing is held; only one that is queued is an event
 abbrev pub priority_for : ConnectionType → Held → Option Priority
-priority_for mode absent = Some Normal
+priority_for way absent = Some Normal
 priority_for Queued (priority p) = Some p
-priority_for mode held = None
+priority_for way held = None
 
 -- the elements of the array that is held, if one is
 abbrev pub list_of : Held → Option (List Data)
@@ -93,7 +93,7 @@ abbrev pub priority_numbered : ℤ → Option Priority
 priority_numbered (negsuc zero) = Some Low
 priority_numbered (pos zero) = Some Normal
 priority_numbered (pos (suc zero)) = Some High
-priority_numbered number = None
+priority_numbered other = None
 
 -- the priority that a value is
 abbrev pub priority_in : Data → Option Priority

@@ -141,7 +141,11 @@ pub(crate) fn invoke_of(alloc: Global, held: &[Held<'_, '_>]) -> Result<Option<C
     let [object, method, args, mode, priority] = held else {
         return Ok(None);
     };
-    let (Some(object), Some(priority)) = (object.number(), priority.priority(mode.mode())) else {
+    let Some(object) = object.number() else {
+        return Ok(None);
+    };
+    let mode = mode.mode();
+    let Some(priority) = priority.priority(mode) else {
         return Ok(None);
     };
     match (method.text(alloc)?, args.list(alloc)?) {
@@ -149,7 +153,7 @@ pub(crate) fn invoke_of(alloc: Global, held: &[Held<'_, '_>]) -> Result<Option<C
             object,
             method,
             args,
-            mode: mode.mode(),
+            mode,
             priority,
         })),
         _ => Ok(None),

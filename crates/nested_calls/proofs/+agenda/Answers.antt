@@ -9,6 +9,7 @@ use Rattle.thread_model.specs.Acts as model
 use Rattle.thread_model.specs.declared.call.TheConstants.{DESTROYED}
 use Rattle.publish_board.specs.Rows.{publishes}
 use Rattle.thread_model.specs.Arriving.{posts_of}
+use Rattle.thread_model.specs.Doing.{Doing, stepped}
 use Rattle.thread_model.specs.Items.{Cut, Delete, Emit, Gone}
 use Rattle.thread_model.specs.Run.{run}
 use Rattle.thread_model.specs.Targets.{truth_evaluated}
@@ -696,10 +697,10 @@ agenda::run_functor-acts-requires t g c = λ κs outlives.
     let old = c.args.tables.now in
     let new = c.step_functor.new.self in
     let same : left_at caller.place old c.call_functor.new.self ≡ left_at caller.place old c.args.telling.now = ap (left_at caller.place old) c.in_ok-call_functor.ensures.told in
-    let less = left_functor caller.place old new c.call_functor.new.self c.args.connection c.in_ok-answered.next c.requires.placed c.step_functor.ensures in
+    let less = left_functor caller.place old new c.call_functor.new.self c.args.connection c.in_ok-actions.next c.requires.placed c.step_functor.ensures in
     let short = functor_short settings c.args.index c.args.functor.now c.requires.found in
-    let kept = answered_short settings c.args.index c.args.functor.now c.requires.found c.functor_state-state.result c.args.slot.now.args.now c.in_ok-answered.actions.items c.in_ok-answered.ensures.actions in
-    let whole : counts (acts_of c.as_slice.result.now) ≡ counts (acts_of c.in_ok-answered.actions.items) = ap (λ (actions : List Act). counts (acts_of actions)) c.as_slice.ensures.value in
+    let kept = answered_short settings c.args.index c.args.functor.now c.requires.found c.functor_state-state.result c.args.slot.now.args.now c.in_ok-actions.actions.items c.in_ok-actions.ensures.actions in
+    let whole : counts (acts_of c.as_slice.result.now) ≡ counts (acts_of c.in_ok-actions.actions.items) = ap (λ (actions : List Act). counts (acts_of actions)) c.as_slice.ensures.value in
     ((let falls = rank_falls caller old new c.args.telling.now c.call_functor.new.self (2 * longest_of caller + 7) (2 * counts (acts_of c.as_slice.result.now) + 6) (omega (arith, same, less)) (omega (arith, short, kept, whole)) in grind (arith, falls)), (outlives, (placed_kept _ _ _ (keeps_with _ _ _ _ c.requires.placed c.step_functor.ensures) c.requires.placed, c.requires.depth)))
 
 pub agenda::run_functor-returns-in_err-call_functor : goal.agenda::run_functor-returns-in_err-call_functor
@@ -709,12 +710,12 @@ agenda::run_functor-returns-in_err-call_functor t g c =
     let old = c.args.tables.now in
     next_wanting caller _ old c.args.telling.now (λ earlier. functor_front (settings_of caller.setup.now) c.args.index c.args.functor.now c.requires.found slot.object slot.sender c.args.connection slot.args.now slot.depth (doing_at caller.place old c.args.telling.now earlier)) old c.call_functor.new.self _ c.from_residual.ensures.0 (keeps_same old old caller.place refl) c.call_functor.ensures.failing
 
-pub agenda::run_functor-returns-in_err-answered : goal.agenda::run_functor-returns-in_err-answered
-agenda::run_functor-returns-in_err-answered t g c =
+pub agenda::run_functor-returns-in_err-actions : goal.agenda::run_functor-returns-in_err-actions
+agenda::run_functor-returns-in_err-actions t g c =
     let caller = c.args.actor.now.caller in
     let slot = c.args.slot.now in
     let old = c.args.tables.now in
-    next_wanting caller _ old c.args.telling.now (λ earlier. functor_front (settings_of caller.setup.now) c.args.index c.args.functor.now c.requires.found slot.object slot.sender c.args.connection slot.args.now slot.depth (doing_at caller.place old c.args.telling.now earlier)) old c.call_functor.new.self _ c.from_residual-in_err-answered.ensures.0 (keeps_same old old caller.place refl) c.call_functor.ensures.failing
+    next_wanting caller _ old c.args.telling.now (λ earlier. functor_front (settings_of caller.setup.now) c.args.index c.args.functor.now c.requires.found slot.object slot.sender c.args.connection slot.args.now slot.depth (doing_at caller.place old c.args.telling.now earlier)) old c.call_functor.new.self _ c.from_residual-in_err-actions.ensures.0 (keeps_same old old caller.place refl) c.call_functor.ensures.failing
 
 pub agenda::run_functor-returns : goal.agenda::run_functor-returns
 agenda::run_functor-returns t g c =
@@ -725,10 +726,10 @@ agenda::run_functor-returns t g c =
     let new = c.step_functor.new.self in
     does_after caller _ old c.args.telling.now _ new c.acts.new.tables c.call_functor.new.self c.acts.new.telling c.acts.result c.requires.placed (keeps_with _ _ _ _ c.requires.placed c.step_functor.ensures) c.in_ok-call_functor.ensures.failing
     (λ earlier done. functor_does settings c.args.index c.args.functor.now c.requires.found slot.object slot.sender c.args.connection slot.args.now slot.depth
-    (doing_at caller.place old c.args.telling.now earlier) (doing_at caller.place new c.call_functor.new.self earlier) done c.functor_state-state.result c.in_ok-answered.next c.in_ok-answered.actions.items
-    c.functor_state-state.ensures c.in_ok-answered.ensures.actions c.in_ok-answered.ensures.next
-    (ap (λ (doing : Doing). stepped doing c.args.connection c.in_ok-answered.next) (told_is caller.place old c.args.telling.now c.call_functor.new.self earlier _ c.in_ok-call_functor.ensures.told)
-    ∙ stepped_is caller.place old new c.call_functor.new.self earlier c.args.connection c.in_ok-answered.next c.requires.placed c.step_functor.ensures))
+    (doing_at caller.place old c.args.telling.now earlier) (doing_at caller.place new c.call_functor.new.self earlier) done c.functor_state-state.result c.in_ok-actions.next c.in_ok-actions.actions.items
+    c.functor_state-state.ensures c.in_ok-actions.ensures.actions c.in_ok-actions.ensures.next
+    (ap (λ (doing : Doing). stepped doing c.args.connection c.in_ok-actions.next) (told_is caller.place old c.args.telling.now c.call_functor.new.self earlier _ c.in_ok-call_functor.ensures.told)
+    ∙ stepped_is caller.place old new c.call_functor.new.self earlier c.args.connection c.in_ok-actions.next c.requires.placed c.step_functor.ensures))
     (rw c.as_slice.ensures.value at c.acts.ensures)
 
 pub agenda::acts-actions-init : goal.agenda::acts-actions-init

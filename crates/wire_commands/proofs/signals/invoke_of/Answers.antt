@@ -8,6 +8,9 @@ returns-in_default c = grind (arith, common_steps)
 pub returns-in_default-number : goal.returns-in_default-number
 returns-in_default-number c = grind (arith, common_steps)
 
+pub returns-in_default-priority : goal.returns-in_default-priority
+returns-in_default-priority c = grind (arith, common_steps)
+
 pub returns-in-Some-Some : goal.returns-in-Some-Some
 returns-in-Some-Some c = grind (arith, common_steps)
 
