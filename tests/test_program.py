@@ -1,5 +1,5 @@
 """The program as a process: its ends and the words of its command line, what it says over pipes, a limit on the size of its
-output, its limits on a stack of 8 MiB and of half of that, and names that are chosen to make it slow."""
+output, its limits on a stack of 8 MiB, and names that are chosen to make it slow."""
 
 import os
 import resource
@@ -286,7 +286,6 @@ class Sizes(ProgramCases):
 
 KIB = 1024
 STACK = 8 * KIB * KIB
-HALF = STACK // 2
 ADDRESSES = 20 * KIB * KIB
 
 
@@ -338,9 +337,9 @@ class Limits(ProgramCases):
         self.check_each(self.cases(limits.wide_rows()), wide, at_once=1)
 
     def test_deep(self):
-        """Signals, changes, bindings and deletions that nest as deep as they may pass on a stack of 4 MiB; it is told how much
+        """Signals, changes, bindings and deletions that nest as deep as they may pass on a stack of 8 MiB; it is told how much
         they need."""
-        self.check_needs(limits.deep_rows(), resource.RLIMIT_STACK, HALF, "on a stack of")
+        self.check_needs(limits.deep_rows(), resource.RLIMIT_STACK, STACK, "on a stack of")
 
     def test_shared(self):
         """As many events as there may be, whose texts are those of two emissions; it is told in how much memory."""

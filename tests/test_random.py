@@ -52,8 +52,9 @@ class Lines(ProgramCases):
         """200,000 lines are answered alike, byte for byte."""
         lines, server = chance.lines_of(chance.Chance(SEED)), server_with(turns=chance.TURNS)
         wanted = b"".join(answer(server, line) for line in lines)
-        words = (b'{"reply":', b'"call":', b'"call":"clamp"', b'"warning":"BindingLoop"')
-        replies, calls, functors, loops = map(wanted.count, words)
+        words = (b'{"reply":', b'"call":', b'"call":"clamp"', b'"call":"count"', b'"warning":"BindingLoop"')
+        replies, calls, clamped, counted, loops = map(wanted.count, words)
+        functors = clamped + counted
         self.assertGreaterEqual(replies, chance.LINES // 10, "there are too few replies")
         self.assertGreaterEqual(calls, chance.LINES // 200, "there are too few calls")
         self.assertGreaterEqual(functors, chance.LINES // 40_000, "there are too few calls of functors")

@@ -164,7 +164,7 @@ class Chance(random.Random):
         if self.is_so(0.2):
             method, values = '"objectNameChanged ( const QString & )"', [self.text()]
         further = [("type", self.choice(TYPES))] if self.is_so(0.25) else []
-        further += [("priority", self.choice(PRIORITIES))] if self.is_so(0.4 if further else 0.02) else []
+        further += [("priority", self.choice(PRIORITIES))] if self.is_so(0.2 if further else 0.01) else []
         number = self.old_object() if self.is_so(0.4) else self.object()
         return [("object", number), ("method", method), ("args", f"[{','.join(values)}]"), *further]
 
