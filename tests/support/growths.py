@@ -30,7 +30,7 @@ from tests.plain.failing import FAILED, LINE_LOST, NOT_ENTERED, RECEIVER_FAILED,
 from tests.plain.lines import NOBODY, command_of, server_of
 
 from .differences import LAST, difference, shown_input
-from .lines import lines_in, lines_of
+from .lines import is_blank, lines_in, lines_of
 
 MOST = 100_000
 LARGE = 4 * 1024  # bytes of a class file
@@ -111,13 +111,13 @@ class Trial:
 
     def __init__(self, program, library, row, start=0):
         self.program, self.library, self.row, self.start = program, library, row, start
-        self.lines = lines_in(row.given)
+        self.lines = [it for it in lines_in(row.given) if not is_blank(it)]
         self.answers = answers_in(row.stdout)
         self.told, self.joins = told_to(self.answers), joins_in(self.lines)
         self.without, self.kinds, self.neighbours = {}, {}, 0
 
     def is_plain(self):
-        """Whether each line has one answer, or none is read."""
+        """Whether each line that is not passed over has one answer, or none is read."""
         return self.row.status != 0 or len(self.lines) == len(self.answers)
 
     def run(self, number):
