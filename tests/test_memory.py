@@ -132,7 +132,7 @@ class RefusedGrowths(ProgramCases):
 
 
 MIB, KIB = 2**20, 2**10
-LEAST_SPACE, STEP_OF_SPACE, MOST_SPACE = 2 * MIB, 64 * KIB, 64 * MIB  # in the least the program is not even loaded
+LEAST_SPACE, STEP_OF_SPACE, MOST_SPACE = 3 * MIB, 64 * KIB, 64 * MIB  # in the least the program is not even loaded
 SPACES = 4 * AT_ONCE  # that are tried before it is looked whether one of them was enough
 MOST_GROWN = 1.02  # of the peak of the first lines
 
@@ -147,7 +147,7 @@ class LittleMemory(ProgramCases):
     """The program where there is little memory, and what it gives back."""
 
     def tried_spaces(self, row):
-        """What comes of a row in an address space of 2 MiB, and of 64 KiB more each time, up to where it passes whole."""
+        """What comes of a row in an address space of 3 MiB, and of 64 KiB more each time, up to where it passes whole."""
         sizes, tried = iter(range(LEAST_SPACE, MOST_SPACE, STEP_OF_SPACE)), []
         with ProcessPoolExecutor(AT_ONCE) as pool:
             while not any(NOT_SEEN in came.kinds for _, came, _ in tried):

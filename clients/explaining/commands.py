@@ -198,8 +198,11 @@ class Command:
         return sorted({*self.own_objects(), *objects_of(self.asked.get("to"))})
 
 
+LINE_BYTES = 65_536  # which a line has at most; a longer one is answered, also where it is blank
+
+
 def commands_in(file: Iterable[bytes]) -> Iterator[Command]:
     """The commands of an input: all lines but blank ones."""
     for number, raw in enumerate(file, 1):
-        if raw.strip(b" \t\r\n"):
+        if raw.strip(b" \t\r\n") or len(raw.rstrip(b"\n")) > LINE_BYTES:
             yield Command(number, raw, json_object(raw) or {})

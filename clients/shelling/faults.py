@@ -90,7 +90,7 @@ def faults_of_form(do: str, asked: Mapping[str, Any]) -> List[str]:
     faults += [f"{do} has no key {key}" for key in sorted(keys - required - optional)]
     if do == "disconnect" and "method" in keys and "receiver" not in keys:
         faults.append("disconnect has the key method only beside the key receiver")
-    if "priority" in keys & optional and asked.get("type") != "queued":
+    if "priority" in keys & optional and asked.get("type", "auto") in ("auto", "direct"):
         faults.append(f'{do} has the key priority only with the type "queued"')
     for key in sorted(keys & (required | optional)):
         faults += fault_at(do, key, asked)

@@ -26,7 +26,7 @@ from tests.support import protocol
 from tests.support.cases import CASE, Cases, ProgramCases
 from tests.support.differences import shown_input
 from tests.support.documents import all_examples
-from tests.support.lines import lines_of, text_of
+from tests.support.lines import is_blank, lines_of, text_of
 from tests.support.program import ROOT, ROWS, SECONDS, Row, rows_in
 
 from . import CLIENTS
@@ -64,7 +64,7 @@ def is_told(said):
 def not_explained(given, lines):
     """What is wrong with what is said to the lines that some commands lead to: lines that are not said as they are, or not
     explained."""
-    commands = [line for line in given.split(b"\n") if line.strip(b" \t\r")]
+    commands = [line for line in given.split(b"\n") if not is_blank(line)]
     for said, asked in zip(explained(given, lines), ([], commands)):
         raw = [it for it in said if isinstance(it, bytes)]
         if [it for it in raw if it not in (b"> " + line for line in asked)] != lines.splitlines():
