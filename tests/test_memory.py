@@ -46,6 +46,7 @@ SESSIONS = 1_000
 COMMANDS = 200
 REFUSED = 400  # one of so many requests for memory behind the start is refused, if the program comes to it
 LISTENERS = 200  # runs of sessions that listen to each other
+WHOLE = 6  # a short one of these, in which posts arrive that want memory: each of its growths is refused
 GROWTHS_OF_LINE = 8  # requests for memory that a line of theirs makes, about
 
 
@@ -58,12 +59,12 @@ def refuse_with_bindings(program, preloaded, seed):
 
 
 def refuse_among_listeners(program, preloaded, seed):
-    """What comes of sessions that listen to each other where one growth of theirs is refused, taken by chance; of the first
-    ones where each is, in turn."""
+    """What comes of sessions that listen to each other where one growth of theirs is refused, taken by chance; of one
+    run where each is, in turn."""
     made = mixed.Chance(seed)
     with listeners_by_chance(made, seed) as row:
         trial = Trial(program, preloaded, row, count_start(program, preloaded, row))
-        if seed == 1:
+        if seed == WHOLE:
             return trial.refuse_each(trial.start + 1)
         return trial.refuse_one(trial.start + made.randint(1, GROWTHS_OF_LINE * len(trial.lines)))
 
@@ -127,7 +128,7 @@ class RefusedGrowths(ProgramCases):
         self.check_by_chance(SESSIONS, refuse_with_bindings, {FAILED: SESSIONS // 10})
 
     def test_sessions_that_listen(self):
-        """So does one of each of many runs of sessions that publish, join, bind and call functors, and each of the first run."""
+        """So does one of each of many runs of sessions that publish, join, bind and call functors, and each of one run."""
         self.check_by_chance(LISTENERS, refuse_among_listeners, {FAILED: LISTENERS // 10, RECEIVER_FAILED: 1})
 
 
