@@ -20,7 +20,8 @@ from .support.program import SECONDS, Row
 
 NEW = b'{"class":"QObject","do":"new","session":"a"}\n'
 ONE = b'{"reply":1,"session":"a"}\n'
-READ_FAULT, WRITE_FAULT = b"metad: read fault\n", b"metad: write fault\n"
+OTHER = NEW.replace(b'"a"', b'"b"')
+READ_FAULT, WRITE_FAULT, BAD_NAME = b"metad: read fault\n", b"metad: write fault\n", b"metad: bad session name\n"
 
 
 @dataclass
@@ -82,6 +83,15 @@ ENDS = [
     End("help that cannot be written", words=("--help",), sink="/dev/full", status=4, stderr=None),
     End("an option that is not there", words=("--slow",), status=2, stderr=None),
     End("turns", words=("--turns", "1000000"), given=NEW, stdout=ONE),
+    End("a slice", words=("--slice", "a"), given=NEW + OTHER + NEW[:-1], stdout=2 * NEW),
+    End("a slice of a session that says nothing", words=("--slice=c",), given=NEW + OTHER),
+    End("a slice of input that is a folder", words=("--slice=a",), source="/", status=3, stderr=READ_FAULT),
+    End("a slice for an output that is full", words=("--slice=a",), given=NEW, sink="/dev/full", status=4, stderr=WRITE_FAULT),
+    End("a session's name of 64 bytes", words=("--slice", 64 * "a"), given=NEW),
+    End("a session's name of 65 bytes", words=("--slice", 65 * "a"), status=2, stderr=BAD_NAME),
+    End("a session's name that is empty", words=("--slice=",), status=2, stderr=BAD_NAME),
+    End("a session's name that is a hyphen", words=("--slice", "-"), status=2, stderr=BAD_NAME),
+    End("a session's name that is none, before a class file that is a folder", words=("/", "--slice", "a b"), status=2, stderr=BAD_NAME),
     End("a class file without a name", words=("",), status=1, stderr=b"metad: class file refused: unreadable\n"),
     End("a class file that is a folder", words=("/",), status=1, stderr=b"metad: class file refused: unreadable\n"),
     End("a class file that is empty", words=("/dev/null",), status=1, stderr=b"metad: class file refused: C01 at class 0\n"),
@@ -98,6 +108,13 @@ REFUSED_WORDS = [
     (("--turns", "-1"), 2, "unexpected argument"),
     (("--turns", "--help"), 2, "--turns <N>"),
     (("--turns", "1", "--turns=1"), 2, "the argument '--turns <N>' cannot be used multiple times"),
+    (("--slice", "a", "--help"), 0, "--slice <NAME>"),
+    (("--slice", "--help"), 2, "a value is required for '--slice <NAME>' but none was supplied"),
+    (("--slice",), 2, "a value is required for '--slice <NAME>' but none was supplied"),
+    (("--slice", "--", "a"), 2, "a value is required for '--slice <NAME>' but none was supplied"),
+    (("--slice", "-x"), 2, "unexpected argument '-x' found"),
+    (("--slice", "a", "--slice=b"), 2, "the argument '--slice <NAME>' cannot be used multiple times"),
+    (("--slice=", "a", "b"), 2, "unexpected argument 'b' found"),
     (("a", b"\xff"), 2, "\n\nUsage: metad [OPTIONS] [CLASSES]\n\nFor more information, try '--help'.\n"),
 ]
 ENDS_BY_WORDS = [
@@ -153,7 +170,7 @@ class Ends(ProgramCases):
         ran = subprocess.run([self.program, "--help"], capture_output=True, text=True, timeout=SECONDS)
         own, prover = version()
         self.assertEqual(ran.stdout.partition("\n")[0], f"metad {own}, proved with {prover}")
-        for words in ("CLASSES", "--turns", "--help", *(f"\n  {status}  " for status in range(6)), "metad(1)", "docs/GUIDE.md"):
+        for words in ("CLASSES", "--turns", "--slice", "--help", *(f"\n  {status}  " for status in range(6)), "metad(1)", "docs/GUIDE.md"):
             self.assertIn(words, ran.stdout)
 
 

@@ -1,5 +1,6 @@
 //! `metad`: a server of live objects in isolated sessions. It reads commands from standard input, one
-//! JSON object a line, and writes what the sessions are told to standard output.
+//! JSON object a line, and writes what the sessions are told to standard output, or the lines that one of
+//! them depends on.
 #![tactic(auto)]
 
 ghost use Rattle.std.specs.Prelude.{◌≡◌, ◌∷◌, [], IfOk};
@@ -16,9 +17,10 @@ use server_world::Server;
 use std::alloc::{AllocError, Global};
 use std::hash::RandomState;
 use std::process::ExitCode;
+use stored_slots::Functors;
 use term_core::Action;
 use variant_value::Value;
-use wire_lines::{Counted, RunFault, Summary, run, status_of};
+use wire_lines::{Counted, RunFault, Summary, run, run_slice, status_of};
 
 fn main(rt: HostRuntime) -> ExitCode {
     match start(&rt) {
@@ -31,10 +33,9 @@ fn main(rt: HostRuntime) -> ExitCode {
     }
 }
 
-/// Answers standard input on standard output, to its end, with these classes and turns, and with the functors
-/// `clamp`, whose closure captures the bounds that it keeps a number between, and `count`.
+/// Runs over standard input with the functors `clamp`, whose closure captures the bounds that it keeps a
+/// number between, and `count`.
 fn serve(rt: &HostRuntime, beginning: Beginning) -> Result<Summary, RunFault> {
-    let Beginning { classes, turns } = beginning;
     let (least, most) = (0, 100);
     let Ok(clamp) = Box::new(
         rt.alloc(),
@@ -61,6 +62,21 @@ fn serve(rt: &HostRuntime, beginning: Beginning) -> Result<Summary, RunFault> {
     if add_count(rt.alloc(), &mut functors, least, most, count).is_err() {
         return Err(RunFault::Memory);
     }
+    run_with(rt, beginning, functors)
+}
+
+/// Reads standard input to its end, and writes on standard output what the sessions are told, or for the
+/// slice of a session the lines on which what it is told depends.
+fn run_with(
+    rt: &HostRuntime,
+    beginning: Beginning,
+    functors: Functors,
+) -> Result<Summary, RunFault> {
+    let Beginning {
+        classes,
+        turns,
+        slice,
+    } = beginning;
     // Without random keys there is no server: a client could choose names that make it slow.
     let Ok(hashing) = RandomState::new(rt) else {
         return Err(RunFault::Read);
@@ -70,7 +86,10 @@ fn serve(rt: &HostRuntime, beginning: Beginning) -> Result<Summary, RunFault> {
     };
     let mut reader = Counted::new(rt.stdin());
     let mut writer = Counted::new(rt.stdout());
-    run(rt.alloc(), &mut reader, &mut writer, &mut server)
+    match slice {
+        Some(session) => run_slice(rt.alloc(), &mut reader, &mut writer, &mut server, &session),
+        None => run(rt.alloc(), &mut reader, &mut writer, &mut server),
+    }
 }
 
 /// Tells what a run came to, and gives the exit status.

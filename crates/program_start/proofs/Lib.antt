@@ -3,6 +3,7 @@ mod ClampLemmas
 mod CountLemmas
 mod NumberLemmas
 mod WordLemmas
+mod RowLemmas
 mod WalkLemmas
 mod ReadingLemmas
 mod StartLemmas

@@ -34,6 +34,10 @@ pub record IsEnding (status : ℕ) (stream : Stream) (text : List ℕ) (ending :
 abbrev pub IsOutOfMemory : Ending → Type 0
 IsOutOfMemory = IsEnding 5 StandardError (line (codes "metad: out of memory"))
 
+-- the end after a name that is not one of a session
+abbrev pub IsOfBadName : Ending → Type 0
+IsOfBadName = IsEnding 2 StandardError (line (codes "metad: bad session name"))
+
 -- the end after a class file that gave no classes
 abbrev pub EndsByClasses : ClassFileError → Ending → Type 0
 EndsByClasses (Refused fault) ending = IsEnding 1 StandardError (line (class_text (Some fault))) ending

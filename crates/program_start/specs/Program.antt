@@ -16,6 +16,10 @@ turns_rule = record (new_rule (codes "turns")) {
   parser = Some (Signed (pos 1) (pos 1000000));
 }
 
+-- `--slice NAME`, any text
+abbrev pub slice_rule : Rule
+slice_rule = record (new_rule (codes "slice")) { long = Some (codes "slice"); value_names = 1 }
+
 -- `metad [OPTIONS] [CLASSES]`, read from the words after the program's name
 abbrev pub metad : App
-metad = with_rule (with_rule (on_top (λ s. record s { no_binary_name = true }) (new_app (codes "metad"))) classes_rule) turns_rule
+metad = with_rule (with_rule (with_rule (on_top (λ s. record s { no_binary_name = true }) (new_app (codes "metad"))) classes_rule) turns_rule) slice_rule

@@ -1,6 +1,7 @@
 //! What a run of the program begins with.
 
 use class_table::ClassTable;
+use plain_types::Text;
 
 /// What a run of the program begins with.
 #[derive(Drop)]
@@ -9,4 +10,6 @@ pub struct Beginning {
     pub classes: ClassTable,
     /// How many turns each command has for the calls that it causes.
     pub turns: u32,
+    /// The name of the session whose slice of the input is written in place of the answers.
+    pub slice: Option<Text>,
 }

@@ -3,7 +3,7 @@ ghost use Rattle.std.specs.Prelude.{◌≡◌, ◌⊎◌, IfOk, string_bytes};
 ghost use Rattle.std.specs.Option.{option_copied};
 ghost use Rattle.clap.specs.Words.{kind_of};
 ghost use Rattle.program_start.specs.declared.ending.Stream.TheVariants.{StandardError, StandardOutput};
-ghost use Rattle.program_start.specs.Ending.{Complains, EndsByClasses, EndsByWords, IsEnding, IsOutOfMemory, Shows, class_text, line, sunk};
+ghost use Rattle.program_start.specs.Ending.{Complains, EndsByClasses, EndsByWords, IsEnding, IsOfBadName, IsOutOfMemory, Shows, class_text, line, sunk};
 ghost use Rattle.program_start.specs.declared.ending.TheConstants.{NO_UTF_8};
 
 use crate::class_file::ClassFileError;
@@ -21,7 +21,8 @@ pub enum Stream {
 }
 
 /// How the program ends: by which exit status, and what it says then. The status is 0 after help, 1
-/// after a class file that is refused, 2 after a mistake in the command line, 5 for want of memory.
+/// after a class file that is refused, 2 after a mistake in the command line or a name that no session
+/// can have, 5 for want of memory.
 #[derive(Drop)]
 pub struct Ending {
     pub status: u8,
@@ -58,6 +59,17 @@ impl Ending {
             status: 2,
             stream: Stream::StandardError,
             text: CowStr::Borrowed(NO_UTF_8),
+        }
+    }
+
+    /// The end after a name that no session can have.
+    pub fn bad_session_name() -> Ending
+        ensures { IsOfBadName result }
+    {
+        Ending {
+            status: 2,
+            stream: Stream::StandardError,
+            text: CowStr::Borrowed("metad: bad session name\n"),
         }
     }
 

@@ -24,5 +24,5 @@ pub use count::count_answer;
 pub use demonstration::DEMONSTRATION;
 pub use ending::{Ending, Stream, class_text};
 pub use functors::{add_count, with_clamp};
-pub use options::{DEFAULT_TURNS, Options, options_of};
+pub use options::{DEFAULT_TURNS, Options, OptionsError, options_of};
 pub use starting::{start, start_with, words_of};

@@ -7,7 +7,7 @@ use crate::beginning::Beginning;
 use crate::class_file::classes_at;
 use crate::class_files::ClassFiles;
 use crate::ending::Ending;
-use crate::options::options_of;
+use crate::options::{OptionsError, options_of};
 use std::alloc::AllocError;
 use std::convert::AsStr;
 use std::env;
@@ -50,13 +50,15 @@ pub fn start_with<R: ClassFiles + AllocGlobal, S: AsStr>(
     let alloc = rt.alloc();
     let options = match options_of(alloc, words) {
         Ok(options) => options,
-        Err(refusal) => return Err(Ending::of_words(alloc, &refusal)),
+        Err(OptionsError::Words(refusal)) => return Err(Ending::of_words(alloc, &refusal)),
+        Err(OptionsError::SessionName) => return Err(Ending::bad_session_name()),
     };
     let path = options.classes.as_ref().map(|path| path.as_str());
     match classes_at(rt, path) {
         Ok(classes) => Ok(Beginning {
             classes,
             turns: options.turns,
+            slice: options.slice,
         }),
         Err(error) => Err(Ending::of_class_file(alloc, &error)),
     }

@@ -1,2 +1,4 @@
 pub mod ServerLemmas
 pub mod RunLemmas
+pub mod NotesLemmas
+pub mod NotingLemmas

@@ -66,7 +66,7 @@ pub entry_is : (entry : Entry) (lines : List Line) → entry_lines entry ≡ Som
 entry_is (Lines told) lines e = cc
 entry_is OutOfMemory lines e = absurd (cc)
 
-told_some : {T P : Type 0} (value : Option T) (x : T) → value ≡ Some x → OnSome value P → P
+pub told_some : {T P : Type 0} (value : Option T) (x : T) → value ≡ Some x → OnSome value P → P
 told_some (Some y) x e h = h
 told_some None x e h = absurd (cc)
 

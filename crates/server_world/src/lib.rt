@@ -2,10 +2,12 @@
 #![tactic(auto)]
 
 mod laws;
+mod notes;
 mod report;
 mod server;
 
 pub use laws::{influence_is_least, leaving_out_keeps_sessions, slicing_keeps_a_session};
+pub use notes::Notes;
 pub use report::{Entry, Report};
 pub use server::Server;
 pub use thread_model::{Answer, Command, Line, Tagged};

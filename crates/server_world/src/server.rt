@@ -1,7 +1,9 @@
 //! Sessions that come with their first command, and runs of their commands.
-ghost use Rattle.std.specs.Prelude.{◌≡◌, ◌⊎◌, ◌≤◌, ◌<◌, [], List, ℕ, Some, length, IsTrue, IsFalse, IfOk, OnOk, OnErr};
+ghost use Rattle.std.specs.Prelude.{◌≡◌, ◌⊎◌, ◌≤◌, ◌<◌, ◌++◌, ◌∷◌, [], All, List, ℕ, Some, length, map, IsTrue, IsFalse, IfOk, OnOk, OnErr};
 ghost use Rattle.std.specs.Result.{result_ok};
+ghost use Rattle.isolation.specs.Slice.{Note, back};
 ghost use Rattle.thread_model.specs.Asked.{asked, tag};
+ghost use Rattle.thread_model.specs.Machine.{machine};
 ghost use Rattle.thread_model.specs.State.{empty};
 ghost use Rattle.stored_slots.specs.Table.{functors_of};
 ghost use Rattle.session_engine.specs.Core as engine;
@@ -12,7 +14,10 @@ ghost use Rattle.session_engine.specs.Sessions.{AreSound, AreWell, IsStep};
 ghost use Rattle.server_world.specs.Names.{with_name};
 ghost use Rattle.server_world.specs.Server.{IsLost, IsNew, KnowsAtMost, OnlyRefused, StaysOut, failed, names, seen, seen_as, settings, states, was_refused};
 ghost use Rattle.server_world.specs.Runs.{AreSteps, IsBlamed, IsEntry, IsIsolated, IsLater, IsWorldRun, tags};
+ghost use Rattle.server_world.specs.Noting.{IsNoted, IsWithin, StopsShort, kept_places, marked_from, name_at, named};
+ghost use Rattle.server_world.specs.NotedRuns.{IsKeptRun, Stops};
 
+use crate::notes::Notes;
 use crate::report::{Entry, Report};
 use class_table::ClassTable;
 use plain_types::{Items, Text};
@@ -112,6 +117,107 @@ impl Server {
             lines: Items::from_vec(entries),
             memory_refused: self.memory_refused(),
         }
+    }
+
+    /// Notes the session of a command that is about to be done, and the sessions with a join that names
+    /// it. Where memory is wanted for that and not found, nothing has changed.
+    pub fn note(&self, given: &Tagged, notes: &mut Notes) -> Result<(), AllocError>
+        ensures ok { OnOk result ((note : Note ℕ) × IsNoted (seen_as self.now) (tag given.now) note × (notes.new ≡ notes.old ++ note ∷ [])) }
+        ensures err { OnErr result (notes.new ≡ notes.old) }
+    {
+        let place = self.place_for(&given.session);
+        let joiners = self.engine.joiners(&given.session)?;
+        notes.add(place, joiners)
+    }
+
+    /// The place of a session, or the one that it gets by its first command: behind the others.
+    fn place_for(&self, name: &Text) -> usize
+        ensures there { result < length (with_name (names (seen_as self.now)) name.now) }
+        ensures is { name_at (with_name (names (seen_as self.now)) name.now) result ≡ name.now }
+    {
+        match self.engine.find(name) {
+            Some(place) => place,
+            None => self.engine.len(),
+        }
+    }
+
+    /// Which of the noted commands the slice of a session keeps: their places from 0 on, rising.
+    pub fn kept(&self, session: &Text, notes: &Notes) -> Result<Vec<usize>, AllocError>
+        requires { All (IsWithin (length (names (seen_as self.now)))) notes.now }
+        ensures { IfOk result (λ places. places.items ≡ marked_from 0 (back (machine (settings (seen_as self.now))) session.now (map (named (names (seen_as self.now))) notes.now)).marks) }
+    {
+        match self.engine.find(session) {
+            Some(place) => notes.kept(place, self.engine.len()),
+            // A session without a command joins nobody.
+            None => Ok(Vec::new(self.alloc)),
+        }
+    }
+
+    /// Does commands as `run`, and answers also which of them the slice of a session keeps: their
+    /// places in the list from 0 on, rising. A run of these alone tells the session the same. Where
+    /// memory was refused, none are answered.
+    ///
+    /// Where memory is wanted for the report or for what is noted, and not found, the rest of the
+    /// commands is not done.
+    pub fn run_kept(
+        &mut self,
+        list: &[Tagged],
+        session: &Text,
+    ) -> Result<(Report, Vec<usize>), AllocError>
+        ensures refused { IfOk result (λ told. told.0.memory_refused ≡ was_refused (seen_as self.new)) }
+        ensures steps { IfOk result (λ told. AreSteps (seen_as self.old) (tags list.now) told.0.lines (seen_as self.new)) }
+        ensures world { IfOk result (λ told. IsFalse told.0.memory_refused → IsWorldRun (seen_as self.old) (seen_as self.new) (tags list.now) told.0.lines) }
+        ensures isolated { IfOk result (λ told. IsFalse told.0.memory_refused → (s : List ℕ) → IsIsolated (seen_as self.old) (seen_as self.new) (tags list.now) told.0.lines s) }
+        // Exactly the places that the slice keeps,
+        ensures kept { IfOk result (λ told. IsFalse told.0.memory_refused
+            → told.1.items ≡ kept_places (settings (seen_as self.old)) (states (seen_as self.old)) (tags list.now) session.now) }
+        ensures none { IfOk result (λ told. IsTrue told.0.memory_refused → told.1.items ≡ []) }
+        ensures stopped { OnErr result (StopsShort (seen_as self.old) (seen_as self.new) (tags list.now)) }
+        ensures later { IsLater (seen_as self.old) (seen_as self.new) }
+    {
+        match self.run_noted(list, session) {
+            Ok(told) => {
+                self.engine.sound();
+                Ok(told)
+            }
+            Err(AllocError) => {
+                self.note_memory_refused();
+                self.engine.sound();
+                Err(AllocError)
+            }
+        }
+    }
+
+    /// As `run_kept`, but that memory was refused for the report or for what is noted is not noted.
+    fn run_noted(
+        &mut self,
+        list: &[Tagged],
+        session: &Text,
+    ) -> Result<(Report, Vec<usize>), AllocError>
+        ensures told { IfOk result (λ told. IsKeptRun (seen_as self.old) (seen_as self.new) (tags list.now) session.now told.0 told.1.items) }
+        ensures stopped { OnErr result (Stops (seen_as self.old) (seen_as self.new) (tags list.now)) }
+    {
+        let mut entries = Vec::with_capacity(self.alloc, list.len())?;
+        let mut notes = Notes::new(self.alloc);
+        for given in list {
+            self.note(given, &mut notes)?;
+            let entry = self.entry(given);
+            entries.push_reserved(entry);
+        }
+        let lines = Items::from_vec(entries);
+        if self.memory_refused() {
+            let report = Report {
+                lines,
+                memory_refused: true,
+            };
+            return Ok((report, Vec::new(self.alloc)));
+        }
+        let places = self.kept(session, &notes)?;
+        let report = Report {
+            lines,
+            memory_refused: false,
+        };
+        Ok((report, places))
     }
 
     fn entry(&mut self, given: &Tagged) -> Entry

@@ -11,9 +11,9 @@ use Rattle.property_store.specs.Store.{fields_in}
 use Rattle.thread_model.specs.declared.post.Post.{Post}
 use Rattle.thread_model.specs.Fitting.{IsRightPost}
 use Rattle.session_tables.specs.declared.tables.Tables.{Tables}
-use Rattle.session_tables.specs.Reaching.{AreShaped, heard}
+use Rattle.session_tables.specs.Reaching.{AreShaped, FailsBy, heard, takes_some}
 use Rattle.session_tables.specs.Session.{Session, fresh, gone}
-use Rattle.session_tables.specs.Tables.{ChangesOnly, failed_at, session_at, with_session}
+use Rattle.session_tables.specs.Tables.{ChangesOnly, session_at, with_session}
 use Rattle.session_tables.proofs.PostLemmas.{changes_session}
 use Rattle.session_tables.proofs.ReachingLemmas.{session_unchanged, shaped_changed}
 use Rattle.session_tables.proofs.TablesLemmas.{session_there}
@@ -64,7 +64,7 @@ module _ (engine : Contents) (new : Tables) (refused : Bool) (at : ℕ) (name : 
 
 -- a post has come to the session at a place
 module _ {T E : Type 0} (engine : Contents) (new : Tables) (refused : Bool) (at : ℕ) (name from : List ℕ) (post : Post) (result : Result T E) (whole : IsWhole engine) (right : IsRightPost post) (there : place engine name ≡ Some at) (changes : ChangesOnly at engine.tables new)
-    (ok : OnOk result (session_at new at ≡ heard engine.settings.classes from (post ∷ []) (session_at engine.tables at))) (err : OnErr result ((session_at new at ≡ gone) × IsFalse (failed_at engine.tables at)))
+    (ok : OnOk result (session_at new at ≡ heard engine.settings.classes from (post ∷ []) (session_at engine.tables at))) (err : OnErr result (FailsBy from (post ∷ []) (session_at engine.tables at) (session_at new at)))
     (found : OnOk result (refused ≡ engine.memory_refused)) (memory : OnErr result (IsTrue refused)) where
   found_before : IsFalse refused → IsFalse engine.memory_refused
   found_before fine = by result found memory
@@ -76,10 +76,10 @@ module _ {T E : Type 0} (engine : Contents) (new : Tables) (refused : Bool) (at 
   kept_arrived : IsKept engine.settings refused (session_at new at)
   kept_arrived = by result ok err memory
     where
-      by : (result : Result T E) → OnOk result (session_at new at ≡ heard engine.settings.classes from (post ∷ []) (session_at engine.tables at)) → OnErr result ((session_at new at ≡ gone) × IsFalse (failed_at engine.tables at)) → OnErr result (IsTrue refused)
+      by : (result : Result T E) → OnOk result (session_at new at ≡ heard engine.settings.classes from (post ∷ []) (session_at engine.tables at)) → OnErr result (FailsBy from (post ∷ []) (session_at engine.tables at) (session_at new at)) → OnErr result (IsTrue refused)
           → IsKept engine.settings refused (session_at new at)
       by (Ok done) ok err memory = subst (IsKept engine.settings refused) (sym ok) (kept_heard engine.settings engine.memory_refused refused from (post ∷ []) (session_at engine.tables at) found_before (All-cons IsRightPost post [] right (All-nil IsRightPost)) (whole.kept at))
-      by (Err error) ok err memory = subst (λ mark. IsKept engine.settings mark (session_at new at)) (sym memory) (subst (IsKept engine.settings true) (sym err.0) (kept_gone engine.settings))
+      by (Err error) ok err memory = subst (λ mark. IsKept engine.settings mark (session_at new at)) (sym memory) (subst (IsKept engine.settings true) (sym err.2) (kept_gone engine.settings))
 
   pub whole_arrived : IsWhole (changed engine new refused)
   whole_arrived = whole_changed engine new refused at name whole there changes found_before kept_arrived
@@ -93,7 +93,7 @@ module _ {T E : Type 0} (engine : Contents) (new : Tables) (refused : Bool) (at 
       now : sessions (changed engine new refused) name ≡ session_at new at
       now = own_changed engine new refused at name whole there changes
 
-      by : (result : Result T E) → OnOk result (session_at new at ≡ heard engine.settings.classes from (post ∷ []) (session_at engine.tables at)) → OnErr result ((session_at new at ≡ gone) × IsFalse (failed_at engine.tables at)) → OnOk result (refused ≡ engine.memory_refused)
+      by : (result : Result T E) → OnOk result (session_at new at ≡ heard engine.settings.classes from (post ∷ []) (session_at engine.tables at)) → OnErr result (FailsBy from (post ∷ []) (session_at engine.tables at) (session_at new at)) → OnOk result (refused ≡ engine.memory_refused)
           → OnErr result (IsTrue refused) → HasArrived (seen engine) (seen (changed engine new refused)) name from post (result_ok result)
       by (Ok done) ok err found memory =
           let heard_it : sessions (changed engine new refused) name ≡ heard engine.settings.classes from (post ∷ []) (sessions engine name) = now ∙ ok ∙ ap (heard engine.settings.classes from (post ∷ [])) (sym own) in
@@ -111,7 +111,7 @@ module _ {T E : Type 0} (engine : Contents) (new : Tables) (refused : Bool) (at 
       by (Err error) ok err found memory = record {
         state = λ fine. absurd (both_ways _ fine memory);
         hears = tt;
-        fails = (now ∙ err.0, ap (λ (session : Session). session.failed) own ∙ err.1);
+        fails = (ap (λ (session : Session). session.failed) own ∙ err.0, subst (λ session. IsTrue (takes_some from (post ∷ []) session)) (sym own) err.1, now ∙ err.2);
         others = others_changed engine new refused at name whole there changes;
         settings = refl;
         found = tt;

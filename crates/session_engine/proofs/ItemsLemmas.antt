@@ -38,7 +38,7 @@ all_lines-append (x ∷ xs) ys = ap (λ lines. x ++ lines) (all_lines-append xs 
 -- a session that has failed hears nothing
 deaf : (classes : List Class) (from : List ℕ) (posts : List Post) (old new : Session) → IsTrue old.failed → Hears classes from posts old new → new ≡ old
 deaf classes from posts old new failed (inl heard) = heard ∙ cond-true old.failed old (record { state = arrive_all classes old.state from posts; failed = false }) failed
-deaf classes from posts old new failed (inr (fine, gone)) = absurd (both_ways _ fine failed)
+deaf classes from posts old new failed (inr (fine, taken, gone)) = absurd (both_ways _ fine failed)
 
 -- what follows of items that have come, whatever they are: where memory was never refused, what a session alone
 -- is told and how it is left; who has failed, and why memory was refused

@@ -10,3 +10,4 @@ pub mod ClassesLemmas
 pub mod InvocationLemmas
 pub mod ItemsLemmas
 pub mod ChangedLemmas
+pub mod JoiningLemmas

@@ -166,7 +166,7 @@ module _ (old new : Contents) (at : ℕ) (name : List ℕ) (asked : Asked) (told
         where
           either_way : Hears old.settings.classes name ended.posts (session_at old.tables other) (session_at new.tables other) → IsKept old.settings new.memory_refused (session_at new.tables other)
           either_way (inl f) = subst (IsKept old.settings new.memory_refused) (sym f) heard_one
-          either_way (inr f) = subst (λ mark. IsKept old.settings mark (session_at new.tables other)) (sym e) (subst (IsKept old.settings true) (sym f.1) (kept_gone old.settings))
+          either_way (inr f) = subst (λ mark. IsKept old.settings mark (session_at new.tables other)) (sym e) (subst (IsKept old.settings true) (sym f.2) (kept_gone old.settings))
 
   pub whole_after : IsWhole new
   whole_after = record {

@@ -1,10 +1,12 @@
 -- What contracts see of the core of an engine.
-use Rattle.std.specs.Prelude.{◌≡◌, ℕ, Bool, List, ◌∷◌, ◌++◌, [], Option, Some, IsFalse, bytes_eq, length, position, ◌<◌, slice_index_or as get_or}
+use Rattle.std.specs.Prelude.{◌≡◌, ℕ, Bool, List, ◌∷◌, ◌++◌, [], Option, Some, IsFalse, All, bytes_eq, length, map, position, ◌<◌, slice_index_or as get_or}
+use Rattle.std.specs.List.{list_any}
 use Rattle.std.specs.Option.{option_map_or}
 use Rattle.thread_model.specs.Fitting.{AreSettings}
 use Rattle.thread_model.specs.State.{State}
-use Rattle.thread_model.specs.Thread.{Settings}
+use Rattle.thread_model.specs.Thread.{Settings, joins_name}
 use Rattle.session_tables.specs.declared.tables.Tables.{Tables}
+use Rattle.session_tables.specs.Joining.{AreJoiners}
 use Rattle.session_tables.specs.Session.{Session, fresh}
 use Rattle.session_tables.specs.Tables as tables
 use Rattle.session_tables.specs.Tables.{AreEven, AreLaid, session_at}
@@ -48,6 +50,22 @@ states engine name = (sessions engine name).state
 
 abbrev pub failed : Contents → List ℕ → Bool
 failed engine name = (sessions engine name).failed
+
+-- the name of a place
+abbrev pub name_at : Contents → ℕ → List ℕ
+name_at engine at = get_or engine.names at []
+
+-- the names of these places
+abbrev pub names_at : Contents → List ℕ → List (List ℕ)
+names_at engine places = map (name_at engine) places
+
+-- these places join the session of this name
+pub record AreJoinersOf (engine : Contents) (from : List ℕ) (places : List ℕ) : Type 0 where
+  -- exactly they, by rising number
+  pub joiners : AreJoiners engine.tables from places
+  -- and their names are exactly those of the sessions that do
+  pub named : (name : List ℕ) → list_any (bytes_eq name) (names_at engine places) ≡ joins_name (states engine name) from
+  pub within : All (λ at. at < length engine.names) places
 
 -- all that is seen by name
 abbrev pub seen : Contents → Sessions

@@ -9,8 +9,8 @@ use Rattle.thread_model.specs.Asked.{Asked, asked}
 use Rattle.thread_model.specs.Fitting.{IsRightPost}
 use Rattle.thread_model.specs.Machine.{machine}
 use Rattle.thread_model.specs.Thread.{arrives}
-use Rattle.session_tables.specs.Reaching.{heard}
-use Rattle.session_tables.specs.Session.{fresh, gone}
+use Rattle.session_tables.specs.Reaching.{FailsBy, heard}
+use Rattle.session_tables.specs.Session.{fresh}
 use Rattle.session_engine.specs.declared.item.Item.{Item}
 use Rattle.session_engine.specs.declared.item.Item.TheVariants as code
 use Rattle.session_engine.specs.Sessions.{AnotherFails, AreSound, IsStep, OthersStay, Sessions, states_of}
@@ -39,8 +39,8 @@ pub record HasArrived {T : Type 0} (old new : Sessions) (name from : List ℕ) (
   pub state : IsFalse new.memory_refused → states_of new name ≡ arrives old.settings.classes (states_of old name) from post
   -- and always the session has heard it, or has ignored it, having failed before
   pub hears : OnSome done (new.session name ≡ heard old.settings.classes from (post ∷ []) (old.session name))
-  -- unless memory was wanted for it: then this session alone has failed
-  pub fails : IfNone done ((new.session name ≡ gone) × IsFalse (old.session name).failed)
+  -- unless memory was wanted for it: then this session alone has failed, which has a join that takes it
+  pub fails : IfNone done (FailsBy from (post ∷ []) (old.session name) (new.session name))
   pub others : OthersStay old new name
   pub settings : new.settings ≡ old.settings
   pub found : OnSome done (new.memory_refused ≡ old.memory_refused)

@@ -34,20 +34,19 @@ impl Drop for Engine {
 }
 
 impl Engine {
-    ghost use Rattle.std.specs.Prelude.{◌≤◌, length, All, List, ℕ, ◌++◌, ◌∷◌, [], Some, None, IsTrue, IsFalse, IfOk, OnOk, OnErr, map};
+    ghost use Rattle.std.specs.Prelude.{◌<◌, ◌≤◌, length, All, List, ℕ, ◌++◌, ◌∷◌, [], Some, None, IsTrue, IsFalse, IfOk, OnOk, OnErr, map};
     ghost use Rattle.std.specs.Result.{result_ok};
     ghost use Rattle.refusals.specs.Answers.{OnMemory};
     ghost use Rattle.stored_slots.specs.declared.limit.TheConstants.{FUNCTORS};
     ghost use Rattle.stored_slots.specs.Functors.{IsFunctor};
     ghost use Rattle.thread_model.specs.Asked.{asked};
     ghost use Rattle.thread_model.specs.Fitting.{IsRightPost};
-    ghost use Rattle.thread_model.specs.Thread.{performs};
     ghost use Rattle.session_tables.specs.Refused.{OnRefused};
     ghost use Rattle.session_tables.specs.Session.{fresh, gone};
     ghost use Rattle.session_engine.specs.Items.{BeginsAnew, HasArrived, IsRightItem, RunsAlone, item_of};
-    ghost use Rattle.session_engine.specs.Returning.{Returns, told};
-    ghost use Rattle.session_engine.specs.Sessions.{AreSound, AreWell, Fails, IsStep, is_shut, session_refusal};
-    ghost use Rattle.session_engine.specs.Core.{IsPlace, OfSession, failed, names, place, seen, sessions, states, was_refused};
+    ghost use Rattle.session_engine.specs.Returning.{ReturnsFor, told};
+    ghost use Rattle.session_engine.specs.Sessions.{AreSound, AreWell, Fails, IsStep, is_shut};
+    ghost use Rattle.session_engine.specs.Core.{AreJoinersOf, IsPlace, name_at, OfSession, failed, names, place, seen, sessions, states, was_refused};
     ghost use Rattle.session_engine.specs.Engine.{held};
 
     /// An engine with no session. Its objects may have these classes, its signals may be connected to
@@ -82,6 +81,23 @@ impl Engine {
         self.core.find(name)
     }
 
+    /// How many sessions there are.
+    pub fn len(&self) -> usize
+        ensures count { result ≡ length (names (held self.now)) }
+        // No two of them have one name.
+        ensures named { (at : ℕ) → at < length (names (held self.now)) → place (held self.now) (name_at (held self.now) at) ≡ Some at }
+    {
+        self.core.len()
+    }
+
+    /// The places of the sessions with a join that names this session, by rising number. No other is
+    /// walked.
+    pub fn joiners(&self, from: &Text) -> Result<Vec<usize>, AllocError>
+        ensures { IfOk result (λ places. AreJoinersOf (held self.now) from.now places.items) }
+    {
+        self.core.joiners(from)
+    }
+
     /// What holds of every session. There is nothing to run: the clauses are for the proofs of
     /// callers.
     pub fn sound(&self)
@@ -111,9 +127,7 @@ impl Engine {
         requires { IsPlace (held self.old) at }
         ensures step { OfSession (held self.old) at (λ name. IsStep (seen (held self.old)) (seen (held self.new)) name (asked command.now) (told result)) }
         // It is refused exactly by its refusal, and else returns what it tells,
-        ensures returns { OfSession (held self.old) at (λ name.
-            Returns (session_refusal (settings (held self.old)) name (sessions (held self.old) name) (asked command.now))
-            (λ lines. lines ≡ (performs (settings (held self.old)) name (states (held self.old) name) (asked command.now)).lines) result) }
+        ensures returns { OfSession (held self.old) at (λ name. ReturnsFor (held self.old) name (asked command.now) result) }
         // and a refused command changes nothing.
         ensures refused { OnRefused result (sessions (held self.new) ≡ sessions (held self.old)) }
         ensures fails { OfSession (held self.old) at (λ name. OnMemory result (sessions (held self.new) name ≡ gone)) }

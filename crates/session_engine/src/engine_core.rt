@@ -1,5 +1,5 @@
 //! What an engine has besides its functors, and what a command of one of its sessions does to all.
-ghost use Rattle.std.specs.Prelude.{◌≡◌, ◌≤◌, length, All, List, ℕ, ◌++◌, ◌∷◌, [], Some, None, IsTrue, IsFalse, IfOk, OnOk, OnErr, map};
+ghost use Rattle.std.specs.Prelude.{◌≡◌, ◌<◌, ◌≤◌, length, All, List, ℕ, ◌++◌, ◌∷◌, [], Some, None, IsTrue, IsFalse, IfOk, OnOk, OnErr, map};
 ghost use Rattle.std.specs.Result.{result_ok};
 ghost use Rattle.refusals.specs.Answers.{OnMemory};
 ghost use Rattle.stored_slots.specs.declared.limit.TheConstants.{FUNCTORS};
@@ -7,13 +7,12 @@ ghost use Rattle.stored_slots.specs.Functors.{IsFunctor};
 ghost use Rattle.thread_model.specs.declared.line.Line.TheVariants.{Error};
 ghost use Rattle.thread_model.specs.Asked.{asked};
 ghost use Rattle.thread_model.specs.Fitting.{IsRightPost};
-ghost use Rattle.thread_model.specs.Thread.{performs};
 ghost use Rattle.session_tables.specs.Refused.{OnRefused};
 ghost use Rattle.session_tables.specs.Session.{fresh, gone};
 ghost use Rattle.session_engine.specs.Items.{BeginsAnew, HasAdded, HasArrived, HasCome, IsRightItem, RunsAlone, item_of};
-ghost use Rattle.session_engine.specs.Returning.{Returns, told};
-ghost use Rattle.session_engine.specs.Sessions.{AreSound, AreWell, Fails, IsStep, is_shut, session_refusal};
-ghost use Rattle.session_engine.specs.Core.{IsPlace, KeepsPlaces, OfSession, failed, names, place, seen, sessions, settings, states, was_refused};
+ghost use Rattle.session_engine.specs.Returning.{ReturnsFor, told};
+ghost use Rattle.session_engine.specs.Sessions.{AreSound, AreWell, Fails, IsStep, is_shut};
+ghost use Rattle.session_engine.specs.Core.{AreJoinersOf, IsPlace, name_at, KeepsPlaces, OfSession, failed, names, place, seen, sessions, settings, states, was_refused};
 
 use crate::commands::{obey, one_line, wants_memory};
 use crate::item::Item;
@@ -97,6 +96,23 @@ impl Core {
         self.names.get_index_of(name)
     }
 
+    /// How many sessions there are.
+    pub fn len(&self) -> usize
+        ensures count { result ≡ length (names self.now) }
+        // No two of them have one name.
+        ensures named { (at : ℕ) → at < length (names self.now) → place self.now (name_at self.now at) ≡ Some at }
+    {
+        self.names.len()
+    }
+
+    /// The places of the sessions with a join that names this session, by rising number. No other is
+    /// walked.
+    pub fn joiners(&self, from: &Text) -> Result<Vec<usize>, AllocError>
+        ensures { IfOk result (λ places. AreJoinersOf self.now from.now places.items) }
+    {
+        self.tables.joiners(self.setup.alloc, from)
+    }
+
     /// What holds of every session. There is nothing to run: the clauses are for the proofs of
     /// callers.
     pub fn sound(&self)
@@ -153,9 +169,7 @@ impl Core {
         requires known { F.functors answering.now ≡ (settings self.old).functors }
         ensures step { OfSession self.old at (λ name. IsStep (seen self.old) (seen self.new) name (asked command.now) (told result)) }
         // It is refused exactly by its refusal, and else returns what it tells,
-        ensures returns { OfSession self.old at (λ name.
-            Returns (session_refusal (settings self.old) name (sessions self.old name) (asked command.now))
-            (λ lines. lines ≡ (performs (settings self.old) name (states self.old name) (asked command.now)).lines) result) }
+        ensures returns { OfSession self.old at (λ name. ReturnsFor self.old name (asked command.now) result) }
         // and a refused command changes nothing.
         ensures refused { OnRefused result (sessions self.new ≡ sessions self.old) }
         ensures fails { OfSession self.old at (λ name. OnMemory result (sessions self.new name ≡ gone)) }

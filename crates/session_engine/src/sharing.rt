@@ -13,12 +13,9 @@ use publish_board::{Join, Publication};
 use refusals::{Code, Fault};
 use session_effects::{Caller, kinds_at, method_named, signal_named};
 use session_tables::Tables;
-use signature_core::Kind;
+use signature_core::{Kind, PARAMS};
 use std::alloc::Global;
 use thread_model::{Answer, Line};
-
-/// How many kinds of parameters a signature has at most.
-const KINDS: usize = 10;
 
 /// Publishes a signal of an object under a name.
 pub fn publish(
@@ -84,7 +81,7 @@ pub fn join(
 fn asked_kinds(alloc: Global, types: &[Text]) -> Result<Items<Kind>, Fault>
     ensures { Answers result (asked_kinds types.now) }
 {
-    if types.len() > KINDS {
+    if types.len() > PARAMS {
         return Err(Fault::Refused(Code::BadSignature));
     }
     let mut kinds = Items::new(alloc);

@@ -4,3 +4,4 @@ pub mod PropertyLemmas
 pub mod ReachingLemmas
 pub mod PostLemmas
 pub mod NamedLemmas
+pub mod JoiningLemmas

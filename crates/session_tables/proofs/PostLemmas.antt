@@ -1,6 +1,6 @@
 -- A post reaches the sessions one after another, and each by its joins one after another.
-use Rattle.std.proofs.Common.{◌≡◌, ◌<◌, ◌≤◌, ◌+◌, inl, inr, ℕ, Bool, true, false, true≢false, cond, eqb, ltb, IsFalse, IsTrue, List, [], ◌∷◌, ◌++◌, Some, length, get_or, drop, take, map, filter, refl, sym, ap, subst, ◌∙◌, arith}
-use Rattle.std.specs.List.{slice_get}
+use Rattle.std.proofs.Common.{◌≡◌, ◌<◌, ◌≤◌, ◌+◌, inl, inr, ℕ, Bool, true, false, true≢false, cond, ◌||◌, eqb, ltb, IsFalse, IsTrue, List, [], ◌∷◌, ◌++◌, Some, length, get_or, drop, take, map, filter, refl, sym, ap, subst, ◌∙◌, arith}
+use Rattle.std.specs.List.{list_any, slice_get}
 use Rattle.std.specs.Prelude.{Result, Ok, Err, OnOk, OnErr}
 use Rattle.std.specs.Result.{is_err as result_is_err}
 use Rattle.std.specs.Option.{option_map_or}
@@ -32,7 +32,7 @@ use Rattle.thread_model.specs.Thread.{arrives}
 use Rattle.session_tables.specs.declared.tables.Tables.{Tables}
 use Rattle.session_tables.specs.Session.{Session, gone}
 use Rattle.session_tables.specs.Tables.{ChangesOnly, IsPlaced, failed_at, session_at, state_at, with_session}
-use Rattle.session_tables.specs.Reaching.{Hears, Reaches, ReachesBy, heard, only_at}
+use Rattle.session_tables.specs.Reaching.{Hears, Reaches, ReachesBy, heard, only_at, takes, takes_some}
 use Rattle.session_tables.proofs.TablesLemmas.{changes_same, changes_twice, session_there}
 use Rattle.session_tables.proofs.ReachingLemmas.{heard-none, heard_stranger, placed_shaped, reaches_by_twice, reaches_changed, session_unchanged, shaped_changed}
 
@@ -46,6 +46,10 @@ module _ (classes : List Class) (rows : List Row) (from : List ℕ) (post : Post
       ∙ ap (λ join. reached_by classes rows from post (reached classes rows from post (queue_at now at) join) (drop (i + 1) joins)) is
       ∙ ap (reached_by classes rows from post (queue_at now at)) (sym (drop_more joins i join within))
       ∙ before
+
+-- a session takes a post that one of its joins takes
+pub takes_post : (from : List ℕ) (post : Post) (joins : List Join) (session : Session) → joins ≡ session.state.desk.joins → IsTrue (list_any (takes from post) joins) → IsTrue (takes_some from (post ∷ []) session)
+takes_post from post joins session same taken = ap (λ some. some || false) (ap (list_any (takes from post)) (sym same) ∙ taken)
 
 -- another queue at a place changes no other session
 pub changes_queue : (tables : Tables) (at : ℕ) (queues : Table Queue) → ChangesAt empty_queue at tables.queues queues → ChangesOnly at tables (record tables { queues = queues })
@@ -80,6 +84,13 @@ failed_only old new at queues placed changed e =
     let first = changes_queue old at queues changed in
     let still = placed_shaped old middle at (shaped_changed old middle at first) placed in
     changes_twice old middle new at first (changes_session middle new at gone still e)
+
+-- and that one is gone
+pub failed_there : (old new : Tables) (at : ℕ) (queues : Table Queue) → IsPlaced old at → ChangesAt empty_queue at old.queues queues → new ≡ with_session (record old { queues = queues }) at gone → session_at new at ≡ gone
+failed_there old new at queues placed changed e =
+    let middle : Tables = record old { queues = queues } in
+    let still = placed_shaped old middle at (shaped_changed old middle at (changes_queue old at queues changed)) placed in
+    ap (λ tables. session_at tables at) e ∙ session_there middle at gone still
 
 apart_other : (at other : ℕ) → eqb at other ≡ false → eqb other at ≡ false
 apart_other at other apart = grind (arith, nat_tests, apart)
@@ -135,14 +146,13 @@ module _ (classes : List Class) (from : List ℕ) (place : ℕ) where
       apart_of : (at : ℕ) → (at ≡ place → ⊥) → eqb at place ≡ false
       apart_of at differ = grind (arith, nat_tests, differ)
 
-  -- or fails where memory is wanted
-  pub reach_failed : (old new : Tables) (at : ℕ) (posts : List Post) (flag : Bool) (queues : Table Queue) → (at ≡ place → ⊥) → failed_at old at ≡ false → IsPlaced old at
+  -- or fails where memory is wanted and it takes one of the posts
+  pub reach_failed : (old new : Tables) (at : ℕ) (posts : List Post) (flag : Bool) (queues : Table Queue) → (at ≡ place → ⊥) → failed_at old at ≡ false → IsPlaced old at → IsTrue (takes_some from posts (session_at old at))
       → ChangesAt empty_queue at old.queues queues → new ≡ with_session (record old { queues = queues }) at gone → ReachesBy classes from place (only_at at posts) old new flag true
-  reach_failed old new at posts flag queues differ fine placed changed e =
-      let still = placed_shaped old (record old { queues = queues }) at (shaped_changed old (record old { queues = queues }) at (changes_queue old at queues changed)) placed in
-      let is : session_at new at ≡ gone = ap (λ tables. session_at tables at) e ∙ session_there (record old { queues = queues }) at gone still in
+  reach_failed old new at posts flag queues differ fine placed taken changed e =
+      let is : session_at new at ≡ gone = failed_there old new at queues placed changed e in
       let apart : eqb at place ≡ false = grind (arith, nat_tests, differ) in
-      reaches_one old new at posts flag true apart (failed_only old new at queues placed changed e) (inr (fine, is)) (λ none. absurd (true≢false none)) (λ none some. (placed, fine, ap (λ (session : Session). session.failed) is))
+      reaches_one old new at posts flag true apart (failed_only old new at queues placed changed e) (inr (fine, taken, is)) (λ none. absurd (true≢false none)) (λ none some. (placed, fine, ap (λ (session : Session). session.failed) is))
 
   -- the posts may be told otherwise
   reaches_alike : (posts more : ℕ → List Post) (old new : Tables) (before after : Bool) → ((at : ℕ) → IsPlaced old at → posts at ≡ more at) → ReachesBy classes from place posts old new before after → ReachesBy classes from place more old new before after
@@ -247,6 +257,10 @@ on_ok (Err error) e h = absurd (cc)
 pub on_err : {T E P : Type 0} (result : Result T E) → result_is_err result ≡ true → OnErr result P → P
 on_err (Ok value) e h = absurd (cc)
 on_err (Err error) e h = h
+
+pub map_err : {T E P : Type 0} (result : Result T E) → (E → P) → OnErr result P
+map_err (Ok value) h = tt
+map_err (Err error) h = h error
 
 pub map_ok : {T E P : Type 0} (result : Result T E) → (T → P) → OnOk result P
 map_ok (Ok value) h = h value

@@ -1,7 +1,9 @@
 -- Posts reach other sessions, one after another.
-use Rattle.std.proofs.Common.{◌≡◌, ◌≢◌, inl, inr, ℕ, Bool, true, false, true≢false, cond, eqb, IsFalse, IsTrue, List, [], ◌∷◌, ◌++◌, get_or, refl, sym, ap, ◌∙◌, arith}
-use Rattle.std.proofs.lemmas.Bool.{cond-true}
+use Rattle.std.proofs.Common.{◌≡◌, ◌≢◌, inl, inr, ℕ, Bool, true, false, true≢false, cond, eqb, IsFalse, IsTrue, List, [], ◌∷◌, ◌++◌, get_or, refl, sym, ap, subst, ◌∙◌, arith}
+use Rattle.std.specs.List.{list_any}
+use Rattle.std.proofs.lemmas.Bool.{cond-true, or_left, or_right}
 use Rattle.std.proofs.lemmas.List.{get_or-set_other}
+use Rattle.std.proofs.lemmas.List.Folds.{list_any-append}
 use Rattle.class_table.specs.declared.class.Class.{Class}
 use Rattle.binding_graph.specs.Graph.{no_graph}
 use Rattle.connection_list.specs.Rows.{no_rows}
@@ -9,14 +11,15 @@ use Rattle.event_queue.specs.Queue.{empty_queue}
 use Rattle.object_tree.specs.Forest.{empty_forest}
 use Rattle.places.proofs.TableLemmas as column
 use Rattle.thread_model.specs.declared.post.Post.{Post}
-use Rattle.publish_board.specs.Desk.{names_session, no_desk}
-use Rattle.thread_model.specs.Thread.{arrive_all, joins_name}
+use Rattle.publish_board.specs.Desk.{Desk, names_session, no_desk}
+use Rattle.thread_model.specs.State.{State}
+use Rattle.thread_model.specs.Thread.{arrive_all, arrives, joins_name}
 use Rattle.thread_model.proofs.ArrivingLemmas.{arrive_all-append}
 use Rattle.thread_model.proofs.JoinLemmas.{post_stranger}
 use Rattle.session_tables.specs.declared.tables.Tables.{Tables}
 use Rattle.session_tables.specs.Session.{Session}
 use Rattle.session_tables.specs.Tables.{ChangesOnly, IsPlaced, failed_at, session_at}
-use Rattle.session_tables.specs.Reaching.{AreShaped, Hears, Reaches, ReachesBy, heard}
+use Rattle.session_tables.specs.Reaching.{AreShaped, Hears, Reaches, ReachesBy, heard, takes, takes_some}
 use Rattle.session_tables.proofs.TablesLemmas.{even_changed, placed_by, session_of}
 
 differ_by : (at place : ℕ) → eqb at place ≡ false → at ≢ place
@@ -53,7 +56,36 @@ shaped_twice old middle new first second = record {
 pub placed_shaped : (old new : Tables) (at : ℕ) → AreShaped old new → IsPlaced old at → IsPlaced new at
 placed_shaped old new at shape placed = placed_by new at (shape.even placed.7) (omega (arith, shape.places, placed.4))
 
+-- what takes one of some posts takes one of more of them
+takes_first : (from : List ℕ) (posts more : List Post) (session : Session) → IsTrue (takes_some from posts session) → IsTrue (takes_some from (posts ++ more) session)
+takes_first from posts more session taken =
+    let taking : Post → Bool = λ post. list_any (takes from post) session.state.desk.joins in
+    list_any-append taking posts more ∙ or_left (list_any taking posts) (list_any taking more) taken
+
+takes_last : (from : List ℕ) (posts more : List Post) (session : Session) → IsTrue (takes_some from more session) → IsTrue (takes_some from (posts ++ more) session)
+takes_last from posts more session taken =
+    let taking : Post → Bool = λ post. list_any (takes from post) session.state.desk.joins in
+    list_any-append taking posts more ∙ or_right (list_any taking posts) (list_any taking more) taken
+
 module _ (classes : List Class) (from : List ℕ) where
+  -- no post changes what is joined
+  arrive_all-desk : (posts : List Post) (state : State) → (arrive_all classes state from posts).desk ≡ state.desk
+  unfolding arrives
+  arrive_all-desk [] state = refl
+  arrive_all-desk (post ∷ posts) state = arrive_all-desk posts (arrives classes state from post)
+
+  heard-desk : (posts : List Post) (session : Session) → (heard classes from posts session).state.desk ≡ session.state.desk
+  heard-desk posts session = by session.failed
+    where
+      by : (failed : Bool) → (cond failed session (record { state = arrive_all classes session.state from posts; failed = false })).state.desk ≡ session.state.desk
+      by true = refl
+      by false = arrive_all-desk posts session.state
+
+  -- so a session takes the same posts after others
+  takes_heard : (posts more : List Post) (old middle : Session) → middle ≡ heard classes from posts old → IsTrue (takes_some from more middle) → IsTrue (takes_some from more old)
+  takes_heard posts more old middle e taken =
+      subst (λ (desk : Desk). IsTrue (list_any (λ post. list_any (takes from post) desk.joins) more)) (ap (λ (session : Session). session.state.desk) e ∙ heard-desk posts old) taken
+
   pub heard-none : (session : Session) → heard classes from [] session ≡ session
   heard-none session = by session.failed refl
     where
@@ -80,14 +112,14 @@ module _ (classes : List Class) (from : List ℕ) where
 
   pub hears_twice : (posts more : List Post) (old middle new : Session) → Hears classes from posts old middle → Hears classes from more middle new → Hears classes from (posts ++ more) old new
   hears_twice posts more old middle new (inl e) (inl f) = inl (f ∙ ap (heard classes from more) e ∙ sym (heard-append posts more old))
-  hears_twice posts more old middle new (inl e) (inr f) = inr ((sym (heard-failed posts old) ∙ ap (λ (session : Session). session.failed) (sym e) ∙ f.0, f.1))
-  hears_twice posts more old middle new (inr e) (inl f) = inr ((e.0, f ∙ ap (heard classes from more) e.1))
-  hears_twice posts more old middle new (inr e) (inr f) = inr ((e.0, f.1))
+  hears_twice posts more old middle new (inl e) (inr f) = inr ((sym (heard-failed posts old) ∙ ap (λ (session : Session). session.failed) (sym e) ∙ f.0, takes_last from posts more old (takes_heard posts more old middle e f.1), f.2))
+  hears_twice posts more old middle new (inr e) (inl f) = inr ((e.0, takes_first from posts more old e.1, f ∙ ap (heard classes from more) e.2))
+  hears_twice posts more old middle new (inr e) (inr f) = inr ((e.0, takes_first from posts more old e.1, f.2))
 
   -- no post mends a session
   pub stays_failed : (posts : List Post) (old new : Session) → Hears classes from posts old new → old.failed ≡ true → new.failed ≡ true
   stays_failed posts old new (inl e) was = ap (λ (session : Session). session.failed) e ∙ heard-failed posts old ∙ was
-  stays_failed posts old new (inr e) was = ap (λ (session : Session). session.failed) e.1
+  stays_failed posts old new (inr e) was = ap (λ (session : Session). session.failed) e.2
 
   -- so one that has not failed had not before
   was_fine : (posts : List Post) (old new : Session) → Hears classes from posts old new → new.failed ≡ false → old.failed ≡ false

@@ -4,3 +4,4 @@ pub mod Refused
 pub mod Tables
 pub mod Reaching
 pub mod Named
+pub mod Joining

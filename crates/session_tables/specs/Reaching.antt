@@ -1,13 +1,15 @@
 -- What other sessions get from one of them.
-use Rattle.std.specs.Prelude.{◌≡◌, ◌⊎◌, ℕ, Bool, false, eqb, IsFalse, IsTrue, List, [], ◌∷◌, length, if◌then◌else◌}
-use Rattle.std.specs.List.{slice_get}
+use Rattle.std.specs.Prelude.{◌≡◌, ◌⊎◌, ◌&&◌, ℕ, Bool, false, eqb, IsFalse, IsTrue, List, [], ◌∷◌, length, if◌then◌else◌}
+use Rattle.std.specs.List.{list_any, slice_get}
 use Rattle.std.specs.Option.{option_map_or}
 use Rattle.class_table.specs.declared.class.Class.{Class}
 use Rattle.signature_core.specs.declared.kind.Kind.{Kind}
 use Rattle.variant_value.specs.declared.value.Value.{Value}
+use Rattle.publish_board.specs.declared.join.Join.{Join}
 use Rattle.publish_board.specs.Desk.{Desk}
+use Rattle.publish_board.specs.Rows.{listens}
 use Rattle.thread_model.specs.declared.post.Post.{Post}
-use Rattle.thread_model.specs.Arriving.{post_of, posts_by}
+use Rattle.thread_model.specs.Arriving.{is_matched, post_of, posts_by}
 use Rattle.thread_model.specs.Thread.{arrive_all}
 use Rattle.session_tables.specs.declared.posts.Posting.{Posting}
 use Rattle.session_tables.specs.declared.tables.Tables.{Tables}
@@ -18,9 +20,21 @@ use Rattle.session_tables.specs.Tables.{AreEven, IsPlaced, failed_at, session_at
 abbrev pub heard : List Class → List ℕ → List Post → Session → Session
 heard classes from posts session = if session.failed then session else record { state = arrive_all classes session.state from posts; failed = false }
 
--- a session hears posts, or memory is wanted for one of them: then it has failed, and had not before
+-- does a join take a post of the session `from`: it names what is posted, and its kinds are those of the post
+abbrev pub takes : List ℕ → Post → Join → Bool
+takes from post join = listens from post.name join && is_matched post.kinds join
+
+-- has a session a join that takes one of these posts
+abbrev pub takes_some : List ℕ → List Post → Session → Bool
+takes_some from posts session = list_any (λ post. list_any (takes from post) session.state.desk.joins) posts
+
+-- a session fails by posts: it had not failed before, and one of its joins takes one of them
+abbrev pub FailsBy : List ℕ → List Post → Session → Session → Type 0
+FailsBy from posts old new = IsFalse old.failed × IsTrue (takes_some from posts old) × (new ≡ gone)
+
+-- a session hears posts, or memory is wanted for one of them that it takes: then it has failed
 abbrev pub Hears : List Class → List ℕ → List Post → Session → Session → Type 0
-Hears classes from posts old new = (new ≡ heard classes from posts old) ⊎ (IsFalse old.failed × (new ≡ gone))
+Hears classes from posts old new = (new ≡ heard classes from posts old) ⊎ FailsBy from posts old new
 
 -- the post of a signal for the publication at an index
 abbrev pub post_at : Desk → ℕ → List Kind → List Value → List Post

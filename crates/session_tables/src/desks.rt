@@ -1,10 +1,11 @@
 //! What sessions publish and join, and what ties an object to others.
-ghost use Rattle.std.specs.Prelude.{◌≡◌, OnOk, OnErr};
+ghost use Rattle.std.specs.Prelude.{◌≡◌, IfOk, OnOk, OnErr};
 ghost use Rattle.std.specs.List.{list_any};
 ghost use Rattle.refusals.specs.Answers.{RefusedBy};
 ghost use Rattle.publish_board.specs.Desk.{join_refusal, joined, left, publish_refusal, published, unpublished};
 ghost use Rattle.publish_board.specs.Rows.{has_name, is_join};
 ghost use Rattle.thread_model.specs.State.{with_desk, without_ties};
+ghost use Rattle.session_tables.specs.Joining.{AreJoiners};
 ghost use Rattle.session_tables.specs.Tables.{IsPlaced, state_at, with_state};
 
 use crate::tables::Tables;
@@ -12,6 +13,7 @@ use plain_types::Text;
 use publish_board::{Join, Publication};
 use refusals::Fault;
 use signature_core::Kind;
+use std::alloc::{AllocError, Global};
 
 impl Tables {
     /// Publishes a signal of an object.
@@ -63,6 +65,21 @@ impl Tables {
         ensures is { self.new ≡ with_state self.old place (with_desk (state_at self.old place) (left (state_at self.old place).desk from.now name.now object method)) }
     {
         self.desks.leave(place, from, name, object, method)
+    }
+
+    /// The places of the sessions with a join that names this session, by rising number. The other
+    /// places are not walked.
+    pub fn joiners(&self, alloc: Global, from: &Text) -> Result<Vec<usize>, AllocError>
+        ensures { IfOk result (λ places. AreJoiners self.now from.now places.items) }
+    {
+        let mut places = Vec::new(alloc);
+        let mut least = 0;
+        'joiners: while let Some(place) = self.desks.next_joiner(from, least) {
+            places.push(place)?;
+            // There is no memory for so many places that one has the last number of all.
+            least = place.checked_add(1).ok_or(AllocError)?;
+        }
+        Ok(places)
     }
 
     /// Breaks the connections that have an object at either end, drops the events that name it, withdraws

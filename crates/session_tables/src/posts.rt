@@ -1,5 +1,5 @@
 //! Posts to the sessions that join what another one publishes.
-ghost use Rattle.std.specs.Prelude.{◌≡◌, ◌<◌, ◌∷◌, [], IsFalse, OnOk, OnErr, length, take};
+ghost use Rattle.std.specs.Prelude.{◌≡◌, ◌<◌, ◌∷◌, [], IsTrue, OnOk, OnErr, length, take};
 ghost use Rattle.std.specs.List.{list_any};
 ghost use Rattle.places.specs.Table.{IsPlace};
 ghost use Rattle.event_queue.specs.Table.{queue_at, with_queue};
@@ -7,9 +7,8 @@ ghost use Rattle.object_tree.specs.Table.{forest_at};
 ghost use Rattle.publish_board.specs.Rows.{listens, publishes};
 ghost use Rattle.publish_board.specs.Table.{desk_at};
 ghost use Rattle.thread_model.specs.Arriving.{is_matched, kinds_of, posts_by, reached, reached_by, with_call};
-ghost use Rattle.session_tables.specs.Reaching.{Reaches, ReachesBy, heard, only_at, post_at, post_in, posts_at};
-ghost use Rattle.session_tables.specs.Session.{gone};
-ghost use Rattle.session_tables.specs.Tables.{ChangesOnly, IsPlaced, failed_at, session_at, state_at};
+ghost use Rattle.session_tables.specs.Reaching.{FailsBy, Reaches, ReachesBy, heard, only_at, post_at, post_in, posts_at, takes};
+ghost use Rattle.session_tables.specs.Tables.{ChangesOnly, IsPlaced, session_at, state_at};
 
 use crate::tables::Tables;
 use class_table::ClassTable;
@@ -122,7 +121,7 @@ impl Tables {
     }
 
     /// Lets a post of the session `from` arrive at a session. One that has failed ignores it; where memory
-    /// is wanted for it, the session fails.
+    /// is wanted for a join that takes it, the session fails.
     pub fn arrive(
         &mut self,
         alloc: Global,
@@ -133,7 +132,7 @@ impl Tables {
     ) -> Result<(), AllocError>
         requires { IsPlaced self.old place }
         ensures ok { OnOk result (session_at self.new place ≡ heard classes.now from.now (post.now ∷ []) (session_at self.old place)) }
-        ensures err { OnErr result ((session_at self.new place ≡ gone) × IsFalse (failed_at self.old place)) }
+        ensures err { OnErr result (FailsBy from.now (post.now ∷ []) (session_at self.old place) (session_at self.new place)) }
         ensures only { ChangesOnly place self.old self.new }
     {
         if *self.failed.get(place) {
@@ -187,6 +186,7 @@ fn arrive(
     ensures ok { OnOk result (queues.new ≡ with_queue queues.old at
         (reached_by posting.now.classes.now (forest_at forests.now at).rows posting.now.from.now (post_in posting.now) (queue_at queues.old at) joins.now)) }
     ensures err { OnErr result (queues.new ≡ with_queue queues.old at (queue_at queues.new at)) }
+    ensures taken { OnErr result (IsTrue (list_any (takes posting.now.from.now (post_in posting.now)) joins.now)) }
 {
     'joins: for join in joins {
         arrive_by(forests, queues, posting, at, join)?;
@@ -207,6 +207,7 @@ fn arrive_by(
     ensures ok { OnOk result (queues.new ≡ with_queue queues.old at
         (reached posting.now.classes.now (forest_at forests.now at).rows posting.now.from.now (post_in posting.now) (queue_at queues.old at) join.now)) }
     ensures err { OnErr result (queues.new ≡ queues.old) }
+    ensures taken { OnErr result (IsTrue (takes posting.now.from.now (post_in posting.now) join.now)) }
 {
     if !listens(join, posting.from, posting.name) {
         return Ok(());

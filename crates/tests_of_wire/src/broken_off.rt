@@ -1,7 +1,8 @@
 //! Runs that end before their input does: at any call of a device that moves a byte a call, and at their bounds.
 use crate::fakes::{SlowSink, SlowSource};
 use crate::runs::{LAMP, LAMP_TOLD, counted};
-use crate::served::{Host, outcome_of, outcome_within};
+use crate::served::{Host, Way, outcome_by};
+use crate::slices::{GIVEN, GIVEN_BY_B};
 use std::alloc::{AllocError, Global};
 use std::test::Fail;
 use wire_lines::{RunFault, Summary};
@@ -26,10 +27,14 @@ const TEMP_TOLD: &str = r#"{"reply":1,"session":"a"}
 {"reply":7,"session":"a"}
 "#;
 
-/// Lines, how many they are, and what is told.
-type Session = (&'static str, u64, &'static str);
+/// Lines, how many they are, how they are run, and what is written.
+type Session = (&'static str, u64, Way, &'static str);
 
-const SESSIONS: [Session; 2] = [(LAMP, 3, LAMP_TOLD), (TOLD_OF_TEMP, 7, TEMP_TOLD)];
+const SESSIONS: [Session; 3] = [
+    (LAMP, 3, Way::Whole, LAMP_TOLD),
+    (TOLD_OF_TEMP, 7, Way::Whole, TEMP_TOLD),
+    (GIVEN, 10, Way::SliceOf("b"), GIVEN_BY_B),
+];
 
 /// What happens at the call that is told by its number: the source fails, or the sink, or that takes nothing.
 #[derive(Clone, Copy)]
@@ -64,14 +69,14 @@ fn breaks_off(
     at_once: usize,
     trouble: Trouble,
 ) -> Result<Option<u32>, AllocError> {
-    let whole = session.2.as_bytes();
+    let whole = session.3.as_bytes();
     let fault = match trouble {
         Trouble::Reading => RunFault::Read,
         Trouble::Writing | Trouble::Idling => RunFault::Write,
     };
     for before in 0..2_000 {
         let (source, sink) = devices(alloc, session.0, at_once, trouble, before + 1);
-        let outcome = outcome_of(alloc, Host::Program, source, sink)?;
+        let outcome = outcome_by(alloc, Host::Program, source, sink, session.2)?;
         if outcome.is(counted(session.1), whole) {
             return Ok(Some(before));
         }
@@ -83,14 +88,15 @@ fn breaks_off(
 }
 
 /// How many calls that are. The three lines have 184 bytes and are told 86, the others 410 and 303; what is told is
-/// written by calls of its own before each read, which comes to one more at the end.
-const CALLS: [(usize, Trouble, [u32; 2]); 6] = [
-    (1, Trouble::Reading, [185, 411]),
-    (1, Trouble::Writing, [86, 303]),
-    (1, Trouble::Idling, [86, 303]),
-    (7, Trouble::Reading, [28, 60]),
-    (7, Trouble::Writing, [14, 47]),
-    (7, Trouble::Idling, [14, 47]),
+/// written by calls of its own before each read, which comes to one more at the end. The last ten have 602, and those
+/// that are kept of them 309, which are written when all are done.
+const CALLS: [(usize, Trouble, [u32; 3]); 6] = [
+    (1, Trouble::Reading, [185, 411, 603]),
+    (1, Trouble::Writing, [86, 303, 309]),
+    (1, Trouble::Idling, [86, 303, 309]),
+    (7, Trouble::Reading, [28, 60, 87]),
+    (7, Trouble::Writing, [14, 47, 45]),
+    (7, Trouble::Idling, [14, 47, 45]),
 ];
 
 fn break_off(
@@ -130,8 +136,8 @@ const ENDLESS: Result<Summary, RunFault> = Err(RunFault::Endless);
 fn ends_within(alloc: Global, case: &Case) -> Result<bool, AllocError> {
     let source = SlowSource::new(case.0.as_bytes(), 65_536, 0);
     let sink = SlowSink::new(alloc, 7, 0, 0);
-    let bounds = Some((case.1, case.2));
-    let outcome = outcome_within(alloc, Host::Lamps, source, sink, bounds)?;
+    let way = Way::Within(case.1, case.2);
+    let outcome = outcome_by(alloc, Host::Lamps, source, sink, way)?;
     let Some(written) = LAMP_TOLD.as_bytes().get(..case.4) else {
         return Ok(false);
     };

@@ -23,3 +23,5 @@ mod served;
 mod server;
 #[cfg(test)]
 mod sessions;
+#[cfg(test)]
+mod slices;

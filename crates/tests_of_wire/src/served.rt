@@ -4,10 +4,11 @@ use crate::fakes::{SlowSink, SlowSource, hashing};
 use crate::functors::starving_server;
 use crate::lines::lamps;
 use crate::sessions::clamping_server;
+use plain_types::Text;
 use server_world::Server;
 use std::alloc::{AllocError, Global};
 use stored_slots::Functors;
-use wire_lines::{RunFault, Summary, run, run_bounded};
+use wire_lines::{RunFault, Summary, run, run_bounded, run_slice};
 
 /// The turns of a command where the command line does not say.
 pub const TURNS: u32 = 10_000;
@@ -34,8 +35,14 @@ fn server_of(alloc: Global, host: Host) -> Result<Server, AllocError> {
     }
 }
 
-/// How many lines and calls of `read` a run has at most, where it is told so.
-pub type Bounds = Option<(u64, u64)>;
+/// How a run is made: to the end of its input, within bounds of lines and of calls of `read`, or for the slice of
+/// a session.
+#[derive(Clone, Copy)]
+pub enum Way {
+    Whole,
+    Within(u64, u64),
+    SliceOf(&'static str),
+}
 
 /// How a run ended, what it had written by then, how often its devices failed, and whether memory was refused.
 #[derive(Drop)]
@@ -75,12 +82,16 @@ fn end_of_run(
     reader: &mut SlowSource<'_>,
     writer: &mut SlowSink,
     server: &mut Server,
-    bounds: Bounds,
+    way: Way,
 ) -> Result<Summary, RunFault> {
-    match bounds {
-        None => run(alloc, reader, writer, server),
-        Some((max_lines, max_reads)) => {
+    match way {
+        Way::Whole => run(alloc, reader, writer, server),
+        Way::Within(max_lines, max_reads) => {
             run_bounded(alloc, reader, writer, server, max_lines, max_reads)
+        }
+        Way::SliceOf(name) => {
+            let session = Text::from_str(alloc, name)?;
+            run_slice(alloc, reader, writer, server, &session)
         }
     }
 }
@@ -91,22 +102,22 @@ fn end_of_fresh_run(
     host: Host,
     reader: &mut SlowSource<'_>,
     writer: &mut SlowSink,
-    bounds: Bounds,
+    way: Way,
 ) -> Result<(Result<Summary, RunFault>, bool), AllocError> {
     let mut server = server_of(alloc, host)?;
-    let ended = end_of_run(alloc, reader, writer, &mut server, bounds);
+    let ended = end_of_run(alloc, reader, writer, &mut server, way);
     Ok((ended, server.memory_refused()))
 }
 
-/// What comes of a run within bounds.
-pub fn outcome_within(
+/// What comes of a run that is made in this way.
+pub fn outcome_by(
     alloc: Global,
     host: Host,
     mut reader: SlowSource<'_>,
     mut writer: SlowSink,
-    bounds: Bounds,
+    way: Way,
 ) -> Result<Outcome, AllocError> {
-    let (ended, memory_refused) = end_of_fresh_run(alloc, host, &mut reader, &mut writer, bounds)?;
+    let (ended, memory_refused) = end_of_fresh_run(alloc, host, &mut reader, &mut writer, way)?;
     Ok(Outcome {
         ended,
         written: writer.held,
@@ -121,7 +132,7 @@ pub fn outcome_of(
     reader: SlowSource<'_>,
     writer: SlowSink,
 ) -> Result<Outcome, AllocError> {
-    outcome_within(alloc, host, reader, writer, None)
+    outcome_by(alloc, host, reader, writer, Way::Whole)
 }
 
 /// What comes of an input all of which is there at once.

@@ -21,8 +21,6 @@ use variant_value::Value;
 /// Lines and what is answered to them, line by line.
 type Session = (&'static str, &'static str);
 
-const NOTHING: Session = ("", "");
-
 const LAMP: Session = (
     r#"{"class":"QObject","do":"new","session":"a"}
 {"do":"set","object":1,"property":"objectName","session":"a","value":"lamp"}
@@ -62,21 +60,6 @@ const NAMES: Session = (
 {"error":"E22","session":"a"}
 {"error":"E04","session":"a"}
 {"error":"E03","session":"a"}"#,
-);
-
-const NO_COMMANDS: Session = (
-    r#"nonsense
-{"do":"jump","session":"a"}
-{"do":"status","session":"a b"}
-{"do":"get","object":0,"property":"objectName","session":"a"}
-{"do":"get","object":4294967296,"property":"objectName","session":"a"}
-{"do":"get","object":1,"property":"objectName","session":"a","x":1}"#,
-    r#"{"error":"E01","session":"-"}
-{"error":"E02","session":"a"}
-{"error":"E02","session":"-"}
-{"error":"E02","session":"a"}
-{"error":"E02","session":"a"}
-{"error":"E02","session":"a"}"#,
 );
 
 const CLASSES: Session = (
@@ -164,22 +147,6 @@ const CONNECTED_MEANWHILE: Session = (
 {"reply":true,"session":"a"}"#,
 );
 
-const SINGLE_SHOT: Session = (
-    r#"{"class":"Probe","do":"new","session":"a"}
-{"class":"Probe","do":"new","session":"a"}
-{"do":"connect","method":"again()","receiver":2,"sender":1,"session":"a","signal":"ping()","single":true}
-{"do":"connect","method":"note()","receiver":2,"sender":1,"session":"a","signal":"ping()"}
-{"args":[],"do":"invoke","method":"ping()","object":1,"session":"a"}"#,
-    r#"{"reply":1,"session":"a"}
-{"reply":2,"session":"a"}
-{"reply":1,"session":"a"}
-{"reply":2,"session":"a"}
-{"args":[],"call":"again()","object":2,"sender":1,"session":"a"}
-{"args":[],"call":"note()","object":2,"sender":1,"session":"a"}
-{"args":[],"call":"note()","object":2,"sender":1,"session":"a"}
-{"reply":true,"session":"a"}"#,
-);
-
 const SENDER_DELETED: Session = (
     r#"{"class":"Probe","do":"new","session":"a"}
 {"class":"Probe","do":"new","session":"a"}
@@ -195,16 +162,6 @@ const SENDER_DELETED: Session = (
 {"object":2,"session":"a","warning":"E04"}
 {"reply":true,"session":"a"}
 {"error":"E04","session":"a"}"#,
-);
-
-const SIGNAL_TO_ITSELF: Session = (
-    r#"{"class":"Probe","do":"new","session":"a"}
-{"do":"connect","method":"ping()","receiver":1,"sender":1,"session":"a","signal":"ping()"}
-{"args":[],"do":"invoke","method":"ping()","object":1,"session":"a"}"#,
-    r#"{"reply":1,"session":"a"}
-{"reply":1,"session":"a"}
-{"object":1,"session":"a","warning":"E14"}
-{"reply":true,"session":"a"}"#,
 );
 
 const UNIQUE: Session = (
@@ -329,26 +286,10 @@ const CLAMPED: Session = (
 );
 
 /// Sessions of names, classes and objects, each from a fresh server.
-const OBJECTS: [Session; 8] = [
-    NOTHING,
-    LAMP,
-    TWO_SESSIONS,
-    ONE_SESSION,
-    NAMES,
-    NO_COMMANDS,
-    CLASSES,
-    TREES,
-];
+const OBJECTS: [Session; 6] = [LAMP, TWO_SESSIONS, ONE_SESSION, NAMES, CLASSES, TREES];
 
 /// The same of signals and who is connected to them.
-const SIGNALS: [Session; 6] = [
-    CONNECTIONS,
-    CONNECTED_MEANWHILE,
-    SINGLE_SHOT,
-    SENDER_DELETED,
-    SIGNAL_TO_ITSELF,
-    UNIQUE,
-];
+const SIGNALS: [Session; 4] = [CONNECTIONS, CONNECTED_MEANWHILE, SENDER_DELETED, UNIQUE];
 
 /// The same of events, blocked objects, properties and functors.
 const OTHERS: [Session; 5] = [EVENTS, BLOCKED, DYNAMIC_PROPERTY, CELLS, CLAMPED];

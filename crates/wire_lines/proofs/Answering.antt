@@ -16,7 +16,7 @@ use Rattle.wire_lines.specs.Stream.{Later}
 pub Later-trans : (a b c : Server) → Later a b → Later b c → Later a c
 Later-trans a b c first second = record { settings = second.settings ∙ first.settings; refused = λ refused. second.refused (first.refused refused) }
 
-Later-same : (a b : Server) → b ≡ a → Later a b
+pub Later-same : (a b : Server) → b ≡ a → Later a b
 Later-same a b same = record { settings = ap settings same; refused = λ refused. subst (λ server. IsTrue (was_refused server)) (sym same) refused }
 
 -- where memory was never refused at the end, it was not in between

@@ -31,7 +31,7 @@ in_front-is : (byte : ℕ) (lines : List (List ℕ)) → in_front byte lines ≡
 in_front-is byte [] = refl
 in_front-is byte (line ∷ lines) = refl
 
-NoEnd-tail : (byte : ℕ) (front : List ℕ) → NoEnd (byte ∷ front) → NoEnd front
+pub NoEnd-tail : (byte : ℕ) (front : List ℕ) → NoEnd (byte ∷ front) → NoEnd front
 NoEnd-tail byte front no_end k below = no_end (suc k) (omega arith)
 
 -- some bytes without a line feed begin the next line

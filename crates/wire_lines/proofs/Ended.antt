@@ -14,7 +14,7 @@ length-in_front : (byte : ℕ) (lines : List (List ℕ)) → 0 < length lines �
 length-in_front byte [] some = absurd (omega arith)
 length-in_front byte (line ∷ lines) some = refl
 
-NoEnd-nothing : NoEnd []
+pub NoEnd-nothing : NoEnd []
 NoEnd-nothing k below = absurd (omega arith)
 
 -- with a line feed behind them, they have a line more than lines that end in them

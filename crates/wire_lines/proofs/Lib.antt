@@ -10,3 +10,9 @@ pub mod Kept
 pub mod Reading
 pub mod Whole
 pub mod Isolated
+pub mod FirstLine
+pub mod Marked
+pub mod Sliced
+pub mod Noted
+pub mod Taken
+pub mod SliceEnds

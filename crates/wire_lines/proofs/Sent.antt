@@ -142,3 +142,8 @@ Sent-then a old new gathered left text none sent bytes =
     let (w, held, is) = sent in
     let whole : a.gathered ++ text ≡ (w ++ gathered) ++ left = is ∙ sym (append-nil (w ++ gathered)) ∙ ap (λ l. (w ++ gathered) ++ l) (sym none) in
     (w ++ gathered, Appends-trans a.held old new w gathered held bytes, whole)
+
+-- the same, as far as the sink takes it
+pub SentAll-then : {T E : Type 0} (a : Out) (old new : Option (List ℕ)) (gathered left text : List ℕ) (r : Result T E) → left ≡ [] → Sent a (out old gathered) text → AppendsAll old new r gathered → SentAll a (out new left) r text
+SentAll-then a old new gathered left text (Ok v) none sent bytes = Sent-then a old new gathered left text none sent bytes
+SentAll-then a old new gathered left text (Err e) none sent bytes = SentFront-then_front a old new gathered left text none (SentFront-whole a (out old gathered) text sent) bytes

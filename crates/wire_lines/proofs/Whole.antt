@@ -104,12 +104,12 @@ IsWrittenOut-empty (Err Memory) gathered none = none
 abbrev pub beginning : Server → Option (List ℕ) → List ℕ → Point
 beginning server held input = point server (out held []) 0 input
 
-front_written : (held held_after : Option (List ℕ)) (left text : List ℕ) → SentFront (out held []) (out held_after left) text → AppendsSome held held_after text
+pub front_written : (held held_after : Option (List ℕ)) (left text : List ℕ) → SentFront (out held []) (out held_after left) text → AppendsSome held held_after text
 front_written held held_after left text front =
     let (w, bytes, (rest, sent)) = front in
     (w, (left ++ rest, sent ∙ append_assoc w left rest), bytes)
 
-all_written : (held held_after : Option (List ℕ)) (left text : List ℕ) → left ≡ [] → Sent (out held []) (out held_after left) text → Appends held held_after text
+pub all_written : (held held_after : Option (List ℕ)) (left text : List ℕ) → left ≡ [] → Sent (out held []) (out held_after left) text → Appends held held_after text
 all_written held held_after left text none sent =
     let (w, bytes, is) = sent in
     subst (Appends held held_after) (sym (is ∙ ap (λ l. w ++ l) none ∙ append-nil w)) bytes

@@ -5,3 +5,6 @@ pub mod Feeding
 pub mod Run
 pub mod Status
 pub mod Limits
+pub mod Slicing
+pub mod Taking
+pub mod Standing

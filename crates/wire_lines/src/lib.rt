@@ -7,11 +7,13 @@ mod fault;
 mod limits;
 mod lines;
 mod output;
+mod slice;
 mod status;
 mod stream;
 
 pub use fault::RunFault;
 pub use limits::limits_are_these;
+pub use slice::run_slice;
 pub use status::status_of;
 pub use stream::{Summary, run, run_bounded};
 pub use wire_devices::{Counted, Failed, Sink, Source};

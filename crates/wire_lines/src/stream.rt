@@ -17,13 +17,13 @@ use std::alloc::{AllocError, Global};
 use wire_devices::{Failed, Sink, Source};
 
 /// The most lines that a run reads.
-const MOST_LINES: u64 = 1 << 32;
+pub const MOST_LINES: u64 = 1 << 32;
 
 /// The most calls of `read` that a run makes.
-const MOST_READS: u64 = 1 << 40;
+pub const MOST_READS: u64 = 1 << 40;
 
 /// How many bytes a run asks its source for at once.
-const CHUNK_BYTES: usize = 65_536;
+pub const CHUNK_BYTES: usize = 65_536;
 
 /// What a run did.
 #[derive(Clone, Copy, PartialEq, Eq)]
@@ -185,7 +185,7 @@ impl Stream {
 }
 
 /// The first line, without its end, and what is behind it, where a line ends.
-fn split_line(bytes: &[u8]) -> Option<(&[u8], &[u8])>
+pub fn split_line(bytes: &[u8]) -> Option<(&[u8], &[u8])>
     ensures none { result ≡ None → NoEnd bytes.now }
     ensures whole { IfSome result (λ parts. bytes.now ≡ parts.0.now ++ 10 ∷ parts.1.now) }
     ensures line { IfSome result (λ parts. NoEnd parts.0.now) }

@@ -1,4 +1,5 @@
-use Rattle.std.proofs.Common.{◌≡◌, List, ap, sym, ◌∙◌, false}
+use Rattle.std.proofs.Common.{◌≡◌, List, [], ◌∷◌, IsTrue, ap, sym, subst, ◌∙◌, false}
+use Rattle.std.specs.List.{list_any}
 use Rattle.event_queue.specs.Queue.{empty_queue}
 use Rattle.event_queue.specs.Table.{queue_at, with_queue}
 use Rattle.object_tree.specs.Table.{forest_at}
@@ -8,13 +9,33 @@ use Rattle.signature_core.specs.declared.kind.Kind.{Kind}
 use Rattle.thread_model.specs.declared.post.Post.{Post}
 use Rattle.thread_model.specs.Arriving.{reached_by}
 use Rattle.variant_value.specs.declared.value.Value.{Value}
-use Rattle.session_tables.proofs.PostLemmas.{failed_only, heard_one, map_ok, on_err, on_ok}
+use Rattle.session_tables.specs.Reaching.{takes, takes_some}
+use Rattle.session_tables.specs.Tables.{session_at}
+use Rattle.session_tables.proofs.PostLemmas.{failed_only, failed_there, heard_one, map_err, map_ok, on_err, on_ok, takes_post}
 use Rattle.session_tables.proofs.tables.Tables.arrive.Goals as goal
 
 pub returns-then-is_err-clause-only : goal.returns-then-is_err-clause-only
 returns-then-is_err-clause-only c =
     failed_only c.args.self.now c.give_up.new.self c.args.place c.arrive-posted.new.queues c.requires
     (on_err {P = ChangesAt empty_queue c.args.place c.args.self.now.queues c.arrive-posted.new.queues} c.arrive-posted.result (sym c.is_err.ensures.value ∙ c.if-is_err.true) c.arrive-posted.ensures.err) c.give_up.ensures
+
+pub returns-then-is_err-clause-err : goal.returns-then-is_err-clause-err
+returns-then-is_err-clause-err c =
+    let from = c.args.from.now in
+    let old = c.args.self.now in
+    let at = c.args.place in
+    let told : List Kind → List Value → Post = λ kinds arguments. record { name = c.args.post.now.name; kinds = kinds; arguments = arguments } in
+    let failed = sym c.is_err.ensures.value ∙ c.if-is_err.true in
+    let changed = on_err {P = ChangesAt empty_queue at old.queues c.arrive-posted.new.queues} c.arrive-posted.result failed c.arrive-posted.ensures.err in
+    let taken : IsTrue (takes_some from (told c.as_slice.result.now c.as_slice-2.result.now ∷ []) (session_at old at)) =
+    takes_post from (told c.as_slice.result.now c.as_slice-2.result.now) c.joins-joins.result.now (session_at old at) c.joins-joins.ensures
+    (on_err {P = IsTrue (list_any (takes from (told c.as_slice.result.now c.as_slice-2.result.now)) c.joins-joins.result.now)} c.arrive-posted.result failed c.arrive-posted.ensures.taken) in
+    map_err c.arrive-posted.result (λ error. (
+      sym (c.get.ensures false) ∙ c.if-get.false,
+      subst (λ kinds. IsTrue (takes_some from (told kinds c.args.post.now.arguments ∷ []) (session_at old at))) c.as_slice.ensures
+          (subst (λ arguments. IsTrue (takes_some from (told c.as_slice.result.now arguments ∷ []) (session_at old at))) c.as_slice-2.ensures taken),
+      failed_there old c.give_up.new.self at c.arrive-posted.new.queues c.requires changed c.give_up.ensures,
+    ))
 
 pub returns-else-is_err-clause-ok : goal.returns-else-is_err-clause-ok
 returns-else-is_err-clause-ok c =

@@ -1,17 +1,30 @@
-use Rattle.std.proofs.Common.{◌≡◌, ap, sym, subst, ◌∙◌, false}
+use Rattle.std.proofs.Common.{◌≡◌, [], ◌∷◌, IsTrue, ap, sym, subst, ◌∙◌, false}
+use Rattle.std.specs.List.{list_any}
 use Rattle.event_queue.specs.Queue.{empty_queue}
 use Rattle.event_queue.specs.Table.{queue_at, with_queue}
 use Rattle.object_tree.specs.Table.{forest_at}
 use Rattle.places.specs.Table.{ChangesAt}
 use Rattle.publish_board.specs.Table.{desk_at}
 use Rattle.thread_model.specs.Arriving.{post_of, reached_by}
-use Rattle.session_tables.specs.Reaching.{ReachesBy, only_at}
-use Rattle.session_tables.proofs.PostLemmas.{failed_only, on_err, on_ok, post_row, reach_failed, reach_heard}
+use Rattle.session_tables.specs.Reaching.{ReachesBy, only_at, takes, takes_some}
+use Rattle.session_tables.specs.Tables.{session_at}
+use Rattle.session_tables.proofs.PostLemmas.{failed_only, on_err, on_ok, post_row, reach_failed, reach_heard, takes_post}
 use Rattle.session_tables.proofs.tables.Tables.reach.Goals as goal
 
 pub returns-then-is_err-clause-reaches : goal.returns-then-is_err-clause-reaches
 returns-then-is_err-clause-reaches c =
-    reach_failed c.args.sending.now.classes.now c.args.sending.now.from.now c.args.sending.now.place c.args.self.now c.give_up.new.self c.args.at _ c.args.failing c.arrive-posted.new.queues c.if-at-sending.false (sym (c.get.ensures false) ∙ c.if-get.false) c.requires.there
+    let from = c.args.sending.now.from.now in
+    let old = c.args.self.now in
+    let at = c.args.at in
+    let row = c.index-publications-index.result in
+    let kinds = c.args.sending.now.kinds.now in
+    let args = c.args.sending.now.args.now in
+    let post = post_row c.publications.result.now (desk_at old.desks c.args.sending.now.place).publications c.args.index kinds args row c.publications.ensures c.requires.within c.index-publications-index.is in
+    let taken : IsTrue (takes_some from (post_of kinds args row ∷ []) (session_at old at)) =
+    takes_post from (post_of kinds args row) c.joins-joins.result.now (session_at old at) c.joins-joins.ensures
+    (on_err {P = IsTrue (list_any (takes from (post_of kinds args row)) c.joins-joins.result.now)} c.arrive-posted.result (sym c.is_err.ensures.value ∙ c.if-is_err.true) c.arrive-posted.ensures.taken) in
+    reach_failed c.args.sending.now.classes.now from c.args.sending.now.place old c.give_up.new.self at _ c.args.failing c.arrive-posted.new.queues c.if-at-sending.false (sym (c.get.ensures false) ∙ c.if-get.false) c.requires.there
+    (subst (λ posts. IsTrue (takes_some from posts (session_at old at))) (sym post) taken)
     (on_err {P = ChangesAt empty_queue c.args.at c.args.self.now.queues c.arrive-posted.new.queues} c.arrive-posted.result (sym c.is_err.ensures.value ∙ c.if-is_err.true) c.arrive-posted.ensures.err) c.give_up.ensures
 
 pub returns-then-is_err-clause-only : goal.returns-then-is_err-clause-only

@@ -1,17 +1,15 @@
 -- clap's own contract at the command line of metad, and by it what the words ask for.
-use Rattle.std.proofs.Common.{◌≡◌, ◌∙◌, ap, ap₂, subst, sym, List, codes, map, Option, Some, option_map}
-use Rattle.std.specs.Borrow.{Bor}
+use Rattle.std.proofs.Common.{◌≡◌, ◌∙◌, ap, subst, sym, List, codes, map, Option}
 use Rattle.std.specs.Prelude.{ℕ}
 use Rattle.clap.specs.Words.{App, HasKind, app_of, fault_of, first_of, is_simple, is_simple_and_free, kind_of, matches_of, found_of, one_of, one_text}
 use Rattle.std.specs.Str.Parse.{ParsesUnsigned, ExplainsUnsignedError, HasUnsignedDigitsIfOk}
 use Rattle.clap.proofs.WalkLemmas.{first_value-rows, one_text-rows}
 use Rattle.program_start.specs.Program.{metad}
-use Rattle.program_start.specs.Asked.{Gives, asked, run}
+use Rattle.program_start.specs.Asked.{Gives, asked}
 use Rattle.program_start.proofs.NumberLemmas.{gives_once, turns_read}
-use Rattle.program_start.proofs.WalkLemmas.{kind_says, reads_refusal, run_asked}
+use Rattle.program_start.proofs.WalkLemmas.{kind_says, reads_refusal, run_asked, same_run}
 use Rattle.program_start.proofs.WordLemmas.{simple, simple_and_free}
-use Rattle.program_start.proofs.options.options_of.Goals as goal
-use Rattle.program_start.proofs.options.options_of.Goals.{in-Some+in_ok-from_str-in-Some, in-None}
+use Rattle.program_start.proofs.options.read_words.Goals as goal
 
 pub returns-in_err-matches-clause-asked : goal.returns-in_err-matches-clause-asked
 returns-in_err-matches-clause-asked g c =
@@ -29,11 +27,13 @@ pub returns-clause-classes : goal.returns-clause-classes
 returns-clause-classes g c =
     let is_metad : app_of c.in_ok-command.command ≡ metad = c.in_ok-command.ensures in
     let exact = (c.in_ok-matches.ensures.matches (ap is_simple is_metad ∙ simple)).0 ∙ ap (λ (a : App). matches_of a (map g.S.AsStr.text c.args.words.now)) is_metad in
-    let copied : c.match-get_str.classes ≡ option_map (λ s. s.now) c.get_str.result = elim c.match-get_str.branch [
-      | in-Some+in_ok-from_str-in-Some w ↦ w.classes-is ∙ (ap Some w.in_ok-from_str-in-Some.ensures ∙ sym (ap (option_map (λ (s : Bor (List ℕ)). s.now)) w.in-Some.is))
-      | in-None w ↦ w.classes-is ∙ sym (ap (option_map (λ (s : Bor (List ℕ)). s.now)) w.in-None.is)
-    ] in
-    copied ∙ (c.get_str.ensures ∙ (first_value-rows (found_of c.in_ok-matches.matches) (codes "classes") ∙ ap (first_of (codes "classes")) exact))
+    c.in_ok-classes.ensures ∙ (first_value-rows (found_of c.in_ok-matches.matches) (codes "classes") ∙ ap (first_of (codes "classes")) exact)
+
+pub returns-clause-slice : goal.returns-clause-slice
+returns-clause-slice g c =
+    let is_metad : app_of c.in_ok-command.command ≡ metad = c.in_ok-command.ensures in
+    let exact = (c.in_ok-matches.ensures.matches (ap is_simple is_metad ∙ simple)).0 ∙ ap (λ (a : App). matches_of a (map g.S.AsStr.text c.args.words.now)) is_metad in
+    c.in_ok-slice.ensures ∙ (first_value-rows (found_of c.in_ok-matches.matches) (codes "slice") ∙ ap (first_of (codes "slice")) exact)
 
 pub returns-clause-turns : goal.returns-clause-turns
 returns-clause-turns g c =
@@ -52,4 +52,5 @@ pub returns-clause-asked : goal.returns-clause-asked
 returns-clause-asked g c =
     let words = map g.S.AsStr.text c.args.words.now in
     let asks = run_asked words (returns-clause-kinds g c) in
-    asks.1 ∙ ap₂ run (sym (returns-clause-classes g c)) (gives_once _ asks.0 c.unwrap_or-turns.result asks.2 (returns-clause-turns g c))
+    let turns = gives_once _ asks.0 c.unwrap_or-turns.result asks.2 (returns-clause-turns g c) in
+    asks.1 ∙ same_run _ _ asks.0 c.unwrap_or-turns.result _ _ (returns-clause-classes g c) turns (returns-clause-slice g c)

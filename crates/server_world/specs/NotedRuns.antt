@@ -1,0 +1,22 @@
+-- Runs whose commands are noted.
+use Rattle.std.specs.Prelude.{◌≡◌, ℕ, List, [], take, IsTrue, IsFalse}
+use Rattle.isolation.specs.Machine.{Tagged}
+use Rattle.thread_model.specs.Asked.{Asked}
+use Rattle.server_world.specs.declared.report.Entry.{Entry}
+use Rattle.server_world.specs.declared.report.Report.{Report}
+use Rattle.server_world.specs.Noting.{kept_places}
+use Rattle.server_world.specs.Runs.{AreSteps}
+use Rattle.server_world.specs.Server.{Server, settings, states, was_refused}
+
+-- some first commands are done, and no other
+pub record Stops (old new : Server) (ts : List (Tagged (List ℕ) Asked)) : Type 0 where
+  pub count : ℕ
+  pub entries : List Entry
+  pub steps : AreSteps old (take count ts) entries new
+
+-- all commands are done, and where memory was found the places are those that the slice keeps
+pub record IsKeptRun (old new : Server) (ts : List (Tagged (List ℕ) Asked)) (session : List ℕ) (report : Report) (places : List ℕ) : Type 0 where
+  pub refused : report.memory_refused ≡ was_refused new
+  pub steps : AreSteps old ts report.lines new
+  pub kept : IsFalse report.memory_refused → places ≡ kept_places (settings old) (states old) ts session
+  pub none : IsTrue report.memory_refused → places ≡ []

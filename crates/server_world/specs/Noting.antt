@@ -1,0 +1,51 @@
+-- What is noted of the commands of a run by the places of sessions, and what is kept by that for the slice of one of them.
+use Rattle.std.specs.Prelude.{◌+◌, ◌<◌, ℕ, Bool, List, [], ◌∷◌, All, length, map, take, slice_index_or, if◌then◌else◌}
+use Rattle.isolation.specs.Machine.{Tagged}
+use Rattle.isolation.specs.Slice.{Note, slice, IsNote, AreNotes}
+use Rattle.thread_model.specs.Asked.{Asked}
+use Rattle.thread_model.specs.Machine.{machine}
+use Rattle.thread_model.specs.State.{State}
+use Rattle.thread_model.specs.Thread.{Settings}
+use Rattle.server_world.specs.declared.report.Entry.{Entry}
+use Rattle.server_world.specs.Names.{with_name}
+use Rattle.server_world.specs.Runs.{AreSteps}
+use Rattle.server_world.specs.Server.{Server, OnlyRefused, names, settings, states}
+
+-- the name at a place
+abbrev pub name_at : List (List ℕ) → ℕ → List ℕ
+name_at names place = slice_index_or names place []
+
+-- a note of places as one of their names
+abbrev pub named : List (List ℕ) → Note ℕ → Note (List ℕ)
+named names note = record { session = name_at names note.session; joiners = map (name_at names) note.joiners }
+
+-- all places of a note are below this one
+abbrev pub IsWithin : ℕ → Note ℕ → Type 0
+IsWithin count note = (note.session < count) × All (λ place. place < count) note.joiners
+
+-- a note of a command that is about to be done, right with the names that are known then
+pub record IsNoted (server : Server) (t : Tagged (List ℕ) Asked) (note : Note ℕ) : Type 0 where
+  pub within : IsWithin (length (with_name (names server) t.session)) note
+  pub right : IsNote (machine (settings server)) (states server) t (named (with_name (names server) t.session) note)
+
+-- right notes of commands that were done from these states on, until the server stood as it stands
+pub record AreNoted (world : List ℕ → State) (ts : List (Tagged (List ℕ) Asked)) (server : Server) (notes : List (Note ℕ)) : Type 0 where
+  pub within : All (IsWithin (length (names server))) notes
+  pub right : AreNotes (machine (settings server)) world ts (map (named (names server)) notes)
+
+-- where the marks are true, counted from this number on
+abbrev pub marked_from : ℕ → List Bool → List ℕ
+marked_from first [] = []
+marked_from first (mark ∷ marks) = if mark then first ∷ marked_from (first + 1) marks else marked_from (first + 1) marks
+
+-- the places, from 0 on, of the commands that the slice of a session keeps
+abbrev pub kept_places : Settings → (List ℕ → State) → List (Tagged (List ℕ) Asked) → List ℕ → List ℕ
+kept_places settings world ts s = marked_from 0 (slice (machine settings) s world ts).marks
+
+-- some first commands are done, and then memory was wanted for what is noted, and not found
+pub record StopsShort (old new : Server) (ts : List (Tagged (List ℕ) Asked)) : Type 0 where
+  pub count : ℕ
+  pub between : Server
+  pub entries : List Entry
+  pub steps : AreSteps old (take count ts) entries between
+  pub only : OnlyRefused between new
