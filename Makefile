@@ -1,8 +1,8 @@
 # make        builds the program, proved, as bin/metad
 # make run    answers the sample session
 # make test   proves everything from nothing, and runs every test
-# make tests  runs every test on bin/metad as it is; make rows, random, program, memory, classes, clients and test_install
-#             run those of tests/test_rows and so on
+# make tests  runs every test on bin/metad as it is; make rows, random, program, slice, memory, classes, clients and
+#             test_install run those of tests/test_rows and so on
 # make bench  counts the program's instructions; with LAST=PROGRAM also beside an earlier one; STANDS=1 writes down the counts
 # make install, make uninstall   bin/metad, its manual page, the documents, the client, the examples and the tools, below PREFIX;
 #             with SITE=FOLDER also a link to the client in a folder where Python looks
@@ -14,7 +14,7 @@ CC ?= cc
 PREFIX ?= /usr/local
 
 # each takes bin/metad as it is
-TESTS = rows random program memory classes clients
+TESTS = rows random program slice memory classes clients
 
 .PHONY: all run test budget tests $(TESTS) test_install test_package libraries bench install uninstall dist deb clean
 
@@ -68,9 +68,10 @@ FOLDERS = $(filter-out ./,$(sort $(dir $(DOCUMENTS)))) clients examples
 # the client, which the tools find below SHARE as they find it here
 CLIENT = python/metad
 OF_CLIENT = $(patsubst clients/%,%,$(wildcard clients/$(CLIENT)/*.py clients/$(CLIENT)/py.typed))
-# each is installed as metad-TOOL; what it is made of stands in clients/TOOLing
-TOOLS = explain check shell front
-OF_TOOLS = $(TOOLS) $(patsubst clients/%,%,$(wildcard $(TOOLS:%=clients/%ing/*.py)))
+# each is installed as metad-TOOL; what they are made of stands in these folders
+TOOLS = explain check shell front slice
+PARTS = explaining checking shelling fronting slicing
+OF_TOOLS = $(TOOLS) $(patsubst clients/%,%,$(wildcard $(PARTS:%=clients/%/*.py)))
 
 # takes bin/metad as it is
 install:
@@ -80,10 +81,12 @@ install:
 	install -m 644 man/metad.1 "$(MAN)/metad.1"
 	for it in $(DOCUMENTS); do install -D -m 644 "$$it" "$(DOC)/$$it" || exit; done
 	for it in $(OF_CLIENT); do install -D -m 644 "clients/$$it" "$(SHARE)/$$it" || exit; done
+	for it in $(PARTS); do \
+		install -d "$(SHARE)/$$it" && \
+		install -m 644 clients/$$it/*.py "$(SHARE)/$$it" || exit; \
+	done
 	for it in $(TOOLS); do \
-		install -d "$(SHARE)/$${it}ing" && \
 		install clients/$$it "$(SHARE)/$$it" && \
-		install -m 644 clients/$${it}ing/*.py "$(SHARE)/$${it}ing" && \
 		ln -sf ../share/metad/$$it "$(BIN)/metad-$$it" || exit; \
 	done
 ifdef SITE
@@ -95,8 +98,8 @@ endif
 uninstall:
 	rm -f "$(BIN)/metad" $(TOOLS:%="$(BIN)/metad-%") "$(MAN)/metad.1" $(if $(SITE),"$(DESTDIR)$(SITE)/metad")
 	rm -f $(DOCUMENTS:%="$(DOC)/%") $(OF_CLIENT:%="$(SHARE)/%") $(OF_TOOLS:%="$(SHARE)/%")
-	rm -rf "$(SHARE)/$(CLIENT)/__pycache__" $(TOOLS:%="$(SHARE)/%ing/__pycache__")
-	for it in $(FOLDERS:%="$(DOC)/%") "$(DOC)" "$(SHARE)/$(CLIENT)" "$(SHARE)/python" $(TOOLS:%="$(SHARE)/%ing") "$(SHARE)"; do \
+	rm -rf "$(SHARE)/$(CLIENT)/__pycache__" $(PARTS:%="$(SHARE)/%/__pycache__")
+	for it in $(FOLDERS:%="$(DOC)/%") "$(DOC)" "$(SHARE)/$(CLIENT)" "$(SHARE)/python" $(PARTS:%="$(SHARE)/%") "$(SHARE)"; do \
 		test ! -d "$$it" || rmdir --ignore-fail-on-non-empty "$$it"; \
 	done
 

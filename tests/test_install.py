@@ -15,7 +15,7 @@ from .support.program import ROOT, SECONDS, lay_out, make, run_shell
 
 SHARED = {"bin", "share", "share/man", "share/man/man1", "share/doc"}  # folders that are not the program's own
 DOC = "share/doc/metad"
-TOOLS = ("explain", "check", "shell", "front")
+TOOLS = {"explain": "explaining", "check": "checking", "shell": "shelling", "front": "fronting", "slice": "slicing"}
 LINKS = {f"bin/metad-{tool}": f"share/metad/{tool}" for tool in TOOLS}
 PROGRAMS = {"bin/metad", *LINKS, *LINKS.values()}
 DOCUMENTS = ("README.md", "docs/PROTOCOL.md", "clients/python/README.md", "examples/traffic_light/session")
@@ -28,6 +28,8 @@ LINE = b'{"error":"E12","session":"a"}\n'
 SAID = b"    session a: E12: the parent would be the object itself or below it\n"
 CHECKED = b"<standard input>: no fault, no warning; metad takes it\n"
 MADE = b"object 1 is made, of class QObject, a root; it is p\n"
+RECORD = b'{"session":"a","do":"spin"}\n{"session":"b","do":"spin"}\n'
+KEPT = b'{"session":"a","do":"spin"}\n'
 OF_PYTHON = ("PYTHONDONTWRITEBYTECODE", "PYTHONPYCACHEPREFIX")  # with either, Python leaves nothing beside the files
 
 
@@ -39,9 +41,9 @@ def files_in(top):
 def wanted_files():
     """What is to be installed, each with the file that it is made of."""
     made = {"bin/metad": ROOT / "bin" / "metad", "share/man/man1/metad.1": ROOT / "man" / "metad.1"}
-    for tool in TOOLS:
+    for tool, parts in TOOLS.items():
         made |= {name: ROOT / "clients" / tool for name in (f"bin/metad-{tool}", f"share/metad/{tool}")}
-        made |= {f"share/metad/{tool}ing/{path.name}": path for path in (ROOT / "clients" / f"{tool}ing").glob("*.py")}
+        made |= {f"share/metad/{parts}/{path.name}": path for path in (ROOT / "clients" / parts).glob("*.py")}
     client = ROOT / "clients" / "python"
     made |= {f"{CLIENT}/{path.relative_to(client)}": path for pattern in OF_CLIENT for path in client.glob(pattern)}
     documents = [path for pattern in OF_DOCUMENTS for path in ROOT.glob(pattern) if path.is_file()]
@@ -93,10 +95,12 @@ class Install(Cases):
         self.check_run([top / "bin/metad-explain"], top, LINE, LINE + SAID)
         self.check_run([top / "bin/metad-check", "-"], top, b'{"classes":[]}', CHECKED)
         self.check_run([top / "bin/metad-shell", top / "bin/metad"], top, b"new QObject as p\n", MADE)
+        self.check_run([top / "bin/metad-slice", "--only", "/dev/stdin", "a"], top, RECORD, KEPT)
         client = str(top / CLIENT / "metad" / "__init__.py")
         self.check_run(["python3", "-c", "import metad; print(metad.__file__)"], top, b"", f"{client}\n".encode())
         left = {str(path.parent.relative_to(top)) for path in top.rglob("__pycache__")}
-        wanted = {"share/metad/explaining", "share/metad/checking", "share/metad/shelling", f"{CLIENT}/metad"}
+        used = ("explaining", "checking", "shelling", "slicing", "python/metad")
+        wanted = {f"share/metad/{it}" for it in used}
         self.assertLessEqual(wanted, left, "where Python has left its folders")
 
     def check_stage(self, stage, prefix, kept=None):

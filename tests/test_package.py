@@ -14,7 +14,7 @@ from tempfile import TemporaryDirectory
 from .support.cases import Cases
 from .support.documents import README, version
 from .support.program import ROOT, SECONDS, make
-from .test_install import CHECKED, LINE, LINKS, MADE, SAID, files_in, wanted_files
+from .test_install import CHECKED, KEPT, LINE, LINKS, MADE, RECORD, SAID, files_in, wanted_files
 
 TOOL = ROOT / "tools" / "package.py"
 TIME = 1_700_000_000  # that the files of a package are given
@@ -71,6 +71,7 @@ class Packages(Cases):
         self.check_run([top / "bin/metad-explain"], LINE, LINE + SAID)
         self.check_run([top / "bin/metad-check", "-"], b'{"classes":[]}', CHECKED)
         self.check_run([top / "bin/metad-shell", top / "bin/metad"], b"new QObject as p\n", MADE)
+        self.check_run([top / "bin/metad-slice", "--only", "/dev/stdin", "a"], RECORD, KEPT)
         code = f"import metad; print(metad.start_front({str(top / 'bin/metad')!r}).close(), metad.__version__)"
         self.check_run(["python3", "-c", code], b"", f"0 {version()[0]}\n".encode(), PYTHONPATH=str(site))
         said = subprocess.run([top / "bin/metad-front", "--help"], capture_output=True, text=True, timeout=SECONDS).stdout

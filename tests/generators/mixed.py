@@ -8,6 +8,7 @@ whose slots post on. Several runs share a server and take turns by chance: their
 from dataclasses import dataclass, field
 from string import ascii_lowercase
 
+from tests.plain.slicing import kept
 from tests.plain.world import Server
 
 from . import bindings, signals
@@ -102,14 +103,14 @@ class Chance(bindings.Chance):
 
 @dataclass
 class Step:
-    """A command, the lines that it is answered by, its posts, the number of events that they have become, and whom each
-    session has named in its joins before."""
+    """A command, the lines that it is answered by, its posts, the number of events that they have become, and whose joins
+    have named its session before."""
 
     command: dict
     lines: list
     posts: list
     arrived: int
-    named: dict
+    joined_by: frozenset
 
     @property
     def session(self):
@@ -130,11 +131,11 @@ class Run:
 
     def do(self, command):
         sessions = self.server.sessions
-        named = {name: {it.source for it in session.joins} for name, session in sessions.items()}
+        joined_by = self.server.joined_by(command["session"])
         others = [session for name, session in sessions.items() if name != command["session"]]
         before = sum(len(it.queue) for it in others)
         lines, posts = self.server.done(command)
-        self.steps.append(Step(command, lines, posts, sum(len(it.queue) for it in others) - before, named))
+        self.steps.append(Step(command, lines, posts, sum(len(it.queue) for it in others) - before, joined_by))
 
     def commands(self):
         return [step.command for step in self.steps]
@@ -173,12 +174,7 @@ class Run:
 
     def slice(self, name):
         """The commands that may have come to tell a session something, each found by the joins that stood before it."""
-        found, kept = {name}, []
-        for step in reversed(self.steps):
-            if step.session in found or any(step.session in step.named.get(it, ()) for it in found):
-                found.add(step.session)
-                kept.append(step.command)
-        return kept[::-1]
+        return [step.command for step in kept(self.steps, name)]
 
 
 def group_of(chance, number):

@@ -26,6 +26,10 @@ class Server:
     def session(self, name):
         return self.sessions.setdefault(name, Session(name, self.classes, self.turns))
 
+    def joined_by(self, name):
+        """The names of the sessions that have a join of something of this one."""
+        return frozenset(it.name for it in self.sessions.values() if any(join.source == name for join in it.joins))
+
     def done(self, command):
         """What is told to a command, line by line, and what it has posted to the others."""
         session = self.session(command["session"])

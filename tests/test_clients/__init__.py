@@ -1,4 +1,4 @@
-"""What stands in `clients`: the client in Python with its page, the front, `explain`, `check` and `shell`."""
+"""What stands in `clients`: the client in Python with its page, the front, `explain`, `check`, `shell` and `slice`."""
 
 import sys
 from pathlib import Path

@@ -1,0 +1,133 @@
+"""What the words of the command line ask for, and how a run ends."""
+
+from __future__ import annotations
+
+import argparse
+import re
+import sys
+
+from explaining.program import NAME, Stop, leave_output, lines_of, opened, writer
+
+from .comparing import difference, told_by_record, told_to
+from .record import answers_in, entries_of, mark
+from .running import Program, program_beside
+from .showing import MARKS, compared, counts, marked
+
+USAGE = f"{NAME} [--only] [--metad PROGRAM] [--classes FILE] [--turns N] RECORD NAME"
+SESSION = re.compile(r"[A-Za-z_][A-Za-z0-9_]{0,63}")
+TURNS = re.compile(r"\+?0*([1-9][0-9]{0,5}|1000000)")
+
+HELP = """\
+RECORD is an input of metad, as it was given: a file, or what `metad-front --record` has written. The slice of the
+session NAME are the commands in it that what NAME is told depends on: its own, and those of each session that it
+listened to, by joins, up to the last one which could still come to NAME. `metad --slice NAME` finds them.
+
+Each line of RECORD that is not blank is shown with a mark before it:
+{marks}
+Behind them stands how many commands of each session are kept. Then the slice alone is given to metad, and it is
+said whether NAME is told the same by it as by all of RECORD; if not, which line differs first. What NAME was told to
+lines of its own that are no commands is not compared, as these are left out.
+
+FILE and N have to be those of the run that was recorded.
+
+Exit status: 0 where NAME is told the same, and with --only where the slice was written, 1 where it is told something
+else, where something cannot be read or written, or metad cannot be run, 2 after a mistake in the command line."""
+
+
+class Words(argparse.Namespace):
+    """The words of the command line."""
+
+    record: str | None
+    name: str | None
+    metad: str | None
+    classes: str | None
+    turns: str | None
+    only: bool
+    help: bool
+
+
+def turns(word: str) -> str:
+    """How many turns a command has, as metad takes it."""
+    if not TURNS.fullmatch(word):
+        raise argparse.ArgumentTypeError(f"{word!r} is no whole number from 1 to 1000000")
+    return word
+
+
+def parser() -> argparse.ArgumentParser:
+    made = argparse.ArgumentParser(
+        prog=NAME,
+        usage=USAGE,
+        description="Shows which commands of a record decide what a session is told, and tries whether they do.",
+        epilog=HELP.format(marks="\n".join(f"  {mark.decode()} {meaning}" for mark, meaning in MARKS.items())),
+        formatter_class=argparse.RawDescriptionHelpFormatter,
+        allow_abbrev=False,
+        add_help=False,
+    )
+    made.add_argument("-h", "--help", action="store_true", help="show this help and exit")
+    made.add_argument("--only", action="store_true", help="write the slice alone, as an input for metad")
+    made.add_argument("--metad", metavar="PROGRAM", help="the program; without it that beside this tool, or on the path")
+    made.add_argument("--classes", metavar="FILE", help="the class file that metad is given")
+    made.add_argument("--turns", metavar="N", type=turns, help="the turns of a command that metad is given")
+    made.add_argument("record", metavar="RECORD", nargs="?", help=argparse.SUPPRESS)
+    made.add_argument("name", metavar="NAME", nargs="?", help=argparse.SUPPRESS)
+    return made
+
+
+def words() -> Words:
+    made = parser()
+    given = made.parse_args(namespace=Words())
+    if given.help:
+        return given
+    if given.record is None or given.name is None:
+        made.error("a record and the name of a session are wanted")
+    if not SESSION.fullmatch(given.name):
+        made.error(f"{given.name!r} cannot be the name of a session")
+    return given
+
+
+def told(given: Words) -> int:
+    """Shows the slice, or writes it, or shows the help; answers the exit status."""
+    if sys.stdout is None:
+        raise Stop("standard output has to be open")
+    if given.help:
+        writer(sys.stdout.buffer)(parser().format_help().rstrip("\n"))
+        return 0
+    assert given.record is not None and given.name is not None
+    with opened(given.record) as file:
+        record = b"".join(lines_of(file, given.record))
+    path = program_beside() if given.metad is None else given.metad
+    program = Program(path, given.classes, given.turns)
+    kept = program.slice(record, given.name)
+    if not given.only:
+        return show(program, record, kept, given.name)
+    sys.stdout.buffer.write(kept)
+    sys.stdout.buffer.flush()
+    return 0
+
+
+def show(program: Program, record: bytes, kept: bytes, name: str) -> int:
+    """Shows what is kept of a record, and whether the session is told the same by it."""
+    say = writer(sys.stdout.buffer)
+    entries = entries_of(record, program.told(record))
+    mark(entries, kept)
+    by_record = told_by_record(name, entries)
+    found = difference(by_record, told_to(name, answers_in(program.told(kept))))
+    for line in (*marked(entries), *counts(entries), *compared(name, by_record, found)):
+        say(line)
+    return 0 if found is None else 1
+
+
+def main() -> int:
+    try:
+        return told(words())
+    except Stop as stop:
+        message = str(stop)
+    except BrokenPipeError:
+        leave_output()
+        return 0
+    except OSError as error:
+        leave_output()
+        message = f"standard output cannot be written: {error.strerror}"
+    if sys.stderr is not None:
+        print(f"{NAME}: {message}", file=sys.stderr)
+    return 1
