@@ -33,7 +33,7 @@ type Session = (&'static str, u64, Way, &'static str);
 const SESSIONS: [Session; 3] = [
     (LAMP, 3, Way::Whole, LAMP_TOLD),
     (TOLD_OF_TEMP, 7, Way::Whole, TEMP_TOLD),
-    (GIVEN, 10, Way::SliceOf("b"), GIVEN_BY_B),
+    (GIVEN, 10, Way::SliceOfB, GIVEN_BY_B),
 ];
 
 /// What happens at the call that is told by its number: the source fails, or the sink, or that takes nothing.

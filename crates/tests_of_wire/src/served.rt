@@ -36,12 +36,12 @@ fn server_of(alloc: Global, host: Host) -> Result<Server, AllocError> {
 }
 
 /// How a run is made: to the end of its input, within bounds of lines and of calls of `read`, or for the slice of
-/// a session.
+/// the session `b`.
 #[derive(Clone, Copy)]
 pub enum Way {
     Whole,
     Within(u64, u64),
-    SliceOf(&'static str),
+    SliceOfB,
 }
 
 /// How a run ended, what it had written by then, how often its devices failed, and whether memory was refused.
@@ -89,8 +89,8 @@ fn end_of_run(
         Way::Within(max_lines, max_reads) => {
             run_bounded(alloc, reader, writer, server, max_lines, max_reads)
         }
-        Way::SliceOf(name) => {
-            let session = Text::from_str(alloc, name)?;
+        Way::SliceOfB => {
+            let session = Text::from_str(alloc, "b")?;
             run_slice(alloc, reader, writer, server, &session)
         }
     }
