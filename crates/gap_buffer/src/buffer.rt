@@ -7,7 +7,6 @@ ghost use Rattle.std.specs.List.Sorted.{IsPartitionPoint, IsPartitionedBy};
 use crate::gap::{Gap, count, inserted, pushed, read, removed, reserved, write};
 use crate::search::point;
 use std::alloc::{AllocError, Global};
-use std::collections::VecDeque;
 use std::marker::Model;
 
 /// A list that is changed mostly where it was changed last. Where an element goes out it leaves a gap,
@@ -15,15 +14,15 @@ use std::marker::Model;
 /// by `reserve`, and no other call takes any.
 #[derive(Drop)]
 pub struct GapBuffer<T: Copy> {
-    /// The elements before the gap, the places of the gap, which are not of the list, and the elements
-    /// behind it.
-    ring: VecDeque<T>,
+    /// The elements before the gap, old ones at the places of the gap, which are not of the list, and the
+    /// elements behind it.
+    places: Vec<T>,
     gap: Gap,
 }
 
 impl<T: Copy> Model for GapBuffer<T> {
     ghost use Rattle.std.specs.Prelude.{min};
-    ghost use Rattle.std.specs.VecDeque.{deque_capacity};
+    ghost use Rattle.std.specs.Vec.{vec_capacity};
     ghost use Rattle.gap_buffer.specs.Gapped.{Gapped, gapped_code};
     ghost use Rattle.gap_buffer.specs.Gap.{IsGapOf, listed};
 
@@ -31,9 +30,9 @@ impl<T: Copy> Model for GapBuffer<T> {
 
     ghost coded = { gapped_code T.code };
 
-    ghost view = { λ buffer. record { items = listed buffer.ring.items buffer.gap; capacity = min (deque_capacity buffer.ring) 4294967295 } };
+    ghost view = { λ buffer. record { items = listed buffer.places.items buffer.gap; capacity = min (vec_capacity buffer.places) 4294967295 } };
 
-    ghost invariant = { λ buffer. IsGapOf buffer.ring.items buffer.gap };
+    ghost invariant = { λ buffer. IsGapOf buffer.places.items buffer.gap };
 }
 
 impl<T: Copy> GapBuffer<T> {
@@ -42,7 +41,7 @@ impl<T: Copy> GapBuffer<T> {
         ensures { result.items ≡ [] }
     {
         GapBuffer {
-            ring: VecDeque::new(alloc),
+            places: Vec::new(alloc),
             gap: Gap { start: 0, gone: 0 },
         }
     }
@@ -50,7 +49,7 @@ impl<T: Copy> GapBuffer<T> {
     pub fn len(&self) -> usize
         ensures { result ≡ length self.now.items }
     {
-        count(&self.ring, self.gap)
+        count(&self.places, self.gap)
     }
 
     pub fn is_empty(&self) -> bool
@@ -63,7 +62,7 @@ impl<T: Copy> GapBuffer<T> {
         requires { at < length self.now.items }
         ensures { (default : T) → result ≡ slice_index_or self.now.items at default }
     {
-        *read(&self.ring, self.gap, at)
+        *read(&self.places, self.gap, at)
     }
 
     pub fn first(&self) -> Option<T>
@@ -103,7 +102,7 @@ impl<T: Copy> GapBuffer<T> {
         ensures kept { self.old.capacity ≤ self.new.capacity }
         ensures err { OnErr result (self.new ≡ self.old) }
     {
-        self.gap = reserved(&mut self.ring, self.gap)?;
+        self.gap = reserved(&mut self.places, self.gap)?;
         Ok(())
     }
 
@@ -112,7 +111,7 @@ impl<T: Copy> GapBuffer<T> {
         requires { length self.old.items < self.old.capacity }
         ensures { self.new ≡ record self.old { items = self.old.items ++ element ∷ [] } }
     {
-        self.gap = pushed(&mut self.ring, self.gap, element);
+        self.gap = pushed(&mut self.places, self.gap, element);
     }
 
     /// Puts an element in where there is room.
@@ -121,7 +120,7 @@ impl<T: Copy> GapBuffer<T> {
         requires within { at ≤ length self.old.items }
         ensures { self.new ≡ record self.old { items = insert self.old.items at element } }
     {
-        self.gap = inserted(&mut self.ring, self.gap, at, element);
+        self.gap = inserted(&mut self.places, self.gap, at, element);
     }
 
     /// Puts another element in place of one.
@@ -129,7 +128,7 @@ impl<T: Copy> GapBuffer<T> {
         requires { at < length self.old.items }
         ensures { self.new ≡ record self.old { items = set self.old.items at element } }
     {
-        write(&mut self.ring, self.gap, at, element);
+        write(&mut self.places, self.gap, at, element);
     }
 
     /// Takes an element out, which leaves a gap there.
@@ -138,8 +137,8 @@ impl<T: Copy> GapBuffer<T> {
         ensures element { (default : T) → result ≡ slice_index_or self.old.items at default }
         ensures others { self.new ≡ record self.old { items = remove self.old.items at } }
     {
-        let element = *read(&self.ring, self.gap, at);
-        self.gap = removed(&mut self.ring, self.gap, at);
+        let element = *read(&self.places, self.gap, at);
+        self.gap = removed(&mut self.places, self.gap, at);
         element
     }
 
@@ -147,7 +146,7 @@ impl<T: Copy> GapBuffer<T> {
     pub fn clear(&mut self)
         ensures { self.new ≡ record self.old { items = [] } }
     {
-        self.ring.clear();
+        self.places.clear();
         self.gap = Gap { start: 0, gone: 0 };
     }
 
@@ -157,6 +156,6 @@ impl<T: Copy> GapBuffer<T> {
         ensures bound { result ≤ length self.now.items }
         ensures partitioned { (p : T → Bool) → ComputesKey P.FnMut p pred → IsPartitionedBy p self.now.items → IsPartitionPoint (λ y. p y ≡ true) (λ y. p y ≡ false) self.now.items result }
     {
-        point(&self.ring, self.gap, pred)
+        point(&self.places, self.gap, pred)
     }
 }

@@ -4,7 +4,6 @@
 
 mod buffer;
 mod gap;
-mod moves;
 mod search;
 
 pub use buffer::GapBuffer;

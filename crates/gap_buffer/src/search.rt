@@ -5,20 +5,15 @@ ghost use Rattle.std.specs.List.Sorted.{IsPartitionPoint, IsPartitionedBy};
 ghost use Rattle.gap_buffer.specs.Gap.{IsGapOf, listed};
 
 use crate::gap::{Gap, count, read};
-use std::collections::VecDeque;
 
 /// How many elements pass, by halves.
-pub(crate) fn point<T: Copy, P: FnMut(&T) -> bool>(
-    ring: &VecDeque<T>,
-    gap: Gap,
-    mut pred: P,
-) -> usize
-    requires gap { IsGapOf ring.now.items gap }
+pub(crate) fn point<T: Copy, P: FnMut(&T) -> bool>(places: &Vec<T>, gap: Gap, mut pred: P) -> usize
+    requires gap { IsGapOf places.now.items gap }
     requires callable { P.IsAlwaysCallable pred }
-    ensures bound { result ≤ length (listed ring.now.items gap) }
-    ensures partitioned { (p : T → Bool) → ComputesKey P.FnMut p pred → IsPartitionedBy p (listed ring.now.items gap) → IsPartitionPoint (λ y. p y ≡ true) (λ y. p y ≡ false) (listed ring.now.items gap) result }
+    ensures bound { result ≤ length (listed places.now.items gap) }
+    ensures partitioned { (p : T → Bool) → ComputesKey P.FnMut p pred → IsPartitionedBy p (listed places.now.items gap) → IsPartitionPoint (λ y. p y ≡ true) (λ y. p y ≡ false) (listed places.now.items gap) result }
 {
-    let mut size = count(ring, gap);
+    let mut size = count(places, gap);
     if size == 0 {
         return 0;
     }
@@ -26,14 +21,14 @@ pub(crate) fn point<T: Copy, P: FnMut(&T) -> bool>(
     'halves: while size > 1 {
         let half = size / 2;
         let middle = base + half;
-        if pred(read(ring, gap, middle)) {
+        if pred(read(places, gap, middle)) {
             base = middle;
             size -= half;
         } else {
             size -= half;
         }
     }
-    if pred(read(ring, gap, base)) {
+    if pred(read(places, gap, base)) {
         base + 1
     } else {
         base

@@ -30,6 +30,7 @@ pub(crate) struct Window {
 /// Where the entry with a number stands. As numbers differ, it is no farther from another entry than
 /// their numbers are, and just as far where none between the two was taken out: the first entry gives a
 /// guess, and so does each one that is looked at.
+#[inline(always)]
 pub(crate) fn position<N: Number>(entries: &GapBuffer<Entry<N>>, number: u64) -> Option<usize>
     requires { IsRisingIndex N.value entries.now.items }
     ensures found { IfSome result (IsAt N.value entries.now.items number) }
@@ -53,6 +54,7 @@ pub(crate) fn position<N: Number>(entries: &GapBuffer<Entry<N>>, number: u64) ->
 }
 
 /// Looks by turns at the guess and in the middle of what is left of a window.
+#[inline(never)]
 fn search<N: Number>(
     entries: &GapBuffer<Entry<N>>,
     number: u64,
@@ -88,6 +90,7 @@ fn middle(window: Window) -> usize
 }
 
 /// Looks at a position of a window: it is the one of the number, or a narrower window is left.
+#[inline(always)]
 fn look<N: Number>(
     entries: &GapBuffer<Entry<N>>,
     number: u64,

@@ -1,7 +1,6 @@
 //! What no clause of gap buffers says: that calls succeed where memory is found, that a gap takes no more than two
 //! numbers, and that a long run of changes goes as on a plain list.
 use gap_buffer::GapBuffer;
-use std::collections::VecDeque;
 use std::mem::size_of;
 use std::test::Fail;
 
@@ -106,5 +105,5 @@ fn elements_are_set_found_and_cleared(rt: HostRuntime) -> Result<(), Fail> {
 
 #[test]
 fn gaps_are_two_numbers(rt: HostRuntime) {
-    assert!(rt; size_of::<GapBuffer<u32>>() == size_of::<VecDeque<u32>>() + 8);
+    assert!(rt; size_of::<GapBuffer<u32>>() == size_of::<Vec<u32>>() + 8);
 }

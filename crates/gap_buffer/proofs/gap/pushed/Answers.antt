@@ -6,6 +6,6 @@ use Rattle.gap_buffer.proofs.gap.pushed.Goals as goal
 pub returns-clause-items : goal.returns-clause-items
 returns-clause-items g c =
     let gap = c.with_room-gap.result in
-    ap (λ ring. without ring gap.start gap.gone) c.push_back_reserved.ensures.items
-    ∙ (without_push c.with_room-gap.new.ring.items gap.start gap.gone c.args.element c.with_room-gap.ensures.fits.0
+    ap (λ places. without places gap.start gap.gone) c.push_reserved.ensures.items
+    ∙ (without_push c.with_room-gap.new.places.items gap.start gap.gone c.args.element c.with_room-gap.ensures.fits.0
     ∙ ap (λ xs. xs ++ c.args.element ∷ []) c.with_room-gap.ensures.items)

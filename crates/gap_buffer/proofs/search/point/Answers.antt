@@ -6,7 +6,7 @@ use Rattle.gap_buffer.proofs.search.point.Goals as goal
 
 pub halves-preserved-then-pred : goal.halves-preserved-then-pred
 halves-preserved-then-pred g c =
-    let xs = listed c.args.ring.now.items c.args.gap in
+    let xs = listed c.args.places.now.items c.args.gap in
     let base = c.halves.base in
     let size = c.halves.size in
     let middle = base + size / 2 in
@@ -23,7 +23,7 @@ halves-preserved-then-pred g c =
 
 pub halves-preserved : goal.halves-preserved
 halves-preserved g c =
-    let xs = listed c.args.ring.now.items c.args.gap in
+    let xs = listed c.args.places.now.items c.args.gap in
     let base = c.halves.base in
     let size = c.halves.size in
     let middle = base + size / 2 in
@@ -40,7 +40,7 @@ halves-preserved g c =
 
 pub returns-then-pred-2-clause-partitioned : goal.returns-then-pred-2-clause-partitioned
 returns-then-pred-2-clause-partitioned g c =
-    let xs = listed c.args.ring.now.items c.args.gap in
+    let xs = listed c.args.places.now.items c.args.gap in
     let base = c.halves.base in
     let size = c.halves.size in
     let call = called g.P.FnMut c.if-pred-2.ensures refl in
@@ -51,7 +51,7 @@ returns-then-pred-2-clause-partitioned g c =
 
 pub returns-clause-partitioned : goal.returns-clause-partitioned
 returns-clause-partitioned g c =
-    let xs = listed c.args.ring.now.items c.args.gap in
+    let xs = listed c.args.places.now.items c.args.gap in
     let base = c.halves.base in
     let size = c.halves.size in
     let call = called g.P.FnMut c.if-pred-2.ensures refl in

@@ -1,0 +1,16 @@
+use Rattle.std.proofs.Common.{◌≡◌, ◌∙◌, sym, ap, arith}
+use Rattle.gap_buffer.specs.Gap.{without}
+use Rattle.gap_buffer.proofs.GapLemmas.{length-without, without_end, without_none}
+use Rattle.gap_buffer.proofs.gap.opened.Goals as goal
+
+pub returns-clause-items : goal.returns-clause-items
+returns-clause-items g c =
+    let list = c.args.places.now.items in
+    let none : c.args.gap.gone ≡ 0 = omega arith in
+    without_end c.copies.places.items list c.len-len.result c.min-gone.result c.copies.invariant.items (omega (arith, c.copies.invariant.count, c.copies-test.false, c.copies.auto.copy-end))
+    ∙ sym (ap (λ n. without list c.args.gap.start n) none ∙ without_none list c.args.gap.start)
+
+pub returns-clause-some : goal.returns-clause-some
+returns-clause-some g c =
+    let size = length-without c.args.places.now.items c.args.gap.start c.args.gap.gone c.requires.gap.0 in
+    omega (arith, c.requires.room, c.min-gone.ensures, c.min.ensures, c.capacity.ensures, c.len-len.ensures, c.args.places.now.ok.0)

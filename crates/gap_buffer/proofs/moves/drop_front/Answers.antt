@@ -1,6 +1,0 @@
-use Rattle.std.proofs.Common.{arith}
-use Rattle.std.proofs.lemmas.Grind.{common_steps}
-use Rattle.gap_buffer.proofs.moves.drop_front.Goals as goal
-
-pub places-preserved : goal.places-preserved
-places-preserved g c = grind (arith, common_steps)
