@@ -1,7 +1,6 @@
 -- Rows that go, with the links to them.
-use Rattle.std.proofs.Common.{◌≡◌, ◌≢◌, ◌∙◌, ℕ, ◌-◌, ◌<◌, ◌≤◌, ◌^◌, ◌==◌, Bool, true, false, not, List, [], Some, IsSome, length, map, filter, get_or, refl, sym, ap, subst, arith, ⊎_elim}
-use Rattle.std.specs.List.{All, AllWithin, Any}
-use Rattle.std.proofs.lemmas.Bool.{cases_lt}
+use Rattle.std.proofs.Common.{◌≡◌, ◌≢◌, ◌∙◌, ℕ, ◌<◌, ◌≤◌, ◌^◌, ◌==◌, Bool, true, false, not, List, [], Some, IsSome, length, map, filter, refl, sym, ap, subst, arith}
+use Rattle.std.specs.List.{All, Any}
 use Rattle.std.proofs.lemmas.Bool.Decides.{nat_tests}
 use Rattle.std.proofs.lemmas.List.{get_or-map, length-map}
 use Rattle.std.proofs.lemmas.List.Elements.{All-filter, All-map}
@@ -10,16 +9,16 @@ use Rattle.std.proofs.lemmas.List.Sums.{length-filter, count_by-le-length}
 use Rattle.places.specs.Table.{ChangesAt, IsPlace, Table, with_place}
 use Rattle.places.proofs.TableLemmas.{changes_open, changes_same, changes_twice, changes_with, with_there}
 use Rattle.shared_rows.specs.Links.{AreLinked, without_link}
-use Rattle.shared_rows.specs.Rows.{IsAtPosition, Keyed, row_under, rows_at, without}
+use Rattle.shared_rows.specs.Rows.{Keyed, row_under, rows_at, without}
 use Rattle.shared_rows.proofs.LinkedLemmas.{all_from, linked_filter}
 use Rattle.shared_rows.proofs.RowsLemmas.{length-without}
 use Rattle.connection_list.specs.declared.connection.Connection.{Connection}
 use Rattle.connection_list.specs.declared.link.Link.{Link}
 use Rattle.connection_list.specs.declared.routes.Routes.{Routes}
 use Rattle.connection_list.specs.Rows.{IsSound}
-use Rattle.connection_list.specs.Routes.{AreGone, IsPlaceKept, place_of, received_of, sent_of}
-use Rattle.connection_list.proofs.LinkLemmas.{link_cmp, link_same, link_total}
-use Rattle.connection_list.proofs.KeyedLemmas.{IsApart, behind_without, filter_all, filter_without, only_under, stands_under, under_key}
+use Rattle.connection_list.specs.Routes.{AreGone, IsPlaceKept, link_cmp, link_of, links_of, place_of, received_of, sent_of}
+use Rattle.connection_list.proofs.LinkLemmas.{link_same, link_total}
+use Rattle.connection_list.proofs.KeyedLemmas.{IsApart, filter_all, filter_without, only_under, stands_under, under_key}
 use Rattle.connection_list.proofs.RoutesLemmas.{rising_keyed}
 
 -- what holds of each row holds of it with its key
@@ -88,6 +87,12 @@ module _ (place key : ℕ) (row : Connection) (old new : Table (List (Keyed Conn
         kept = subst (λ rows. IsPlaceKept rows after) (sym now) (kept_without key row (rows_at old place) kept.apart stands before after kept same sent received);
       }
 
+-- at both ends its link is gone
+pub links_without : (old new : Routes) (keyed : Keyed Connection) → new.sent.links ≡ without_link link_cmp old.sent.links (sent_of keyed) → new.received.links ≡ without_link link_cmp old.received.links (received_of keyed)
+    → (received : Bool) → links_of received new ≡ without_link link_cmp (links_of received old) (link_of received keyed)
+links_without old new keyed sent received true = received
+links_without old new keyed sent received false = sent
+
 -- a row that passes a test stands under a key
 abbrev pub Stands : (Keyed Connection → Bool) → List (Keyed Connection) → ℕ → Type 0
 Stands gone rows key = Any (λ keyed. (keyed.key ≡ key) × (gone keyed ≡ true)) rows
@@ -136,31 +141,3 @@ module _ (gone : Keyed Connection → Bool) (place : ℕ) (old now : Table (List
     last_number = going.last_number;
     kept = going.kept;
   }
-
--- behind so many rows none passes a test
-pub record IsBehind (gone : Keyed Connection → Bool) (rows : List (Keyed Connection)) (left : ℕ) : Type 0 where
-  pub within : left ≤ length rows
-  pub behind : AllWithin (λ keyed. gone keyed ≡ false) rows left (length rows)
-
--- the row at a position stands under its key
-pub stands_at : (gone : Keyed Connection → Bool) (rows : List (Keyed Connection)) (at key : ℕ) (row : Connection) → at < length rows → IsAtPosition rows at key row → gone (record { key = key; row = row }) ≡ true → Stands gone rows key
-stands_at gone rows at key row within is passes = (at, record { key = key; row = row }, within, is (record { key = key; row = row }), (refl, passes))
-
--- one row fewer is left where the next fails, and where it goes
-pub behind_more : (gone : Keyed Connection → Bool) (rows : List (Keyed Connection)) (left key : ℕ) (row : Connection) → IsBehind gone rows left → 0 < left → IsAtPosition rows (left - 1) key row → gone (record { key = key; row = row }) ≡ false → IsBehind gone rows (left - 1)
-behind_more gone rows left key row behind some is fails = record {
-  within = omega (arith, behind.within);
-  behind = λ k d low high. ⊎_elim
-      (λ (here : k < left). let same : k ≡ left - 1 = omega (arith, low, here) in ap (λ i. gone (get_or rows i d)) same ∙ (ap gone (is d) ∙ fails))
-      (λ (later : left ≤ k). behind.behind k d later high)
-      (cases_lt k left);
-}
-
-pub behind_gone : (gone : Keyed Connection → Bool) (rows next : List (Keyed Connection)) (left key : ℕ) (row : Connection) → IsApart rows → IsBehind gone rows left → 0 < left → IsAtPosition rows (left - 1) key row → next ≡ without rows key → IsBehind gone next (left - 1)
-behind_gone gone rows next left key row apart behind some is out =
-    let blank : Keyed Connection = record { key = key; row = row } in
-    let step = behind_without (λ keyed. gone keyed ≡ false) rows (left - 1) key blank apart (omega (arith, some, behind.within)) (ap (λ (keyed : Keyed Connection). keyed.key) (is blank)) (λ k d low high. behind.behind k d (omega (arith, some, low)) high) in
-    rw out (record { within = step.0; behind = step.1 })
-
-pub behind_all : (gone : Keyed Connection → Bool) (rows : List (Keyed Connection)) (left : ℕ) → IsBehind gone rows left → left ≡ 0 → All (λ keyed. gone keyed ≡ false) rows
-behind_all gone rows left behind none = λ k d within. behind.behind k d (omega (arith, none)) within

@@ -1,9 +1,9 @@
 -- Rows with their keys, and the same rows without.
-use Rattle.std.proofs.Common.{◌≡◌, ◌≢◌, ◌∙◌, ℕ, zero, suc, ◌<◌, ◌≤◌, ◌==◌, Bool, true, false, not, cond, List, [], ◌∷◌, Option, Some, None, length, map, filter, find, get_or, refl, sym, ap, arith, ⊎_elim}
-use Rattle.std.specs.List.{All, AllPairs, AllWithin, Contains}
+use Rattle.std.proofs.Common.{◌≡◌, ◌≢◌, ◌∙◌, ℕ, suc, ◌==◌, Bool, true, false, not, ◌||◌, cond, List, [], ◌∷◌, Option, Some, None, map, filter, find, refl, sym, ap, arith, ⊎_elim}
+use Rattle.std.specs.List.{All, AllPairs, Contains, list_any}
 use Rattle.std.specs.Option.{option_map}
 use Rattle.std.proofs.lemmas.Bool.{eq-eqb}
-use Rattle.std.proofs.lemmas.List.Elements.{All-contains, All-filter}
+use Rattle.std.proofs.lemmas.List.Elements.{All-contains}
 use Rattle.shared_rows.specs.Rows.{Keyed, row_under, without}
 use Rattle.shared_rows.proofs.LinkedLemmas.{contains_cases, contains_later}
 
@@ -19,6 +19,10 @@ module _ {R : Type 0} where
           → cond here (Some first.row) (find test (map (λ keyed. keyed.row) rows)) ≡ option_map (λ (keyed : Keyed R). keyed.row) (cond here (Some first) (find (λ keyed. test keyed.row) rows))
       by true later = refl
       by false later = later
+
+  pub any_map : (test : R → Bool) (rows : List (Keyed R)) → list_any test (map (λ keyed. keyed.row) rows) ≡ list_any (λ keyed. test keyed.row) rows
+  any_map test [] = refl
+  any_map test (first ∷ rows) = ap (λ rest. test first.row || rest) (any_map test rows)
 
   pub filter_map : (test : R → Bool) (rows : List (Keyed R)) → filter test (map (λ keyed. keyed.row) rows) ≡ map (λ keyed. keyed.row) (filter (λ keyed. test keyed.row) rows)
   filter_map test [] = refl
@@ -100,28 +104,6 @@ module _ {R : Type 0} where
   pub filter_all : (gone : Keyed R → Bool) (rows : List (Keyed R)) → All (λ keyed. gone keyed ≡ false) rows → filter (λ keyed. not (gone keyed)) rows ≡ rows
   filter_all gone [] none = refl
   filter_all gone (first ∷ rows) none = let here : gone first ≡ false = none 0 first (omega arith) in rw here (ap (λ rest. first ∷ rest) (filter_all gone rows (λ k d within. none (suc k) d (omega arith))))
-
-  -- without the row at a position those behind it move up
-  pub behind_without : (P : Keyed R → Type 0) (rows : List (Keyed R)) (at key : ℕ) (default : Keyed R) → IsApart rows → at < length rows → (get_or rows at default).key ≡ key → AllWithin P rows (suc at) (length rows)
-      → (at ≤ length (without rows key)) × AllWithin P (without rows key) at (length (without rows key))
-  behind_without P [] at key default apart within is behind = absurd (omega (arith, within))
-  behind_without P (first ∷ rows) zero key default apart within is behind =
-      let here : (first.key == key) ≡ true = eq-eqb first.key key is in
-      let rest : All P (without rows key) = All-filter (λ keyed. not (keyed.key == key)) P rows (λ k d inside. behind (suc k) d (omega arith) (omega arith)) in
-      rw here (omega arith, λ k d low high. rest k d high)
-  behind_without P (first ∷ rows) (suc at) key default apart within is behind =
-      let rest = behind_without P rows at key default (apart_tail first rows apart) (omega arith) is (λ k d low high. behind (suc k) d (omega arith) (omega arith)) in
-      let differ : first.key ≢ key = λ same. apart_head first rows apart at default (omega arith) (same ∙ sym is) in
-      by (first.key == key) refl differ rest.0 rest.1
-    where
-      by : (here : Bool) → here ≡ (first.key == key) → first.key ≢ key → at ≤ length (without rows key) → AllWithin P (without rows key) at (length (without rows key))
-          → (suc at ≤ length (cond (not here) (first ∷ without rows key) (without rows key))) × AllWithin P (cond (not here) (first ∷ without rows key) (without rows key)) (suc at) (length (cond (not here) (first ∷ without rows key) (without rows key)))
-      by true is differ few rest = absurd (differ (grind (arith, sym is)))
-      by false is differ few rest = (omega arith, later)
-        where
-          later : AllWithin P (first ∷ without rows key) (suc at) (length (first ∷ without rows key))
-          later zero d low high = absurd (omega arith)
-          later (suc k) d low high = rest k d (omega arith) (omega arith)
 
   -- where a key was found, the row under it is what is found without keys
   pub record IsFound (test : R → Bool) (rows : List (Keyed R)) (key : ℕ) : Type 0 where

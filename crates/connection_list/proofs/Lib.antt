@@ -3,6 +3,7 @@ pub mod KeyedLemmas
 pub mod WithoutLemmas
 pub mod RowsLemmas
 pub mod RoutesLemmas
+pub mod WalkLemmas
 pub mod GoneLemmas
 pub mod SeenLemmas
 pub mod AddedLemmas

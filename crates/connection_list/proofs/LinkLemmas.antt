@@ -1,19 +1,19 @@
 -- Links by object, signal and number.
-use Rattle.std.proofs.Common.{◌≡◌, ◌≢◌, ◌∙◌, ℕ, ◌≤◌, false, List, Some, None, refl, sym, ap, arith}
+use Rattle.std.proofs.Common.{◌≡◌, ◌≢◌, ◌∙◌, ℕ, ◌-◌, ◌<◌, ◌≤◌, Bool, true, false, not, List, Option, Some, None, length, get_or, refl, sym, ap, arith, ⊎_elim}
 use Rattle.std.specs.Cmp.{IsTotalOrder}
 use Rattle.std.specs.List.{All, Any}
-use Rattle.std.specs.Ordering.{is_lt, nat_cmp, ordering_then}
+use Rattle.std.specs.List.Sorted.{IsPartitionPoint, IsPartitionedBy}
+use Rattle.std.specs.Ordering.{is_lt, nat_cmp, ordering_reverse, ordering_then}
 use Rattle.std.specs.declared.cmp.Ordering.{Ordering}
 use Rattle.std.specs.declared.cmp.Ordering.TheVariants.{Less, Equal, Greater}
+use Rattle.std.proofs.lemmas.Bool.{cases_Bool, cases_eq, cases_lt}
 use Rattle.std.proofs.lemmas.Bool.Decides.{nat_tests}
 use Rattle.std.proofs.lemmas.Cmp.{nat_cmp_total, on_total, ranked, then_total}
 use Rattle.shared_rows.specs.Links.{IsInOrder, first_from}
+use Rattle.shared_rows.proofs.LinkLemmas.{below_parted}
 use Rattle.shared_rows.proofs.LinkedLemmas.{all_from, any_of, first_none, first_some}
 use Rattle.connection_list.specs.declared.link.Link.{Link}
-
--- links stand by object, then by signal, by number and by key
-abbrev pub link_cmp : Link → Link → Ordering
-link_cmp x y = ordering_then (nat_cmp x.object y.object) (ordering_then (nat_cmp x.signal y.signal) (ordering_then (nat_cmp x.number y.number) (nat_cmp x.key y.key)))
+use Rattle.connection_list.specs.Routes.{is_before, is_past, link_cmp}
 
 pub link_total : IsTotalOrder link_cmp
 link_total = then_total (on_total (λ (link : Link). link.object) nat_cmp_total) (then_total (on_total (λ (link : Link). link.signal) nat_cmp_total) (then_total (on_total (λ (link : Link). link.number) nat_cmp_total) (on_total (λ (link : Link). link.key) nat_cmp_total)))
@@ -60,6 +60,57 @@ not_below x number within = grind (arith, nat_tests)
 -- no link of an object is below the first that it can have
 pub not_below_first : (x : Link) → is_lt (link_cmp x (from x.object 0 0)) ≡ false
 not_below_first x = grind (arith, nat_tests)
+
+-- what it says in numbers that one link stands before another
+before_other : (x y : Link) → link_cmp x y ≡ Less → IsAtLeast y x
+before_other x y less = at_least y x (ap is_lt (link_total.antisymm y x ∙ ap ordering_reverse less))
+
+-- what stands before a link that is before a group is before it too, and what stands behind one that is behind it
+before_on : (object : ℕ) (signal : Option ℕ) (x y : Link) → IsAtLeast y x → is_before object signal y ≡ true → is_before object signal x ≡ true
+before_on object None x y least before = grind (arith, nat_tests, before, least.object)
+before_on object (Some signal) x y least before = ⊎_elim
+    (λ (same : x.object ≡ y.object). grind (arith, nat_tests, before, same, least.signal same))
+    (λ (differs : x.object ≢ y.object). let less : x.object < y.object = omega (arith, least.object, differs) in grind (arith, nat_tests, before, less))
+    (cases_eq x.object y.object)
+
+past_on : (object : ℕ) (signal : Option ℕ) (x y : Link) → IsAtLeast y x → is_past object signal y ≡ false → is_past object signal x ≡ false
+past_on object None x y least past = grind (arith, nat_tests, past, least.object)
+past_on object (Some signal) x y least past = ⊎_elim
+    (λ (same : x.object ≡ y.object). grind (arith, nat_tests, past, same, least.signal same))
+    (λ (differs : x.object ≢ y.object). let less : x.object < y.object = omega (arith, least.object, differs) in grind (arith, nat_tests, past, less))
+    (cases_eq x.object y.object)
+
+module _ (links : List Link) (order : IsInOrder link_cmp links) (object : ℕ) (signal : Option ℕ) where
+  pub before_parted : IsPartitionedBy (is_before object signal) links
+  before_parted i j d upto within before = ⊎_elim
+      (λ (front : i < j). before_on object signal (get_or links i d) (get_or links j d) (before_other (get_or links i d) (get_or links j d) (order i j d front within)) before)
+      (λ (at : j ≤ i). let same : i ≡ j = omega (arith, at, upto) in ap (λ n. is_before object signal (get_or links n d)) same ∙ before)
+      (cases_lt i j)
+
+  pub past_parted : IsPartitionedBy (λ link. not (is_past object signal link)) links
+  past_parted i j d upto within kept = ⊎_elim
+      (λ (front : i < j).
+      ap not (past_on object signal (get_or links i d) (get_or links j d) (before_other (get_or links i d) (get_or links j d) (order i j d front within)) (unless (is_past object signal (get_or links j d)) kept)))
+      (λ (at : j ≤ i). let same : i ≡ j = omega (arith, at, upto) in ap (λ n. not (is_past object signal (get_or links n d))) same ∙ kept)
+      (cases_lt i j)
+    where
+      unless : (b : Bool) → not b ≡ true → b ≡ false
+      unless true kept = absurd (cc)
+      unless false kept = refl
+
+-- where those below a link end, two neighbours tell
+pub parted_at : (links : List Link) → IsInOrder link_cmp links → (link : Link) (at : ℕ) → at ≤ length links → (0 < at → (d : Link) → is_lt (link_cmp (get_or links (at - 1) d) link) ≡ true) → (at < length links → (d : Link) → is_lt (link_cmp (get_or links at d) link) ≡ false)
+    → IsPartitionPoint (λ other. is_lt (link_cmp other link) ≡ true) (λ other. is_lt (link_cmp other link) ≡ false) links at
+parted_at links order link at within low high = (
+  λ k d first upto. below_parted link_total links order link k (at - 1) d (omega (arith, upto)) (omega (arith, upto, within)) (low (omega (arith, upto)) d),
+  λ k d from inside. ⊎_elim
+      (λ (below : is_lt (link_cmp (get_or links k d) link) ≡ true).
+      let there = below_parted link_total links order link at k d from inside below in
+      let above = high (omega (arith, from, inside)) d in
+      absurd (cc (there, above)))
+      (λ (above : is_lt (link_cmp (get_or links k d) link) ≡ false). above)
+      (cases_Bool (is_lt (link_cmp (get_or links k d) link))),
+)
 
 module _ (links : List Link) (order : IsInOrder link_cmp links) (object : ℕ) where
   -- where no link is at least the first of an object, none is the object's

@@ -12,11 +12,11 @@ use Rattle.shared_rows.specs.Rows.{Keyed, added}
 use Rattle.shared_rows.proofs.LinkedLemmas.{first_none, first_some, linked_push}
 use Rattle.connection_list.specs.declared.connection.Connection.{Connection}
 use Rattle.connection_list.specs.declared.link.Link.{Link}
-use Rattle.connection_list.specs.Ends.{calls, touches}
-use Rattle.connection_list.specs.Rows.{IsRising, IsSound, is_next}
-use Rattle.connection_list.specs.Routes.{IsPlaceKept, IsRouted, place_of, received_of, sent_of}
+use Rattle.connection_list.specs.Ends.{touches}
+use Rattle.connection_list.specs.Rows.{IsSound, is_next}
+use Rattle.connection_list.specs.Routes.{IsPlaceKept, IsRouted, link_cmp, place_of, received_of, sent_of}
 use Rattle.connection_list.specs.declared.routes.Routes.{Routes}
-use Rattle.connection_list.proofs.LinkLemmas.{at_least, from, link_cmp, link_same, link_total, not_below}
+use Rattle.connection_list.proofs.LinkLemmas.{at_least, from, link_same, link_total, not_below}
 
 -- each number is below all later ones
 abbrev pub IsRisingKeyed : List (Keyed Connection) → Type 0
@@ -55,14 +55,6 @@ find_least {X} number_of test (first ∷ rows) rising row there passes least =
         (λ (no : test first ≡ false). no)
         (cases_Bool (test first)) in
         rw fails (later at (omega arith) is)
-
--- no number is between one and the next
-pub next_behind : (sender signal after up_to : ℕ) (rows : List Connection) (row : Connection) → IsRising rows → Contains rows row → row.number ≡ after + 1 → row.number ≤ up_to → calls sender signal row ≡ true → Some row ≡ find (is_next sender signal after up_to) rows
-next_behind sender signal after up_to rows row rising there number within calling =
-    let above : after < row.number = omega (arith, number) in
-    sym (find_least (λ (r : Connection). r.number) (is_next sender signal after up_to) rows rising row there (grind (arith, nat_tests, above, within, calling)) (λ k d inside next.
-    let low : after < (get_or rows k d).number = grind (arith, nat_tests, next) in
-    omega (arith, low, number)))
 
 -- nothing is found where all fail
 pub find_none : (test : Keyed Connection → Bool) (rows : List (Keyed Connection)) → All (λ keyed. test keyed ≡ false) rows → find test rows ≡ None

@@ -4,7 +4,7 @@ use Rattle.std.specs.List.{All, Contains, count_by}
 use Rattle.std.specs.Option.{option_map}
 use Rattle.std.proofs.lemmas.Bool.{cases_eq, cases_lt, eq-eqb}
 use Rattle.std.proofs.lemmas.Bool.Decides.{nat_tests}
-use Rattle.std.proofs.lemmas.List.{get_or-map, get_or-set_same, get_or-set_other, get_or_append_left, get_or_default, get_or_push, length-map, length-set, length_push}
+use Rattle.std.proofs.lemmas.List.{get_or-set_same, get_or-set_other, get_or_append_left, get_or_default, get_or_push, length-map, length-set, length_push}
 use Rattle.std.proofs.lemmas.List.Sums.{length-filter, count_by-le-length}
 use Rattle.places.specs.Joined.{joined, joined_tables}
 use Rattle.places.specs.Table.{IsPlace, Table, with_place, opened}
@@ -52,15 +52,9 @@ module _ (rows : Table (List (Keyed Connection))) (routes : Table Routes) (table
   pub seen_anyhow : IsSeen rows routes table place (get_or routes.places place blank)
   seen_anyhow = seen (get_or routes.places place blank) (λ default. get_or_default routes.places place blank default routes_place)
 
-  -- as many rows are seen as stand there, and the same at each position
+  -- as many rows are seen as stand there
   pub shown_count : length (rows_at table place).rows ≡ length (shared.rows_at rows place)
   shown_count = ap (λ (p : Rows). length p.rows) seen_anyhow.shows ∙ length-map (shared.rows_at rows place) (λ keyed. keyed.row)
-
-  pub shown_row : (position key : ℕ) (row default : Connection) → position < length (shared.rows_at rows place) → IsAtPosition (shared.rows_at rows place) position key row → get_or (rows_at table place).rows position default ≡ row
-  shown_row position key row default within is =
-      let keyed : Keyed Connection = record { key = key; row = row } in
-      ap (λ (p : Rows). get_or p.rows position default) seen_anyhow.shows
-      ∙ (get_or-map (λ (k : Keyed Connection). k.row) (shared.rows_at rows place) position keyed default within ∙ ap (λ (k : Keyed Connection). k.row) (is keyed))
 
   -- both changed at the place
   module _ (list : List (Keyed Connection)) (at : Routes) (place_kept : IsPlaceKept list at) where

@@ -1,12 +1,16 @@
 -- How the connections of a place are found from their ends. No public clause cites this module.
-use Rattle.std.specs.Prelude.{◌≡◌, ◌≢◌, ℕ, ◌<◌, ◌^◌, not, Bool, List, [], All, AllPairs, filter, length, map, slice_index_or, Option, Some, None}
+use Rattle.std.specs.Prelude.{◌≡◌, ◌≢◌, ℕ, ◌<◌, ◌≤◌, ◌^◌, not, nat_lt, ◌==◌, ◌&&◌, ◌||◌, Bool, true, false, List, [], All, AllPairs, filter, length, map, slice_index_or, Option, Some, None}
+use Rattle.std.specs.List.{AllWithin}
+use Rattle.std.specs.Ordering.{nat_cmp, ordering_then}
 use Rattle.std.specs.declared.alloc.Global.{Global}
 use Rattle.std.specs.declared.boxed.Box.{Box}
+use Rattle.std.specs.declared.cmp.Ordering.{Ordering}
 use Rattle.places.specs.Table.{Table, ChangesAt}
 use Rattle.shared_rows.specs.Links.{AreLinked, HasRoom}
 use Rattle.shared_rows.specs.Rows.{Keyed, rows_at}
 use Rattle.connection_list.specs.Rows.{IsSound, Rows}
 use Rattle.connection_list.specs.declared.connection.Connection.{Connection}
+use Rattle.connection_list.specs.declared.link.Group.{Group}
 use Rattle.connection_list.specs.declared.link.Link.{Link}
 use Rattle.connection_list.specs.declared.routes.Routes.{Routes}
 
@@ -16,6 +20,38 @@ sent_of keyed = record { object = keyed.row.sender; signal = keyed.row.signal; n
 
 abbrev pub received_of : Keyed Connection → Link
 received_of keyed = record { object = keyed.row.receiver; signal = 0; number = keyed.row.number; key = keyed.key }
+
+-- the links of one end, and the link of it that leads to a connection
+abbrev pub links_of : Bool → Routes → List Link
+links_of true routes = routes.received.links
+links_of false routes = routes.sent.links
+
+abbrev pub link_of : Bool → Keyed Connection → Link
+link_of true keyed = received_of keyed
+link_of false keyed = sent_of keyed
+
+-- links stand by object, then by signal, by number and by key
+abbrev pub link_cmp : Link → Link → Ordering
+link_cmp x y = ordering_then (nat_cmp x.object y.object) (ordering_then (nat_cmp x.signal y.signal) (ordering_then (nat_cmp x.number y.number) (nat_cmp x.key y.key)))
+
+-- does a link stand before all of an object, or of one of its signals, and does it stand behind them
+abbrev pub is_before : ℕ → Option ℕ → Link → Bool
+is_before object None link = nat_lt link.object object
+is_before object (Some signal) link = nat_lt link.object object || link.object == object && nat_lt link.signal signal
+
+abbrev pub is_past : ℕ → Option ℕ → Link → Bool
+is_past object None link = nat_lt object link.object
+is_past object (Some signal) link = nat_lt object link.object || link.object == object && nat_lt signal link.signal
+
+-- the link leads to no connection that passes a test
+abbrev pub FailsAt : (Keyed Connection → Bool) → Bool → Link → Type 0
+FailsAt test received link = (keyed : Keyed Connection) → link_of received keyed ≡ link → test keyed ≡ false
+
+-- no link before a group, nor behind it, leads to a connection that passes
+pub record IsGroup (test : Keyed Connection → Bool) (routes : Routes) (group : Group) : Type 0 where
+  pub within : group.end ≤ length (links_of group.received routes)
+  pub before : AllWithin (FailsAt test group.received) (links_of group.received routes) 0 group.start
+  pub past : AllWithin (FailsAt test group.received) (links_of group.received routes) group.end (length (links_of group.received routes))
 
 -- nothing was ever connected
 abbrev pub no_routes : Routes

@@ -1,6 +1,6 @@
 //! What is asked of a connection's two ends.
 ghost use Rattle.std.specs.Prelude.{◌≡◌};
-ghost use Rattle.connection_list.specs.Ends.{allows, allows_method, allows_receiver, same_ends, matches, calls, calls_functor};
+ghost use Rattle.connection_list.specs.Ends.{allows, allows_method, allows_receiver, same_ends, matches, calls_functor};
 
 use crate::connection::{Connection, NewConnection};
 use crate::pattern::{Pattern, Receiver};
@@ -63,11 +63,4 @@ pub(crate) fn calls_functor(callee: Callee) -> bool
         Callee::Method(_) => false,
         Callee::Functor(_) => true,
     }
-}
-
-/// Whether a signal of an object calls a connection's callee.
-pub fn calls(sender: u32, signal: u32, row: &Connection) -> bool
-    ensures { result ≡ calls sender signal row.now }
-{
-    row.sender == sender && row.signal == signal
 }

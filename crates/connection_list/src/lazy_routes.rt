@@ -1,14 +1,15 @@
 //! What a place keeps beside its connections, for which no memory is taken before the first of them.
 ghost use Rattle.std.specs.Prelude.{◌≡◌, ◌==◌, [], IsSome, List, OnOk, find};
+ghost use Rattle.std.specs.List.{list_any};
 ghost use Rattle.std.specs.Option.{option_map};
 ghost use Rattle.places.specs.Table.{IsPlace};
 ghost use Rattle.shared_rows.specs.Rows.{Keyed, added, row_under, rows_at};
 ghost use Rattle.connection_list.specs.declared.connection.Connection.{Connection};
-ghost use Rattle.connection_list.specs.Ends.{matches, touches};
+ghost use Rattle.connection_list.specs.Ends.{matches, same_ends, touches};
 ghost use Rattle.connection_list.specs.Rows.{is_next};
 ghost use Rattle.connection_list.specs.Routes.{AreGone, AreSame, HaveRoom, IsPlaceKept, IsRouted};
 
-use crate::connection::Connection;
+use crate::connection::{Connection, NewConnection};
 use crate::pattern::Pattern;
 use crate::routes::Routes;
 use shared_rows::SharedRows;
@@ -120,14 +121,39 @@ impl LazyRoutes {
         routes.disconnect_matching(rows, place, pattern);
     }
 
-    /// The key of the connection that an emission calls next.
-    pub(crate) fn next_sent(&self, sender: u32, signal: u32, after: u32, up_to: u32) -> Option<u32>
+    /// Whether a connection joins what a new one would join.
+    pub(crate) fn joins(
+        &self,
+        rows: &SharedRows<Connection>,
+        place: usize,
+        new: &NewConnection,
+    ) -> bool
+        requires place { IsPlace rows.now place }
+        requires kept { IsPlaceKept (rows_at rows.now place) self.now }
+        ensures { result ≡ list_any (λ keyed. same_ends new.now keyed.row) (rows_at rows.now place) }
+    {
+        match &self.made {
+            Some(routes) => routes.joins(rows, place, new),
+            None => false,
+        }
+    }
+
+    /// The key of the connection that an emission calls next. Its link is looked for at the position
+    /// `near` first, which then is the one behind it.
+    pub(crate) fn next_sent(
+        &self,
+        sender: u32,
+        signal: u32,
+        after: u32,
+        up_to: u32,
+        near: &mut usize,
+    ) -> Option<u32>
         ensures { (rows : List (Keyed Connection)) → IsPlaceKept rows self.now
             → result ≡ option_map (λ keyed. keyed.key) (find (λ keyed. is_next sender signal after up_to keyed.row) rows) }
     {
         let Some(routes) = &self.made else {
             return None;
         };
-        routes.next_sent(sender, signal, after, up_to)
+        routes.next_sent(sender, signal, after, up_to, near)
     }
 }

@@ -1,4 +1,12 @@
 //! What leads from an object to its connections.
+ghost use Rattle.std.specs.Prelude.{◌≡◌, ◌≤◌, ℕ, false, length, true};
+ghost use Rattle.std.specs.List.{AllWithin};
+ghost use Rattle.std.specs.List.Sorted.{IsPartitionPoint};
+ghost use Rattle.std.specs.Ordering.{is_lt};
+ghost use Rattle.shared_rows.specs.Links.{IsInOrder, first_from};
+ghost use Rattle.connection_list.specs.Routes.{is_before, is_past, link_cmp};
+
+use shared_rows::Links;
 
 /// Leads to a connection from one of its ends. Those of an object stand together, and of these those
 /// of a signal, by rising number.
@@ -10,4 +18,97 @@ pub(crate) struct Link {
     pub(crate) number: u32,
     /// The connection stands under this key among the rows of all places.
     pub(crate) key: u32,
+}
+
+/// The links of one end that a walk looks at: those from `start` on and before `end`.
+#[derive(Clone, Copy)]
+pub(crate) struct Group {
+    /// Whether it is the receiving end.
+    pub(crate) received: bool,
+    pub(crate) start: usize,
+    pub(crate) end: usize,
+}
+
+/// The links of an object, or those of one of its signals.
+pub(crate) fn group_of(
+    links: &Links<Link>,
+    received: bool,
+    object: u32,
+    signal: Option<u32>,
+) -> Group
+    ensures received { result.received ≡ received }
+    ensures within { result.end ≤ length links.now.links }
+    ensures before { AllWithin (λ link. is_before object signal link ≡ true) links.now.links 0 result.start }
+    ensures past { AllWithin (λ link. is_past object signal link ≡ true) links.now.links result.end (length links.now.links) }
+{
+    let all = links.as_buffer();
+    Group {
+        received,
+        start: all.partition_point(|link| is_before(object, signal, link)),
+        end: all.partition_point(|link| !is_past(object, signal, link)),
+    }
+}
+
+/// Whether a link stands before all of an object, or of one of its signals.
+fn is_before(object: u32, signal: Option<u32>, link: &Link) -> bool
+    ensures { result ≡ is_before object signal link.now }
+{
+    match signal {
+        Some(signal) => { link.object < object || (link.object == object && link.signal < signal) }
+        None => link.object < object,
+    }
+}
+
+/// Whether it stands behind all of them.
+fn is_past(object: u32, signal: Option<u32>, link: &Link) -> bool
+    ensures { result ≡ is_past object signal link.now }
+{
+    match signal {
+        Some(signal) => { object < link.object || (link.object == object && signal < link.signal) }
+        None => object < link.object,
+    }
+}
+
+/// The least link that is this one or above it. It is looked for at the position `near` first, which then
+/// is the one behind it.
+pub(crate) fn first_near(links: &Links<Link>, link: Link, near: &mut usize) -> Option<Link>
+    ensures first { result ≡ first_from link_cmp links.now.links link }
+    ensures sound { IsInOrder link_cmp links.now.links }
+{
+    let at = count_below(links, link, *near);
+    let all = links.as_buffer();
+    if at >= all.len() {
+        return None;
+    }
+    *near = at + 1;
+    Some(all.get(at))
+}
+
+/// How many links are below one: as many as is guessed, or all, or else what a search finds.
+fn count_below(links: &Links<Link>, link: Link, guess: usize) -> usize
+    ensures { IsPartitionPoint (λ other. is_lt (link_cmp other link) ≡ true) (λ other. is_lt (link_cmp other link) ≡ false) links.now.links result }
+{
+    let all = links.as_buffer();
+    if is_parted(links, link, guess) {
+        return guess;
+    }
+    if is_parted(links, link, all.len()) {
+        return all.len();
+    }
+    all.partition_point(|other| other.cmp(&link).is_lt())
+}
+
+/// Whether the links before a position are below a link, and those from there on are not.
+fn is_parted(links: &Links<Link>, link: Link, at: usize) -> bool
+    ensures { result ≡ true → IsPartitionPoint (λ other. is_lt (link_cmp other link) ≡ true) (λ other. is_lt (link_cmp other link) ≡ false) links.now.links at }
+{
+    let all = links.as_buffer();
+    let len = all.len();
+    if at > len {
+        return false;
+    }
+    if at > 0 && !all.get(at - 1).cmp(&link).is_lt() {
+        return false;
+    }
+    at == len || !all.get(at).cmp(&link).is_lt()
 }

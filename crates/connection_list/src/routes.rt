@@ -1,17 +1,20 @@
 //! How the connections of a place are found from both ends.
-ghost use Rattle.std.specs.Prelude.{◌≡◌, ◌≢◌, ◌<◌, ◌^◌, ◌==◌, All, Any, IfNone, IfSome, IsSome, List, OnOk, false, find, true};
+ghost use Rattle.std.specs.Prelude.{◌≡◌, ◌≢◌, ◌<◌, ◌^◌, ◌==◌, All, Any, Bool, IfNone, IfSome, IsSome, List, OnOk, Some, false, find, length, slice_index_or, true};
+ghost use Rattle.std.specs.List.{list_any};
 ghost use Rattle.std.specs.Option.{option_map};
 ghost use Rattle.places.specs.Table.{IsPlace};
+ghost use Rattle.shared_rows.specs.Links.{IsInOrder, without_link};
 ghost use Rattle.shared_rows.specs.Rows.{Keyed, added, row_under, rows_at};
 ghost use Rattle.connection_list.specs.declared.connection.Connection.{Connection};
-ghost use Rattle.connection_list.specs.Ends.{matches, touches};
+ghost use Rattle.connection_list.specs.declared.link.Link.{Link};
+ghost use Rattle.connection_list.specs.Ends.{matches, same_ends, touches};
 ghost use Rattle.connection_list.specs.Rows.{is_next};
-ghost use Rattle.connection_list.specs.Routes.{AreGone, AreSame, HaveRoom, IsPlaceKept, IsRouted, no_routes, received_of, sent_of};
+ghost use Rattle.connection_list.specs.Routes.{AreGone, AreSame, HaveRoom, IsGroup, IsPlaceKept, IsRouted, link_cmp, link_of, links_of, no_routes, received_of, sent_of};
 
-use crate::connection::Connection;
-use crate::ends::matches;
-use crate::link::Link;
-use crate::pattern::Pattern;
+use crate::connection::{Connection, NewConnection};
+use crate::ends::{matches, same_ends};
+use crate::link::{Group, Link, first_near, group_of};
+use crate::pattern::{Pattern, Receiver};
 use shared_rows::{Links, SharedRows};
 use std::alloc::{AllocError, Global};
 
@@ -62,7 +65,9 @@ impl Routes {
         requires place { IsPlace rows.old place }
         requires kept { IsPlaceKept (rows_at rows.old place) self.old }
         requires stands { IsSome (row_under (rows_at rows.old place) key) }
-        ensures { AreGone (λ keyed. keyed.key == key) place rows.old rows.new self.old self.new }
+        ensures gone { AreGone (λ keyed. keyed.key == key) place rows.old rows.new self.old self.new }
+        ensures links { (received : Bool) (row : Connection) → row_under (rows_at rows.old place) key ≡ Some row
+            → links_of received self.new ≡ without_link link_cmp (links_of received self.old) (link_of received (record { key = key; row = row })) }
     {
         let row = rows.remove(place, key);
         self.sent.remove(sent_link(&row, key as u32));
@@ -96,18 +101,82 @@ impl Routes {
         requires kept { IsPlaceKept (rows_at rows.old place) self.old }
         ensures { AreGone (λ keyed. matches pattern.now keyed.row) place rows.old rows.new self.old self.new }
     {
-        let mut left = rows.len(place);
-        'rows: while left > 0 {
+        let group = self.group(pattern);
+        let mut left = group.end;
+        'links: while left > group.start {
             left -= 1;
-            let (key, row) = rows.at(place, left);
-            if matches(pattern, row) {
+            let key = self.key_at(group.received, left);
+            if matches(pattern, rows.get(place, key)) {
                 self.take_out(rows, place, key);
             }
         }
     }
 
-    /// The key of the connection that an emission calls next.
-    pub(crate) fn next_sent(&self, sender: u32, signal: u32, after: u32, up_to: u32) -> Option<u32>
+    /// Whether a connection joins what a new one would join.
+    pub(crate) fn joins(
+        &self,
+        rows: &SharedRows<Connection>,
+        place: usize,
+        new: &NewConnection,
+    ) -> bool
+        requires place { IsPlace rows.now place }
+        requires kept { IsPlaceKept (rows_at rows.now place) self.now }
+        ensures { result ≡ list_any (λ keyed. same_ends new.now keyed.row) (rows_at rows.now place) }
+    {
+        let receiver = Receiver {
+            object: new.receiver,
+            method: None,
+        };
+        let group = self.group(&Pattern {
+            sender: new.sender,
+            signal: Some(new.signal),
+            receiver: Some(receiver),
+        });
+        'links: for at in group.start..group.end {
+            let key = self.key_at(group.received, at);
+            if same_ends(new, rows.get(place, key)) {
+                return true;
+            }
+        }
+        false
+    }
+
+    /// The links of a pattern's sender, or those of its receiver where these are fewer.
+    fn group(&self, pattern: &Pattern) -> Group
+        ensures { IsGroup (λ keyed. matches pattern.now keyed.row) self.now result }
+    {
+        let sent = group_of(&self.sent, false, pattern.sender, pattern.signal);
+        let Some(receiver) = pattern.receiver else {
+            return sent;
+        };
+        let received = group_of(&self.received, true, receiver.object, None);
+        if received.end.saturating_sub(received.start) < sent.end.saturating_sub(sent.start) {
+            received
+        } else {
+            sent
+        }
+    }
+
+    /// The key that the link at a position of one end leads to.
+    fn key_at(&self, received: bool, at: usize) -> usize
+        requires { at < length (links_of received self.now) }
+        ensures key { (default : Link) → result ≡ (slice_index_or (links_of received self.now) at default).key }
+        ensures sound { IsInOrder link_cmp (links_of received self.now) }
+    {
+        let links = if received { &self.received } else { &self.sent };
+        links.as_buffer().get(at).key as usize
+    }
+
+    /// The key of the connection that an emission calls next. Its link is looked for at the position
+    /// `near` first, which then is the one behind it.
+    pub(crate) fn next_sent(
+        &self,
+        sender: u32,
+        signal: u32,
+        after: u32,
+        up_to: u32,
+        near: &mut usize,
+    ) -> Option<u32>
         ensures { (rows : List (Keyed Connection)) → IsPlaceKept rows self.now
             → result ≡ option_map (λ keyed. keyed.key) (find (λ keyed. is_next sender signal after up_to keyed.row) rows) }
     {
@@ -120,7 +189,7 @@ impl Routes {
             number: after + 1,
             key: 0,
         };
-        let link = self.sent.first_from(start)?;
+        let link = first_near(&self.sent, start, near)?;
         if link.object != sender || link.signal != signal || link.number > up_to {
             return None;
         }

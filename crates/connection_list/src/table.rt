@@ -1,5 +1,5 @@
 //! The connections of all places.
-ghost use Rattle.std.specs.Prelude.{◌≡◌, ◌+◌, ◌≤◌, [], false, Contains, IfOk, IfSome, OnOk, OnErr, count_by, find, is_some, length};
+ghost use Rattle.std.specs.Prelude.{◌≡◌, ◌+◌, ◌≤◌, [], false, IfOk, OnOk, OnErr, count_by, find, is_some, length};
 ghost use Rattle.std.specs.List.{list_any};
 ghost use Rattle.places.specs.Table.{IsPlace, opened};
 ghost use Rattle.refusals.specs.Answers.{RefusedBy};
@@ -8,7 +8,7 @@ ghost use Rattle.connection_list.specs.Rows.{IsSound, no_rows, connect_refusal, 
 ghost use Rattle.connection_list.specs.Table.{rows_at, with_rows};
 
 use crate::connection::{Connection, NewConnection};
-use crate::ends::{calls, calls_functor, same_ends};
+use crate::ends::calls_functor;
 use crate::lazy_routes::LazyRoutes;
 use crate::limit::CONNECTIONS;
 use crate::pattern::Pattern;
@@ -126,13 +126,7 @@ impl Connections {
         requires { IsPlace self.now place }
         ensures { result ≡ list_any (same_ends new.now) (rows_at self.now place).rows }
     {
-        'positions: for position in 0..self.rows.len(place) {
-            let (_, row) = self.rows.at(place, position);
-            if same_ends(new, row) {
-                return true;
-            }
-        }
-        false
+        self.routes.get(place).joins(&self.rows, place, new)
     }
 
     /// Takes out the connection with a number, and returns whether it stood.
@@ -174,7 +168,8 @@ impl Connections {
 
     /// The connection that an emission of `sender`'s `signal` calls next: of those that stand, the one
     /// with the least number above `after` and at most `up_to`. An emission keeps the last number of
-    /// its beginning as `up_to`, so that what is connected meanwhile is not called.
+    /// its beginning as `up_to`, so that what is connected meanwhile is not called. `near` is a guess, 0 at
+    /// first, that is kept from one of its calls to the next: where it is right, nothing is searched for.
     pub fn next_after(
         &self,
         place: usize,
@@ -182,20 +177,16 @@ impl Connections {
         signal: u32,
         after: u32,
         up_to: u32,
+        near: &mut usize,
     ) -> Option<Connection>
         requires { IsPlace self.now place }
         ensures next { result ≡ find (is_next sender signal after up_to) (rows_at self.now place).rows }
         ensures sound { IsSound (rows_at self.now place) }
     {
-        if let Some(row) = self.right_behind(place, after) {
-            if row.number <= up_to && calls(sender, signal, &row) {
-                return Some(row);
-            }
-        }
         let key = self
             .routes
             .get(place)
-            .next_sent(sender, signal, after, up_to)?;
+            .next_sent(sender, signal, after, up_to, near)?;
         Some(*self.rows.get(place, key as usize))
     }
 
@@ -206,25 +197,8 @@ impl Connections {
         ensures sound { IsSound (rows_at self.now place) }
     {
         let routes = self.routes.get(place);
-        let key = routes.next_sent(sender, signal, 0, routes.last_number());
+        let key = routes.next_sent(sender, signal, 0, routes.last_number(), &mut 0);
         key.is_some()
-    }
-
-    /// The connection of the next number, where all that were made before it stand.
-    fn right_behind(&self, place: usize, number: u32) -> Option<Connection>
-        requires { IsPlace self.now place }
-        ensures behind { IfSome result (λ row. Contains (rows_at self.now place).rows row × (row.number ≡ number + 1)) }
-        ensures sound { IsSound (rows_at self.now place) }
-    {
-        let position = number as usize;
-        if position >= self.count(place) {
-            return None;
-        }
-        let (_, row) = self.rows.at(place, position);
-        if row.number as usize != position + 1 {
-            return None;
-        }
-        Some(*row)
     }
 
     /// The connection with a number.

@@ -71,12 +71,14 @@ pub fn emit<F: Answering>(
     telling.failing = post(&actor.caller, tables, target, signal, args, telling.failing);
     let up_to = tables.last_connection(actor.caller.place);
     let mut after = 0;
+    let mut near = 0;
     'calls: while let Some(connection) = tables.next_connection(
         actor.caller.place,
         target,
         signal,
         after,
         up_to,
+        &mut near,
     ) {
         call(actor, tables, telling, &connection, args, depth)?;
         after = connection.number;

@@ -46,7 +46,8 @@ impl Tables {
     }
 
     /// The connection that an emission of `sender`'s `signal` calls next: of those that stand, the one
-    /// with the least number above `after` and at most `up_to`.
+    /// with the least number above `after` and at most `up_to`. `near` is a guess, as
+    /// [`Connections::next_after`](connection_list::Connections::next_after) has it.
     pub fn next_connection(
         &self,
         place: usize,
@@ -54,13 +55,14 @@ impl Tables {
         signal: u32,
         after: u32,
         up_to: u32,
+        near: &mut usize,
     ) -> Option<Connection>
         requires { IsPlaced self.now place }
         ensures next { result ≡ find (is_next sender signal after up_to) (state_at self.now place).connections.rows }
         ensures sound { IsSound (state_at self.now place).connections }
     {
         self.connections
-            .next_after(place, sender, signal, after, up_to)
+            .next_after(place, sender, signal, after, up_to, near)
     }
 
     /// Whether a connection stands that an emission of `sender`'s `signal` would call if it began now.

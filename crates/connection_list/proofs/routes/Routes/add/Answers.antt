@@ -1,6 +1,6 @@
 use Rattle.std.proofs.Common.{◌∙◌, ap}
+use Rattle.connection_list.specs.Routes.{link_cmp}
 use Rattle.shared_rows.specs.Links.{with_link}
-use Rattle.connection_list.proofs.LinkLemmas.{link_cmp}
 use Rattle.connection_list.proofs.RoutesLemmas.{routed_push}
 use Rattle.connection_list.proofs.routes.Routes.add.Goals as goal
 

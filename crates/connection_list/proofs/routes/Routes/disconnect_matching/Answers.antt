@@ -1,30 +1,60 @@
-use Rattle.std.proofs.Common.{◌∙◌, ◌-◌, arith, sym}
-use Rattle.shared_rows.specs.Rows.{rows_at}
+use Rattle.std.proofs.Common.{◌∙◌, ◌-◌, ◌==◌, arith, not, refl, sym}
+use Rattle.shared_rows.specs.Rows.{Keyed, rows_at}
+use Rattle.connection_list.specs.declared.connection.Connection.{Connection}
 use Rattle.connection_list.specs.Ends.{matches}
-use Rattle.connection_list.proofs.GoneLemmas.{all_gone, behind_all, behind_gone, behind_more, one_more_gone, some_under, stands_at}
+use Rattle.connection_list.specs.Routes.{links_of}
+use Rattle.connection_list.proofs.GoneLemmas.{all_gone, none_gone, one_more_gone, still_place}
+use Rattle.connection_list.proofs.KeyedLemmas.{stands_under}
+use Rattle.connection_list.proofs.WalkLemmas.{led, left_back, left_first, left_gone, linked_end, none_left}
 use Rattle.connection_list.proofs.routes.Routes.disconnect_matching.Goals as goal
 
-pub take_out-requires-clause-stands : goal.take_out-requires-clause-stands
-take_out-requires-clause-stands c =
-    let rows = rows_at c.rows.rows c.args.place in
-    some_under (λ keyed. matches c.args.pattern.now keyed.row) rows c.at-key.result.0 c.rows.invariant.0.kept.apart
-    (stands_at (λ keyed. matches c.args.pattern.now keyed.row) rows (c.rows.left - 1) c.at-key.result.0 c.at-key.result.1.now (omega (arith, c.rows.invariant.1.within, c.rows-test.true)) c.at-key.ensures (sym c.matches.ensures ∙ c.if-matches.true))
-
-pub rows-preserved-then-matches : goal.rows-preserved-then-matches
-rows-preserved-then-matches c =
-    let rows = rows_at c.rows.rows c.args.place in
-    let some = stands_at (λ keyed. matches c.args.pattern.now keyed.row) rows (c.rows.left - 1) c.at-key.result.0 c.at-key.result.1.now (omega (arith, c.rows.invariant.1.within, c.rows-test.true)) c.at-key.ensures (sym c.matches.ensures ∙ c.if-matches.true) in (
-      one_more_gone (λ keyed. matches c.args.pattern.now keyed.row) c.args.place c.args.rows.now c.rows.rows c.args.self.now c.rows.self c.rows.invariant.0 c.take_out.new.rows c.take_out.new.self c.at-key.result.0 some c.take_out.ensures,
-      behind_gone (λ keyed. matches c.args.pattern.now keyed.row) rows (rows_at c.take_out.new.rows c.args.place) c.rows.left c.at-key.result.0 c.at-key.result.1.now c.rows.invariant.0.kept.apart c.rows.invariant.1 c.rows-test.true c.at-key.ensures c.take_out.ensures.rows,
+pub links-init : goal.links-init
+links-init c =
+    let test = λ (keyed : Keyed Connection). matches c.args.pattern.now keyed.row in (
+      none_gone test c.args.place c.args.rows.now c.args.self.now c.requires.kept,
+      left_first test (rows_at c.args.rows.now c.args.place) c.args.self.now c.group-group.result c.group-group.ensures,
     )
 
-pub rows-preserved : goal.rows-preserved
-rows-preserved c = (
-  c.rows.invariant.0,
-  behind_more (λ keyed. matches c.args.pattern.now keyed.row) (rows_at c.rows.rows c.args.place) c.rows.left c.at-key.result.0 c.at-key.result.1.now c.rows.invariant.1 c.rows-test.true c.at-key.ensures (sym c.matches.ensures ∙ c.if-matches.false),
-)
+pub key_at-key-requires : goal.key_at-key-requires
+key_at-key-requires c = omega (arith, c.links.invariant.1.within, c.links-test.true)
+
+pub get-requires-clause-place : goal.get-requires-clause-place
+get-requires-clause-place c = still_place (λ keyed. matches c.args.pattern.now keyed.row) c.args.place c.args.rows.now c.links.rows c.args.self.now c.links.self c.links.invariant.0 c.requires.place
+
+pub get-requires-clause-stands : goal.get-requires-clause-stands
+get-requires-clause-stands c =
+    let its = led c.group-group.result.received (rows_at c.links.rows c.args.place) c.links.self (c.links.left - 1) c.key_at-key.result c.links.invariant.0.kept (omega (arith, c.links.invariant.1.within, c.links-test.true)) c.key_at-key.ensures.key in
+    rw its.under refl
+
+pub take_out-requires-clause-kept : goal.take_out-requires-clause-kept
+take_out-requires-clause-kept c = c.links.invariant.0.kept
+
+pub links-preserved-then-matches : goal.links-preserved-then-matches
+links-preserved-then-matches c =
+    let test = λ (keyed : Keyed Connection). matches c.args.pattern.now keyed.row in
+    let rows = rows_at c.links.rows c.args.place in
+    let end = c.group-group.result.received in
+    let its = led end rows c.links.self (c.links.left - 1) c.key_at-key.result c.links.invariant.0.kept (omega (arith, c.links.invariant.1.within, c.links-test.true)) c.key_at-key.ensures.key in
+    let there = stands_under rows c.key_at-key.result c.get.result.now c.get.ensures.row in (
+      one_more_gone test c.args.place c.args.rows.now c.links.rows c.args.self.now c.links.self c.links.invariant.0 c.take_out.new.rows c.take_out.new.self c.key_at-key.result (there.0, record { key = c.key_at-key.result; row = c.get.result.now }, there.1, there.2, (refl, sym c.matches.ensures ∙ c.if-matches.true)) c.take_out.ensures.gone,
+      left_gone end test rows (rows_at c.take_out.new.rows c.args.place) (links_of end c.links.self) (links_of end c.take_out.new.self) c.group-group.result.start c.links.left (c.links.left - 1) c.key_at-key.result c.key_at-key.ensures.sound (omega (arith, c.links-test.true)) c.links-test.true
+          (λ keyed. not (keyed.key == c.key_at-key.result)) c.take_out.ensures.gone.rows its (c.take_out.ensures.links end its.row its.under) c.links.invariant.1,
+    )
+
+pub links-preserved : goal.links-preserved
+links-preserved c =
+    let test = λ (keyed : Keyed Connection). matches c.args.pattern.now keyed.row in
+    let rows = rows_at c.links.rows c.args.place in
+    let end = c.group-group.result.received in
+    let its = led end rows c.links.self (c.links.left - 1) c.key_at-key.result c.links.invariant.0.kept (omega (arith, c.links.invariant.1.within, c.links-test.true)) c.key_at-key.ensures.key in (
+      c.links.invariant.0,
+      left_back end test rows (links_of end c.links.self) c.group-group.result.start c.links.left (c.links.left - 1) c.key_at-key.result c.get.result.now (omega (arith, c.links-test.true)) c.links.invariant.0.kept.apart c.get.ensures.row its (sym c.matches.ensures ∙ c.if-matches.false) c.links.invariant.1,
+    )
 
 pub returns : goal.returns
 returns c =
-    all_gone (λ keyed. matches c.args.pattern.now keyed.row) c.args.place c.args.rows.now c.rows.rows c.args.self.now c.rows.self c.rows.invariant.0
-    (behind_all (λ keyed. matches c.args.pattern.now keyed.row) (rows_at c.rows.rows c.args.place) c.rows.left c.rows.invariant.1 (omega (arith, c.rows-test.false)))
+    let test = λ (keyed : Keyed Connection). matches c.args.pattern.now keyed.row in
+    let rows = rows_at c.links.rows c.args.place in
+    let end = c.group-group.result.received in
+    all_gone test c.args.place c.args.rows.now c.links.rows c.args.self.now c.links.self c.links.invariant.0
+    (none_left end test rows (links_of end c.links.self) c.group-group.result.start c.links.left (linked_end end rows c.links.self c.links.invariant.0.kept.routed) c.links.invariant.1 (omega (arith, c.links-test.false)))

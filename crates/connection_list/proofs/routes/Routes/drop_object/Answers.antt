@@ -12,12 +12,12 @@ pub keys-smaller : goal.keys-smaller
 keys-smaller c =
     let rows = rows_at c.keys.rows c.args.place in
     let some = some_under (λ keyed. touches c.args.object keyed.row) rows c.in-Some.key c.keys.invariant.kept.apart (c.in-Some.ensures.found rows c.keys.invariant.kept.routed) in
-    fewer (λ keyed. touches c.args.object keyed.row) c.args.place c.args.rows.now c.keys.rows c.args.self.now c.keys.self c.keys.invariant c.take_out.new.rows c.take_out.new.self c.in-Some.key some c.take_out.ensures
+    fewer (λ keyed. touches c.args.object keyed.row) c.args.place c.args.rows.now c.keys.rows c.args.self.now c.keys.self c.keys.invariant c.take_out.new.rows c.take_out.new.self c.in-Some.key some c.take_out.ensures.gone
 
 pub keys-preserved : goal.keys-preserved
 keys-preserved c =
     let rows = rows_at c.keys.rows c.args.place in
-    one_more_gone (λ keyed. touches c.args.object keyed.row) c.args.place c.args.rows.now c.keys.rows c.args.self.now c.keys.self c.keys.invariant c.take_out.new.rows c.take_out.new.self c.in-Some.key (c.in-Some.ensures.found rows c.keys.invariant.kept.routed) c.take_out.ensures
+    one_more_gone (λ keyed. touches c.args.object keyed.row) c.args.place c.args.rows.now c.keys.rows c.args.self.now c.keys.self c.keys.invariant c.take_out.new.rows c.take_out.new.self c.in-Some.key (c.in-Some.ensures.found rows c.keys.invariant.kept.routed) c.take_out.ensures.gone
 
 pub returns : goal.returns
 returns c =

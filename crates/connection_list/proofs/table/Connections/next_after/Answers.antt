@@ -2,8 +2,6 @@ use Rattle.std.proofs.Common.{◌∙◌, ap, find, sym, refl}
 use Rattle.shared_rows.specs.Rows.{rows_at}
 use Rattle.connection_list.specs.Rows.{Rows, is_next}
 use Rattle.connection_list.proofs.KeyedLemmas.{found_none, found_under}
-use Rattle.connection_list.specs.Table.{rows_at as place_at}
-use Rattle.connection_list.proofs.RoutesLemmas.{next_behind}
 use Rattle.connection_list.proofs.SeenLemmas.{routes_place, rows_place, seen}
 use Rattle.connection_list.proofs.table.Connections.next_after.Goals as goal
 
@@ -40,7 +38,3 @@ pub returns-clause-sound : goal.returns-clause-sound
 returns-clause-sound c =
     let at = seen c.self.inside.rows c.self.inside.routes c.args.self.now c.self.invariant c.self.view_is c.args.place c.requires c.get.result.now c.get.ensures in
     rw at.shows at.kept.sound
-
-pub returns-then-calls-clause-next : goal.returns-then-calls-clause-next
-returns-then-calls-clause-next c =
-    next_behind c.args.sender c.args.signal c.args.after c.args.up_to (place_at c.args.self.now c.args.place).rows c.in-Some.row c.in-Some.ensures.sound.rising c.in-Some.ensures.behind.0 c.in-Some.ensures.behind.1 c.if-row-up_to.true (sym c.calls.ensures ∙ c.if-calls.true)
