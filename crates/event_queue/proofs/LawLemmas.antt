@@ -1,5 +1,5 @@
 -- Queues by priority.
-use Rattle.std.proofs.Common.{◌≡◌, ◌∙◌, ℕ, ◌==◌, Bool, true, false, not, cond, inl, inr, ◌⊎◌, List, [], ◌∷◌, ◌++◌, ◌<◌, ◌≤◌, nat_le, Option, None, Some, drop, filter, find, is_some, append_assoc, refl, sym, ap, subst, arith, ⊎_elim}
+use Rattle.std.proofs.Common.{◌≡◌, ◌∙◌, ℕ, ◌==◌, Bool, true, false, not, cond, inl, inr, ◌⊎◌, List, [], ◌∷◌, ◌++◌, ◌<◌, ◌≤◌, nat_le, drop, filter, find, is_some, append_assoc, refl, sym, ap, arith, ⊎_elim}
 use Rattle.std.specs.List.{slice_get}
 use Rattle.std.proofs.lemmas.Bool.{cases_Bool, eqb-true, false≢true}
 use Rattle.std.proofs.lemmas.Bool.Decides.{nat_tests}
@@ -8,12 +8,12 @@ use Rattle.std.proofs.lemmas.List.Elements.{filter-append}
 use Rattle.event_queue.specs.declared.event.Event.{Event}
 use Rattle.event_queue.specs.declared.event.Priority.{Priority}
 use Rattle.event_queue.specs.declared.event.Priority.TheVariants.{Low, Normal, High}
-use Rattle.event_queue.specs.Queue.{Queue, has_room, is_before, object_of, others, placed, posted, priority_of, rank_of}
+use Rattle.event_queue.specs.Queue.{Queue, is_before, object_of, others, placed, priority_of, rank_of}
 use Rattle.event_queue.specs.Laws.{IsByPriority, by_priority, first_of, has, highest, without_one}
 
 module _ {X : Type 0} (keep test : X → Bool) where
   -- of those that pass one test all pass another, or none do
-  filter_same : ((x : X) → test x ≡ true → keep x ≡ true) → (items : List X) → filter keep (filter test items) ≡ filter test items
+  pub filter_same : ((x : X) → test x ≡ true → keep x ≡ true) → (items : List X) → filter keep (filter test items) ≡ filter test items
   filter_same all [] = refl
   filter_same all (item ∷ items) = ⊎_elim
       (λ (passed : test item ≡ true). rw (passed, all item passed) (ap (λ rest. item ∷ rest) (filter_same all items)))
@@ -27,7 +27,7 @@ module _ {X : Type 0} (keep test : X → Bool) where
       (λ (failed : test item ≡ false). rw failed (filter_gone none items))
       (cases_Bool (test item))
 
-  filter_turned : (items : List X) → filter keep (filter test items) ≡ filter test (filter keep items)
+  pub filter_turned : (items : List X) → filter keep (filter test items) ≡ filter test (filter keep items)
   filter_turned [] = refl
   filter_turned (item ∷ items) = ⊎_elim
       (λ (kept : keep item ≡ true). ⊎_elim

@@ -1,6 +1,6 @@
 pub mod PlacedLemmas
 pub mod SeatLemmas
 pub mod LawLemmas
+pub mod WaitLemmas
 pub mod OrderLemmas
-pub mod LogLemmas
 pub mod QueueLemmas

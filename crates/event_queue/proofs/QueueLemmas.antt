@@ -1,24 +1,59 @@
 -- The queues in rows and logs.
-use Rattle.std.proofs.Common.{◌≡◌, ◌≢◌, ◌∙◌, ℕ, ◌+◌, ◌-◌, ◌^◌, ◌<◌, ◌≤◌, ◌==◌, List, [], ◌∷◌, ◌++◌, length, drop, true, false, None, Some, min, get_or, set, refl, sym, ap, subst, arith, ⊎_elim}
+use Rattle.std.proofs.Common.{◌≡◌, ◌≢◌, ◌∙◌, ℕ, ◌+◌, ◌-◌, ◌*◌, ◌^◌, ◌<◌, ◌≤◌, ◌==◌, ◌||◌, List, [], ◌∷◌, ◌++◌, length, drop, true, false, cond, None, Some, min, get_or, set, refl, sym, ap, subst, arith, ⊎_elim}
 use Rattle.std.specs.List.{slice_get}
 use Rattle.std.proofs.lemmas.Bool.{cases_eq, cases_lt}
 use Rattle.std.proofs.lemmas.Bool.Decides.{nat_tests}
-use Rattle.std.proofs.lemmas.List.Sums.{count_by-le-length}
-use Rattle.std.proofs.lemmas.List.{get_or-set_same, get_or-set_other, get_or_default, get_or_append_left, get_or_push, length-map, length-set, length_push}
+use Rattle.std.proofs.lemmas.List.{get_or-set_same, get_or-set_other, get_or_append_left, get_or_push, length-drop, length-map, length-set, length_push}
 use Rattle.places.specs.Joined.{joined, joined_tables}
-use Rattle.places.specs.Table.{IsPlace, Table, opened, with_place}
+use Rattle.places.specs.Table.{ChangesAt, IsPlace, Table, opened, with_place}
 use Rattle.places.proofs.JoinedLemmas.{joined_at, joined_push, joined_set, length-joined}
-use Rattle.places.proofs.TableLemmas.{changes_length, changes_same, with_same, with_twice}
+use Rattle.places.proofs.TableLemmas.{changes_length, changes_same, changes_twice, with_same}
 use Rattle.shared_rows.specs.Rows.{Keyed, rows_at}
 use Rattle.event_queue.specs.declared.event.Event.{Event}
 use Rattle.event_queue.specs.declared.event.Posted.{Posted}
+use Rattle.event_queue.specs.declared.object_counts.Count.{Count}
 use Rattle.event_queue.specs.declared.object_counts.ObjectCounts.{ObjectCounts}
 use Rattle.event_queue.specs.declared.table.Log.{Log}
 use Rattle.event_queue.specs.declared.table.TheConstants.{EVENTS}
 use Rattle.event_queue.specs.Queue.{IsSound, Queue, counts_of, dropped, empty_queue, has_room, noted, object_of, others, placed, posted, taken, with_lost, with_mismatched}
 use Rattle.event_queue.specs.Table.{queue_at, with_queue}
-use Rattle.event_queue.specs.Inside.{AreLogged, HasEvents, IsCounted, IsLogged, count_of, events_at, events_of, queue_of}
-use Rattle.event_queue.proofs.LogLemmas.{counted_back, log_dropped, log_posted, log_same, log_taken, others_all}
+use Rattle.event_queue.specs.Inside.{AreCounted, AreLogged, HasEvents, HasWaiting, IsCounted, IsLogged, KeepsMarks, count_at, count_of, events_at, events_of, is_dropped, queue_of, waiting}
+use Rattle.event_queue.proofs.OrderLemmas.{has_waiting}
+use Rattle.event_queue.proofs.PlacedLemmas.{length_placed}
+use Rattle.event_queue.proofs.WaitLemmas.{back_going, counted_yet, dropped_length, dropped_waiting, few_counted, placed_counted, placed_waiting}
+
+-- one change of a place after another
+module _ {old middle : Table (List (Keyed Posted))} {place : ℕ} {before between : ObjectCounts} {events : List Event} (one : HasWaiting old middle place before between events) where
+  pub waits_twice : {new : Table (List (Keyed Posted))} {after : ObjectCounts} {events' : List Event} → HasWaiting middle new place between after events' → HasWaiting old new place before after events'
+  waits_twice {new} two = record {
+    changed = changes_twice [] old middle new place one.changed two.changed;
+    counted = two.counted;
+    waits = two.waits;
+    fewer = omega (arith, one.fewer, two.fewer, ap length one.waits);
+  }
+
+  -- no more is counted, as memory was short
+  pub waits_same : (after : ObjectCounts) → ((other : ℕ) → count_at after other ≡ count_at between other) → HasWaiting old middle place before after events
+  waits_same after same =
+      waits_twice (has_waiting middle middle place between after events (changes_same [] middle middle place refl)
+      (record { counted = λ other. ap (λ (count : Count). count.rows) (same other) ∙ one.counted other; marks = λ other some. ap (λ (count : Count). count.is_dropped) (same other) })
+      one.waits (omega (arith, ap length one.waits)))
+
+  -- one more event has its place
+  module _ (after : ObjectCounts) (object : ℕ) (way : 0 < count_of between object → is_dropped between object ≡ false) (added : IsCounted between after object (count_of between object + 1)) (marks : (other : ℕ) → is_dropped after other ≡ cond (object == other) false (is_dropped between other)) where
+    pub waits_placed : (new : Table (List (Keyed Posted))) (event : Event) → object_of event ≡ object → HasEvents middle new place (placed event (events_at middle place)) → HasWaiting old new place before after (placed event events)
+    waits_placed new event is has = record {
+      changed = changes_twice [] old middle new place one.changed has.changed;
+      counted = subst (AreCounted after) (sym has.now) (placed_counted between after (events_at middle place) one.counted object way added marks event is);
+      waits = ap (waiting after) has.now ∙ (placed_waiting between after (events_at middle place) one.counted object way added marks event is ∙ ap (placed event) one.waits);
+      fewer = omega (arith, one.fewer, ap length has.now, length_placed event (events_at middle place), length_placed event events);
+    }
+
+    -- or there is no memory for it, and one fewer is counted again
+    pub waits_back : (back : ObjectCounts) → IsCounted after back object (count_of after object - 1) → KeepsMarks after back → HasWaiting old middle place before back events
+    waits_back back subtracted keeps =
+        waits_twice (has_waiting middle middle place between back events (changes_same [] middle middle place refl)
+        (back_going between after (events_at middle place) one.counted object way added marks back subtracted keeps) one.waits (omega (arith, ap length one.waits)))
 
 module _ {rows : Table (List (Keyed Posted))} {logs : Table Log} (are : AreLogged rows logs) (table : Table Queue) (view_is : joined_tables queue_of rows logs ≡ table) (place : ℕ) (is_place : IsPlace table place) where
   pub of_rows : IsPlace rows place
@@ -38,14 +73,6 @@ module _ {rows : Table (List (Keyed Posted))} {logs : Table Log} (are : AreLogge
   pub logged : (log : Log) → ((d : Log) → log ≡ get_or logs.places place d) → IsLogged (events_at rows place) log
   logged log is = subst (IsLogged (events_at rows place)) (sym (is log)) (are.each place log of_rows)
 
-  -- a log of the place
-  pub some_log : (log : Log) × ((d : Log) → log ≡ get_or logs.places place d)
-  some_log = first logs.places of_logs
-    where
-      first : (list : List Log) → place < length list → (log : Log) × ((d : Log) → log ≡ get_or list place d)
-      first [] within = absurd (omega arith)
-      first (head ∷ list) within = (get_or (head ∷ list) place head, λ d. get_or_default (head ∷ list) place head d within)
-
   -- the events stand as they stood
   pub same_events : HasEvents rows rows place (events_at rows place)
   same_events = record { changed = changes_same [] rows rows place refl; now = refl }
@@ -55,7 +82,7 @@ module _ {rows : Table (List (Keyed Posted))} {logs : Table Log} (are : AreLogge
     pub kept : AreLogged rows' logs'
     pub view : joined_tables queue_of rows' logs' ≡ with_queue table place queue
 
-  module _ (rows' : Table (List (Keyed Posted))) (events : List Event) (has : HasEvents rows rows' place events) (log : Log) (holds : IsLogged events log) (queue : Queue) (is : record { events = events; lost = log.lost; mismatched = log.mismatched } ≡ queue) where
+  module _ (rows' : Table (List (Keyed Posted))) (events : List Event) (has : HasEvents rows rows' place events) (log : Log) (holds : IsLogged events log) (queue : Queue) (is : record { events = waiting log.objects events; lost = log.lost; mismatched = log.mismatched } ≡ queue) where
     pub after : IsAfter rows' (with_place logs place log) queue
     after = record { kept = kept; view = view }
       where
@@ -76,111 +103,136 @@ module _ {rows : Table (List (Keyed Posted))} {logs : Table Log} (are : AreLogge
             ap (λ t. joined_tables queue_of t (with_place logs place log)) has.changed
             ∙ (ap (λ places. record { places = places; room = min rows.room logs.room }) (joined_set queue_of rows.places logs.places place (rows_at rows' place) log are.same)
             ∙ (ap (λ t. with_queue t place (queue_of (rows_at rows' place) log)) view_is
-            ∙ ap (with_queue table place) (ap (λ list. record { events = list; lost = log.lost; mismatched = log.mismatched }) has.now ∙ is)))
-
-    -- the same, where the log stays
-    pub after_rows : ((d : Log) → log ≡ get_or logs.places place d) → IsAfter rows' logs queue
-    after_rows stays =
-        let back : with_place logs place log ≡ logs = ap (with_place logs place) (stays log) ∙ with_same log logs place in
-        record { kept = subst (AreLogged rows') back after.kept; view = ap (joined_tables queue_of rows') (sym back) ∙ after.view }
+            ∙ ap (with_queue table place) (ap (λ list. record { events = waiting log.objects list; lost = log.lost; mismatched = log.mismatched }) has.now ∙ is)))
 
   module _ (log : Log) (stood : (d : Log) → log ≡ get_or logs.places place d) where
     pub lost_noted : (count : ℕ) → count ≡ noted log.lost → IsAfter rows (with_place logs place (record log { lost = count })) (with_lost (queue_at table place))
     lost_noted count is =
         let holds = logged log stood in
         after rows (events_at rows place) same_events (record log { lost = count })
-        (record { few = holds.few; counted = holds.counted; lost = omega (arith, is); mismatched = holds.mismatched })
+        (record { few = holds.few; queued = holds.queued; few_rows = holds.few_rows; counted = holds.counted; lost = omega (arith, is); mismatched = holds.mismatched })
         (with_lost (queue_at table place))
-        (ap (λ n. record { events = events_at rows place; lost = n; mismatched = log.mismatched }) is ∙ ap with_lost (sym (seen log stood)))
+        (ap (λ n. record { events = waiting log.objects (events_at rows place); lost = n; mismatched = log.mismatched }) is ∙ ap with_lost (sym (seen log stood)))
 
     pub mismatched_noted : (count : ℕ) → count ≡ noted log.mismatched → IsAfter rows (with_place logs place (record log { mismatched = count })) (with_mismatched (queue_at table place))
     mismatched_noted count is =
         let holds = logged log stood in
         after rows (events_at rows place) same_events (record log { mismatched = count })
-        (record { few = holds.few; counted = holds.counted; lost = holds.lost; mismatched = omega (arith, is) })
+        (record { few = holds.few; queued = holds.queued; few_rows = holds.few_rows; counted = holds.counted; lost = holds.lost; mismatched = omega (arith, is) })
         (with_mismatched (queue_at table place))
-        (ap (λ n. record { events = events_at rows place; lost = log.lost; mismatched = n }) is ∙ ap with_mismatched (sym (seen log stood)))
+        (ap (λ n. record { events = waiting log.objects (events_at rows place); lost = log.lost; mismatched = n }) is ∙ ap with_mismatched (sym (seen log stood)))
 
     pub all_cleared : (rows' : Table (List (Keyed Posted))) → HasEvents rows rows' place [] → (new : Log) → new.lost ≡ 0 → new.mismatched ≡ 0 → IsLogged [] new → IsAfter rows' (with_place logs place new) empty_queue
     all_cleared rows' has new lost mismatched holds = after rows' [] has new holds empty_queue (rw (lost, mismatched) refl)
 
-    pub first_taken : (rows' : Table (List (Keyed Posted))) → HasEvents rows rows' place (drop 1 (events_at rows place)) → (objects : ObjectCounts) (event : Event) → slice_get (events_at rows place) 0 ≡ Some event → IsCounted log.objects objects (object_of event) (count_of log.objects (object_of event) - 1)
-        → IsAfter rows' (with_place logs place (record log { objects = objects })) (taken (queue_at table place))
-    first_taken rows' has objects event first counted =
-        after rows' (drop 1 (events_at rows place)) has (record log { objects = objects }) (log_taken (events_at rows place) log (logged log stood) objects event first counted)
-        (taken (queue_at table place)) (ap taken (sym (seen log stood)))
+    -- a log of other counts, by which these events wait
+    module _ (rows' : Table (List (Keyed Posted))) (changed : ChangesAt [] place rows rows') (objects : ObjectCounts) (counted : AreCounted objects (events_at rows' place)) (events : List Event) (waits : waiting objects (events_at rows' place) ≡ events) where
+      after_counts : (queued : ℕ) → queued ≡ length events → queued ≤ EVENTS → length (events_at rows' place) ≤ queued + EVENTS → (queue : Queue) → record { events = events; lost = log.lost; mismatched = log.mismatched } ≡ queue
+          → IsAfter rows' (with_place logs place (record log { queued = queued; objects = objects })) queue
+      after_counts queued is few few_rows queue same =
+          let holds = logged log stood in
+          after rows' (events_at rows' place) (record { changed = changed; now = refl }) (record log { queued = queued; objects = objects })
+          (record { few = few; queued = is ∙ sym (ap length waits); few_rows = few_rows; counted = counted; lost = holds.lost; mismatched = holds.mismatched })
+          queue (ap (λ list. record { events = list; lost = log.lost; mismatched = log.mismatched }) waits ∙ same)
 
-    pub all_dropped : (rows' : Table (List (Keyed Posted))) (object : ℕ) → HasEvents rows rows' place (others object (events_at rows place)) → (objects : ObjectCounts) → IsCounted log.objects objects object 0
-        → IsAfter rows' (with_place logs place (record log { objects = objects })) (dropped object (queue_at table place))
-    all_dropped rows' object has objects counted =
-        after rows' (others object (events_at rows place)) has (record log { objects = objects }) (log_dropped (logged log stood) objects object counted)
-        (dropped object (queue_at table place)) (ap (dropped object) (sym (seen log stood)))
+    abbrev now_waiting : List Event
+    now_waiting = waiting log.objects (events_at rows place)
 
-    few_named : (object : ℕ) → count_of log.objects object ≤ length (events_at rows place)
-    few_named object = omega (arith, (logged log stood).counted object, count_by-le-length (λ event. object_of event == object) (events_at rows place))
+    module _ (rows' : Table (List (Keyed Posted))) (objects : ObjectCounts) (events : List Event) (has : HasWaiting rows rows' place log.objects objects events) where
+      after_waiting : (queued : ℕ) → queued ≡ length events → queued ≤ EVENTS → (queue : Queue) → record { events = events; lost = log.lost; mismatched = log.mismatched } ≡ queue
+          → IsAfter rows' (with_place logs place (record log { queued = queued; objects = objects })) queue
+      after_waiting queued is few =
+          let holds = logged log stood in
+          after_counts rows' has.changed objects has.counted events has.waits queued is few (omega (arith, is, has.fewer, holds.few_rows, holds.queued))
 
-    -- another count of what is counted already fits
-    pub count_fits : (object : ℕ) → length (rows_at rows place) < EVENTS → count_of log.objects object < 2 ^ 32 - 1
-    count_fits object room = omega (arith, room, few_named object, length-map (rows_at rows place) (λ keyed. keyed.row.event))
+    -- the first event that waits is taken, if there is any
+    module _ (rows' : Table (List (Keyed Posted))) (objects : ObjectCounts) (has : HasWaiting rows rows' place log.objects objects (drop 1 now_waiting)) where
+      pub first_taken : (event : Event) → Some event ≡ slice_get now_waiting 0 → (0 < log.queued) × IsAfter rows' (with_place logs place (record log { queued = log.queued - 1; objects = objects })) (taken (queue_at table place))
+      first_taken event first =
+          let holds = logged log stood in (
+            some now_waiting first holds.queued,
+            after_waiting rows' objects (drop 1 now_waiting) has (log.queued - 1) (omega (arith, holds.queued, length-drop 1 now_waiting)) (omega (arith, holds.few)) (taken (queue_at table place)) (ap taken (sym (seen log stood))),
+          )
+        where
+          some : (list : List Event) → Some event ≡ slice_get list 0 → log.queued ≡ length list → 0 < log.queued
+          some [] none is = absurd (cc)
+          some (head ∷ list) found is = omega (arith, is)
 
-    pub takes_more : length (rows_at rows place) < EVENTS → has_room (queue_at table place) ≡ true
-    takes_more room = ap has_room (seen log stood) ∙ (let long = length-map (rows_at rows place) (λ keyed. keyed.row.event) in grind (arith, nat_tests, long, room))
+      pub none_taken : None ≡ slice_get now_waiting 0 → IsAfter rows' (with_place logs place (record log { objects = objects })) (taken (queue_at table place))
+      none_taken first =
+          let holds = logged log stood in
+          after_waiting rows' objects (drop 1 now_waiting) has log.queued (stays now_waiting first holds.queued) holds.few (taken (queue_at table place)) (ap taken (sym (seen log stood)))
+        where
+          stays : (list : List Event) → None ≡ slice_get list 0 → log.queued ≡ length list → log.queued ≡ length (drop 1 list)
+          stays [] none is = is
+          stays (event ∷ list) found is = absurd (cc)
 
-    pub one_posted : (rows' : Table (List (Keyed Posted))) (event : Event) → length (rows_at rows place) < EVENTS → HasEvents rows rows' place (placed event (events_at rows place)) → (objects : ObjectCounts)
-        → IsCounted log.objects objects (object_of event) (count_of log.objects (object_of event) + 1) → IsAfter rows' (with_place logs place (record log { objects = objects })) (posted (queue_at table place) event)
-    one_posted rows' event room has objects counted =
-        let fits : length (events_at rows place) < EVENTS = omega (arith, room, length-map (rows_at rows place) (λ keyed. keyed.row.event)) in
-        after rows' (placed event (events_at rows place)) has (record log { objects = objects }) (log_posted (logged log stood) objects event fits counted)
-        (posted (queue_at table place) event)
+    -- the events of an object are dropped
+    module _ (objects : ObjectCounts) (object : ℕ) (same : (other : ℕ) → count_of objects other ≡ count_of log.objects other) (marks : (other : ℕ) → 0 < count_of objects other → is_dropped objects other ≡ (is_dropped log.objects other || (other == object)))
+        (waited : ℕ) (is : waited ≡ cond (is_dropped log.objects object) 0 (count_of log.objects object)) where
+      left : length (others object now_waiting) + waited ≡ log.queued
+      left = let holds = logged log stood in dropped_length log.objects objects (events_at rows place) holds.counted object same waited is ∙ sym holds.queued
+
+      pub fewer_queued : waited ≤ log.queued
+      fewer_queued = omega (arith, left)
+
+      pub left_counted : AreCounted objects (events_at rows place)
+      left_counted = counted_yet log.objects objects (events_at rows place) (logged log stood).counted object same
+
+      left_waiting : waiting objects (events_at rows place) ≡ others object now_waiting
+      left_waiting = dropped_waiting log.objects objects (events_at rows place) (logged log stood).counted object same marks
+
+      -- their rows stand
+      pub all_dropped : length (rows_at rows place) ≤ 2 * (log.queued - waited) → IsAfter rows (with_place logs place (record log { queued = log.queued - waited; objects = objects })) (dropped object (queue_at table place))
+      all_dropped most =
+          after_counts rows (changes_same [] rows rows place refl) objects left_counted (others object now_waiting) left_waiting (log.queued - waited) (omega (arith, left)) (omega (arith, (logged log stood).few))
+          (omega (arith, most, (logged log stood).few, length-map (rows_at rows place) (λ keyed. keyed.row.event))) (dropped object (queue_at table place)) (ap (dropped object) (sym (seen log stood)))
+
+      -- or were swept out
+      pub all_swept : (rows' : Table (List (Keyed Posted))) (objects' : ObjectCounts) → HasWaiting rows rows' place objects objects' (waiting objects (events_at rows place)) → events_at rows' place ≡ waiting objects (events_at rows place)
+          → IsAfter rows' (with_place logs place (record log { queued = log.queued - waited; objects = objects' })) (dropped object (queue_at table place))
+      all_swept rows' objects' has all =
+          after_counts rows' has.changed objects' has.counted (others object now_waiting) (has.waits ∙ left_waiting) (log.queued - waited) (omega (arith, left)) (omega (arith, (logged log stood).few))
+          (omega (arith, ap length all, ap length left_waiting, left)) (dropped object (queue_at table place)) (ap (dropped object) (sym (seen log stood)))
+
+    -- there is a way for one more event
+    module _ (rows' : Table (List (Keyed Posted))) (objects : ObjectCounts) (has : HasWaiting rows rows' place log.objects objects now_waiting) where
+      pub unposted : IsAfter rows' (with_place logs place (record log { objects = objects })) (queue_at table place)
+      unposted = let holds = logged log stood in after_waiting rows' objects now_waiting has log.queued holds.queued holds.few (queue_at table place) (sym (seen log stood))
+
+      -- another count of what is counted already fits
+      pub count_fits : (object : ℕ) → count_of objects object < 2 ^ 32 - 1
+      count_fits object = let holds = logged log stood in omega (arith, few_counted objects (events_at rows' place) has.counted object, has.fewer, holds.few_rows, holds.few)
+
+    pub takes_more : log.queued < EVENTS → has_room (queue_at table place) ≡ true
+    takes_more room = ap has_room (seen log stood) ∙ (let long = (logged log stood).queued in grind (arith, nat_tests, long, room))
+
+    pub one_posted : (rows' : Table (List (Keyed Posted))) (objects : ObjectCounts) (event : Event) → log.queued < EVENTS → HasWaiting rows rows' place log.objects objects (placed event now_waiting)
+        → IsAfter rows' (with_place logs place (record log { queued = log.queued + 1; objects = objects })) (posted (queue_at table place) event)
+    one_posted rows' objects event room has =
+        after_waiting rows' objects (placed event now_waiting) has (log.queued + 1) (omega (arith, (logged log stood).queued, length_placed event now_waiting)) (omega (arith, room)) (posted (queue_at table place) event)
         (rw (takes_more room) (ap (λ (queue : Queue). record { events = placed event queue.events; lost = queue.lost; mismatched = queue.mismatched }) (sym (seen log stood))))
 
     pub back_again : with_queue table place (queue_at table place) ≡ table
     back_again = with_same empty_queue table place
 
-    pub unposted : (objects : ObjectCounts) → ((other : ℕ) → count_of objects other ≡ count_of log.objects other) → IsAfter rows (with_place logs place (record log { objects = objects })) (queue_at table place)
-    unposted objects same = after rows (events_at rows place) same_events (record log { objects = objects }) (log_same (logged log stood) objects same) (queue_at table place) (sym (seen log stood))
-
-    -- the place has no event of the object
-    pub none_named : (object : ℕ) → count_of log.objects object ≡ 0 → table ≡ with_queue table place (dropped object (queue_at table place))
-    none_named object none =
-        let all : others object (events_at rows place) ≡ events_at rows place = others_all object (events_at rows place) (sym ((logged log stood).counted object) ∙ none) in
-        let same : dropped object (queue_at table place) ≡ queue_at table place = ap (dropped object) (seen log stood) ∙ (ap (λ list. record { events = list; lost = log.lost; mismatched = log.mismatched }) all ∙ sym (seen log stood)) in
-        sym (ap (with_queue table place) same ∙ back_again)
-
     -- where the place is full all stays
-    pub full_stays : (event : Event) → EVENTS ≤ length (rows_at rows place) → (has_room (queue_at table place) ≡ false) × (table ≡ with_queue table place (posted (queue_at table place) event))
+    pub full_stays : (event : Event) → EVENTS ≤ log.queued → (has_room (queue_at table place) ≡ false) × (joined_tables queue_of rows (with_place logs place log) ≡ with_queue table place (posted (queue_at table place) event))
     full_stays event full =
-        let long = length-map (rows_at rows place) (λ keyed. keyed.row.event) in
+        let long = (logged log stood).queued in
         let none : has_room (queue_at table place) ≡ false = ap has_room (seen log stood) ∙ grind (arith, nat_tests, long, full) in
-        (none, rw none (sym back_again))
+        let whole : with_place logs place log ≡ logs = ap (with_place logs place) (stood log) ∙ with_same log logs place in
+        (none, ap (joined_tables queue_of rows) whole ∙ (view_is ∙ rw none (sym back_again)))
 
-    -- one more is counted, and then one fewer
-    pub taken_back : (more back : ObjectCounts) (now : Log) (object : ℕ) → ((d : Log) → now ≡ get_or (with_place logs place (record log { objects = more })).places place d)
-        → IsCounted log.objects more object (count_of log.objects object + 1) → IsCounted now.objects back object (count_of now.objects object - 1)
-        → IsAfter rows (with_place (with_place logs place (record log { objects = more })) place (record now { objects = back })) (queue_at table place)
-    taken_back more back now object now_is added subtracted =
-        let same : now ≡ record { lost = log.lost; mismatched = log.mismatched; objects = more } = now_is log ∙ get_or-set_same logs.places place (record log { objects = more }) log of_logs in
-        let fewer : IsCounted more back object (count_of more object - 1) = subst (λ (l : Log). IsCounted l.objects back object (count_of l.objects object - 1)) same subtracted in
-        rw (with_twice logs place (record log { objects = more }) (record now { objects = back }), same) (unposted back (counted_back log.objects more back object added fewer))
-
-    -- nothing is there to be taken
-    pub none_taken : (rows' : Table (List (Keyed Posted))) → HasEvents rows rows' place (drop 1 (events_at rows place)) → None ≡ slice_get (events_at rows place) 0 → IsAfter rows' logs (taken (queue_at table place))
-    none_taken rows' has none =
-        after_rows rows' (drop 1 (events_at rows place)) has log (nothing (events_at rows place) none (logged log stood)) (taken (queue_at table place)) (ap taken (sym (seen log stood))) stood
-      where
-        nothing : (events : List Event) → None ≡ slice_get events 0 → IsLogged events log → IsLogged (drop 1 events) log
-        nothing [] none holds = holds
-        nothing (event ∷ events) none holds = absurd (cc)
-
-    pub counts_told : (queued : ℕ) → queued ≡ length (rows_at rows place) → record { queued = queued; lost = log.lost; mismatched = log.mismatched } ≡ counts_of (queue_at table place)
-    counts_told queued is =
-        ap (λ n. record { queued = n; lost = log.lost; mismatched = log.mismatched }) (is ∙ sym (length-map (rows_at rows place) (λ keyed. keyed.row.event)))
+    pub counts_told : record { queued = log.queued; lost = log.lost; mismatched = log.mismatched } ≡ counts_of (queue_at table place)
+    counts_told =
+        ap (λ n. record { queued = n; lost = log.lost; mismatched = log.mismatched }) (logged log stood).queued
         ∙ ap counts_of (sym (seen log stood))
 
     pub sound_at : IsSound (queue_at table place)
     sound_at =
         let holds = logged log stood in
-        subst IsSound (sym (seen log stood)) (record { few = holds.few; lost = holds.lost; mismatched = holds.mismatched })
+        subst IsSound (sym (seen log stood)) (record { few = omega (arith, holds.few, holds.queued); lost = holds.lost; mismatched = holds.mismatched })
 
 -- one more place, with no event
 pub record IsOpened (rows rows' : Table (List (Keyed Posted))) (logs' : Table Log) (table : Table Queue) : Type 0 where

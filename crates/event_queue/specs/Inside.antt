@@ -1,5 +1,5 @@
 -- How the queues stand in rows and logs. No public clause cites this module.
-use Rattle.std.specs.Prelude.{◌≡◌, ℕ, ◌+◌, ◌*◌, ◌%◌, ◌^◌, ◌<◌, ◌≤◌, ◌==◌, ◌⊎◌, if◌then◌else◌, List, [], length, map, count_by, slice_index_or}
+use Rattle.std.specs.Prelude.{◌≡◌, ℕ, ◌+◌, ◌*◌, ◌%◌, ◌^◌, ◌<◌, ◌≤◌, ◌==◌, ◌⊎◌, Bool, false, not, if◌then◌else◌, List, [], length, map, filter, count_by, slice_index_or}
 use Rattle.std.specs.List.{All, AllWithin}
 use Rattle.std.specs.Option.{unwrap_or}
 use Rattle.std.specs.Ordering.{nat_cmp}
@@ -8,18 +8,43 @@ use Rattle.places.specs.Table.{ChangesAt, Table}
 use Rattle.shared_rows.specs.Rows.{Keyed, rows_at}
 use Rattle.event_queue.specs.declared.event.Event.{Event}
 use Rattle.event_queue.specs.declared.event.Posted.{Posted}
+use Rattle.event_queue.specs.declared.object_counts.Count.{Count}
 use Rattle.event_queue.specs.declared.object_counts.ObjectCounts.{ObjectCounts}
 use Rattle.event_queue.specs.declared.table.Log.{Log}
 use Rattle.event_queue.specs.declared.table.TheConstants.{EVENTS}
 use Rattle.event_queue.specs.Queue.{Queue, object_of, priority_of, rank_of}
 
--- how many events are counted for an object
+-- what is known of the rows that name an object
+abbrev pub count_at : ObjectCounts → ℕ → Count
+count_at objects object = unwrap_or (get nat_cmp objects.counts object) (record { rows = 0; is_dropped = false })
+
+-- how many rows are counted for an object
 abbrev pub count_of : ObjectCounts → ℕ → ℕ
-count_of objects object = unwrap_or (get nat_cmp objects.counts object) 0
+count_of objects object = (count_at objects object).rows
+
+-- the events of an object are dropped, though their rows stand yet
+abbrev pub is_dropped : ObjectCounts → ℕ → Bool
+is_dropped objects object = (count_at objects object).is_dropped
 
 -- so many are counted for one object now, and for others what was
 abbrev pub IsCounted : ObjectCounts → ObjectCounts → ℕ → ℕ → Type 0
 IsCounted old new object count = (other : ℕ) → count_of new other ≡ (if object == other then count else count_of old other)
+
+-- an object that any row names is dropped if it was before
+abbrev pub KeepsMarks : ObjectCounts → ObjectCounts → Type 0
+KeepsMarks old new = (other : ℕ) → 0 < count_of new other → is_dropped new other ≡ is_dropped old other
+
+-- does the event of a row wait yet
+abbrev pub waits : ObjectCounts → Event → Bool
+waits objects event = not (is_dropped objects (object_of event))
+
+-- of the events of all rows those that wait
+abbrev pub waiting : ObjectCounts → List Event → List Event
+waiting objects held = filter (waits objects) held
+
+-- the rows of these events are counted
+abbrev pub AreCounted : ObjectCounts → List Event → Type 0
+AreCounted objects held = (object : ℕ) → count_of objects object ≡ count_by (λ event. object_of event == object) held
 
 -- the number of an event among all of its place: those of a priority follow those of all above it
 abbrev pub number_of : Posted → ℕ
@@ -46,14 +71,23 @@ pub record HasEvents (old new : Table (List (Keyed Posted))) (place : ℕ) (even
   pub changed : ChangesAt [] place old new
   pub now : events_at new place ≡ events
 
+-- at a place these events wait now and no more rows than before are of dropped ones; other places have what they had
+pub record HasWaiting (old new : Table (List (Keyed Posted))) (place : ℕ) (before after : ObjectCounts) (events : List Event) : Type 0 where
+  pub changed : ChangesAt [] place old new
+  pub counted : AreCounted after (events_at new place)
+  pub waits : waiting after (events_at new place) ≡ events
+  pub fewer : length (events_at new place) + length (waiting before (events_at old place)) ≤ length (events_at old place) + length events
+
 -- what contracts see of a place
 abbrev pub queue_of : List (Keyed Posted) → Log → Queue
-queue_of rows log = record { events = events_of rows; lost = log.lost; mismatched = log.mismatched }
+queue_of rows log = record { events = waiting log.objects (events_of rows); lost = log.lost; mismatched = log.mismatched }
 
--- the log belongs to these events
-pub record IsLogged (events : List Event) (log : Log) : Type 0 where
-  pub few : length events ≤ EVENTS
-  pub counted : (object : ℕ) → count_of log.objects object ≡ count_by (λ event. object_of event == object) events
+-- the log belongs to the rows of these events
+pub record IsLogged (held : List Event) (log : Log) : Type 0 where
+  pub few : log.queued ≤ EVENTS
+  pub queued : log.queued ≡ length (waiting log.objects held)
+  pub few_rows : length held ≤ log.queued + EVENTS
+  pub counted : AreCounted log.objects held
   pub lost : log.lost < 2 ^ 64
   pub mismatched : log.mismatched < 2 ^ 64
 

@@ -1,5 +1,5 @@
 -- Of the events that wait one of the highest priority is taken first, and of these the one that was posted first.
-use Rattle.std.specs.Prelude.{◌≡◌, ℕ, ◌==◌, Bool, true, List, [], ◌∷◌, ◌++◌, Option, if◌then◌else◌, drop, filter, find, is_some, slice_get}
+use Rattle.std.specs.Prelude.{◌≡◌, ℕ, ◌==◌, Bool, true, List, [], ◌∷◌, ◌++◌, Option, if◌then◌else◌, filter, find, is_some, slice_get}
 use Rattle.event_queue.specs.declared.event.Event.{Event}
 use Rattle.event_queue.specs.declared.event.Priority.{Priority}
 use Rattle.event_queue.specs.declared.event.Priority.TheVariants.{Low, Normal, High}

@@ -1,12 +1,13 @@
 //! The events of a place in their order.
-ghost use Rattle.std.specs.Prelude.{◌≡◌, ◌+◌, ◌*◌, ◌^◌, ◌<◌, ◌≤◌, IfOk, OnOk, OnErr, drop};
+ghost use Rattle.std.specs.Prelude.{◌≡◌, ◌+◌, ◌*◌, ◌^◌, ◌<◌, ◌≤◌, IfOk, OnOk, OnErr, drop, false, length};
 ghost use Rattle.std.specs.List.{slice_get};
 ghost use Rattle.places.specs.Table.{IsPlace};
 ghost use Rattle.shared_rows.specs.Rows.{IsSound, rows_at};
-ghost use Rattle.event_queue.specs.Queue.{others, placed};
-ghost use Rattle.event_queue.specs.Inside.{HasEvents, IsCountBelow, IsSeat, events_at, number_of};
+ghost use Rattle.event_queue.specs.Queue.{placed};
+ghost use Rattle.event_queue.specs.Inside.{AreCounted, HasEvents, HasWaiting, IsCountBelow, IsSeat, count_of, events_at, is_dropped, number_of, waiting};
 
 use crate::event::{Event, NUMBERS, Posted};
+use crate::object_counts::ObjectCounts;
 use shared_rows::{Numbered, SharedRows};
 use std::alloc::AllocError;
 
@@ -80,8 +81,28 @@ fn next_number(
     Ok(next.saturating_sub(start))
 }
 
-/// Takes out the first event of the place.
-pub(crate) fn take_first(rows: &mut SharedRows<Posted>, place: usize) -> Option<Event>
+/// Takes out the first event of the place that waits, and the rows of dropped ones before it.
+pub(crate) fn take_first(
+    rows: &mut SharedRows<Posted>,
+    objects: &mut ObjectCounts,
+    place: usize,
+) -> Option<Event>
+    requires place { IsPlace rows.old place }
+    requires counted { AreCounted objects.old (events_at rows.old place) }
+    ensures first { result ≡ slice_get (waiting objects.old (events_at rows.old place)) 0 }
+    ensures rest { HasWaiting rows.old rows.new place objects.old objects.new (drop 1 (waiting objects.old (events_at rows.old place))) }
+{
+    'rows: while let Some(event) = take_row(rows, place) {
+        let was_dropped = objects.subtract(event.object());
+        if !was_dropped {
+            return Some(event);
+        }
+    }
+    None
+}
+
+/// Takes out the event of the first row.
+fn take_row(rows: &mut SharedRows<Posted>, place: usize) -> Option<Event>
     requires { IsPlace rows.old place }
     ensures first { result ≡ slice_get (events_at rows.old place) 0 }
     ensures rest { HasEvents rows.old rows.new place (drop 1 (events_at rows.old place)) }
@@ -93,15 +114,39 @@ pub(crate) fn take_first(rows: &mut SharedRows<Posted>, place: usize) -> Option<
     Some(rows.remove(place, key).event)
 }
 
-/// Takes out the events of the place that name the object.
-pub(crate) fn drop_events(rows: &mut SharedRows<Posted>, place: usize, object: u32)
-    requires { IsPlace rows.old place }
-    ensures { HasEvents rows.old rows.new place (others object (events_at rows.old place)) }
+/// Sweeps where rows of the object are of dropped events, so that another of its events can wait. So
+/// many events wait; where as many rows stand, no object has to be looked up.
+pub(crate) fn make_way(
+    rows: &mut SharedRows<Posted>,
+    objects: &mut ObjectCounts,
+    place: usize,
+    object: u32,
+    queued: usize,
+)
+    requires place { IsPlace rows.old place }
+    requires counted { AreCounted objects.old (events_at rows.old place) }
+    requires queued { queued ≡ length (waiting objects.old (events_at rows.old place)) }
+    ensures rest { HasWaiting rows.old rows.new place objects.old objects.new (waiting objects.old (events_at rows.old place)) }
+    ensures way { 0 < count_of objects.new object → is_dropped objects.new object ≡ false }
+{
+    if rows.len(place) > queued && objects.count(object).is_dropped {
+        sweep(rows, objects, place);
+    }
+}
+
+/// Takes out the rows of all dropped events, from the last row to the first.
+pub(crate) fn sweep(rows: &mut SharedRows<Posted>, objects: &mut ObjectCounts, place: usize)
+    requires place { IsPlace rows.old place }
+    requires counted { AreCounted objects.old (events_at rows.old place) }
+    ensures rest { HasWaiting rows.old rows.new place objects.old objects.new (waiting objects.old (events_at rows.old place)) }
+    ensures all { events_at rows.new place ≡ waiting objects.old (events_at rows.old place) }
 {
     'rows: for position in (0..rows.len(place)).rev() {
         let (key, posted) = rows.at(place, position);
-        if posted.event.object() == object {
+        let object = posted.event.object();
+        if objects.count(object).is_dropped {
             drop(rows.remove(place, key));
+            objects.subtract(object);
         }
     }
 }

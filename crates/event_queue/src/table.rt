@@ -8,7 +8,7 @@ ghost use Rattle.event_queue.specs.Inside.{IsLogged};
 
 use crate::event::{Event, Posted};
 use crate::object_counts::ObjectCounts;
-use crate::order::{drop_events, place_event, take_first};
+use crate::order::{make_way, place_event, sweep, take_first};
 use places::Places;
 use shared_rows::SharedRows;
 use std::alloc::{AllocError, Global};
@@ -28,9 +28,13 @@ pub struct Counts {
     pub mismatched: u64,
 }
 
-/// What a place keeps besides its events.
+/// What a place keeps besides the rows of its events. The events of an object are dropped by a mark, and
+/// their rows stay where they are, so that it takes a look-up and no walk. Once they are more than the
+/// events that wait, one walk sweeps them all out; each post pays for one look of it.
 #[derive(Drop)]
 struct Log {
+    /// How many events wait. All other rows are of dropped ones.
+    queued: usize,
     lost: u64,
     mismatched: u64,
     objects: ObjectCounts,
@@ -43,6 +47,7 @@ impl Log {
         ensures logged { IsLogged [] result }
     {
         Log {
+            queued: 0,
             lost: 0,
             mismatched: 0,
             objects: ObjectCounts::new(alloc),
@@ -116,23 +121,26 @@ impl Queues {
 
     /// Puts an event behind those of its priority and above, and before those below, and returns whether it
     /// did: a queue of `EVENTS` takes no more, of whatever priorities. It fails where memory is short, and
-    /// besides where 2^32 events wait at all places, or where 2^62 of this priority were posted at this one
-    /// since none of it waited.
+    /// besides where 2^32 events have rows at all places, or where 2^62 of this priority were posted at this
+    /// one since none of it had a row.
     pub fn post(&mut self, place: usize, event: Event) -> Result<bool, AllocError>
         requires { IsPlace self.old place }
         ensures answer { IfOk result (λ answer. answer ≡ has_room (queue_at self.old place)) }
         ensures ok { OnOk result (self.new ≡ with_queue self.old place (posted (queue_at self.old place) event)) }
         ensures err { OnErr result (self.new ≡ self.old) }
     {
-        if self.rows.len(place) >= EVENTS {
+        let log = self.logs.get_mut(place);
+        if log.queued >= EVENTS {
             return Ok(false);
         }
         let object = event.object();
-        self.logs.get_mut(place).objects.add(object)?;
+        make_way(&mut self.rows, &mut log.objects, place, object, log.queued);
+        log.objects.add(object)?;
         if let Err(error) = place_event(&mut self.rows, place, event) {
-            self.logs.get_mut(place).objects.subtract(object);
+            log.objects.subtract(object);
             return Err(error);
         }
+        log.queued += 1;
         Ok(true)
     }
 
@@ -142,20 +150,22 @@ impl Queues {
         ensures first { result ≡ slice_get (queue_at self.old place).events 0 }
         ensures rest { self.new ≡ with_queue self.old place (taken (queue_at self.old place)) }
     {
-        let event = take_first(&mut self.rows, place)?;
-        self.logs.get_mut(place).objects.subtract(event.object());
+        let log = self.logs.get_mut(place);
+        let event = take_first(&mut self.rows, &mut log.objects, place)?;
+        log.queued -= 1;
         Some(event)
     }
 
-    /// Drops the events that name an object. A call names its receiver, and not its sender. The queue is
-    /// walked only where there are any.
+    /// Drops the events that name an object. A call names its receiver, and not its sender. Events are
+    /// looked at only where most rows are of dropped ones by then.
     pub fn drop_object(&mut self, place: usize, object: u32)
         requires { IsPlace self.old place }
         ensures { self.new ≡ with_queue self.old place (dropped object (queue_at self.old place)) }
     {
-        if self.logs.get(place).objects.count(object) > 0 {
-            drop_events(&mut self.rows, place, object);
-            self.logs.get_mut(place).objects.forget(object);
+        let log = self.logs.get_mut(place);
+        log.queued -= log.objects.drop_events(object) as usize;
+        if self.rows.len(place) > 2 * log.queued {
+            sweep(&mut self.rows, &mut log.objects, place);
         }
     }
 
@@ -167,7 +177,7 @@ impl Queues {
     {
         let log = self.logs.get(place);
         Counts {
-            queued: self.rows.len(place),
+            queued: log.queued,
             lost: log.lost,
             mismatched: log.mismatched,
         }

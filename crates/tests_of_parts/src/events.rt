@@ -163,7 +163,7 @@ fn told(event: Option<Event>) -> u64 {
 /// A place, what is asked of it, and what is answered.
 type Case = (usize, Asked, u64);
 
-const IN_ORDER: [Case; 26] = [
+const IN_ORDER: [Case; 37] = [
     (0, Take, 0),
     (0, Call(3, 1), 1),
     (1, Call(3, 2), 1),
@@ -191,6 +191,18 @@ const IN_ORDER: [Case; 26] = [
     (0, Take, 34),
     (1, Take, 32),
     (1, Counts, 1),
+    // What is dropped is passed over, and what is posted behind it is not.
+    (0, Call(3, 1), 1),
+    (0, Call(4, 1), 1),
+    (0, Call(4, 2), 1),
+    (0, DropObject(3), 200),
+    (0, Call(3, 2), 1),
+    (0, Call(5, 1), 1),
+    (0, DropObject(4), 200),
+    (0, Counts, 200),
+    (0, Take, 32),
+    (0, Take, 51),
+    (0, Take, 0),
 ];
 
 fn take_in_order(alloc: Global) -> Result<bool, AllocError> {

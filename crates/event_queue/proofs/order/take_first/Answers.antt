@@ -1,20 +1,17 @@
-use Rattle.std.proofs.Common.{arith}
-use Rattle.shared_rows.specs.Rows.{rows_at, without}
-use Rattle.shared_rows.proofs.RowsLemmas.{some_at}
-use Rattle.event_queue.specs.declared.event.Posted.{Posted}
-use Rattle.event_queue.proofs.OrderLemmas.{first_event, has_events, shown_without}
+use Rattle.std.proofs.Common.{◌∙◌, ◌-◌, ap, sym, subst}
+use Rattle.event_queue.specs.Inside.{IsCounted, count_of, is_dropped}
+use Rattle.event_queue.proofs.OrderLemmas.{taking_ends, taking_first, taking_on}
 use Rattle.event_queue.proofs.order.take_first.Goals as goal
 
-pub remove-requires-clause-stands : goal.remove-requires-clause-stands
-remove-requires-clause-stands c =
-    some_at (rows_at c.args.rows.now c.args.place) _ c.at-key.result.0 c.at-key.result.1.now (omega (arith, c.len.ensures.len, c.if-len-eq0.false)) c.at-key.ensures
+pub returns-then-not-was_dropped-clause-rest : goal.returns-then-not-was_dropped-clause-rest
+returns-then-not-was_dropped-clause-rest c =
+    (taking_first c.args.rows.now c.args.place c.args.objects.now c.rows.rows c.rows.objects c.rows.invariant c.take_row.new.rows c.in-Some.ensures.rest c.in-Some.event (sym c.in-Some.ensures.first) c.subtract-was_dropped.new.self
+    (subst (λ n. IsCounted c.rows.objects c.subtract-was_dropped.new.self n (count_of c.rows.objects n - 1)) c.object.ensures c.subtract-was_dropped.ensures.counted) c.subtract-was_dropped.ensures.marks (ap (is_dropped c.rows.objects) (sym c.object.ensures) ∙ (sym c.subtract-was_dropped.ensures.was ∙ c.if-not-was_dropped.true))).1
 
-pub returns-clause-first : goal.returns-clause-first
-returns-clause-first c =
-    first_event (rows_at c.args.rows.now c.args.place) c.at-key.result.0 c.at-key.result.1.now c.remove.result (omega (arith, c.len.ensures.len, c.if-len-eq0.false)) c.at-key.ensures c.remove.ensures.row
+pub rows-preserved : goal.rows-preserved
+rows-preserved c =
+    taking_on c.args.rows.now c.args.place c.args.objects.now c.rows.rows c.rows.objects c.rows.invariant c.take_row.new.rows c.in-Some.ensures.rest c.in-Some.event (sym c.in-Some.ensures.first) c.subtract-was_dropped.new.self
+    (subst (λ n. IsCounted c.rows.objects c.subtract-was_dropped.new.self n (count_of c.rows.objects n - 1)) c.object.ensures c.subtract-was_dropped.ensures.counted) c.subtract-was_dropped.ensures.marks (ap (is_dropped c.rows.objects) (sym c.object.ensures) ∙ (sym c.subtract-was_dropped.ensures.was ∙ c.if-not-was_dropped.false))
 
 pub returns-clause-rest : goal.returns-clause-rest
-returns-clause-rest c =
-    let rows = rows_at c.args.rows.now c.args.place in
-    has_events c.args.rows.now c.remove.new.self c.args.place (without rows c.at-key.result.0) _ c.requires c.remove.ensures.rest
-    (shown_without (λ (posted : Posted). posted.event) rows c.len.ensures.sound.apart 0 c.at-key.result.0 c.at-key.result.1.now (omega (arith, c.len.ensures.len, c.if-len-eq0.false)) c.at-key.ensures)
+returns-clause-rest c = (taking_ends c.args.rows.now c.args.place c.args.objects.now c.rows.rows c.rows.objects c.rows.invariant c.take_row.new.rows c.take_row.ensures.rest (sym c.in_default.is ∙ c.take_row.ensures.first)).1
