@@ -11,18 +11,17 @@ use Rattle.std.proofs.lemmas.Bool.{cases_Bool, cases_eq, cases_lt, cond-true, co
 use Rattle.std.proofs.lemmas.Bool.Decides.{nat_tests}
 use Rattle.std.proofs.lemmas.Cmp.{back_total, nat_cmp_total, on_total, then_total}
 use Rattle.std.proofs.Math.Seq.{drop-cons}
-use Rattle.std.proofs.lemmas.List.{get_or_default}
 use Rattle.std.proofs.lemmas.List.Elements.{All-contains, All-contains_itself, All-from_recursion, All-weaker, recursion_from_All}
 use Rattle.std.proofs.lemmas.List.Kept.{AllPairs-cons, AllPairs-filter}
 use Rattle.std.proofs.lemmas.Map.Keys.{IsDistinct-head, IsDistinct-tail}
-use Rattle.shared_rows.specs.Links.{AreLinked, IsInOrder, first_from, with_link, without_link}
-use Rattle.shared_rows.proofs.LinkedLemmas.{all_from, any_of, contains_cases, contains_first, contains_from, contains_kept, contains_later, contains_map, contains_mapped, first_none, first_some, linked_filter, linked_map, same_links}
+use Rattle.shared_rows.specs.Links.{AreLinked, IsInOrder, with_link, without_link}
+use Rattle.shared_rows.proofs.LinkedLemmas.{all_from, any_of, contains_cases, contains_first, contains_from, contains_kept, contains_later, contains_map, contains_mapped, linked_filter, linked_map, same_links}
 use Rattle.object_tree.specs.declared.row.Row.{Row}
 use Rattle.object_tree.specs.declared.child.Child.{Child}
 use Rattle.object_tree.specs.Rows.{by_stamp, children, has_number, has_parent, inserted, is_same, numbers, parent_of, row_of, stamps}
 use Rattle.object_tree.specs.Forest.{Forest, IsSound}
 use Rattle.object_tree.specs.Changes.{changed, orphaned}
-use Rattle.object_tree.specs.Children.{child_cmp, child_of, order_of}
+use Rattle.object_tree.specs.Children.{IsCountFrom, child_cmp, child_of, order_of}
 use Rattle.object_tree.proofs.KeyedListLemmas.{less_cmp, same-from_cmp}
 use Rattle.object_tree.proofs.NumberLemmas.{Rise, at_place, without}
 use Rattle.object_tree.proofs.ChangesLemmas.{orphan_none, there_at, unchanged}
@@ -56,19 +55,6 @@ not_below a b e = ⊎_elim
     absurd (false≢true (sym e ∙ less)))
     (λ (high : nat_lt b.parent a.parent ≡ false). ltb-false _ _ high)
     (cases_Bool (nat_lt b.parent a.parent))
-
-not_lt : (a b : ℕ) → b ≤ a → is_lt (nat_cmp a b) ≡ false
-not_lt a b h = grind (arith, nat_tests)
-
-then_not_lt : (a b c : Ordering) → is_lt a ≡ false → is_lt b ≡ false → is_lt c ≡ false → is_lt (ordering_then (ordering_then a b) c) ≡ false
-then_not_lt Less b c x y z = absurd (cc)
-then_not_lt Equal Less c x y z = absurd (cc)
-then_not_lt Equal Equal c x y z = z
-then_not_lt Equal Greater c x y z = refl
-then_not_lt Greater b c x y z = refl
-
-at_least : (stamp parent number object : ℕ) → parent ≤ object → is_lt (child_cmp (record { stamp = stamp; parent = parent; number = number }) (record { stamp = 0; parent = object; number = 0 })) ≡ false
-at_least stamp parent number object h = then_not_lt (nat_cmp object parent) (nat_cmp stamp 0) (nat_cmp number 0) (not_lt object parent h) (not_lt stamp 0 (omega arith)) (not_lt number 0 (omega arith))
 
 -- a row that moves, or goes, is the only one of its number
 module _ (n : ℕ) (row : Row) (rows : List Row) (links : List Child) (linked : AreLinked child_of rows links) (numbered : row.number ≡ n)
@@ -249,14 +235,12 @@ none_below_0 rows begin = ap (λ l. numbers (by_stamp l)) (no_kids rows begin)
     no_kids [] begin = refl
     no_kids (row ∷ rest) begin = cond-false (has_parent (Some 0) row) (row ∷ filter (has_parent (Some 0)) rest) (filter (has_parent (Some 0)) rest) begin.0 ∙ no_kids rest begin.1
 
--- the oldest child of an object, or none
-module _ (rows : List Row) (links : List Child) (linked : AreLinked child_of rows links) (order : IsInOrder child_cmp links) (object : ℕ) where
-  abbrev pub first : Child
-  first = record { stamp = 0; parent = object; number = 0 }
-
-  is_orphan : ((r : Row) → Contains rows r → has_parent (Some object) r ≡ true → ⊥) → map (orphaned object) rows ≡ rows
-  is_orphan none = by rows (recursion_from_All (λ (r : Row). has_parent (Some object) r ≡ false) rows (all_from (λ (r : Row). has_parent (Some object) r ≡ false) rows (λ r there. ⊎_elim
-      (λ (has : has_parent (Some object) r ≡ true). absurd (none r there has))
+-- a child of an object, or none
+module _ (rows : List Row) (links : List Child) (linked : AreLinked child_of rows links) (object : ℕ) where
+  pub none_there : All (λ (child : Child). child.parent ≢ object) links → map (orphaned object) rows ≡ rows
+  none_there none = by rows (recursion_from_All (λ (r : Row). has_parent (Some object) r ≡ false) rows (all_from (λ (r : Row). has_parent (Some object) r ≡ false) rows (λ r there. ⊎_elim
+      (λ (has : has_parent (Some object) r ≡ true).
+      absurd (All-contains (λ (child : Child). child.parent ≢ object) links (child_of r) none (All-contains (λ r. Contains links (child_of r)) rows r linked.each there) (order_same r.parent (Some object) has)))
       (λ (lacks : has_parent (Some object) r ≡ false). lacks)
       (cases_Bool (has_parent (Some object) r)))))
     where
@@ -264,37 +248,13 @@ module _ (rows : List Row) (links : List Child) (linked : AreLinked child_of row
       by [] all = refl
       by (row ∷ rest) all = λ i. cond-false (has_parent (Some object) row) (record row { parent = None }) row all.0 i ∷ by rest all.1 i
 
-  -- a child's link is not below the first that can be
-  child_link : (r : Row) → has_parent (Some object) r ≡ true → is_lt (child_cmp (child_of r) first) ≡ false
-  child_link r has = at_least r.stamp (order_of r.parent) r.number object (omega (arith, order_same r.parent (Some object) has))
-
-  stood : (r : Row) → Contains rows r → Contains links (child_of r)
-  stood r there = All-contains (λ r. Contains links (child_of r)) rows r linked.each there
-
-  pub none_there : None ≡ first_from child_cmp links first → map (orphaned object) rows ≡ rows
-  none_there none = is_orphan (λ r there has. absurd (false≢true (sym (child_link r has) ∙ first_none child_total child_same links first (sym none) (child_of r) (stood r there))))
-
-  pub none_next : (child : Child) → Some child ≡ first_from child_cmp links first → child.parent ≢ object → map (orphaned object) rows ≡ rows
-  none_next child found other = is_orphan (λ r there has.
-      let least = first_some child_total child_same links order first child (sym found) in
-      let low : child.parent ≤ object = not_below child first least.1 in
-      let high : order_of r.parent ≤ child.parent = not_below (child_of r) child (least.2 (child_of r) (stood r there) (child_link r has)) in
-      other (omega (arith, low, high, order_same r.parent (Some object) has)))
-
-  -- whose link is the first
-  pub some_child : (child : Child) → Some child ≡ first_from child_cmp links first → (r : Row) × Contains rows r × (child_of r ≡ child)
-  some_child child found =
-      let least = first_some child_total child_same links order first child (sym found) in
-      let any : Any (λ r. child_of r ≡ child) rows = All-contains (λ link. Any (λ r. child_of r ≡ link) rows) links child linked.all least.0 in
-      (any.1, (any.0, any.2, any.3), any.4)
-
-  pub oldest : Rise rows → 1 ≤ object → (child : Child) → Some child ≡ first_from child_cmp links first → child.parent ≡ object
+  pub one_there : Rise rows → 1 ≤ object → (child : Child) → Contains links child → child.parent ≡ object
       → (parent_of rows child.number ≡ Some object) × (option_map (λ (row : Row). row.stamp) (row_of rows child.number) ≡ Some child.stamp)
-  oldest rise begins child found same =
-      let some = some_child child found in
-      let row : Row = some.0 in
-      let is : row_of rows child.number ≡ Some row = (at_place (λ r. r) child.number rows some.1.0 row rise some.1.1 (ap (λ (r : Row). r.number) some.1.2 ∙ ap (λ (c : Child). c.number) some.2)).0 ∙ ap Some some.1.2 in
-      (ap (option_and_then (λ (r : Row). r.parent)) is ∙ by row.parent (ap (λ (c : Child). c.parent) some.2 ∙ same), ap (option_map (λ (r : Row). r.stamp)) is ∙ ap (λ (c : Child). Some c.stamp) some.2)
+  one_there rise begins child there same =
+      let some : Any (λ r. child_of r ≡ child) rows = All-contains (λ link. Any (λ r. child_of r ≡ link) rows) links child linked.all there in
+      let row : Row = some.1 in
+      let is : row_of rows child.number ≡ Some row = (at_place (λ r. r) child.number rows some.0 row rise some.2 (ap (λ (r : Row). r.number) some.3 ∙ ap (λ (c : Child). c.number) some.4)).0 ∙ ap Some some.3 in
+      (ap (option_and_then (λ (r : Row). r.parent)) is ∙ by row.parent (ap (λ (c : Child). c.parent) some.4 ∙ same), ap (option_map (λ (r : Row). r.stamp)) is ∙ ap (λ (c : Child). Some c.stamp) some.4)
     where
       by : (p : Option ℕ) → order_of p ≡ object → p ≡ Some object
       by None e = absurd (omega (arith, begins, e))
@@ -310,11 +270,24 @@ parents_fall list order i j d le within = ⊎_elim
 pub parted : (list : List Child) → IsInOrder child_cmp list → (parent : ℕ) → IsPartitionedBy (λ (c : Child). nat_le parent c.parent) list
 parted list order parent i j d le within later = le-leb _ _ (omega (arith, leb-true _ _ later, parents_fall list order i j d le within))
 
--- where the first one has a parent below this one, all have
-pub all_below : (list : List Child) → IsInOrder child_cmp list → (parent : ℕ) (first : Child) → first ≡ get_or list 0 first → first.parent < parent → (k : ℕ) (d : Child) → k < length list → (get_or list k d).parent < parent
-all_below list order parent first is low k d lt =
-    let at_first : first.parent ≡ (get_or list 0 d).parent = ap (λ (c : Child). c.parent) (is ∙ get_or_default list 0 first d (omega (arith, lt))) in
-    omega (arith, at_first, low, parents_fall list order 0 k d (omega arith) lt)
+-- so many have this parent or a later one, where that is so of the last of them and not of the next child
+pub count_from_ends : (list : List Child) → IsInOrder child_cmp list → (parent count : ℕ) → count ≤ length list
+    → (count < length list → (d : Child) → (get_or list count d).parent < parent) → (0 < count → (d : Child) → parent ≤ (get_or list (count - 1) d).parent)
+    → IsCountFrom list parent count
+count_from_ends list order parent count within next last = record {
+  within = within;
+  before = λ k d lt. omega (arith, last (omega (arith, lt)) d, parents_fall list order k (count - 1) d (omega (arith, lt)) (omega (arith, lt, within)));
+  behind = λ k d ge inside. omega (arith, next (omega (arith, ge, inside)) d, parents_fall list order count k d ge inside);
+}
+
+-- none has a parent where none stands behind those of a later one, or the first that does is of an earlier one
+pub none_of : (list : List Child) → IsInOrder child_cmp list → (parent from : ℕ) → IsCountFrom list (parent + 1) from → (from < length list → (d : Child) → (get_or list from d).parent ≢ parent) → All (λ (child : Child). child.parent ≢ parent) list
+none_of list order parent from starts other k d within = λ same. ⊎_elim
+    (λ (lt : k < from). absurd (omega (arith, starts.before k d lt, same)))
+    (λ (ge : from ≤ k).
+    let inside : from < length list = omega (arith, ge, within) in
+    absurd (omega (arith, parents_fall list order from k d ge within, starts.behind from d (omega arith) inside, other inside d, same)))
+    (cases_lt k from)
 
 nobody : Child
 nobody = record { stamp = 0; parent = 0; number = 0 }
@@ -338,17 +311,15 @@ module _ {X : Type 0} where
       let short : suc to - suc from ≡ to - from = omega arith in
       cond-false (p x) _ _ (before 0 x (omega arith)) ∙ (stretch p rest from to (omega arith) (omega arith) (λ k d h. before (suc k) d (omega arith)) (λ k d ge lt. in' (suc k) d (omega arith) (omega arith)) (λ k d ge lt. behind (suc k) d (omega arith) (omega arith)) ∙ sym (ap (λ n. take n (drop from rest)) short))
 
-module _ (list : List Child) (parent from to : ℕ) (within : to ≤ length list)
-    (before : (k : ℕ) (d : Child) → k < from → parent + 1 ≤ (get_or list k d).parent) (behind : (k : ℕ) (d : Child) → from ≤ k → k < length list → (get_or list k d).parent < parent + 1)
-    (before_end : (k : ℕ) (d : Child) → k < to → parent ≤ (get_or list k d).parent) (behind_end : (k : ℕ) (d : Child) → to ≤ k → k < length list → (get_or list k d).parent < parent) where
-  pub group_order : from ≤ length list → from ≤ to
-  group_order inside = ⊎_elim (λ lt. absurd (omega (arith, before to nobody lt, behind_end to nobody (omega arith) (omega arith)))) (λ ge. ge) (cases_lt to from)
+module _ (list : List Child) (parent from to : ℕ) (starts : IsCountFrom list (parent + 1) from) (ends : IsCountFrom list parent to) where
+  pub group_order : from ≤ to
+  group_order = ⊎_elim (λ lt. absurd (omega (arith, starts.before to nobody lt, ends.behind to nobody (omega arith) (omega (arith, lt, starts.within))))) (λ ge. ge) (cases_lt to from)
 
-  pub group_between : from ≤ length list → take (to - from) (drop from list) ≡ filter (λ child. child.parent == parent) list
-  group_between inside = sym (stretch (λ (child : Child). child.parent == parent) list from to (group_order inside) within
-      (λ k d lt. ne_eqb (get_or list k d).parent parent (λ same. absurd (omega (arith, before k d lt, same))))
-      (λ k d ge lt. eq-eqb (get_or list k d).parent parent (omega (arith, behind k d ge (omega arith), before_end k d lt)))
-      (λ k d ge lt. ne_eqb (get_or list k d).parent parent (λ same. absurd (omega (arith, behind_end k d ge lt, same)))))
+  pub group_between : take (to - from) (drop from list) ≡ filter (λ child. child.parent == parent) list
+  group_between = sym (stretch (λ (child : Child). child.parent == parent) list from to group_order ends.within
+      (λ k d lt. ne_eqb (get_or list k d).parent parent (λ same. absurd (omega (arith, starts.before k d lt, same))))
+      (λ k d ge lt. eq-eqb (get_or list k d).parent parent (omega (arith, starts.behind k d ge (omega (arith, lt, ends.within)), ends.before k d lt)))
+      (λ k d ge lt. ne_eqb (get_or list k d).parent parent (λ same. absurd (omega (arith, ends.behind k d ge lt, same)))))
 
 -- the first of a stretch, and the rest
 pub stretch_next : {X : Type 0} (list : List X) (from to : ℕ) (d : X) → from < to → to ≤ length list → slice_range list from to ≡ get_or list from d ∷ slice_range list (from + 1) to

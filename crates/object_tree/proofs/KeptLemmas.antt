@@ -1,5 +1,5 @@
 -- Rows and kinships of the same places, seen as forests.
-use Rattle.std.proofs.Common.{◌≡◌, ◌≢◌, ℕ, zero, suc, ◌<◌, ◌≤◌, ◌+◌, ◌-◌, ◌==◌, ◌∙◌, Bool, true, false, cond, List, [], ◌∷◌, ◌++◌, Option, Some, None, length, map, filter, get_or, min, refl, sym, ap, subst, arith, ⊎_elim}
+use Rattle.std.proofs.Common.{◌≡◌, ◌≢◌, ℕ, zero, suc, ◌<◌, ◌≤◌, ◌+◌, ◌-◌, ◌==◌, ◌∙◌, Bool, true, false, cond, List, [], ◌∷◌, ◌++◌, Option, Some, None, IfNone, IfSome, length, map, filter, get_or, min, refl, sym, ap, subst, arith, ⊎_elim}
 use Rattle.std.specs.List.{All, AllByRecursion, Contains}
 use Rattle.std.specs.Option.{option_map}
 use Rattle.std.proofs.lemmas.Bool.{cases_eq}
@@ -9,7 +9,7 @@ use Rattle.places.specs.Table.{IsPlace, Table, opened, with_place}
 use Rattle.places.specs.Joined.{joined_tables}
 use Rattle.places.proofs.JoinedLemmas.{joined_at, joined_push, joined_set, length-joined}
 use Rattle.places.proofs.TableLemmas.{default_pushed, with_same}
-use Rattle.shared_rows.specs.Links.{AreLinked, IsInOrder, Linked, first_from, with_link, without_link}
+use Rattle.shared_rows.specs.Links.{AreLinked, IsInOrder, Linked, with_link, without_link}
 use Rattle.shared_rows.proofs.LinkedLemmas.{linked_push, linked_same}
 use Rattle.shared_rows.specs.Rows as shared
 use Rattle.shared_rows.specs.Rows.{Keyed, key_of, row_under, rows_at, with_row}
@@ -26,7 +26,7 @@ use Rattle.object_tree.proofs.NumberLemmas.{Rise, number_of, without}
 use Rattle.object_tree.proofs.ChangesLemmas.{unchanged}
 use Rattle.object_tree.proofs.RowLemmas.{change_one}
 use Rattle.object_tree.proofs.KeyLemmas.{IsKeyOf, absent_row, is_key, only_row, out_is, put_is, rises, row_stands, under_is}
-use Rattle.object_tree.proofs.ChildLemmas.{child_same, child_total, group_is, links_gone, links_moved, none_next, none_there, oldest, parents_begin}
+use Rattle.object_tree.proofs.ChildLemmas.{child_same, child_total, group_is, links_gone, links_moved, none_there, one_there, parents_begin}
 
 pub nobodys : Kinship
 nobodys = record { last_number = 0; last_stamp = 0; children = record { links = []; capacity = 0 } }
@@ -130,22 +130,21 @@ module _ (rows : Shared) (kinships : Table Kinship) (table : Table Forest) (plac
       pub rise_now : shared.IsSound number_of (rows_at rows place) → Rise (forest_at table place).rows
       rise_now sound = subst (λ (forest : Forest). Rise forest.rows) (sym forest_now) (rises (rows_at rows place) sound.rising)
 
-      -- the oldest child of an object, or none
-      module _ (order : IsInOrder child_cmp now.children.links) (object : ℕ) where
-        abbrev plain : List Row
-        plain = rows_of (rows_at rows place)
+      -- a child of an object, or none, that was found among all
+      module _ (object : ℕ) (all : List Child) (all_is : all ≡ now.children.links) where
+        pub none_found : (found : Option Child) → IfNone found (All (λ (child : Child). child.parent ≢ object) all)
+            → IfNone found (map (orphaned object) (forest_at table place).rows ≡ (forest_at table place).rows)
+        none_found (Some child) none = tt
+        none_found None none =
+            subst (λ (forest : Forest). map (orphaned object) forest.rows ≡ forest.rows) (sym forest_now) (none_there (rows_of (rows_at rows place)) now.children.links linked_now object (subst (All (λ (child : Child). child.parent ≢ object)) all_is none))
 
-        pub none_left : None ≡ first_from child_cmp now.children.links (record { stamp = 0; parent = object; number = 0 }) → map (orphaned object) (forest_at table place).rows ≡ (forest_at table place).rows
-        none_left none = subst (λ (forest : Forest). map (orphaned object) forest.rows ≡ forest.rows) (sym forest_now) (none_there plain now.children.links linked_now order object none)
-
-        pub none_behind : (child : Child) → Some child ≡ first_from child_cmp now.children.links (record { stamp = 0; parent = object; number = 0 }) → child.parent ≢ object → map (orphaned object) (forest_at table place).rows ≡ (forest_at table place).rows
-        none_behind child found other = subst (λ (forest : Forest). map (orphaned object) forest.rows ≡ forest.rows) (sym forest_now) (none_next plain now.children.links linked_now order object child found other)
-
-        pub oldest_now : shared.IsSound number_of (rows_at rows place) → 1 ≤ object → (child : Child) → Some child ≡ first_from child_cmp now.children.links (record { stamp = 0; parent = object; number = 0 }) → child.parent ≡ object
-            → (parent_of (forest_at table place).rows child.number ≡ Some object) × (option_map (λ (row : Row). row.stamp) (row_of (forest_at table place).rows child.number) ≡ Some child.stamp)
-        oldest_now sound begins child found same =
+        pub one_found : shared.IsSound number_of (rows_at rows place) → 1 ≤ object → (found : Option Child) → IfSome found (λ child. Contains all child × (child.parent ≡ object))
+            → IfSome found (λ child. parent_of (forest_at table place).rows child.number ≡ Some object)
+            × IfSome found (λ child. option_map (λ (row : Row). row.stamp) (row_of (forest_at table place).rows child.number) ≡ Some child.stamp)
+        one_found sound begins None is = (tt, tt)
+        one_found sound begins (Some child) is =
             subst (λ (forest : Forest). (parent_of forest.rows child.number ≡ Some object) × (option_map (λ (row : Row). row.stamp) (row_of forest.rows child.number) ≡ Some child.stamp)) (sym forest_now)
-            (oldest plain now.children.links linked_now order object (rises (rows_at rows place) sound.rising) begins child found same)
+            (one_there (rows_of (rows_at rows place)) now.children.links linked_now object (rises (rows_at rows place) sound.rising) begins child (subst (λ links. Contains links child) all_is is.0) is.1)
 
       -- with other room for links
       module _ (children : Linked Child) (same : children.links ≡ now.children.links) (new_rows : Shared) (same_rows : new_rows ≡ rows) where

@@ -1,5 +1,5 @@
 -- Forests that change more than once.
-use Rattle.std.proofs.Common.{◌≡◌, ℕ, zero, suc, ◌<◌, ◌≤◌, ◌∙◌, [], ◌∷◌, get_or, subst, ⊎_elim, Option, Some, None, List, length, map, filter, Result, Ok, Err, IfNone, OnErr, refl, sym, ap, arith}
+use Rattle.std.proofs.Common.{◌≡◌, ℕ, zero, suc, ◌<◌, ◌≤◌, ◌∙◌, [], ◌∷◌, get_or, subst, ⊎_elim, Some, None, List, length, map, filter, Result, Ok, Err, OnErr, refl, sym, ap, arith}
 use Rattle.std.specs.Option.{option_map}
 use Rattle.std.proofs.lemmas.Bool.{cases_eq, cases_lt}
 use Rattle.std.proofs.lemmas.List.{length-set, get_or-set_other, get_or-set_same}
@@ -19,10 +19,6 @@ use Rattle.object_tree.proofs.ChangesLemmas.{edited, orphan_step}
 pub on_err : {R E : Type 0} {P : Type 0} (r : Result R E) → P → OnErr r P
 on_err (Ok x) p = tt
 on_err (Err e) p = p
-
-pub on_none : {A : Type 0} {P : Type 0} (o : Option A) → P → IfNone o P
-on_none None p = p
-on_none (Some x) p = tt
 
 pub still_place : (table middle : Table Forest) (place : ℕ) (forest : Forest) → IsPlace table place → middle ≡ with_forest table place forest → IsPlace middle place
 still_place table middle place forest is_place is = omega (arith, is_place, ap (λ (t : Table Forest). length t.places) is, length-set table.places place forest)

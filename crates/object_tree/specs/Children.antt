@@ -35,6 +35,12 @@ pub record AreWithin (kids : Kids) : Type 0 where
   pub order : kids.start ≤ kids.end
   pub within : kids.end ≤ length kids.all.now.items
 
+-- so many have this parent or a later one, and stand before all others
+pub record IsCountFrom (children : List Child) (parent count : ℕ) : Type 0 where
+  pub within : count ≤ length children
+  pub before : (k : ℕ) (default : Child) → k < count → parent ≤ (slice_index_or children k default).parent
+  pub behind : (k : ℕ) (default : Child) → count ≤ k → k < length children → (slice_index_or children k default).parent < parent
+
 -- rows, whatever their keys
 abbrev pub rows_of : List (Keyed Row) → List Row
 rows_of keyed = map (λ (k : Keyed Row). k.row) keyed

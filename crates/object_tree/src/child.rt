@@ -1,11 +1,12 @@
 //! The children of all parents in one order: later parents first, and the children of one by age.
-ghost use Rattle.std.specs.Prelude.{◌≡◌, ◌<◌, ◌≤◌, ◌==◌, ℕ, filter, length, slice_index_or};
+ghost use Rattle.std.specs.Prelude.{◌≡◌, ◌≢◌, ◌+◌, ◌<◌, ◌==◌, ◌^◌, All, IfNone, IfSome, IsTrue, filter};
 ghost use Rattle.std.proofs.Common.{rules};
 ghost use Rattle.std.specs.Cmp.{partial_order_from_own_ties};
 ghost use Rattle.std.specs.Cmp.Rules.{comparing};
 ghost use Rattle.std.specs.Ordering.{as_partial_cmp};
+ghost use Rattle.std.specs.List.{Contains};
 ghost use Rattle.shared_rows.specs.Links.{IsInOrder};
-ghost use Rattle.object_tree.specs.Children.{AreWithin, child_cmp, child_of, kids_of, order_of};
+ghost use Rattle.object_tree.specs.Children.{AreWithin, IsCountFrom, child_cmp, child_of, kids_of, order_of};
 
 use crate::row::Row;
 use gap_buffer::GapBuffer;
@@ -77,34 +78,129 @@ pub(crate) struct Kids<'a> {
     pub(crate) end: usize,
 }
 
+/// Where children are looked for first. Where those of one parent after the other are asked for, a group
+/// mostly stands as far before the last one as that stood before the one before it, and is as large.
+#[derive(Clone, Copy)]
+pub(crate) struct Near {
+    start: usize,
+    gap: usize,
+    size: usize,
+    /// Where the last parent without a child would have had its own: others mostly would there too.
+    none: usize,
+}
+
+impl Near {
+    /// Before the children that stand at a position.
+    pub(crate) fn before(start: usize) -> Near {
+        Near {
+            start,
+            gap: 0,
+            size: 1,
+            none: 0,
+        }
+    }
+
+    /// Before a group that was found near this one, or still this one where it has no child.
+    pub(crate) fn behind(self, kids: Kids<'_>) -> Near
+        requires { AreWithin kids }
+    {
+        if kids.start == kids.end {
+            return Near {
+                none: kids.end,
+                ..self
+            };
+        }
+        Near {
+            start: kids.start,
+            gap: self.start.saturating_sub(kids.end),
+            size: kids.end - kids.start,
+            none: self.none,
+        }
+    }
+}
+
 /// The children of a parent.
-pub(crate) fn group(all: &GapBuffer<Child>, parent: u32) -> Kids<'_>
+#[inline(always)]
+pub(crate) fn group(all: &GapBuffer<Child>, parent: u32, near: Near) -> Kids<'_>
     requires { IsInOrder child_cmp all.now.items }
     ensures kids { kids_of result ≡ filter (λ child. child.parent == parent) all.now.items }
     ensures within { AreWithin result }
 {
-    let low = parent as u64;
-    Kids {
-        all,
-        start: count_from(all, low + 1),
-        end: count_from(all, low),
+    let guess = near.start.saturating_sub(near.gap);
+    let end = count_from(all, parent as u64, guess, near.none);
+    let start = start_of(all, parent as u64, end, near.size);
+    Kids { all, start, end }
+}
+
+/// How many have a later parent, where so many have this one or a later one, and this parent has perhaps
+/// this number of children.
+fn start_of(children: &GapBuffer<Child>, parent: u64, end: usize, size: usize) -> usize
+    requires order { IsInOrder child_cmp children.now.items }
+    requires parent { parent < 2 ^ 32 }
+    requires end { IsCountFrom children.now.items parent end }
+    ensures { IsCountFrom children.now.items (parent + 1) result }
+{
+    if end == 0 || parent < children.get(end - 1).parent as u64 {
+        return end;
+    }
+    count_from(children, parent + 1, end.saturating_sub(size), end - 1)
+}
+
+/// The oldest child of a parent. It is looked for first where the last change was.
+pub(crate) fn first_of(all: &GapBuffer<Child>, parent: u32) -> Option<Child>
+    requires { IsInOrder child_cmp all.now.items }
+    ensures child { IfSome result (λ child. Contains all.now.items child × (child.parent ≡ parent)) }
+    ensures none { IfNone result (All (λ child. child.parent ≢ parent) all.now.items) }
+{
+    let at = count_from(all, parent as u64 + 1, all.last_change(), 0);
+    if at == all.len() {
+        return None;
+    }
+    let child = all.get(at);
+    if child.parent == parent {
+        Some(child)
+    } else {
+        None
     }
 }
 
-/// How many have this parent or a later one: they stand before all others. A parent above all that have
-/// children, as a new object is, needs no search, nor does 0, which none is below.
-fn count_from(children: &GapBuffer<Child>, parent: u64) -> usize
+/// How many have this parent or a later one: they stand before all others. A guess that is right saves
+/// the search.
+#[inline(always)]
+fn count_from(children: &GapBuffer<Child>, parent: u64, guess: usize, second: usize) -> usize
     requires { IsInOrder child_cmp children.now.items }
-    ensures within { result ≤ length children.now.items }
-    ensures before { (k : ℕ) (d : Child) → k < result → parent ≤ (slice_index_or children.now.items k d).parent }
-    ensures behind { (k : ℕ) (d : Child) → result ≤ k → k < length children.now.items
-        → (slice_index_or children.now.items k d).parent < parent }
+    ensures { IsCountFrom children.now.items parent result }
+{
+    if is_count_from(children, parent, guess) {
+        return guess;
+    }
+    count_from_second(children, parent, second)
+}
+
+/// The same, with the second guess.
+#[inline(never)]
+fn count_from_second(children: &GapBuffer<Child>, parent: u64, guess: usize) -> usize
+    requires { IsInOrder child_cmp children.now.items }
+    ensures { IsCountFrom children.now.items parent result }
 {
     if parent == 0 {
         return children.len();
     }
-    match children.first() {
-        Some(first) if (first.parent as u64) < parent => 0,
-        _ => children.partition_point(|child| parent <= child.parent as u64),
+    if is_count_from(children, parent, guess) {
+        return guess;
     }
+    children.partition_point(|child| parent <= child.parent as u64)
+}
+
+/// Whether so many have this parent or a later one.
+#[inline(always)]
+fn is_count_from(children: &GapBuffer<Child>, parent: u64, count: usize) -> bool
+    requires { IsInOrder child_cmp children.now.items }
+    ensures { IsTrue result → IsCountFrom children.now.items parent count }
+{
+    let len = children.len();
+    if count > len || count < len && parent <= children.get(count).parent as u64 {
+        return false;
+    }
+    count == 0 || parent <= children.get(count - 1).parent as u64
 }

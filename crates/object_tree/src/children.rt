@@ -8,7 +8,7 @@ ghost use Rattle.object_tree.specs.Lines.{height, levels_within};
 ghost use Rattle.object_tree.specs.Finding.{AnswersBy, children_of, found_below};
 ghost use Rattle.object_tree.specs.Table.{forest_at};
 
-use crate::child::Kids;
+use crate::child::{Kids, Near};
 use crate::objects::Objects;
 use std::alloc::{AllocError, Global};
 
@@ -25,7 +25,8 @@ impl Objects {
         ensures { IfOk result (λ found. found.items ≡ children (forest_at self.now place).rows parent) }
     {
         let mut found = Vec::new(alloc);
-        append_numbers(&mut found, self.kids(place, parent))?;
+        let kids = self.kids(place, parent, self.near(place));
+        append_numbers(&mut found, kids)?;
         Ok(found)
     }
 
@@ -41,8 +42,11 @@ impl Objects {
         ensures { IfOk result (λ found. found.items ≡ children_of (forest_at self.now place).rows level.now) }
     {
         let mut found = Vec::new(alloc);
+        let mut near = Near::before(0);
         'numbers: for number in level {
-            append_numbers(&mut found, self.kids(place, Some(*number)))?;
+            let kids = self.kids(place, Some(*number), near);
+            near = near.behind(kids);
+            append_numbers(&mut found, kids)?;
         }
         Ok(found)
     }
@@ -87,12 +91,13 @@ impl Objects {
         ensures value { result ≡ height (forest_at self.now place).rows number }
         ensures bound { result ≤ length (forest_at self.now place).rows }
     {
-        self.levels_within(place, self.count(place), number)
+        let mut near = self.near(place);
+        self.levels_within(place, self.count(place), number, &mut near)
     }
 
     /// How many levels there are, counted to this many.
     #[tactic(auto, using(crate::proofs::HeightLemmas::levels_end, crate::proofs::HeightLemmas::greatest_more))]
-    fn levels_within(&self, place: usize, most: usize, number: u32) -> usize
+    fn levels_within(&self, place: usize, most: usize, number: u32, near: &mut Near) -> usize
         requires place { IsPlace self.now place }
         requires sound { IsSound (forest_at self.now place) }
         ensures value { result ≡ levels_within most (forest_at self.now place).rows number }
@@ -101,11 +106,12 @@ impl Objects {
         if most == 0 {
             return 0;
         }
-        let kids = self.kids(place, Some(number));
+        let kids = self.kids(place, Some(number), *near);
+        *near = near.behind(kids);
         let mut below = 0;
         'kids: for at in kids.start..kids.end {
             let child = kids.all.get(at);
-            below = below.max(self.levels_within(place, most - 1, child.number));
+            below = below.max(self.levels_within(place, most - 1, child.number, near));
         }
         1 + below
     }

@@ -10,7 +10,7 @@ ghost use Rattle.object_tree.specs.Forest.{IsSound, empty_forest};
 ghost use Rattle.object_tree.specs.Changes.{added, changed, marked, moved, orphaned, removed, with_blocked};
 ghost use Rattle.object_tree.specs.Table.{forest_at, with_forest};
 
-use crate::child::{Child, Kids, child_of, group, order_of};
+use crate::child::{Child, Kids, Near, child_of, first_of, group, order_of};
 use crate::row::Row;
 use places::Places;
 use shared_rows::{Links, SharedRows};
@@ -116,8 +116,17 @@ impl Objects {
         Some(*self.rows.get(place, key))
     }
 
+    /// Where children are looked for first: where the last change was.
+    pub(crate) fn near(&self, place: usize) -> Near
+        requires { IsPlace self.now place }
+    {
+        let children = &self.kinships.get(place).children;
+        Near::before(children.as_buffer().last_change())
+    }
+
     /// The children of a parent, by age.
-    pub(crate) fn kids(&self, place: usize, parent: Option<u32>) -> Kids<'_>
+    #[inline(always)]
+    pub(crate) fn kids(&self, place: usize, parent: Option<u32>, near: Near) -> Kids<'_>
         requires place { IsPlace self.now place }
         requires sound { IsSound (forest_at self.now place) }
         ensures kids { map (λ child. child.number) (kids_of result) ≡ children (forest_at self.now place).rows parent }
@@ -131,7 +140,7 @@ impl Objects {
                 end: 0,
             };
         }
-        group(all, order_of(parent))
+        group(all, order_of(parent), near)
     }
 
     /// Adds an object below a parent, and returns its number.
@@ -262,17 +271,7 @@ impl Objects {
     {
         // The loan is for the proof, which then knows that numbers rise.
         let _count = self.rows.len(place);
-        let first = Child {
-            stamp: 0,
-            parent: object,
-            number: 0,
-        };
-        let child = self.kinships.get(place).children.first_from(first)?;
-        if child.parent == object {
-            Some(child)
-        } else {
-            None
-        }
+        first_of(self.kinships.get(place).children.as_buffer(), object)
     }
 }
 
