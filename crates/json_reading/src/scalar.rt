@@ -11,6 +11,7 @@ use crate::stop::Stop;
 use std::simd::prelude::*;
 
 /// The byte at a place, or 0 behind the end.
+#[inline(always)]
 pub(crate) fn byte_at(bytes: &[u8], at: usize) -> u8
     ensures { result ≡ get_or bytes.now at 0 }
 {
@@ -21,6 +22,7 @@ pub(crate) fn byte_at(bytes: &[u8], at: usize) -> u8
 const TOGETHER: usize = 16;
 
 /// Which of the bytes are quotes, backslashes or control bytes, one bit for each.
+#[inline(always)]
 fn stops(bytes: u8x16) -> u64
     ensures { result ≡ mask_l (map is_stop bytes) }
 {
@@ -31,6 +33,7 @@ fn stops(bytes: u8x16) -> u64
 }
 
 /// Where the first quote, backslash or control byte is from a place on, or the end.
+#[inline(always)]
 fn plain_end(bytes: &[u8], from: usize) -> usize
     requires { from ≤ length bytes.now }
     ensures value { result ≡ from + prefix_len is_plain (drop from bytes.now) }
@@ -68,6 +71,7 @@ fn is_plain(byte: u8) -> bool
 }
 
 /// The text in quotes that begins at a place and has no escapes, and where it ends.
+#[inline(always)]
 pub(crate) fn scan_text<'a>(text: &'a str, at: usize) -> Result<(&'a str, usize), Stop>
     ensures { IfOk result (λ found. StandsAt text.now at (quoted found.0.now) found.1) }
 {
@@ -83,6 +87,7 @@ pub(crate) fn scan_text<'a>(text: &'a str, at: usize) -> Result<(&'a str, usize)
 }
 
 /// The number that the bytes begin with, as `decimal` writes it, and where it ends.
+#[inline(always)]
 pub(crate) fn scan_number(bytes: &[u8]) -> Option<(u64, usize)>
     ensures { IfSome result
         (λ found. StandsAt bytes.now 0 (decimal found.0) found.1 × (found.0 < 2 ^ 64)) }
@@ -101,6 +106,7 @@ pub(crate) fn scan_number(bytes: &[u8]) -> Option<(u64, usize)>
 }
 
 /// A word that the bytes begin with, and where it ends.
+#[inline(never)]
 fn scan_word<'a>(bytes: &[u8]) -> Option<(Scalar<'a>, usize)>
     ensures { IfSome result
         (λ found. StandsAt bytes.now 0 (token_text (scalar_token found.0)) found.1 × Fits found.0) }
@@ -117,6 +123,7 @@ fn scan_word<'a>(bytes: &[u8]) -> Option<(Scalar<'a>, usize)>
 }
 
 /// The value without parts that begins at a place, and where it ends.
+#[inline(always)]
 pub(crate) fn scan_scalar<'a>(text: &'a str, at: usize) -> Result<(Scalar<'a>, usize), Stop>
     ensures { IfOk result
         (λ found. StandsAt text.now at (token_text (scalar_token found.0)) found.1

@@ -1,5 +1,5 @@
 //! Reading an object byte by byte: no white space, no escapes, whole numbers without a sign.
-ghost use Rattle.std.specs.Prelude.{OnOk, ◌≡◌, ◌++◌, ◌∷◌, [], map, IfOk, Some};
+ghost use Rattle.std.specs.Prelude.{◌≡◌, ◌++◌, ◌∷◌, [], map, IfOk, Some};
 ghost use Rattle.json.specs.Token.{end_array};
 ghost use Rattle.json.specs.Print.{print};
 ghost use Rattle.serde_json.specs.Data.{object};
@@ -10,7 +10,7 @@ ghost use Rattle.json_reading.specs.Spelling.{member_text, scalar_token, field_t
 use crate::field::{Field, Member, ROOM, Scalar};
 use crate::scalar::{byte_at, scan_scalar, scan_text};
 use crate::stop::Stop;
-use std::alloc::{AllocError, Global};
+use std::alloc::Global;
 
 /// The members of the text, where it is an object with at least one member and no white space,
 /// its texts have no escapes, and its numbers are whole, without a sign and have 64 bits.
@@ -21,11 +21,11 @@ pub fn scan_members<'a>(alloc: Global, text: &'a str) -> Result<Vec<Member<'a>>,
     if byte_at(bytes, 0) != b'{' {
         return Err(Stop::Form);
     }
-    let mut found = Vec::new(alloc);
+    let mut found = Vec::with_capacity(alloc, ROOM)?;
     let mut at = 1;
     'members: loop {
         let (member, end) = scan_member(alloc, text, at)?;
-        put(&mut found, member)?;
+        found.push(member)?;
         match byte_at(bytes, end) {
             b',' => at = end + 1,
             b'}' if end + 1 == bytes.len() => return Ok(found),
@@ -34,18 +34,8 @@ pub fn scan_members<'a>(alloc: Global, text: &'a str) -> Result<Vec<Member<'a>>,
     }
 }
 
-/// Puts a member behind the others; the first makes room for as many as most objects have.
-fn put<'a>(found: &mut Vec<Member<'a>>, member: Member<'a>) -> Result<(), AllocError>
-    ensures { OnOk result (found.new.items ≡ found.old.items ++ member.entry ∷ []) }
-{
-    if found.is_empty() {
-        found.reserve(ROOM)?;
-    }
-    found.push(member)?;
-    Ok(())
-}
-
 /// The member that begins at a place, and where it ends.
+#[inline(always)]
 fn scan_member<'a>(alloc: Global, text: &'a str, at: usize) -> Result<(Member<'a>, usize), Stop>
     ensures { IfOk result
         (λ found. StandsAt text.now at (member_text found.0) found.1 × IsSpelled found.0.value) }
@@ -59,6 +49,7 @@ fn scan_member<'a>(alloc: Global, text: &'a str, at: usize) -> Result<(Member<'a
 }
 
 /// The value that begins at a place, and where it ends.
+#[inline(always)]
 fn scan_field<'a>(alloc: Global, text: &'a str, at: usize) -> Result<(Field<'a>, usize), Stop>
     ensures { IfOk result
         (λ found. StandsAt text.now at (print (field_tokens found.0)) found.1
@@ -74,6 +65,7 @@ fn scan_field<'a>(alloc: Global, text: &'a str, at: usize) -> Result<(Field<'a>,
 
 /// The values without parts from a place up to the bracket that closes their list, and where it
 /// ends.
+#[inline(never)]
 fn scan_items<'a>(
     alloc: Global,
     text: &'a str,

@@ -1,6 +1,6 @@
 -- The keys of a command, and what is held at them.
-use Rattle.std.proofs.Common.{◌≡◌, ◌<◌, ◌+◌, ◌||◌, drop, get_or, length, sym, ℕ, Bool, List, [], ◌∷◌, ◌++◌, Option, Some, None, append_assoc, bytes_eq, map, option_map, refl, ap, ◌∙◌}
-use Rattle.std.specs.List.{list_all, list_any}
+use Rattle.std.proofs.Common.{◌≡◌, ◌<◌, ◌+◌, drop, get_or, length, sym, ℕ, List, [], ◌∷◌, ◌++◌, Option, Some, None, append_assoc, map, option_map, refl, ap, ◌∙◌}
+use Rattle.std.specs.List.{list_all}
 use Rattle.std.proofs.lemmas.List.{drop_more}
 use Rattle.serde_json.specs.Data.{Data, object}
 use Rattle.json_reading.specs.Fields.{◌>>=◌}
@@ -10,11 +10,7 @@ use Rattle.json_reading.proofs.KeyLemmas.{all_keys_in}
 use Rattle.wire_commands.specs.declared.keys.Key.{Key as KeyInCode}
 use Rattle.wire_commands.specs.declared.held.Held.{Held as HeldInCode}
 use Rattle.wire_commands.specs.Held.{Held, all_held, held_seen, has_only, held_at, is_known}
-use Rattle.wire_commands.specs.Keys.{key_seen, key_word}
-
-pub list_any_map : {A B : Type 0} (test : B → Bool) (seen : A → B) (xs : List A) → list_any test (map seen xs) ≡ list_any (λ x. test (seen x)) xs
-list_any_map test seen [] = refl
-list_any_map test seen (x ∷ xs) = ap (λ rest. test (seen x) || rest) (list_any_map test seen xs)
+use Rattle.wire_commands.specs.Keys.{key_seen}
 
 -- what is read first, as what is held at some keys, in front of what is read next
 abbrev pub in_front : {A : Type 0} → List A → Option (List A) → Option (List A)
@@ -36,9 +32,6 @@ one_more json all held keys at none within found =
     ∙ in_front_of (map held_seen all) (held_seen held) (all_held json (map key_seen (drop (at + 1) keys)))
     ∙ ap (λ first. in_front (map held_seen all) (first >>= λ one. all_held json (map key_seen (drop (at + 1) keys)) >>= λ others. Some (one ∷ others))) found
     ∙ ap (λ rest. in_front (map held_seen all) (all_held json (map key_seen rest))) (sym (drop_more keys at none within))
-
-pub any_word : (word : List ℕ) (keys : List KeyInCode) → list_any (bytes_eq word) (map key_word (map key_seen keys)) ≡ list_any (λ key. bytes_eq word (key_word (key_seen key))) keys
-any_word word keys = list_any_map (bytes_eq word) key_word (map key_seen keys) ∙ list_any_map (λ key. bytes_eq word (key_word key)) key_seen keys
 
 pub only_known : (words : List (List ℕ)) (members : List Member) → has_only words (object (members_in members)) ≡ list_all (λ member. is_known words member.key.now) members
 unfolding has_only

@@ -1,5 +1,6 @@
 pub mod Keys
 pub mod Held
+pub mod Found
 pub mod Form
 pub mod Trees
 pub mod Properties

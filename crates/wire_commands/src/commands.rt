@@ -176,6 +176,7 @@ fn asked_with(
 }
 
 /// What the members ask.
+#[inline(always)]
 #[tactic(auto, unfolding(crate::specs::Commands::asked_of))]
 pub fn command_in(alloc: Global, members: &[Member<'_>]) -> Result<Option<Command>, AllocError>
     ensures { IfOk result (λ command. option_map asked command ≡ asked_of (object (members_in members.now))) }

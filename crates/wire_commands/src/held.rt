@@ -1,16 +1,18 @@
 //! What a line holds at the keys of its command.
-ghost use Rattle.std.specs.Prelude.{◌≡◌, ◌≤◌, IfOk, None, Some, bytes_eq, if◌then◌else◌, length, map, option_map, take};
-ghost use Rattle.std.specs.List.{list_all, list_any};
+ghost use Rattle.std.specs.Prelude.{◌≡◌, ◌≤◌, IfOk, None, Some, if◌then◌else◌, length, map, option_map, take, true};
 ghost use Rattle.serde_json.specs.Data.{object};
 ghost use Rattle.serde_json.specs.View.{view};
 ghost use Rattle.json_reading.specs.Members.{data_of, members_in};
-ghost use Rattle.wire_commands.specs.Keys.{Key, key_seen, key_word};
-ghost use Rattle.wire_commands.specs.Held.{held_at, held_by, held_seen, has_only, is_known, json_of, list_of, mode_of, number_in, number_of, priority_for, priority_in, reads, signed_in, text_of, truth_of};
+ghost use Rattle.wire_commands.specs.Found.{are_distinct, held_as, with_common, words_of};
+ghost use Rattle.wire_commands.specs.Keys.{Key, key_seen};
+ghost use Rattle.wire_commands.specs.declared.keys.TheConstants.{MOST_KEYS};
+ghost use Rattle.wire_commands.specs.Held.{held_by, held_seen, json_of, list_of, mode_of, number_in, number_of, priority_for, priority_in, reads, signed_in, text_of, truth_of};
 
-use crate::keys::{Holds, Key};
+use crate::found::find_values;
+use crate::keys::{Holds, Key, MOST_KEYS};
 use connection_types::ConnectionType;
 use event_queue::Priority;
-use json_reading::{Field, Member, Scalar, value_at};
+use json_reading::{Field, Member, Scalar};
 use plain_types::{Items, Text, is_name};
 use serde_json::Value;
 use std::alloc::{AllocError, Global};
@@ -43,6 +45,7 @@ impl Held<'_, '_> {
     }
 
     /// A copy of the text, where one is held.
+    #[inline(always)]
     pub(crate) fn text(&self, alloc: Global) -> Result<Option<Text>, AllocError>
         ensures { IfOk result (λ text. text ≡ text_of (held_seen self.now)) }
     {
@@ -112,16 +115,20 @@ pub(crate) fn held_by<'m, 'a>(
     keys: &[Key],
     room: &mut [Held<'m, 'a>],
 ) -> bool
-    requires { length keys.now ≤ length room.old }
+    requires few { length keys.now ≤ MOST_KEYS }
+    requires room { length keys.now ≤ length room.old }
+    requires distinct { are_distinct (with_common (words_of keys.now)) ≡ true }
     ensures held { (if result then Some (map held_seen (take (length keys.now) room.new)) else None)
         ≡ held_by (object (members_in members.now)) (map key_seen keys.now) }
     ensures room { length room.new ≡ length room.old }
 {
-    if !has_only(members, keys) {
+    let mut found = [None; MOST_KEYS];
+    if !find_values(members, keys, &mut found) {
         return false;
     }
     for (place, key) in keys.iter().enumerate() {
-        let Some(held) = held_at(members, key) else {
+        let value = found[place];
+        let Some(held) = held_as(value, key) else {
             return false;
         };
         room[place] = held;
@@ -129,14 +136,15 @@ pub(crate) fn held_by<'m, 'a>(
     true
 }
 
-/// What the members hold at a key. None, where it is not held as it must be.
-fn held_at<'m, 'a>(members: &'m [Member<'a>], key: &Key) -> Option<Held<'m, 'a>>
+/// What a key holds, where this value is found at it. None, where it is not held as it must be.
+#[inline(always)]
+fn held_as<'m, 'a>(found: Option<&'m Field<'a>>, key: &Key) -> Option<Held<'m, 'a>>
     ensures { option_map held_seen result
-        ≡ held_at (object (members_in members.now)) (key_seen key.now) }
+        ≡ held_as (option_map (λ field. data_of field.now) found.entry) (key_seen key.now) }
 {
     match key {
-        Key::Needed(word, holds) => read(*holds, value_at(members, word)?),
-        Key::Optional(word, holds) => match value_at(members, word) {
+        Key::Needed(_, holds) => read(*holds, found?),
+        Key::Optional(_, holds) => match found {
             Some(field) => read(*holds, field),
             None => Some(Held::Absent),
         },
@@ -144,6 +152,7 @@ fn held_at<'m, 'a>(members: &'m [Member<'a>], key: &Key) -> Option<Held<'m, 'a>>
 }
 
 /// The value, as a key holds it.
+#[inline(always)]
 fn read<'m, 'a>(holds: Holds, field: &'m Field<'a>) -> Option<Held<'m, 'a>>
     ensures { option_map held_seen result ≡ reads holds (data_of field.now) }
 {
@@ -193,33 +202,4 @@ fn signed_in(field: &Field<'_>) -> Option<i64>
         Field::Plain(_) | Field::List(_) => None,
         Field::Tree(value) => value.as_i64(),
     }
-}
-
-/// Whether there are no keys but these and those that every command has.
-#[tactic(auto, using(crate::proofs::HeldLemmas::only_known))]
-fn has_only(members: &[Member<'_>], keys: &[Key]) -> bool
-    ensures { result ≡ has_only (map key_word (map key_seen keys.now)) (object (members_in members.now)) }
-{
-    all_are_known(members, keys)
-}
-
-fn all_are_known(members: &[Member<'_>], keys: &[Key]) -> bool
-    ensures { result ≡ list_all
-        (λ member. is_known (map key_word (map key_seen keys.now)) member.key.now)
-        members.now }
-{
-    members.iter().all(|member| is_known(member.key, keys))
-}
-
-#[tactic(auto, using(crate::proofs::HeldLemmas::any_word))]
-fn is_known(word: &str, keys: &[Key]) -> bool
-    ensures { result ≡ is_known (map key_word (map key_seen keys.now)) word.now }
-{
-    word == "do" || word == "session" || is_among(word, keys)
-}
-
-fn is_among(word: &str, keys: &[Key]) -> bool
-    ensures { result ≡ list_any (λ key. bytes_eq word.now (key_word (key_seen key))) keys.now }
-{
-    keys.iter().any(|key| word == key.word())
 }

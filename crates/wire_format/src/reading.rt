@@ -49,6 +49,7 @@ fn text_in(line: &[u8]) -> Result<&str, ReadError>
 }
 
 /// The command that a text is that is read as a tree.
+#[inline(never)]
 #[tactic(auto, using(crate::proofs::CommandLemmas::no_object, crate::proofs::CommandLemmas::an_object))]
 fn read_tree(alloc: Global, text: &str) -> Result<Tagged, ReadError>
     ensures { Gives tag result (command_by (ok_or (read text.now) unreadable)) }

@@ -46,6 +46,7 @@ pub(crate) fn shown_as<'a>(answer: &'a Answer, digits: &'a mut Digits) -> Shown<
     }
 }
 
+#[inline(always)]
 pub(crate) fn shown_value<'a>(value: &'a Value, digits: &'a mut Digits) -> Shown<'a>
     ensures text { text_of_shown result ≡ compact_text (json_of value.now) }
     ensures plain { is_plain_shown result ≡ is_plain_value value.now }

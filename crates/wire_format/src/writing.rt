@@ -211,6 +211,7 @@ fn push_warned(
 }
 
 /// Appends the session as the last member of a line, and the line's end.
+#[inline(always)]
 fn push_session(alloc: Global, buffer: &mut String, session: &str) -> Result<(), AllocError>
     ensures { OnOk result (string_bytes buffer.new ≡ string_bytes buffer.old
         ++ (codes ",\"session\":" ++ (compact_text (string session.now) ++ codes "}\n"))) }
@@ -227,6 +228,7 @@ fn push_session(alloc: Global, buffer: &mut String, session: &str) -> Result<(),
     Ok(())
 }
 
+#[inline(always)]
 fn push_shown(alloc: Global, buffer: &mut String, shown: Shown<'_>) -> Result<(), AllocError>
     ensures { OnOk result
         (string_bytes buffer.new ≡ string_bytes buffer.old ++ text_of_shown shown.entry) }
@@ -243,6 +245,7 @@ fn push_shown(alloc: Global, buffer: &mut String, shown: Shown<'_>) -> Result<()
 }
 
 /// Appends what there is in a class.
+#[inline(never)]
 fn push_meta(alloc: Global, buffer: &mut String, meta: &MetaObject) -> Result<(), AllocError>
     ensures { OnOk result (string_bytes buffer.new
         ≡ string_bytes buffer.old ++ compact_text (json_of_meta meta.now)) }
@@ -264,6 +267,7 @@ fn push_meta(alloc: Global, buffer: &mut String, meta: &MetaObject) -> Result<()
 }
 
 /// Appends what came of taking events.
+#[inline(never)]
 fn push_spin(buffer: &mut String, spin: &Spin) -> Result<(), AllocError>
     ensures { OnOk result (string_bytes buffer.new
         ≡ string_bytes buffer.old ++ compact_text (json_of_spin spin.now)) }
@@ -277,6 +281,7 @@ fn push_spin(buffer: &mut String, spin: &Spin) -> Result<(), AllocError>
 }
 
 /// Appends how much there is in a session.
+#[inline(never)]
 fn push_status(buffer: &mut String, status: &Status) -> Result<(), AllocError>
     ensures { OnOk result (string_bytes buffer.new
         ≡ string_bytes buffer.old ++ compact_text (json_of_status status.now)) }
@@ -304,6 +309,7 @@ fn push_count(buffer: &mut String, key: &str, number: u64) -> Result<(), AllocEr
     buffer.push_str(Digits::new().format(number))
 }
 
+#[inline(always)]
 fn push_number(buffer: &mut String, number: u32) -> Result<(), AllocError>
     ensures { OnOk result (string_bytes buffer.new
         ≡ string_bytes buffer.old ++ compact_text (json_of_number number)) }
@@ -367,6 +373,8 @@ fn push_text(alloc: Global, buffer: &mut String, text: &str) -> Result<(), Alloc
 }
 
 /// The same of a text in which JSON escapes something. No copy of it is made.
+#[cold]
+#[inline(never)]
 fn push_escaped(alloc: Global, buffer: &mut String, text: &str) -> Result<(), AllocError>
     ensures { OnOk result
         (string_bytes buffer.new ≡ string_bytes buffer.old ++ compact_text (string text.now)) }
@@ -390,6 +398,7 @@ pub(crate) fn is_plain(text: &str) -> bool
 }
 
 /// Whether JSON does not escape the byte. Most are above the backslash, which is asked first.
+#[inline(always)]
 fn is_plain_byte(byte: u8) -> bool
     ensures { result ≡ is_plain_byte byte }
 {

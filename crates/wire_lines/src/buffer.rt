@@ -52,6 +52,7 @@ impl Buffer {
     }
 
     /// How many bytes more there is room for.
+    #[inline(always)]
     pub fn room(&self) -> usize
         ensures { result + length self.now ≡ BUFFER_BYTES }
     {
@@ -65,6 +66,7 @@ impl Buffer {
     }
 
     /// Puts bytes behind the others. They have to fit.
+    #[inline(always)]
     pub fn put(&mut self, bytes: &[u8])
         requires { length self.old + length bytes.now ≤ BUFFER_BYTES }
         ensures { self.new ≡ self.old ++ bytes.now }
@@ -95,6 +97,7 @@ impl Buffer {
 
     /// Sends text to the sink, behind what is gathered here: the text is gathered too, or written
     /// with the rest where there is no room for it.
+    #[inline(always)]
     pub fn send<W: Sink>(&mut self, writer: &mut W, text: &[u8]) -> Result<(), Failed>
         ensures bytes { SentAll (record { held = W.held writer.old; gathered = self.old }) (record { held = W.held writer.new; gathered = self.new }) result text.now }
         ensures counted { CountsErrors (W.failures writer.old) (W.failures writer.new) result }
@@ -103,6 +106,16 @@ impl Buffer {
             self.put(text);
             return Ok(());
         }
+        self.send_past(writer, text)
+    }
+
+    /// The same, where what is gathered is written first.
+    #[cold]
+    #[inline(never)]
+    fn send_past<W: Sink>(&mut self, writer: &mut W, text: &[u8]) -> Result<(), Failed>
+        ensures bytes { SentAll (record { held = W.held writer.old; gathered = self.old }) (record { held = W.held writer.new; gathered = self.new }) result text.now }
+        ensures counted { CountsErrors (W.failures writer.old) (W.failures writer.new) result }
+    {
         self.flush(writer)?;
         if text.len() <= BUFFER_BYTES {
             self.put(text);

@@ -9,7 +9,7 @@ members-init c =
     let d = c.args.text.now in
     let first : get_or d 0 0 ≡ 123 = cc in
     let brace = byte_stands d 0 123 first (omega arith) in
-    rw c.new-found.ensures.items (record { text = brace.text ∙ ap (λ l. l ++ drop 1 d) (sym nothing_opened); spelled = tt; within = brace.within })
+    rw c.in_ok-found.ensures.items (record { text = brace.text ∙ ap (λ l. l ++ drop 1 d) (sym nothing_opened); spelled = tt; within = brace.within })
 
 pub members-preserved : goal.members-preserved
 members-preserved c =
@@ -19,7 +19,7 @@ members-preserved c =
     let end = c.in_ok-member.end in
     let found = c.in_ok-member.ensures in
     let comma : get_or d end 0 ≡ 44 = cc in
-    rw c.in_ok-put.ensures
+    rw c.in_ok-push.ensures.items
     (record {
       text = grown_by_comma d ms m c.members.at end c.members.invariant.text c.members.invariant.spelled found.0 comma;
       spelled = AreSpelled-push ms m c.members.invariant.spelled found.1;
@@ -37,4 +37,4 @@ returns-in-125 c =
     let last : end + 1 ≡ length d = omega arith in
     let spelled = AreSpelled-push ms m c.members.invariant.spelled found.1 in
     let whole = grown_to_end d ms m c.members.at end c.members.invariant.text c.members.invariant.spelled found.0 brace last in
-    rw c.in_ok-put.ensures (reads_members d (ms ++ m ∷ []) spelled (tokens-closed d (ms ++ m ∷ []) spelled whole))
+    rw c.in_ok-push.ensures.items (reads_members d (ms ++ m ∷ []) spelled (tokens-closed d (ms ++ m ∷ []) spelled whole))

@@ -1,0 +1,70 @@
+//! What a line has at the keys of its command.
+ghost use Rattle.std.specs.Prelude.{◌≡◌, ◌≤◌, ◌<◌, ◌||◌, [], IsTrue, MatchOption, bytes_eq, codes, false, get_or, length, true};
+ghost use Rattle.std.specs.List.{list_any};
+ghost use Rattle.serde_json.specs.Data.{object};
+ghost use Rattle.json_reading.specs.Members.{data_of, members_in};
+ghost use Rattle.wire_commands.specs.Found.{AreFound, are_distinct, with_common, words_of};
+ghost use Rattle.wire_commands.specs.Held.{has_only};
+
+use crate::keys::Key;
+use json_reading::{Field, Member};
+
+/// Puts the value that the members have at each of the keys to the place of the key. Answers whether there are
+/// no further keys. Keys mostly come in the order in which a command names them.
+pub(crate) fn find_values<'m, 'a>(
+    members: &'m [Member<'a>],
+    keys: &[Key],
+    found: &mut [Option<&'m Field<'a>>],
+) -> bool
+    requires room { length keys.now ≤ length found.old }
+    requires none { AreFound (λ field. data_of field.now) (words_of keys.now) [] found.old }
+    requires distinct { are_distinct (with_common (words_of keys.now)) ≡ true }
+    ensures known { result ≡ has_only (words_of keys.now) (object (members_in members.now)) }
+    ensures found { IsTrue result → AreFound (λ field. data_of field.now) (words_of keys.now) members.now found.new }
+    ensures room { length found.new ≡ length found.old }
+{
+    let mut next = 0;
+    'members: for member in members {
+        if !is_common(member.key) {
+            let Some(place) = place_of(member.key, keys, next) else {
+                return false;
+            };
+            found[place] = Some(&member.value);
+            next = place + 1;
+        }
+    }
+    true
+}
+
+/// Whether every command has the key.
+#[inline(always)]
+fn is_common(word: &str) -> bool
+    ensures { result ≡ (bytes_eq word.now (codes "do") || bytes_eq word.now (codes "session")) }
+{
+    word == "do" || word == "session"
+}
+
+/// The place of a key, which is looked for at the expected place first.
+#[inline(always)]
+fn place_of(word: &str, keys: &[Key], expected: usize) -> Option<usize>
+    ensures { MatchOption result (list_any (bytes_eq word.now) (words_of keys.now) ≡ false)
+        (λ place. (place < length keys.now) × (get_or (words_of keys.now) place [] ≡ word.now)) }
+{
+    if expected < keys.len() && word == keys[expected].word() {
+        return Some(expected);
+    }
+    any_place_of(word, keys)
+}
+
+/// The first place of a key.
+fn any_place_of(word: &str, keys: &[Key]) -> Option<usize>
+    ensures { MatchOption result (list_any (bytes_eq word.now) (words_of keys.now) ≡ false)
+        (λ place. (place < length keys.now) × (get_or (words_of keys.now) place [] ≡ word.now)) }
+{
+    'keys: for (place, key) in keys.iter().enumerate() {
+        if word == key.word() {
+            return Some(place);
+        }
+    }
+    None
+}
