@@ -3,6 +3,7 @@ pub mod TableLemmas
 pub mod EntryLemmas
 pub mod FormLemmas
 pub mod OnceLemmas
+pub mod SpelledLemmas
 pub mod SignalLemmas
 pub mod DeclaringLemmas
 pub mod EachLemmas

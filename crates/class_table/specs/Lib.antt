@@ -5,6 +5,7 @@ pub mod Written
 pub mod Forms
 pub mod Declaring
 pub mod Sound
+pub mod Spelled
 pub mod Signed
 pub mod ClassFile
 pub mod Table

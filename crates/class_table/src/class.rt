@@ -1,11 +1,13 @@
 //! Classes, their methods and their properties.
-ghost use Rattle.std.specs.Prelude.{◌≡◌, ◌+◌, ◌≤◌, ◌<◌, IfOk, IfSome, length};
+ghost use Rattle.std.specs.Prelude.{◌≡◌, ◌+◌, ◌≤◌, ◌<◌, IfOk, IfSome, IsTrue, bytes_eq, length, position};
 ghost use Rattle.std.specs.Option.{option_map};
 ghost use Rattle.class_table.specs.Declaring.{empty_body, signal_of, slot_of};
 ghost use Rattle.class_table.specs.Lookup.{is_same, method_number, property_number, text_of};
+ghost use Rattle.class_table.specs.Spelled.{IsOwnText};
+ghost use Rattle.signature_core.specs.Reading.{IsNormal};
 
-use plain_types::{Items, Text};
-use signature_core::{Kind, Signature};
+use plain_types::{Items, Text, is_name};
+use signature_core::{Kind, PARAMS, Signature};
 use std::alloc::{AllocError, Global};
 use term_core::Body;
 
@@ -140,6 +142,19 @@ impl Class {
         Some(self.method_offset + index as u32)
     }
 
+    /// The number of the method of this normal text among those that the class declares itself.
+    pub(crate) fn own_method_of_text(&self, text: &str) -> Option<u32>
+        requires { self.now.method_offset + length self.now.methods ≤ METHODS }
+        ensures { IfSome result (IsOwnText text.now self.now) }
+    {
+        let at = text_index(self.methods.as_slice(), text)?;
+        let method = self.methods.get(at)?;
+        if !is_normal(&method.signature) {
+            return None;
+        }
+        Some(self.method_offset + at as u32)
+    }
+
     /// The number of the property of this name among those that the class declares itself.
     pub(crate) fn own_property(&self, name: &str) -> Option<u32>
         requires { self.now.property_offset + length self.now.properties ≤ PROPERTIES }
@@ -159,6 +174,23 @@ fn method_index(methods: &[Method], signature: &Signature) -> Option<usize>
     methods
         .iter()
         .position(|method| is_same(&method.signature, signature))
+}
+
+/// Where the method of this normal text stands.
+fn text_index(methods: &[Method], text: &str) -> Option<usize>
+    ensures value { result ≡ position (λ method. bytes_eq method.text text.now) methods.now }
+    ensures within { IfSome result (λ index. index < length methods.now) }
+{
+    methods
+        .iter()
+        .position(|method| method.text.as_str() == text)
+}
+
+/// Whether the normal text of a signature spells it.
+fn is_normal(signature: &Signature) -> bool
+    ensures { IsTrue result → IsNormal signature.now }
+{
+    is_name(signature.name.as_str()) && signature.kinds.len() <= PARAMS
 }
 
 /// Where the property of this name stands.

@@ -6,6 +6,7 @@ ghost use Rattle.class_table.specs.Declaring.{q_object};
 ghost use Rattle.class_table.specs.Lookup.{are_distinct_methods, are_distinct_properties, inherits, line, method_number, method_text, methods, names, index_of, properties, property_number, signatures};
 ghost use Rattle.indexmap.specs.IndexMap.{keys, values};
 ghost use Rattle.class_table.specs.Sound.{FitsBehind, IsClassAt, IsMethod, IsTable, is_told};
+ghost use Rattle.class_table.specs.Spelled.{IsSpelled};
 
 use crate::base_class::q_object;
 use crate::class::{CLASSES, Class, METHODS, Method, PROPERTIES, Property};
@@ -100,8 +101,9 @@ impl ClassTable {
         Some(row)
     }
 
-    /// How many methods the class has.
-    pub(crate) fn method_count(&self, class: u32) -> u32
+    /// How many methods the class has, those of its superclasses among them; a class that is not there has
+    /// none.
+    pub fn method_count(&self, class: u32) -> u32
         ensures value { result ≡ length (methods self.now class) }
         ensures few { result ≤ METHODS }
         ensures once { IsTrue (are_distinct_methods (signatures (methods self.now class))) }
@@ -161,16 +163,31 @@ impl ClassTable {
     pub fn method(&self, class: u32, signature: &Signature) -> Option<u32>
         ensures { result ≡ method_number signature.now (methods self.now class) }
     {
-        let mut found = None;
         let mut next = Some(class);
         while let Some(index) = next {
-            let Some(row) = self.class_row(index) else {
-                return found;
-            };
-            found = row.own_method(signature).or(found);
+            let row = self.class_row(index)?;
+            if let Some(number) = row.own_method(signature) {
+                return Some(number);
+            }
             next = row.superclass;
         }
-        found
+        None
+    }
+
+    /// The number of the method, of the class itself or a superclass, whose normal text this is. Another
+    /// text that spells the method's signature is not found here.
+    pub fn method_of_text(&self, class: u32, text: &str) -> Option<u32>
+        ensures { IfSome result (IsSpelled text.now (methods self.now class)) }
+    {
+        let mut next = Some(class);
+        while let Some(index) = next {
+            let row = self.class_row(index)?;
+            if let Some(number) = row.own_method_of_text(text) {
+                return Some(number);
+            }
+            next = row.superclass;
+        }
+        None
     }
 
     /// The number of the property of this name, of the class itself or a superclass.

@@ -97,14 +97,14 @@ impl Text {
     pub fn copy(&self, alloc: Global) -> Result<Text, AllocError>
         ensures { IfOk result (λ t. t ≡ self.now) }
     {
-        if let Kept::Shared(text) = &self.kept {
-            if let Ok(kept) = text.clone() {
-                return Ok(Text {
-                    kept: Kept::Shared(kept),
-                });
-            }
-        }
-        Text::from_str(alloc, self.as_str())
+        let kept = match &self.kept {
+            Kept::Short(text) => Kept::Short(*text),
+            Kept::Shared(text) => match text.clone() {
+                Ok(text) => Kept::Shared(text),
+                Err(_) => return Text::from_str(alloc, text.as_str()),
+            },
+        };
+        Ok(Text { kept })
     }
 }
 

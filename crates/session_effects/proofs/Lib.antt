@@ -1,4 +1,5 @@
 pub mod ActionLemmas
 pub mod FoundLemmas
+pub mod MethodLemmas
 pub mod WritingLemmas
 pub mod FunctorLemmas

@@ -21,7 +21,7 @@ pub use connections::{Options, asked_connection, asked_functor_connection, asked
 pub use deeds::{do_deed, do_found};
 pub use effects::{Emission, change, deleted, sent, truth};
 pub use functors::{are_arguments, functor_at};
-pub use methods::{kinds_at, method_at, method_named, method_with, signal_named};
+pub use methods::{kinds_at, method_at, method_in, method_named, method_with, signal_named};
 pub use setup::Setup;
 pub use slot::Slot;
 pub use writing::{set, write_declared, write_dynamic};

@@ -3,10 +3,11 @@ ghost use Rattle.std.specs.Prelude.{◌≡◌, Err, IfSome, Ok, if◌then◌else
 ghost use Rattle.std.specs.Option.{option_copied};
 ghost use Rattle.refusals.specs.Answers.{Answers};
 ghost use Rattle.refusals.specs.declared.code.Code.TheVariants.{NoSuchMethod};
+ghost use Rattle.class_table.specs.Lookup.{methods};
 ghost use Rattle.class_table.specs.Sound.{IsMethod};
 ghost use Rattle.thread_model.specs.Methods.{kinds_at, is_signal_at, method_at, method_named, method_with, signal_named, signal_with};
 ghost use Rattle.session_tables.specs.Tables.{IsPlaced, state_at};
-ghost use Rattle.session_effects.specs.Methods.{its_methods};
+ghost use Rattle.session_effects.specs.Methods.{its_methods, number_named};
 ghost use Rattle.session_effects.specs.Setup.{settings_of};
 
 use crate::caller::Caller;
@@ -108,10 +109,36 @@ pub fn method_named(
     requires { IsPlaced tables.now caller.now.place }
     ensures { Answers result (method_named (its_methods caller.now tables.now object) text.now) }
 {
+    let Some(class) = tables.class_of(caller.place, object) else {
+        drop(Signature::normalise(caller.setup.alloc, text.as_str())?);
+        return Err(Fault::Refused(Code::NoSuchMethod));
+    };
+    match method_in(caller, class, text)? {
+        Some(index) => Ok(index),
+        None => Err(Fault::Refused(Code::NoSuchMethod)),
+    }
+}
+
+/// The index of the method that a text names, where a class has it. Most texts are the normal text of
+/// one.
+pub fn method_in(caller: &Caller, class: u32, text: &Text) -> Result<Option<u32>, Fault>
+    ensures { Answers result (number_named (methods (settings_of caller.now.setup.now).classes class) text.now) }
+{
+    let found = caller.setup.classes.method_of_text(class, text.as_str());
+    if found.is_some() {
+        return Ok(found);
+    }
+    method_spelled(caller, class, text)
+}
+
+/// The same of any text.
+#[cold]
+#[inline(never)]
+fn method_spelled(caller: &Caller, class: u32, text: &Text) -> Result<Option<u32>, Fault>
+    ensures { Answers result (number_named (methods (settings_of caller.now.setup.now).classes class) text.now) }
+{
     let signature = Signature::normalise(caller.setup.alloc, text.as_str())?;
-    let found = method_with(caller, tables, object, &signature);
-    drop(signature);
-    Ok(found?)
+    Ok(caller.setup.classes.method(class, &signature))
 }
 
 /// The index of the signal of an object that a text names.

@@ -1,14 +1,15 @@
 //! What is fixed for the whole life of an engine.
-ghost use Rattle.std.specs.Prelude.{◌≡◌, ◌≤◌, IfOk, length, option_map};
+ghost use Rattle.std.specs.Prelude.{◌≡◌, ◌≤◌, IfOk, length, map, option_map};
 ghost use Rattle.stored_slots.specs.declared.limit.TheConstants.{FUNCTORS};
 ghost use Rattle.std.specs.Result.{result_err};
+ghost use Rattle.class_table.specs.Lookup.{method_text, methods, names, properties};
 ghost use Rattle.thread_model.specs.Classes.{class_index};
 ghost use Rattle.thread_model.specs.Refusing.{class_refusal, named_class_refusal};
 
 use class_table::ClassTable;
 use plain_types::{Items, Text};
 use refusals::Code;
-use std::alloc::Global;
+use std::alloc::{AllocError, Global};
 use stored_slots::Functor;
 
 /// What is fixed for the whole life of an engine, and the same for all of its sessions.
@@ -35,6 +36,34 @@ impl Setup {
             Some(index) => Ok(index),
             None => Err(Code::NoSuchClass),
         }
+    }
+
+    /// The normal texts of the methods of a class, by number.
+    pub fn method_texts(&self, class: u32) -> Result<Items<Text>, AllocError>
+        ensures { IfOk result (λ texts. texts ≡ map method_text (methods self.now.classes class)) }
+    {
+        let mut texts = Items::new(self.alloc);
+        for number in 0..self.classes.method_count(class) {
+            let Some(method) = self.classes.method_row(class, number) else {
+                return Ok(texts);
+            };
+            texts.push(method.text.copy(self.alloc)?)?;
+        }
+        Ok(texts)
+    }
+
+    /// The names of the properties of a class, by number.
+    pub fn property_names(&self, class: u32) -> Result<Items<Text>, AllocError>
+        ensures { IfOk result (λ found. found ≡ names (properties self.now.classes class)) }
+    {
+        let mut found = Items::new(self.alloc);
+        for number in 0..self.classes.property_count(class) {
+            let Some(property) = self.classes.property_row(class, number) else {
+                return Ok(found);
+            };
+            found.push(property.name.copy(self.alloc)?)?;
+        }
+        Ok(found)
     }
 
     /// The index of the class of this name, where one is given.

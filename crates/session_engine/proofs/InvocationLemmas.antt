@@ -1,5 +1,5 @@
 -- The command that calls a slot or sends a signal.
-use Rattle.std.proofs.Common.{◌≡◌, ◌<◌, ◌-◌, ◌==◌, ◌&&◌, ℕ, Bool, true, false, cond, List, [], ◌∷◌, Option, Some, None, Result, Ok, Err, IsSome, slice_get, sym, ap, refl, subst, ◌∙◌, arith}
+use Rattle.std.proofs.Common.{◌≡◌, ◌<◌, ◌-◌, ◌==◌, ◌&&◌, ℕ, Bool, true, false, cond, List, [], ◌∷◌, Option, Some, None, Result, Ok, Err, slice_get, sym, ap, refl, subst, ◌∙◌, arith}
 use Rattle.std.proofs.lemmas.Bool.{cond-true, cond-false}
 use Rattle.std.proofs.lemmas.Bool.Decides.{nat_tests}
 use Rattle.std.proofs.lemmas.List.Quantifiers.{position-Some}
@@ -7,13 +7,16 @@ use Rattle.std.proofs.lemmas.Option.{slice_get-get_or}
 use Rattle.std.specs.Option.{ok_or, option_and_then, option_map_or, option_or}
 use Rattle.std.specs.Result.{result_err, result_unwrap_or}
 use Rattle.refusals.specs.declared.code.Code.{Code}
-use Rattle.refusals.specs.declared.code.Code.TheVariants.{BadSignature, NoSuchMethod}
+use Rattle.refusals.specs.declared.code.Code.TheVariants.{BadSignature}
+use Rattle.refusals.specs.declared.fault.Fault.{Fault}
+use Rattle.refusals.specs.declared.fault.Fault.TheVariants.{Memory, Refused}
+use Rattle.refusals.specs.Answers.{Answers}
 use Rattle.serde_json.specs.Data.{Data}
 use Rattle.signature_core.specs.declared.signature.Signature.{Signature}
 use Rattle.signature_core.specs.Reading.{signature_of}
 use Rattle.variant_value.specs.declared.value.Value.{Value}
 use Rattle.class_table.specs.declared.class.Method.{Method}
-use Rattle.class_table.specs.Lookup.{is_same, method_number}
+use Rattle.class_table.specs.Lookup.{is_same, method_number, methods}
 use Rattle.term_core.specs.Act.{acts_of}
 use Rattle.event_queue.specs.declared.event.Priority.{Priority}
 use Rattle.thread_model.specs.declared.line.Answer.TheVariants as a
@@ -25,7 +28,7 @@ use Rattle.thread_model.specs.Asked.{Invoke}
 use Rattle.thread_model.specs.Doing.{Doing, begun, told, turn_taken, used_up}
 use Rattle.thread_model.specs.Effects.{does_next, ended}
 use Rattle.thread_model.specs.Items.{Emit, Next, Run, puts}
-use Rattle.thread_model.specs.Methods.{Found, is_signal_at, method_at, methods_of}
+use Rattle.thread_model.specs.Methods.{Found, ◌>>=◌, is_signal_at, kinds_at, method_at, methods_of, signature_in}
 use Rattle.thread_model.specs.Run.{run}
 use Rattle.thread_model.specs.Settings.{Settings}
 use Rattle.connection_types.specs.declared.connection_type.ConnectionType.{ConnectionType}
@@ -39,7 +42,10 @@ use Rattle.thread_model.proofs.RunLemmas.{at_end, by_step}
 use Rattle.thread_model.proofs.SignalLemmas.{performs_invoke, refusal_invoke}
 use Rattle.thread_model.proofs.ThreadLemmas.{replies_last}
 use Rattle.session_tables.specs.declared.tables.Tables.{Tables}
+use Rattle.session_tables.specs.Classes.{HasClass}
 use Rattle.session_tables.specs.Tables.{state_at}
+use Rattle.session_effects.specs.Methods.{number_named}
+use Rattle.session_effects.proofs.MethodLemmas.{methods_by_class}
 use Rattle.session_effects.specs.declared.caller.Caller.{Caller}
 use Rattle.nested_calls.specs.declared.telling.Telling.{Telling}
 use Rattle.session_engine.specs.Commands.{DoesAtFirst, Performs, reply_after}
@@ -53,24 +59,42 @@ use Rattle.nested_calls.proofs.DoesLemmas.{OnErr-map, OnOk-map}
 use Rattle.session_tables.specs.Reaching.{Reaches}
 use Rattle.thread_model.specs.declared.post.Post.{Post}
 
--- the signature that a text spells
-pub signature_is : (found : Option Signature) (signature : Signature) → ok_or found BadSignature ≡ Ok signature → found ≡ Some signature
-signature_is (Some x) signature e = cc
-signature_is None signature e = absurd (cc)
+-- what a text names among the methods of an object's class
+pub record IsAsked (settings : Settings) (state : State) (target : ℕ) (text : List ℕ) (number : Option ℕ) : Type 0 where
+  pub signature : Signature
+  pub spelled : ok_or (signature_of text) BadSignature ≡ Ok signature
+  pub found : method_number signature (methods_of settings state target) ≡ number
+  pub asked : asked_method settings state target text ≡ number
 
-pub number_is : (found : Option ℕ) (index : ℕ) → Ok index ≡ ok_or found NoSuchMethod → found ≡ Some index
-number_is (Some x) index e = cc
-number_is None index e = absurd (cc)
+pub named_in : (settings : Settings) (state : State) (target class : ℕ) (text : List ℕ) (number : Option ℕ) → HasClass state target class → number_named (methods settings.classes class) text ≡ Ok number → IsAsked settings state target text number
+named_in settings state target class text number has named = by (signature_of text) refl (rw (methods_by_class settings state target class has) named)
+  where
+    by : (read : Option Signature) → signature_of text ≡ read → (ok_or read BadSignature >>= λ signature. Ok (method_number signature (methods_of settings state target))) ≡ Ok number → IsAsked settings state target text number
+    by None e named = absurd (cc)
+    by (Some signature) e named =
+        let found : method_number signature (methods_of settings state target) ≡ number = cc in
+        record {
+          signature = signature;
+          spelled = ap (λ read. ok_or read BadSignature) e;
+          found = found;
+          asked = ap (option_and_then (λ signature. method_number signature (methods_of settings state target))) e ∙ found;
+        }
 
-pub number_none : (found : Option ℕ) (code : Code) → Err code ≡ ok_or found NoSuchMethod → found ≡ None
-number_none (Some x) code e = absurd (cc)
-number_none None code e = refl
+-- where the signature is at fault, so is what it names
+pub unread : (methods : List Method) (text : List ℕ) (fault : Fault) → Answers {T = Option ℕ} (Err fault) (number_named methods text) → Answers {T = Signature} (Err fault) (signature_in text)
+unread methods text Memory why = tt
+unread methods text (Refused code) why = by (signature_of text) why
+  where
+    by : (read : Option Signature) → (ok_or read BadSignature >>= λ signature. Ok (method_number signature methods)) ≡ Err code → ok_or read BadSignature ≡ Err code
+    by None e = cc
+    by (Some signature) e = absurd (cc)
 
--- the method that a text names is the one with the signature that it spells
-pub asked_is : (settings : Settings) (state : State) (target : ℕ) (text : List ℕ) (signature : Signature) (number : Option ℕ) → ok_or (signature_of text) BadSignature ≡ Ok signature → method_number signature (methods_of settings state target) ≡ number
-    → asked_method settings state target text ≡ number
-asked_is settings state target text signature number spelled found =
-    ap (option_and_then (λ signature. method_number signature (methods_of settings state target))) (signature_is (signature_of text) signature spelled) ∙ found
+-- a method of the object's class is one of the object
+pub method_is : (settings : Settings) (state : State) (target class index : ℕ) (method : Method) → HasClass state target class → Some method ≡ slice_get (methods settings.classes class) index → Some method ≡ method_at settings state target index
+method_is settings state target class index method has found = found ∙ ap (λ methods. slice_get methods index) (sym (methods_by_class settings state target class has))
+
+pub kinds_are : (settings : Settings) (state : State) (target index : ℕ) (method : Method) → Some method ≡ method_at settings state target index → method.signature.kinds ≡ kinds_at (methods_of settings state target) index
+kinds_are settings state target index method has = ap (λ (found : Option Method). option_map_or (λ method. method.signature.kinds) found []) has
 
 module _ (settings : Settings) (state : State) (target index : ℕ) (values : List Value) where
   invoked_spent : is_signal_at (methods_of settings state target) index ≡ false → settings.turns ≡ 0 → invoked settings state target index values ≡ puts [] (used_up (begun settings state))
@@ -220,9 +244,12 @@ posts_invoked caller object text args mode priority state index values later fou
     ∙ ap (λ (given : Found (List Value)). invoked_later state object index (result_unwrap_or given []) priority) given
 
 -- a method that has a number is there
-pub method_there : (methods : List Method) (signature : Signature) (index : ℕ) → method_number signature methods ≡ Some index → IsSome (slice_get methods index)
-method_there [] signature index found = absurd (cc)
-method_there (first ∷ rest) signature index found =
-    let methods = first ∷ rest in
-    let there = slice_get-get_or methods index first (position-Some (λ (method : Method). is_same method.signature signature) methods index first found).0 in
-    subst IsSome (sym there) refl
+pub method_there : (settings : Settings) (state : State) (target class : ℕ) (signature : Signature) (index : ℕ) → HasClass state target class → method_number signature (methods_of settings state target) ≡ Some index → None ≡ slice_get (methods settings.classes class) index → ⊥
+method_there settings state target class signature index has found none =
+    by (methods settings.classes class) (ap (method_number signature) (sym (methods_by_class settings state target class has)) ∙ found) none
+  where
+    by : (methods : List Method) → method_number signature methods ≡ Some index → ◌≡◌ {A = Option Method} None (slice_get methods index) → ⊥
+    by [] found none = absurd (cc)
+    by (first ∷ rest) found none =
+        let there = slice_get-get_or (first ∷ rest) index first (position-Some (λ (method : Method). is_same method.signature signature) (first ∷ rest) index first found).0 in
+        absurd (cc)

@@ -1,16 +1,16 @@
 //! The command that describes a class.
-ghost use Rattle.std.specs.Prelude.{◌≡◌, IfOk, map, option_and_then, string_bytes, false};
+ghost use Rattle.std.specs.Prelude.{◌≡◌, IfOk, option_and_then, false};
 ghost use Rattle.thread_model.specs.Asked.{Meta};
 ghost use Rattle.thread_model.specs.Classes.{class_name};
 ghost use Rattle.session_tables.specs.Tables.{IsPlaced};
 ghost use Rattle.session_engine.specs.Commands.{Performs, reply_lines};
 
 use class_table::Class;
-use plain_types::{Items, Text};
+use plain_types::Text;
 use refusals::Fault;
 use session_effects::{Caller, Setup};
 use session_tables::Tables;
-use std::alloc::{AllocError, Global};
+use std::alloc::AllocError;
 use thread_model::{Answer, Boxed, MetaObject};
 
 /// What there is in the class of this name.
@@ -26,8 +26,8 @@ pub fn describe(caller: &Caller, tables: &Tables, class: &Text) -> Result<Answer
     let meta = MetaObject {
         class: row.name.copy(alloc)?,
         method_offset: row.method_offset,
-        methods: texts(alloc, classes.methods(index)?)?,
-        properties: texts(alloc, classes.properties(index)?)?,
+        methods: caller.setup.method_texts(index)?,
+        properties: caller.setup.property_names(index)?,
         property_offset: row.property_offset,
         superclass: superclass_name(caller.setup, row)?,
     };
@@ -45,15 +45,4 @@ fn superclass_name(setup: &Setup, class: &Class) -> Result<Option<Text>, AllocEr
         Some(base) => Ok(Some(base.name.copy(setup.alloc)?)),
         None => Ok(None),
     }
-}
-
-/// The texts as items.
-fn texts(alloc: Global, strings: Vec<String>) -> Result<Items<Text>, AllocError>
-    ensures { IfOk result (λ texts. texts ≡ map (λ text. string_bytes text) strings.items) }
-{
-    let mut texts = Items::new(alloc);
-    for text in strings {
-        texts.push(Text::from_string(text)?)?;
-    }
-    Ok(texts)
 }

@@ -28,23 +28,17 @@ returns c =
     (performs_meta _ _ _ _
     ∙ ap (λ index. replies state (a.Meta (described classes index))) (sym c.in_ok-index.ensures.index)
     ∙ ap (λ meta. replies state (a.Meta meta)) (described_at classes c.in_ok-index.index c.in-Some.row.now (sym c.in-Some.ensures.value)
-    ∙ sym (described_is classes c.in_ok-index.index c.in-Some.row.now _ _ _ _ _ _ c.in_ok-copy.ensures c.in-Some.ensures.has.method_offset (c.in_ok-texts.ensures ∙ c.in_ok-methods.ensures)
-    (c.in_ok-texts-2.ensures ∙ c.in_ok-properties.ensures) c.in-Some.ensures.has.property_offset c.in_ok-superclass_name.ensures) ∙ sym c.in_ok-new.ensures))
+    ∙ sym (described_is classes c.in_ok-index.index c.in-Some.row.now _ _ _ _ _ _ c.in_ok-copy.ensures c.in-Some.ensures.has.method_offset c.in_ok-method_texts.ensures
+    c.in_ok-property_names.ensures c.in-Some.ensures.has.property_offset c.in_ok-superclass_name.ensures) ∙ sym c.in_ok-new.ensures))
 
 pub returns-in_err-copy : goal.returns-in_err-copy
 returns-in_err-copy c = starved _ _ _ _ _ _ c.from_residual-in_err-copy.ensures.1 (changes_same _ _ _ refl)
 
-pub returns-in_err-methods : goal.returns-in_err-methods
-returns-in_err-methods c = starved _ _ _ _ _ _ c.from_residual-in_err-methods.ensures.1 (changes_same _ _ _ refl)
+pub returns-in_err-method_texts : goal.returns-in_err-method_texts
+returns-in_err-method_texts c = starved _ _ _ _ _ _ c.from_residual-in_err-method_texts.ensures.1 (changes_same _ _ _ refl)
 
-pub returns-in_err-texts : goal.returns-in_err-texts
-returns-in_err-texts c = starved _ _ _ _ _ _ c.from_residual-in_err-texts.ensures.1 (changes_same _ _ _ refl)
-
-pub returns-in_err-properties : goal.returns-in_err-properties
-returns-in_err-properties c = starved _ _ _ _ _ _ c.from_residual-in_err-properties.ensures.1 (changes_same _ _ _ refl)
-
-pub returns-in_err-texts-2 : goal.returns-in_err-texts-2
-returns-in_err-texts-2 c = starved _ _ _ _ _ _ c.from_residual-in_err-texts-2.ensures.1 (changes_same _ _ _ refl)
+pub returns-in_err-property_names : goal.returns-in_err-property_names
+returns-in_err-property_names c = starved _ _ _ _ _ _ c.from_residual-in_err-property_names.ensures.1 (changes_same _ _ _ refl)
 
 pub returns-in_err-superclass_name : goal.returns-in_err-superclass_name
 returns-in_err-superclass_name c = starved _ _ _ _ _ _ c.from_residual-in_err-superclass_name.ensures.1 (changes_same _ _ _ refl)
