@@ -13,6 +13,5 @@ pub mod Isolated
 pub mod FirstLine
 pub mod Marked
 pub mod Sliced
-pub mod Noted
 pub mod Taken
 pub mod SliceEnds

@@ -22,7 +22,7 @@ use Rattle.wire_format.proofs.Cutting.{lines_of-empty}
 use Rattle.wire_lines.specs.declared.fault.RunFault.{RunFault}
 use Rattle.wire_lines.specs.declared.fault.RunFault.TheVariants.{Read, Write, Endless, Memory}
 use Rattle.wire_lines.specs.declared.stream.Summary.{Summary}
-use Rattle.wire_lines.specs.Run.{AppendsSome, IsPastReads, ReadFails, WriteFails}
+use Rattle.wire_lines.specs.Run.{AppendsSome, IsPastReads, WriteFails}
 use Rattle.wire_lines.specs.Slicing.{HasRun, SlicesOver, command_lines, is_command, sliced}
 use Rattle.wire_lines.specs.Taking.{HasStopped, HasTaken, Noted, commands_in, line_at, numbered}
 use Rattle.wire_lines.proofs.Sliced.{commands_in-lines, numbers-text, numbers-within, told_as_sliced}
@@ -142,15 +142,6 @@ module _ (bytes : List ℕ) (old : Server) (now : Noted) (count : ℕ) (taken : 
     HasTaken-text = numbers-text (settings old) (states old) s bytes now.starts started numbers of_slice
 
 -- a device that has not failed, where that is not the fault
-pub ReadFails-other : {T : Type 0} (old new : ℕ) (fault : RunFault) (r : Result T RunFault) → r ≡ Err fault → fault ≢ Read → new ≡ old → ReadFails old new r
-ReadFails-other {T = T} old new fault r is other same = subst (ReadFails old new) (sym is) (by fault other)
-  where
-    by : (fault : RunFault) → fault ≢ Read → ReadFails {T = T} old new (Err fault)
-    by Read other = absurd (other refl)
-    by Write other = same
-    by Endless other = same
-    by Memory other = same
-
 pub WriteFails-other : {T : Type 0} (old new : ℕ) (fault : RunFault) (r : Result T RunFault) → r ≡ Err fault → fault ≢ Write → new ≡ old → WriteFails old new r
 WriteFails-other {T = T} old new fault r is other same = subst (WriteFails old new) (sym is) (by fault other)
   where

@@ -10,6 +10,7 @@ use Rattle.server_world.specs.declared.report.Entry.{Entry}
 use Rattle.server_world.specs.Noting.{AreNoted}
 use Rattle.server_world.specs.Runs.{AreSteps, IsEntry}
 use Rattle.server_world.specs.Server.{Server, OnlyRefused, states}
+use Rattle.server_world.proofs.NotingLemmas.{noted_step, notes_begin}
 use Rattle.server_world.proofs.RunLemmas.{steps_more}
 use Rattle.thread_model.specs.Asked.{Asked}
 use Rattle.wire_format.specs.Input.{Piece, lines_of, piece_of, pieces_of}
@@ -17,7 +18,6 @@ use Rattle.wire_lines.specs.declared.fault.RunFault.{RunFault}
 use Rattle.wire_lines.specs.declared.fault.RunFault.TheVariants.{Read, Write, Endless, Memory}
 use Rattle.wire_lines.specs.Slicing.{HasRun, is_command}
 use Rattle.wire_lines.specs.Taking.{DoesNoted, HasStopped, HasTaken, Noted, RunsShort, StopsAt, Takes, commands_in, line_at}
-use Rattle.wire_lines.proofs.Noted.{AreNoted-more, AreNoted-nothing}
 use Rattle.wire_lines.proofs.Sliced.{commands_in-append, commands_in-lines}
 
 -- nothing yet
@@ -31,7 +31,7 @@ HasTaken-nothing input server notes starts count no_notes no_starts zero = recor
   begins = ap (map (line_at input)) no_starts;
   entries = [];
   steps = refl;
-  right = λ found. subst (AreNoted (states server) [] server) (sym no_notes) (AreNoted-nothing server);
+  right = λ found. subst (AreNoted (states server) [] server) (sym no_notes) (notes_begin server (states server));
 }
 
 module _ (input : List ℕ) (old : Server) (now : Noted) (count : ℕ) (rest : List ℕ) (taken : HasTaken input old now count rest) where
@@ -74,7 +74,7 @@ module _ (input : List ℕ) (old : Server) (now : Noted) (count : ℕ) (rest : L
             right = λ found.
                 subst (λ ts. AreNoted (states old) ts next.server next.notes) (sym same)
                 (subst (AreNoted (states old) (commands_in taken.lines ++ t ∷ []) next.server) (sym does.notes)
-                (AreNoted-more old now.server next.server (commands_in taken.lines) taken.entries now.notes t does.note does.entry taken.steps does.right does.does taken.right found));
+                (noted_step old now.server next.server (commands_in taken.lines) taken.entries t does.entry now.notes does.note taken.steps does.does taken.right does.right found));
           }
 
       by_piece : (piece : Option Piece) → piece_of line ≡ piece → Takes start piece now next → HasTaken input old next (count + 1) behind
