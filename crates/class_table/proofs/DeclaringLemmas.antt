@@ -92,7 +92,7 @@ method_sound new method e = by new.body e
     by : (body : Option Data) → method_of (record { signature = new.signature; body = body }) ≡ Ok method → IsMethod method
     by None h =
         let is : (signal_of new.signature) ≡ method = cc in
-        subst IsMethod is (record { text = refl; params = refl; body = record { limited = refl; arguments = tt } })
+        subst IsMethod is (record { text = refl; params = refl; body = record { limited = refl; arguments = tt; named = refl } })
     by (Some json) h = of (body_of (length new.signature.kinds) json) (body_read (length new.signature.kinds) json) h
 
 signal_keeps : (new : SignedMethod) (method : Method) → method_of new ≡ Ok method → method.is_signal ≡ is_none new.body

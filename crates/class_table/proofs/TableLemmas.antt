@@ -11,7 +11,7 @@ use Rattle.class_table.specs.declared.class.Class.{Class}
 use Rattle.class_table.specs.declared.class.Method.{Method}
 use Rattle.class_table.specs.declared.class.Property.{Property}
 use Rattle.class_table.specs.declared.class.TheConstants.{CLASSES}
-use Rattle.class_table.specs.Lookup.{gathered, of_class, inherited, methods, properties, is_same, method_number, property_number}
+use Rattle.class_table.specs.Lookup.{gathered, of_class, inherited, methods, properties, property_number}
 use Rattle.class_table.specs.Declaring.{delete_later_body, q_object, signal_of, slot_of}
 use Rattle.class_table.specs.Sound.{IsMethod, is_told, is_told_by, IsClassAt, FitsBehind, IsTable}
 use Rattle.class_table.proofs.ListLemmas.{eq_self, eq_other, position-seam}
@@ -135,10 +135,10 @@ IsTable-push classes new table room fits = record {
 -- the table of `QObject` alone
 
 quiet : (name : List ℕ) (kinds : List Kind) → IsMethod (signal_of (record { name = name; kinds = kinds }))
-quiet name kinds = record { text = refl; params = refl; body = record { limited = refl; arguments = tt } }
+quiet name kinds = record { text = refl; params = refl; body = record { limited = refl; arguments = tt; named = refl } }
 
 posts : IsMethod (slot_of (record { name = codes "deleteLater"; kinds = [] }) delete_later_body)
-posts = record { text = refl; params = refl; body = record { limited = refl; arguments = (tt, tt) } }
+posts = record { text = refl; params = refl; body = record { limited = refl; arguments = (tt, tt); named = refl } }
 
 three : (a b c : Method) → IsMethod a → IsMethod b → IsMethod c → All IsMethod (a ∷ b ∷ c ∷ [])
 three a b c first second third = All-cons IsMethod a (b ∷ c ∷ []) first (All-cons IsMethod b (c ∷ []) second (All-cons IsMethod c [] third (All-nil IsMethod)))
@@ -185,15 +185,7 @@ told_behind methods more property h = by property.notify h
     by None h = h
     by (Some number) h = at methods number h
 
--- a step up from a class to its superclass, in the search for a method and for a property
-pub method-step : (classes : List Class) (index : ℕ) (class : Class) → IsClassAt classes index class → (signature : Signature) (found : Option ℕ)
-    → option_or (method_number signature (inherited (methods classes) class.superclass)) (option_or (option_map (λ i. class.method_offset + i) (method_number signature class.methods)) found) ≡ option_or (method_number signature (methods classes index)) found
-method-step classes index class has signature found =
-    let p : Method → Bool = λ method. is_same method.signature signature in
-    let base = inherited (methods classes) class.superclass in
-    (λ i. option_or (position p base) (option_or (option_map (λ k. has.method_offset i + k) (position p class.methods)) found))
-    ∙ (sym (position-seam p base class.methods found) ∙ λ i. option_or (position p (sym has.its_methods i)) found)
-
+-- a step up from a class to its superclass, in the search for a property
 pub property-step : (classes : List Class) (index : ℕ) (class : Class) → IsClassAt classes index class → (name : List ℕ) (found : Option ℕ)
     → option_or (property_number name (inherited (properties classes) class.superclass)) (option_or (option_map (λ i. class.property_offset + i) (property_number name class.properties)) found) ≡ option_or (property_number name (properties classes index)) found
 property-step classes index class has name found =

@@ -11,8 +11,8 @@ use Rattle.class_table.specs.declared.class.Property.{Property}
 use Rattle.class_table.specs.Declaring.{q_object, tells}
 use Rattle.class_table.specs.Lookup.{are_distinct_methods, are_distinct_properties, inherited, line, method_text, methods, names, index_of, properties, signatures}
 
--- a method is kept with the text of its signature; its body keeps to the limits, and takes no argument
--- but the method's parameters
+-- a method is kept with the text of its signature; its body keeps to the limits, takes no argument but the
+-- method's parameters, and sets only what has a name
 pub record IsMethod (method : Method) : Type 0 where
   pub text : method.text ≡ method_text method
   pub params : method.body.params ≡ length method.signature.kinds

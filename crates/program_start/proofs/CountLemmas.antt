@@ -7,7 +7,7 @@ use Rattle.term_core.specs.Term.{state}
 use Rattle.program_start.specs.Count.{count_body, one_more}
 
 pub count_is_body : IsBodyFor (Int ∷ []) count_body
-count_is_body = record { takes = refl; keeps = record { limited = refl; arguments = ((tt, tt), tt) } }
+count_is_body = record { takes = refl; keeps = record { limited = refl; arguments = ((tt, tt), tt); named = refl } }
 
 pub count_is_next : IsNext 1 (one_more state)
 count_is_next = record { limited = refl; arguments = (tt, tt); unread = refl }

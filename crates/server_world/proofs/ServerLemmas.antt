@@ -11,6 +11,7 @@ use Rattle.isolation.specs.Influence.{KnowsAll}
 use Rattle.thread_model.specs.declared.line.Line.{Line}
 use Rattle.thread_model.specs.Asked.{Asked}
 use Rattle.thread_model.specs.Machine.{machine}
+use Rattle.thread_model.specs.Named.{AreNamed}
 use Rattle.thread_model.specs.State.{empty}
 use Rattle.thread_model.specs.Thread.{Settings, joins_name}
 use Rattle.session_tables.specs.Session.{Session, fresh}
@@ -69,6 +70,7 @@ module _ (old new : Server) (same : new.memory_refused ≡ old.memory_refused) w
     blame = λ was now. step.blame (found_in_engine old was) (refused_first was now);
     well = λ found. step.well (found_in_engine old found);
     sound = step.sound;
+    named = step.named;
   }
 
 -- nothing is done for a name that could not be entered
@@ -93,6 +95,7 @@ step_out old new name asked out well sound =
       sound = λ other.
           let same : AreSound (record { settings = engine.settings old.engine; session = engine.sessions new.engine; memory_refused = false }) = subst (λ (sessions : List ℕ → Session). AreSound (record { settings = engine.settings old.engine; session = sessions; memory_refused = false })) (sym out.sessions) sound in
           subst (λ (settings : Settings). AreSound (record { settings = settings; session = engine.sessions new.engine; memory_refused = false })) (sym out.settings) same other;
+      named = λ is all. subst (λ (sessions : List ℕ → Session). (other : List ℕ) → AreNamed (sessions other).state) (sym out.sessions) all;
     }
 
 pub none_of_err : {T E : Type 0} (result : Result T E) → IsErr result → result_ok result ≡ None

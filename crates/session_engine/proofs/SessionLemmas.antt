@@ -1,10 +1,11 @@
 -- What a session does with a command, what it hears of others, and what holds of it between commands.
-use Rattle.std.proofs.Common.{◌≡◌, ◌&&◌, ℕ, Bool, true, false, true≢false, cond, not, List, [], ◌∷◌, ◌++◌, Some, None, All, IsFalse, length-append, refl, sym, ap, subst, ◌∙◌, arith}
+use Rattle.std.proofs.Common.{◌≡◌, ◌&&◌, ℕ, Bool, true, false, true≢false, cond, not, List, [], ◌∷◌, ◌++◌, Some, None, All, IsFalse, length-append, refl, sym, ap, subst, ◌∙◌, ◌⊎◌, inl, inr, arith}
 use Rattle.std.specs.Prelude.{if◌then◌else◌}
-use Rattle.std.proofs.lemmas.Bool.{and_parts, cond-false}
+use Rattle.std.proofs.lemmas.Bool.{and_parts, cond-false, cond_both}
 use Rattle.std.proofs.lemmas.List.{get_or_append_left}
 use Rattle.std.proofs.lemmas.List.Elements.{All-head, All-nil, All-tail}
 use Rattle.isolation.specs.World.{all_arrive}
+use Rattle.class_table.specs.declared.class.Class.{Class}
 use Rattle.refusals.specs.declared.code.Code.{Code}
 use Rattle.refusals.specs.declared.code.Code.TheVariants.{SessionFailed}
 use Rattle.thread_model.specs.declared.post.Post.{Post}
@@ -12,6 +13,7 @@ use Rattle.thread_model.specs.Asked.{Asked, Reset}
 use Rattle.thread_model.specs.Effects.{unless}
 use Rattle.thread_model.specs.Fitting.{AreSettings, IsFitting, IsFittingAsked, IsRightPost}
 use Rattle.thread_model.specs.Machine.{machine}
+use Rattle.thread_model.specs.Named.{AreNamed, IsNamedAsked}
 use Rattle.thread_model.specs.Refusing.{refusal}
 use Rattle.thread_model.specs.State.{IsDeclared, IsSound, State}
 use Rattle.thread_model.specs.Thread.{Settings, arrive_all, arrives, does, performs}
@@ -19,8 +21,9 @@ use Rattle.thread_model.proofs.ArrivingLemmas.{arrive_all-is}
 use Rattle.thread_model.proofs.DeclaredLemmas.{keeps_declared}
 use Rattle.thread_model.proofs.FittingCommandLemmas.{keeps_fitting}
 use Rattle.thread_model.proofs.LawLemmas.{keeps_sound}
+use Rattle.thread_model.proofs.NamedLemmas.{keeps_named}
 use Rattle.session_tables.specs.Session.{Session, fresh, gone}
-use Rattle.session_tables.specs.Reaching.{heard}
+use Rattle.session_tables.specs.Reaching.{Hears, heard}
 use Rattle.nested_calls.specs.Front.{IsFront}
 use Rattle.session_engine.specs.Core.{IsKept}
 use Rattle.session_engine.specs.Sessions.{IsSoundSession, is_reset, is_shut, session_after, session_does, session_refusal}
@@ -139,6 +142,26 @@ heard_sound settings from posts session right sound = by session.failed refl
     by : (failed : Bool) → session.failed ≡ failed → IsSoundSession settings (cond failed session (record { state = arrive_all settings.classes session.state from posts; failed = false }))
     by true was = sound
     by false was = record { sound = arrived session.state posts sound.sound; declared = declares session.state posts sound.declared; fitting = fits session.state posts right sound.fitting; empty = λ failed. absurd (true≢false (sym failed)) }
+
+-- a command that sets what has a name, if it sets anything, leaves dynamic properties called by names
+pub named_after : (settings : Settings) (name : List ℕ) (session : Session) (asked : Asked) → AreSettings settings → IsNamedAsked asked → AreNamed session.state → AreNamed (session_after settings name session asked).state
+unfolding does
+named_after settings name session asked are is named = by (is_shut session asked)
+  where
+    by : (shut : Bool) → AreNamed (unless (if shut then Some SessionFailed else refusal settings name session.state asked) session.state (performs settings name session.state asked)).state
+    by true = named
+    by false = keeps_named.by_command settings name session.state asked are is named
+
+-- and so does what a session hears, or where it fails by it
+pub named_hears : (classes : List Class) (from : List ℕ) (posts : List Post) (old new : Session) → Hears classes from posts old new → AreNamed old.state → AreNamed new.state
+named_hears classes from posts old new (inl is) named =
+    subst (λ (session : Session). AreNamed session.state) (sym is)
+    (cond_both old.failed old (record { state = arrive_all classes old.state from posts; failed = false }) (λ (session : Session). AreNamed session.state) (λ failed. named) (λ fine. arrived old.state posts named))
+  where
+    arrived : (state : State) (posts : List Post) → AreNamed state → AreNamed (arrive_all classes state from posts)
+    arrived state [] named = named
+    arrived state (post ∷ posts) named = arrived (arrives classes state from post) posts (keeps_named.by_post classes state from post named)
+named_hears classes from posts old new (inr fails) named = subst (λ (session : Session). AreNamed session.state) (sym fails.2) keeps_named.at_first
 
 -- what holds of every session holds of it then too
 pub kept_heard : (settings : Settings) (was now : Bool) (from : List ℕ) (posts : List Post) (session : Session) → (IsFalse now → IsFalse was) → All IsRightPost posts → IsKept settings was session → IsKept settings now (heard settings.classes from posts session)

@@ -18,10 +18,12 @@ use Rattle.thread_model.specs.declared.line.Line.TheVariants.{Error}
 use Rattle.thread_model.specs.Asked.{Asked}
 use Rattle.thread_model.specs.Fitting.{AreSettings, IsFittingAsked, IsRightPost}
 use Rattle.thread_model.specs.Machine.{machine}
+use Rattle.thread_model.specs.Named.{AreNamed, IsNamedAsked}
 use Rattle.thread_model.specs.declared.post.Post.{Post}
 use Rattle.thread_model.specs.State.{State, fields_of}
 use Rattle.thread_model.specs.Thread.{Settings}
 use Rattle.thread_model.proofs.Lawful.{lawful}
+use Rattle.thread_model.proofs.NamedLemmas.{keeps_named}
 use Rattle.session_tables.specs.Session.{Session, fresh, gone}
 use Rattle.session_tables.specs.Reaching.{Hears, heard}
 use Rattle.session_tables.specs.Tables.{AreEven, IsPlaced, session_at}
@@ -31,9 +33,9 @@ use Rattle.nested_calls.specs.Front.{IsFront}
 use Rattle.nested_calls.proofs.FrontLemmas.{front_same}
 use Rattle.session_engine.specs.Commands.{OthersHear}
 use Rattle.session_engine.specs.Core.{Contents, IsKept, IsWhole, place, seen, sessions, states}
-use Rattle.session_engine.specs.Sessions.{AnotherFails, Fails, IsStep, Sessions, given_by, session_after, session_does, session_refusal}
+use Rattle.session_engine.specs.Sessions.{AllAreNamed, AnotherFails, Fails, IsStep, Sessions, given_by, session_after, session_does, session_refusal}
 use Rattle.session_engine.proofs.EngineLemmas.{kept_by_name, one_name, placed, sessions-place, sound_by_name}
-use Rattle.session_engine.proofs.SessionLemmas.{does_fine, heard_state, kept_fresh, kept_gone, kept_heard, not_shut, right_front, right_posts, sound_after}
+use Rattle.session_engine.proofs.SessionLemmas.{does_fine, heard_state, kept_fresh, kept_gone, kept_heard, named_after, named_hears, not_shut, right_front, right_posts, sound_after}
 
 some_if : {T : Type 0} (P : T → Type 0) (value : Option T) (x : T) → value ≡ Some x → P x → IfSome value P
 some_if P value x e h = subst (λ value. IfSome value P) (sym e) h
@@ -201,6 +203,16 @@ module _ (old new : Contents) (at : ℕ) (name : List ℕ) (asked : Asked) (told
       by (Quiet none some e) = none
       by (Loud either e) = absurd (both_ways _ found e)
 
+  -- dynamic properties stay called by names
+  named_all : IsNamedAsked asked → AllAreNamed (seen old) → AllAreNamed (seen new)
+  named_all is all = each (λ other. AreNamed (sessions new other).state) (subst (λ (session : Session). AreNamed session.state) (sym now_own) (by ended.own))
+      (λ other elsewhere. named_hears old.settings.classes name ended.posts (sessions old other) (sessions new other) (hears_other other elsewhere) (all other))
+    where
+      by : Own old.settings name asked told ended.posts (session_at old.tables at) (session_at new.tables at) → AreNamed (session_at new.tables at).state
+      by (Told lines e posts) = subst (λ (session : Session). AreNamed session.state) (sym e)
+          (named_after old.settings name (session_at old.tables at) asked whole.settings is (subst (λ (session : Session). AreNamed session.state) own (all name)))
+      by (GaveUp nothing e front) = subst (λ (session : Session). AreNamed session.state) (sym e) keeps_named.at_first
+
   pub step_of : IsStep (seen old) (seen new) name asked told
   step_of = by ended.own ended.mark
     where
@@ -259,6 +271,7 @@ module _ (old new : Contents) (at : ℕ) (name : List ℕ) (asked : Asked) (told
             blame = λ was now. blames mark was now;
             well = λ found other. (kept_by_name old other whole).well found;
             sound = sound_by_name new whole_after;
+            named = named_all;
           }
       by (GaveUp nothing e front) mark =
           let flag : new.memory_refused ≡ true = loud mark in
@@ -278,6 +291,7 @@ module _ (old new : Contents) (at : ℕ) (name : List ℕ) (asked : Asked) (told
             blame = λ was now. inl nothing;
             well = λ found other. (kept_by_name old other whole).well found;
             sound = sound_by_name new whole_after;
+            named = named_all;
           }
         where
           loud : Marks old.memory_refused new.memory_refused failing told → new.memory_refused ≡ true
@@ -307,6 +321,10 @@ step_fails old middle new name asked told step fails = record {
   blame = λ was now. inl refl;
   well = step.well;
   sound = fails.sound;
+  named = λ is all other. ⊎_elim
+      (λ same. subst (λ (session : Session). AreNamed session.state) (sym (ap new.session ((bytes_eq-Decides other name).0 same) ∙ fails.fails)) keeps_named.at_first)
+      (λ elsewhere. subst (λ (session : Session). AreNamed session.state) (sym (fails.others other elsewhere)) (step.named is all other))
+      (cases_Bool (bytes_eq other name));
 }
 
 -- a refusal is told by its line, unless memory was wanted for it

@@ -10,6 +10,7 @@ use Rattle.thread_model.specs.Asked.{Asked, Reset}
 use Rattle.thread_model.specs.Effects.{unless}
 use Rattle.thread_model.specs.Fitting.{IsFitting}
 use Rattle.thread_model.specs.Machine.{machine}
+use Rattle.thread_model.specs.Named.{AreNamed, IsNamedAsked}
 use Rattle.thread_model.specs.Refusing.{refusal}
 use Rattle.thread_model.specs.State.{IsDeclared, IsSound, State}
 use Rattle.thread_model.specs.Thread.{Settings, performs}
@@ -80,6 +81,10 @@ pub record IsSoundSession (settings : Settings) (session : Session) : Type 0 whe
 abbrev pub AreSound : Sessions → Type 0
 AreSound sessions = (name : List ℕ) → IsSoundSession sessions.settings (sessions.session name)
 
+-- the dynamic properties of every session are called by names
+abbrev pub AllAreNamed : Sessions → Type 0
+AllAreNamed sessions = (name : List ℕ) → AreNamed (sessions.session name).state
+
 -- the session of this name has failed for memory that was refused
 pub record Fails (old new : Sessions) (name : List ℕ) : Type 0 where
   pub fails : new.session name ≡ gone
@@ -113,3 +118,5 @@ pub record IsStep (old new : Sessions) (name : List ℕ) (asked : Asked) (told :
   -- before it no session had failed without that, and after it every session is sound
   pub well : AreWell old
   pub sound : AreSound new
+  -- a command that sets what has a name, if it sets anything, leaves dynamic properties called by names
+  pub named : IsNamedAsked asked → AllAreNamed old → AllAreNamed new

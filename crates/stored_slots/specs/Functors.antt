@@ -16,7 +16,7 @@ use Rattle.stored_slots.specs.declared.functor.Functor.{Functor}
 use Rattle.stored_slots.specs.declared.limit.TheConstants.{FUNCTORS}
 
 -- a body that may be that of parameters of these kinds, as a slot's may: it keeps to the limits of a class
--- file's bodies, and takes no argument but these
+-- file's bodies, takes no argument but these, and sets only what has a name
 pub record IsBodyFor (kinds : List Kind) (body : Body) : Type 0 where
   pub takes : body.params ≡ length kinds
   pub keeps : IsBody body

@@ -69,7 +69,8 @@ impl Functors {
     /// handed in.
     ///
     /// Of the body and of what gives the next state facts are owed too: they keep to the limits of
-    /// bodies and bindings, and take no argument but the parameters; and the next state reads no property.
+    /// bodies and bindings, and take no argument but the parameters; what the body sets has a name, and
+    /// the next state reads no property.
     pub fn add(
         &mut self,
         name: Text,

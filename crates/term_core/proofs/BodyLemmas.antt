@@ -1,4 +1,4 @@
--- Every argument of a body that was read for so many parameters is one of theirs.
+-- Every argument of a body that was read for so many parameters is one of theirs, and what it sets has a name.
 use Rattle.std.proofs.Common.{◌≡◌, ℕ, ◌&&◌, List, [], Bool, true, false, Option, Some, None, Ok, Err, IsTrue, Result, refl, subst, codes, bytes_eq, nat_lt, is_some, arith}
 use Rattle.std.specs.Prelude.{IfOk, if◌then◌else◌, unwrap_or}
 use Rattle.std.specs.List.{All}
@@ -6,7 +6,8 @@ use Rattle.std.specs.Option.{option_map_or}
 use Rattle.std.proofs.lemmas.Bool.Decides.{nat_tests}
 use Rattle.std.proofs.lemmas.List.Elements.{All-nil, All-cons}
 use Rattle.serde_json.specs.Data.{Data, null, boolean, number, string, array, object, Items, no_items, item, Members, no_members, member}
-use Rattle.serde_json.specs.Find.{get, as_array, as_bool}
+use Rattle.serde_json.specs.Find.{get, as_array, as_bool, as_str}
+use Rattle.plain_types.specs.Names.{is_name}
 use Rattle.refusals.specs.declared.code.Code.TheVariants.{BadValue, Limit}
 use Rattle.refusals.specs.Answers.{Answers}
 use Rattle.refusals.specs.declared.fault.Fault.{Fault}
@@ -16,7 +17,7 @@ use Rattle.term_core.specs.declared.action.Effect.{Effect}
 use Rattle.term_core.specs.declared.body.Body.{Body}
 use Rattle.term_core.specs.declared.operator.Operator.{Operator}
 use Rattle.term_core.specs.declared.operator.Operator.TheVariants.{Sum, Difference, Less, Equal, Joined}
-use Rattle.term_core.specs.Act.{Act, acts_of}
+use Rattle.term_core.specs.Act.{Act, acts_of, are_named, is_effect_named, is_named}
 use Rattle.term_core.specs.declared.scope.Scope.TheVariants.{Slot, Functor, Next}
 use Rattle.term_core.specs.Arguments.{TakesAtMost, EffectTakesAtMost, ActTakesAtMost, ActsTakeAtMost}
 use Rattle.term_core.specs.Bodies as bodies
@@ -177,31 +178,37 @@ terms_read scope (item json rest) = kept (Term_ok scope) (All (Term_ok scope)) (
 -- actions that do one thing
 
 abbrev Effect_ok : Scope → Effect → Type 0
-Effect_ok scope = EffectTakesAtMost (forms.params scope)
+Effect_ok scope effect = EffectTakesAtMost (forms.params scope) effect × IsTrue (is_effect_named effect)
+
+abbrev Named : List ℕ → Type 0
+Named text = IsTrue (is_name text)
+
+name_read : (json : Data) → IfOk (name_in json) Named
+name_read json = always Named (formed (as_str json)) _ (λ text. if_provided Named (is_name text) text (λ is. is))
 
 set_read : (scope : Scope) (json named : Data) → IfOk (set_in scope json named) (Effect_ok scope)
-set_read scope json named = where_read (Effect_ok scope) _ _ (always (Effect_ok scope) (at_key (codes "to") json) _ (λ to. always (Effect_ok scope) (name_in named) _ (λ property. always (Effect_ok scope) (forms.subject_in json) _ (λ target. kept (Term_ok scope) (Effect_ok scope) (forms.term_in scope to) _ (term_read scope to) (λ value h. h)))))
+set_read scope json named = where_read (Effect_ok scope) _ _ (always (Effect_ok scope) (at_key (codes "to") json) _ (λ to. kept Named (Effect_ok scope) (name_in named) _ (name_read named) (λ property is. always (Effect_ok scope) (forms.subject_in json) _ (λ target. kept (Term_ok scope) (Effect_ok scope) (forms.term_in scope to) _ (term_read scope to) (λ value h. (h, is))))))
 
 emit_read : (scope : Scope) (json named : Data) → IfOk (emit_in scope json named) (Effect_ok scope)
-emit_read scope json named = where_read (Effect_ok scope) _ _ (always (Effect_ok scope) (at_key (codes "args") json) _ (λ there. always (Effect_ok scope) (formed (as_array there)) _ (λ items. always (Effect_ok scope) (signature_in named) _ (λ signal. always (Effect_ok scope) (forms.subject_in json) _ (λ target. kept (All (Term_ok scope)) (Effect_ok scope) (terms_in scope items) _ (terms_read scope items) (λ args h. h))))))
+emit_read scope json named = where_read (Effect_ok scope) _ _ (always (Effect_ok scope) (at_key (codes "args") json) _ (λ there. always (Effect_ok scope) (formed (as_array there)) _ (λ items. always (Effect_ok scope) (signature_in named) _ (λ signal. always (Effect_ok scope) (forms.subject_in json) _ (λ target. kept (All (Term_ok scope)) (Effect_ok scope) (terms_in scope items) _ (terms_read scope items) (λ args h. (h, refl)))))))
 
 connect_read : (scope : Scope) (json named : Data) → IfOk (connect_in json named) (Effect_ok scope)
-connect_read scope json named = where_read (Effect_ok scope) _ _ (always (Effect_ok scope) (at_key (codes "to") json) _ (λ receiver. always (Effect_ok scope) (at_key (codes "method") json) _ (λ there. always (Effect_ok scope) (mode_in json) _ (λ mode. always (Effect_ok scope) (flag_in (codes "unique") json) _ (λ unique. always (Effect_ok scope) (flag_in (codes "single") json) _ (λ single. always (Effect_ok scope) (signature_in named) _ (λ signal. always (Effect_ok scope) (forms.subject_in json) _ (λ target. always (Effect_ok scope) (target_in receiver) _ (λ to. always (Effect_ok scope) (signature_in there) _ (λ method. tt))))))))))
+connect_read scope json named = where_read (Effect_ok scope) _ _ (always (Effect_ok scope) (at_key (codes "to") json) _ (λ receiver. always (Effect_ok scope) (at_key (codes "method") json) _ (λ there. always (Effect_ok scope) (mode_in json) _ (λ mode. always (Effect_ok scope) (flag_in (codes "unique") json) _ (λ unique. always (Effect_ok scope) (flag_in (codes "single") json) _ (λ single. always (Effect_ok scope) (signature_in named) _ (λ signal. always (Effect_ok scope) (forms.subject_in json) _ (λ target. always (Effect_ok scope) (target_in receiver) _ (λ to. always (Effect_ok scope) (signature_in there) _ (λ method. (tt, refl)))))))))))
 
 disconnect_read : (scope : Scope) (json named : Data) → IfOk (disconnect_in json named) (Effect_ok scope)
-disconnect_read scope json named = where_read (Effect_ok scope) _ _ (always (Effect_ok scope) (unless_null signature_in named) _ (λ signal. always (Effect_ok scope) (forms.subject_in json) _ (λ target. always (Effect_ok scope) (optional target_in (codes "to") json) _ (λ to. always (Effect_ok scope) (optional signature_in (codes "method") json) _ (λ method. tt)))))
+disconnect_read scope json named = where_read (Effect_ok scope) _ _ (always (Effect_ok scope) (unless_null signature_in named) _ (λ signal. always (Effect_ok scope) (forms.subject_in json) _ (λ target. always (Effect_ok scope) (optional target_in (codes "to") json) _ (λ to. always (Effect_ok scope) (optional signature_in (codes "method") json) _ (λ method. (tt, refl))))))
 
 delete_read : (scope : Scope) (json named : Data) → IfOk (delete_in json named) (Effect_ok scope)
-delete_read scope json named = where_read (Effect_ok scope) _ _ (always (Effect_ok scope) (target_in named) _ (λ target. tt))
+delete_read scope json named = where_read (Effect_ok scope) _ _ (always (Effect_ok scope) (target_in named) _ (λ target. (tt, refl)))
 
 delete_later_read : (scope : Scope) (json named : Data) → IfOk (delete_later_in json named) (Effect_ok scope)
-delete_later_read scope json named = where_read (Effect_ok scope) _ _ (always (Effect_ok scope) (target_in named) _ (λ target. tt))
+delete_later_read scope json named = where_read (Effect_ok scope) _ _ (always (Effect_ok scope) (target_in named) _ (λ target. (tt, refl)))
 
 block_read : (scope : Scope) (json named : Data) → IfOk (block_in json named) (Effect_ok scope)
-block_read scope json named = where_read (Effect_ok scope) _ _ (always (Effect_ok scope) (formed (as_bool named)) _ (λ on. always (Effect_ok scope) (forms.subject_in json) _ (λ target. tt)))
+block_read scope json named = where_read (Effect_ok scope) _ _ (always (Effect_ok scope) (formed (as_bool named)) _ (λ on. always (Effect_ok scope) (forms.subject_in json) _ (λ target. (tt, refl))))
 
 set_parent_read : (scope : Scope) (json named : Data) → IfOk (set_parent_in json named) (Effect_ok scope)
-set_parent_read scope json named = where_read (Effect_ok scope) _ _ (always (Effect_ok scope) (unless_null target_in named) _ (λ parent. always (Effect_ok scope) (forms.subject_in json) _ (λ target. tt)))
+set_parent_read scope json named = where_read (Effect_ok scope) _ _ (always (Effect_ok scope) (unless_null target_in named) _ (λ parent. always (Effect_ok scope) (forms.subject_in json) _ (λ target. (tt, refl))))
 
 effect_read : (scope : Scope) (json : Data) → IfOk (effect_in scope json) (Effect_ok scope)
 effect_read scope json =
@@ -217,17 +224,17 @@ effect_read scope json =
 -- all actions
 
 abbrev Act_ok : Scope → Act → Type 0
-Act_ok scope = ActTakesAtMost (forms.params scope)
+Act_ok scope action = ActTakesAtMost (forms.params scope) action × IsTrue (is_named action)
 
 abbrev Acts_ok : Scope → List Act → Type 0
-Acts_ok scope actions = ActsTakeAtMost (forms.params scope) (acts_of actions)
+Acts_ok scope actions = ActsTakeAtMost (forms.params scope) (acts_of actions) × IsTrue (are_named (acts_of actions))
 
 found_branch : {A : Type 0} (P : A → Type 0) (b : Bool) (x : Read A) (rest : Option (Read A)) (d : Read A) → IfOk x P → IfOk (unwrap_or rest d) P → IfOk (unwrap_or (if b then Some x else rest) d) P
 found_branch P true x rest d h k = h
 found_branch P false x rest d h k = k
 
 choice_made : (scope : Scope) (json : Data) (held failed : Option (Read (List Act))) → IfOk (unwrap_or held (Err BadValue)) (Acts_ok scope) → IfOk (unwrap_or failed (Ok [])) (Acts_ok scope) → IfOk (bodies.choice_in scope json held failed) (Act_ok scope)
-choice_made scope json held failed h k = where_read (Act_ok scope) _ _ (always (Act_ok scope) (at_key (codes "when") json) _ (λ condition. kept (Acts_ok scope) (Act_ok scope) (unwrap_or held (Err BadValue)) _ h (λ a ha. kept (Acts_ok scope) (Act_ok scope) (unwrap_or failed (Ok [])) _ k (λ b hb. kept (Term_ok scope) (Act_ok scope) (forms.term_in scope condition) _ (term_read scope condition) (λ test ht. (ht, (ha, hb)))))))
+choice_made scope json held failed h k = where_read (Act_ok scope) _ _ (always (Act_ok scope) (at_key (codes "when") json) _ (λ condition. kept (Acts_ok scope) (Act_ok scope) (unwrap_or held (Err BadValue)) _ h (λ a ha. kept (Acts_ok scope) (Act_ok scope) (unwrap_or failed (Ok [])) _ k (λ b hb. kept (Term_ok scope) (Act_ok scope) (forms.term_in scope condition) _ (term_read scope condition) (λ test ht. ((ht, (ha.0, hb.0)), and_true (are_named (acts_of a)) (are_named (acts_of b)) ha.1 hb.1))))))
 
 action_made : (scope : Scope) (json : Data) (held failed : Option (Read (List Act))) → IfOk (unwrap_or held (Err BadValue)) (Acts_ok scope) → IfOk (unwrap_or failed (Ok [])) (Acts_ok scope) → IfOk (bodies.made scope json held failed) (Act_ok scope)
 action_made scope json held failed h k = either (Act_ok scope) (is_some (get (codes "when") json)) _ _ (choice_made scope json held failed h k) (kept (Effect_ok scope) (Act_ok scope) (effect_in scope json) _ (effect_read scope json) (λ plain h. h))
@@ -239,7 +246,7 @@ mutual
   act_read scope (number n) = tt
   act_read scope (string text) = tt
   act_read scope (array items) = tt
-  act_read scope (object inside) = action_made scope (object inside) (bodies.branch_in scope (codes "then") inside) (bodies.branch_in scope (codes "else") inside) (branch_read scope (codes "then") inside (Err BadValue) tt) (branch_read scope (codes "else") inside (Ok []) tt)
+  act_read scope (object inside) = action_made scope (object inside) (bodies.branch_in scope (codes "then") inside) (bodies.branch_in scope (codes "else") inside) (branch_read scope (codes "then") inside (Err BadValue) tt) (branch_read scope (codes "else") inside (Ok []) (tt, refl))
 
   branch_read : (scope : Scope) (key : List ℕ) (inside : Members) (d : Read (List Act)) → IfOk d (Acts_ok scope) → IfOk (unwrap_or (bodies.branch_in scope key inside) d) (Acts_ok scope)
   branch_read scope key no_members d h = h
@@ -254,15 +261,15 @@ mutual
   actions_read scope (array items) = acts_read scope items
 
   acts_read : (scope : Scope) (items : Items) → IfOk (bodies.acts_in scope items) (Acts_ok scope)
-  acts_read scope no_items = tt
-  acts_read scope (item json rest) = kept (Act_ok scope) (Acts_ok scope) (bodies.act_in scope json) _ (act_read scope json) (λ x hx. kept (Acts_ok scope) (Acts_ok scope) (bodies.acts_in scope rest) _ (acts_read scope rest) (λ xs hxs. (hx, hxs)))
+  acts_read scope no_items = (tt, refl)
+  acts_read scope (item json rest) = kept (Act_ok scope) (Acts_ok scope) (bodies.act_in scope json) _ (act_read scope json) (λ x hx. kept (Acts_ok scope) (Acts_ok scope) (bodies.acts_in scope rest) _ (acts_read scope rest) (λ xs hxs. ((hx.0, hxs.0), and_true (is_named x) (are_named (acts_of xs)) hx.1 hxs.1)))
 
 -- a body that was read for so many parameters
 abbrev pub IsReadFor : ℕ → Body → Type 0
 IsReadFor n body = (body.params ≡ n) × bodies.IsBody body
 
-kept_to : (n : ℕ) (actions : List Act) (b : Bool) → bodies.is_body_limited actions ≡ b → ActsTakeAtMost n (acts_of actions) → IfOk (if b then Ok (record { params = n; actions = actions }) else Err Limit) (IsReadFor n)
-kept_to n actions true e h = (refl, record { limited = e; arguments = h })
+kept_to : (n : ℕ) (actions : List Act) (b : Bool) → bodies.is_body_limited actions ≡ b → ActsTakeAtMost n (acts_of actions) × IsTrue (are_named (acts_of actions)) → IfOk (if b then Ok (record { params = n; actions = actions }) else Err Limit) (IsReadFor n)
+kept_to n actions true e h = (refl, record { limited = e; arguments = h.0; named = h.1 })
 kept_to n actions false e h = tt
 
 limited_read : (scope : Scope) (json : Data) → IfOk (bodies.actions_in scope json >>= bodies.limited_body (forms.params scope)) (IsReadFor (forms.params scope))

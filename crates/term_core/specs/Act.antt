@@ -1,6 +1,7 @@
 -- Actions, and how many they are.
 use Rattle.std.specs.Prelude.{ℕ, ◌+◌, ◌&&◌, Bool, true, List, [], ◌∷◌}
 use Rattle.std.specs.List.{list_all}
+use Rattle.plain_types.specs.Names.{is_name}
 use Rattle.term_core.specs.Term.{Term}
 use Rattle.term_core.specs.Forms.{is_within_limits}
 use Rattle.term_core.specs.declared.action.Effect.{Effect}
@@ -44,3 +45,18 @@ abbrev mutual
   pub are_limited : Acts → Bool
   are_limited nothing = true
   are_limited (more action rest) = is_limited action && are_limited rest
+
+-- the property that an effect sets has a name
+abbrev pub is_effect_named : Effect → Bool
+is_effect_named (e.Set of property value) = is_name property
+is_effect_named _ = true
+
+-- so have all that are set
+abbrev mutual
+  pub is_named : Act → Bool
+  is_named (effect e) = is_effect_named e
+  is_named (when test a b) = are_named a && are_named b
+
+  pub are_named : Acts → Bool
+  are_named nothing = true
+  are_named (more action rest) = is_named action && are_named rest

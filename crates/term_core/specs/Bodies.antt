@@ -7,7 +7,7 @@ use Rattle.term_core.specs.declared.body.Body.{Body}
 use Rattle.term_core.specs.declared.limits.TheConstants.{ACTIONS}
 use Rattle.term_core.specs.declared.scope.Scope.{Scope}
 use Rattle.term_core.specs.declared.scope.Scope.TheVariants.{Slot, Functor}
-use Rattle.term_core.specs.Act.{Act, effect, when, acts_of, counts, are_limited}
+use Rattle.term_core.specs.Act.{Act, effect, when, acts_of, counts, are_limited, are_named}
 use Rattle.term_core.specs.Arguments.{ActsTakeAtMost, TakesAtMost}
 use Rattle.term_core.specs.Effects.{effect_in}
 use Rattle.term_core.specs.Forms.{is_within_limits, term_in}
@@ -66,10 +66,11 @@ body_of params json = actions_in (Slot params) json >>= limited_body params
 abbrev pub functor_body_of : ℕ → Data → Read Body
 functor_body_of params json = actions_in (Functor params) json >>= limited_body params
 
--- a body keeps to the limits, and takes no argument but its parameters
+-- a body keeps to the limits, takes no argument but its parameters, and sets only what has a name
 pub record IsBody (body : Body) : Type 0 where
   pub limited : IsTrue (is_body_limited body.actions)
   pub arguments : ActsTakeAtMost body.params (acts_of body.actions)
+  pub named : IsTrue (are_named (acts_of body.actions))
 
 -- what gives a functor with so many parameters its next state keeps to the limits, takes no argument but its
 -- parameters, and reads no property

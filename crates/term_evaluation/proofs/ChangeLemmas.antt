@@ -1,11 +1,11 @@
--- Actions with each of their expressions changed: they are as many, and what holds of expressions, changed or
--- not, holds of them.
+-- Actions with each of their expressions changed: they are as many, what they set keeps its name, and what holds of
+-- expressions, changed or not, holds of them.
 use Rattle.std.proofs.Common.{◌≡◌, ◌∙◌, ◌&&◌, ℕ, Bool, true, false, List, [], ◌∷◌, map, nat_le, IsTrue, refl, ap, ap₂, arith}
 use Rattle.std.specs.List.{All, list_all}
 use Rattle.std.proofs.lemmas.List.Elements.{All-nil, All-cons, All-head, All-tail}
 use Rattle.term_core.specs.declared.action.Effect.{Effect}
 use Rattle.term_core.specs.declared.action.Effect.TheVariants as e
-use Rattle.term_core.specs.Act.{Act, Acts, effect, when, nothing, more, acts_of, count, counts, is_effect_limited, is_limited, are_limited}
+use Rattle.term_core.specs.Act.{Act, Acts, effect, when, nothing, more, acts_of, count, counts, is_effect_limited, is_limited, are_limited, is_effect_named, is_named, are_named}
 use Rattle.term_core.specs.Arguments.{TakesAtMost, EffectTakesAtMost, ActTakesAtMost, ActsTakeAtMost}
 use Rattle.term_core.specs.Bodies.{is_body_limited}
 use Rattle.term_core.specs.Forms.{is_within_limits}
@@ -65,6 +65,30 @@ module _ (change : Term → Term) where
 
   pub body_counts : (actions : List Act) → counts (acts_of (map (act_by change) actions)) ≡ counts (acts_of actions)
   body_counts actions = ap counts (branch_changed change actions) ∙ counts_changed (acts_of actions)
+
+  -- the names of what they set
+
+  effect_named : (plain : Effect) → is_effect_named (effect_by change plain) ≡ is_effect_named plain
+  effect_named (e.Set of property value) = refl
+  effect_named (e.Emit of signal sent) = refl
+  effect_named (e.Connect of signal to method mode unique single) = refl
+  effect_named (e.Disconnect of signal to method) = refl
+  effect_named (e.Delete target) = refl
+  effect_named (e.DeleteLater target) = refl
+  effect_named (e.Block of on) = refl
+  effect_named (e.SetParent of parent) = refl
+
+  mutual
+    act_named : (action : Act) → is_named (act_by change action) ≡ is_named action
+    act_named (effect plain) = effect_named plain
+    act_named (when test held failed) = ap₂ (λ a b. a && b) (acts_named held) (acts_named failed)
+
+    acts_named : (actions : Acts) → are_named (acts_by change actions) ≡ are_named actions
+    acts_named nothing = refl
+    acts_named (more action rest) = ap₂ (λ a b. a && b) (act_named action) (acts_named rest)
+
+  pub body_named : (actions : List Act) → are_named (acts_of (map (act_by change) actions)) ≡ are_named (acts_of actions)
+  body_named actions = ap are_named (branch_changed change actions) ∙ acts_named (acts_of actions)
 
   -- the limits
 

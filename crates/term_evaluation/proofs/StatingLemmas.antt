@@ -7,14 +7,14 @@ use Rattle.variant_value.specs.declared.value.Value.{Value}
 use Rattle.variant_value.specs.declared.value.Value.TheVariants as v
 use Rattle.variant_value.specs.Values.{is_within}
 use Rattle.term_core.specs.declared.body.Body.{Body}
-use Rattle.term_core.specs.Act.{Act, acts_of, counts}
+use Rattle.term_core.specs.Act.{Act, acts_of, are_named, counts}
 use Rattle.term_core.specs.Arguments.{TakesAtMost, ActsTakeAtMost}
 use Rattle.term_core.specs.Bodies.{is_body_limited}
 use Rattle.term_core.specs.Forms.{is_within_limits}
 use Rattle.term_core.specs.Term.{Term, const, arg, state, prop, binary, choice, nodes, is_short, has_short_texts}
 use Rattle.term_evaluation.specs.Stating.{put_in, state_value, stated_term, with_state}
 use Rattle.term_evaluation.specs.Unfolding.{act_by, unfolded_body, unfolded_term}
-use Rattle.term_evaluation.proofs.ChangeLemmas.{both, pair, body_takes, body_counts, body_within, body_same, body_twice}
+use Rattle.term_evaluation.proofs.ChangeLemmas.{both, pair, body_takes, body_counts, body_named, body_within, body_same, body_twice}
 
 takes_stated : (n m : ℕ) (term : Term) → TakesAtMost m term → TakesAtMost m (stated_term (Some n) term)
 takes_stated n m (const value) h = tt
@@ -37,6 +37,9 @@ nodes_stated n (choice test a b) = omega (arith, nodes_stated n test, nodes_stat
 
 pub state_counts : (body : Body) (n : ℕ) → counts (acts_of (with_state n body).actions) ≡ counts (acts_of body.actions)
 state_counts body n = body_counts (stated_term (Some n)) body.actions
+
+pub state_named : (body : Body) (n : ℕ) → are_named (acts_of (with_state n body).actions) ≡ are_named (acts_of body.actions)
+state_named body n = body_named (stated_term (Some n)) body.actions
 
 -- a state is no text
 short_state : (n : ℕ) → IsTrue (is_short (state_value n))

@@ -7,9 +7,9 @@ use Rattle.std.proofs.lemmas.Bool.Decides.{nat_tests}
 use Rattle.std.proofs.lemmas.List.Elements.{All-append, All-nil, All-weaker}
 use Rattle.std.proofs.lemmas.Option.{get_or_from_slice_get, slice_get-get_or, slice_get_past, slice_get_within}
 use Rattle.term_core.specs.declared.limits.TheConstants.{ACTIONS}
-use Rattle.term_core.specs.Act.{acts_of, are_limited, counts}
+use Rattle.term_core.specs.Act.{acts_of, are_limited, are_named, counts}
 use Rattle.term_evaluation.specs.Stating.{with_state}
-use Rattle.term_evaluation.proofs.StatingLemmas.{state_limits}
+use Rattle.term_evaluation.proofs.StatingLemmas.{state_limits, state_named}
 use Rattle.class_table.specs.declared.class.Class.{Class}
 use Rattle.class_table.specs.declared.class.Method.{Method}
 use Rattle.class_table.specs.declared.class.Property.{Property}
@@ -118,3 +118,10 @@ module _ (settings : Settings) (are : AreSettings settings) where
   functor_limited number state functor is =
       let limited = (of_slice IsFunctor settings.functors number functor is are.functors).body.keeps.limited in
       (and_parts (nat_le (counts (acts_of (with_state state functor.body).actions)) ACTIONS) _ (state_limits functor.body state limited)).1
+
+  -- and sets only what has a name
+  pub method_named : (index number : ℕ) (method : Method) → slice_get (methods classes index) number ≡ Some method → are_named (acts_of method.body.actions) ≡ true
+  method_named index number method is = (of_slice IsMethod (methods classes index) number method is (each_method classes are.table index)).body.named
+
+  pub functor_named : (number state : ℕ) (functor : Functor) → slice_get settings.functors number ≡ Some functor → are_named (acts_of (with_state state functor.body).actions) ≡ true
+  functor_named number state functor is = state_named functor.body state ∙ (of_slice IsFunctor settings.functors number functor is are.functors).body.keeps.named

@@ -53,3 +53,4 @@ pub mod FittingItemLemmas
 pub mod FittingRunLemmas
 pub mod FittingCommandLemmas
 pub mod FittingAskedLemmas
+pub mod NamedLemmas

@@ -12,6 +12,7 @@ use Rattle.thread_model.specs.Doing.{Doing}
 use Rattle.thread_model.specs.Fitting.{AreSettings, IsFitting, IsFittingAsked, IsFittingUnderWay, IsRightPost}
 use Rattle.thread_model.specs.Items as to_do
 use Rattle.thread_model.specs.Items.{Item}
+use Rattle.thread_model.specs.Named.{AreNamed, IsNamedAsked, IsNamedItem}
 use Rattle.thread_model.specs.Run.{run}
 use Rattle.thread_model.specs.State.{IsDeclared, IsSound, State, empty}
 use Rattle.thread_model.specs.Thread.{Settings, arrives, does}
@@ -47,6 +48,14 @@ pub record KeepsFitting : Type 0 where
   pub by_item : (settings : Settings) (item : Item) (agenda : List Item) (doing : Doing) → AreSettings settings → IsFittingUnderWay settings (item ∷ agenda) doing → IsFittingUnderWay settings ((step settings item doing).items ++ agenda) (step settings item doing).doing
   pub by_command : (settings : Settings) (self : List ℕ) (state : State) (asked : Asked) → AreSettings settings → IsFittingAsked settings state asked → IsSound state → IsDeclared settings.classes state → IsFitting settings state → IsFitting settings (does settings self state asked).state × All IsRightPost (does settings self state asked).posts
   pub by_post : (settings : Settings) (state : State) (from : List ℕ) (post : Post) → IsFitting settings state → IsRightPost post → IsFitting settings (arrives settings.classes state from post)
+
+-- dynamic properties are called by names: before the first command, item by item while a command is done, after
+-- one that sets what has a name, if it sets anything, and after each post of another session
+pub record KeepsNamed : Type 0 where
+  pub at_first : AreNamed empty
+  pub by_item : (settings : Settings) (item : Item) (agenda : List Item) (doing : Doing) → AreSettings settings → All IsNamedItem (item ∷ agenda) → AreNamed doing.state → All IsNamedItem ((step settings item doing).items ++ agenda) × AreNamed (step settings item doing).doing.state
+  pub by_command : (settings : Settings) (self : List ℕ) (state : State) (asked : Asked) → AreSettings settings → IsNamedAsked asked → AreNamed state → AreNamed (does settings self state asked).state
+  pub by_post : (classes : List Class) (state : State) (from : List ℕ) (post : Post) → AreNamed state → AreNamed (arrives classes state from post)
 
 -- an action over the arguments of its slot does what it does with them put in, over none
 abbrev pub ActsInPlace : Type 0

@@ -18,6 +18,7 @@ pub mod Agenda
 pub mod Run
 pub mod UnderWay
 pub mod Fitting
+pub mod Named
 pub mod Effects
 pub mod Classes
 pub mod Trees

@@ -5,7 +5,7 @@
 
 ghost use Rattle.thread_model.specs.Machine.{IsMetadLawful};
 ghost use Rattle.thread_model.specs.Run.{RunsToItsEnd};
-ghost use Rattle.thread_model.specs.Laws.{ActsInPlace, KeepsDeclared, KeepsFitting, KeepsSound, KeepsUnderWay};
+ghost use Rattle.thread_model.specs.Laws.{ActsInPlace, KeepsDeclared, KeepsFitting, KeepsNamed, KeepsSound, KeepsUnderWay};
 
 mod boxed;
 mod call;
@@ -44,11 +44,13 @@ pub fn agenda_runs_to_its_end()
 /// may be, and the object that an event names stands: what is deleted takes its events and bindings with it.
 /// What is called, connected, published and joined is there and fits: a call has as many arguments as its
 /// callee has parameters, each of its kind and no text too long, and so has what is posted to the others.
+/// And its dynamic properties are called by names, as long as commands name what they set by names.
 pub fn commands_keep_sessions_sound()
     ensures commands { KeepsSound }
     ensures items { KeepsUnderWay }
     ensures properties { KeepsDeclared }
     ensures fitting { KeepsFitting }
+    ensures names { KeepsNamed }
 {}
 
 /// An action does over the arguments of its slot what it does with them put in, over none. So a body is

@@ -1,10 +1,16 @@
 //! The forms of metad's commands: by which word and which keys each is known, and what it asks.
 #![tactic(auto)]
 
+ghost use Rattle.std.specs.Prelude.{IfSome};
+ghost use Rattle.serde_json.specs.Data.{Data};
+ghost use Rattle.thread_model.specs.Named.{IsNamedAsked};
+ghost use Rattle.wire_commands.specs.Commands.{asked_of};
+
 mod bindings;
 mod classes;
 mod commands;
 mod events;
+mod found;
 mod held;
 mod keys;
 mod properties;
@@ -13,3 +19,10 @@ mod signals;
 mod trees;
 
 pub use commands::command_in;
+
+/// A command that asks to set a property names it by a name, so that dynamic properties are called by names.
+///
+/// There is nothing to run: the clause is the theorem.
+pub fn commands_set_what_has_a_name()
+    ensures { (json : Data) → IfSome (asked_of json) IsNamedAsked }
+{}

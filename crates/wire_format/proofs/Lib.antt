@@ -6,3 +6,4 @@ pub mod Cutting
 pub mod Outputs
 pub mod LeftOutLines
 pub mod Sessions
+pub mod NamedLemmas

@@ -1,42 +1,83 @@
 -- Lines that are answered one after another, and what that comes to where memory was found.
-use Rattle.std.proofs.Common.{◌≡◌, ℕ, List, [], ◌∷◌, ◌++◌, map, IsTrue, IsFalse, refl, sym, ap, ap₂, ◌∙◌, subst, ⊎_elim, append-nil, append_assoc}
-use Rattle.std.specs.Prelude.{Option, None, Some}
-use Rattle.std.specs.List.{cons_option, filter_map}
+use Rattle.std.proofs.Common.{◌≡◌, ℕ, List, [], ◌∷◌, ◌++◌, map, IsTrue, IsFalse, refl, sym, ap, ap₂, ◌∙◌, subst, ⊎_elim, append-nil, append_assoc, arith, get_or, length-append}
+use Rattle.std.specs.Prelude.{Option, None, Some, IfSome}
+use Rattle.std.specs.List.{All, cons_option, filter_map}
+use Rattle.std.proofs.lemmas.List.{get_or_append_left}
+use Rattle.std.proofs.lemmas.List.Elements.{All-head, All-map, All-tail}
 use Rattle.std.proofs.lemmas.Bool.{both_ways, false_from_ne_true}
 use Rattle.isolation.specs.Pieces.{Given, Faulty}
 use Rattle.server_world.proofs.RunLemmas.{entry_is}
-use Rattle.server_world.specs.Server.{Server, states, was_refused, settings}
+use Rattle.server_world.specs.Server.{OnlyRefused, Server, seen, states, was_refused, settings}
+use Rattle.session_engine.specs.Sessions.{AllAreNamed}
+use Rattle.session_tables.specs.Session.{Session}
+use Rattle.thread_model.specs.Named.{AreNamed, IsNamedAsked}
 use Rattle.wire_format.specs.Input.{Piece, lines_of, piece_of, pieces_of}
 use Rattle.wire_format.specs.Output.{output, world_of, text_of_piece, world_after_piece}
+use Rattle.wire_format.proofs.NamedLemmas.{IsNamedPiece, piece_named}
 use Rattle.wire_format.proofs.Outputs.{text_of_pieces, text_of_pieces-cons, text_of_pieces-nothing, world_after_pieces, world_after_pieces-cons, world_after_pieces-nothing, by_pieces, world_by_pieces}
 use Rattle.wire_lines.specs.Sending.{IsFront}
 use Rattle.wire_lines.specs.Steps.{AreAnswered, IsAnswered, IsUnread, entry_text, read_lines}
 use Rattle.wire_lines.specs.Stream.{Later}
 
 pub Later-trans : (a b c : Server) → Later a b → Later b c → Later a c
-Later-trans a b c first second = record { settings = second.settings ∙ first.settings; refused = λ refused. second.refused (first.refused refused) }
+Later-trans a b c first second = record { settings = second.settings ∙ first.settings; refused = λ refused. second.refused (first.refused refused); named = λ named. second.named (first.named named) }
 
 pub Later-same : (a b : Server) → b ≡ a → Later a b
-Later-same a b same = record { settings = ap settings same; refused = λ refused. subst (λ server. IsTrue (was_refused server)) (sym same) refused }
+Later-same a b same = record { settings = ap settings same; refused = λ refused. subst (λ server. IsTrue (was_refused server)) (sym same) refused; named = λ named. subst (λ server. AllAreNamed (seen server)) (sym same) named }
+
+-- where nothing has changed but that memory was refused, dynamic properties are called as before
+pub only_named : (a b : Server) → OnlyRefused a b → AllAreNamed (seen a) → AllAreNamed (seen b)
+only_named a b only named = subst (λ (sessions : List ℕ → Session). (name : List ℕ) → AreNamed (sessions name).state) (sym only.sessions) named
+
+-- the settings stay, and so does that memory was refused, and where so much holds of lines, dynamic properties stay
+-- called by names
+record Stays (named : Type 0) (a b : Server) : Type 0 where
+  settings : settings b ≡ settings a
+  refused : IsTrue (was_refused a) → IsTrue (was_refused b)
+  names : named → AllAreNamed (seen a) → AllAreNamed (seen b)
+
+same_stays : (named : Type 0) (a b : Server) → b ≡ a → Stays named a b
+same_stays named a b same = let later = Later-same a b same in record { settings = later.settings; refused = later.refused; names = λ is. later.named }
 
 -- where memory was never refused at the end, it was not in between
-Later-found : (a b : Server) → Later a b → IsFalse (was_refused b) → IsFalse (was_refused a)
-Later-found a b later found = false_from_ne_true _ (λ refused. both_ways _ found (later.refused refused))
+stays_found : (named : Type 0) (a b : Server) → Stays named a b → IsFalse (was_refused b) → IsFalse (was_refused a)
+stays_found named a b stays found = false_from_ne_true _ (λ refused. both_ways _ found (stays.refused refused))
 
-unread_later : (a b : Server) (text : List ℕ) → IsUnread a text b → Later a b
-unread_later a b text unread = record { settings = unread.settings; refused = λ refused. unread.only.refused }
+unread_stays : (named : Type 0) (a b : Server) (text : List ℕ) → IsUnread a text b → Stays named a b
+unread_stays named a b text unread = record { settings = unread.settings; refused = λ refused. unread.only.refused; names = λ is. only_named a b unread.only }
+
+-- a line that sets what has a name, if it sets anything
+abbrev pub IsNamedLine : Option Piece → Type 0
+IsNamedLine line = IfSome line IsNamedPiece
 
 -- a line that is answered keeps the settings, and that memory was refused
-answered_later : (a b : Server) (line : Option Piece) (text : List ℕ) → IsAnswered a line text b → Later a b
-answered_later a b None text answered = Later-same a b answered.0
-answered_later a b (Some (Given t)) text answered = ⊎_elim (λ done. record { settings = done.does.step.settings; refused = done.does.step.kept }) (unread_later a b text) answered
-answered_later a b (Some (Faulty fault)) text answered = ⊎_elim (λ said. Later-same a b said.stays) (unread_later a b text) answered
+answered_stays : (a b : Server) (line : Option Piece) (text : List ℕ) → IsAnswered a line text b → Stays (IsNamedLine line) a b
+answered_stays a b None text answered = same_stays (Unit {0}) a b answered.0
+answered_stays a b (Some (Given t)) text answered = ⊎_elim (λ done. record { settings = done.does.step.settings; refused = done.does.step.kept; names = done.does.step.named }) (unread_stays (IsNamedAsked t.command) a b text) answered
+answered_stays a b (Some (Faulty fault)) text answered = ⊎_elim (λ said. same_stays (Unit {0}) a b said.stays) (unread_stays (Unit {0}) a b text) answered
 
 -- and so do many
-pub AreAnswered-later : (a b : Server) (lines : List (Option Piece)) (text : List ℕ) → AreAnswered a lines text b → Later a b
-AreAnswered-later a b [] text answered = Later-same a b answered.0
-AreAnswered-later a b (line ∷ lines) text answered =
-    Later-trans a answered.0 b (answered_later a answered.0 line answered.1 answered.3) (AreAnswered-later answered.0 b lines answered.2 answered.4)
+AreAnswered-stays : (a b : Server) (lines : List (Option Piece)) (text : List ℕ) → AreAnswered a lines text b → Stays (All IsNamedLine lines) a b
+AreAnswered-stays a b [] text answered = same_stays (All IsNamedLine []) a b answered.0
+AreAnswered-stays a b (line ∷ lines) text answered =
+    let first = answered_stays a answered.0 line answered.1 answered.3 in
+    let rest = AreAnswered-stays answered.0 b lines answered.2 answered.4 in
+    record {
+      settings = rest.settings ∙ first.settings;
+      refused = λ refused. rest.refused (first.refused refused);
+      names = λ all named. rest.names (All-tail IsNamedLine line lines all) (first.names (All-head IsNamedLine line lines all) named);
+    }
+
+-- the lines of an input set only what has a name, and so do the first of them
+pub front_named : (bytes : List ℕ) (lines behind : List (Option Piece)) → read_lines bytes ≡ lines ++ behind → All IsNamedLine lines
+front_named bytes lines behind is k d within =
+    let all : All IsNamedLine (lines ++ behind) = subst (All IsNamedLine) is (All-map IsNamedLine piece_of (lines_of bytes) (λ index default inside. piece_named (get_or (lines_of bytes) index default))) in
+    subst IsNamedLine (get_or_append_left lines behind d k within) (all k d (omega (arith, length-append lines behind, within)))
+
+pub AreAnswered-later : (a b : Server) (bytes : List ℕ) (lines behind : List (Option Piece)) (text : List ℕ) → read_lines bytes ≡ lines ++ behind → AreAnswered a lines text b → Later a b
+AreAnswered-later a b bytes lines behind text is answered =
+    let stays = AreAnswered-stays a b lines text answered in
+    record { settings = stays.settings; refused = stays.refused; named = stays.names (front_named bytes lines behind is) }
 
 -- one line, and some lines behind others
 pub AreAnswered-one : (a b : Server) (line : Option Piece) (text : List ℕ) → IsAnswered a line text b → AreAnswered a (line ∷ []) text b
@@ -86,8 +127,8 @@ texts_found a b [] more text answered found =
     ap₂ (λ front world. front ++ text_of_pieces (settings a) world (given more)) (sym answered.1) (ap states (sym answered.0))
 texts_found a b (line ∷ lines) more text answered found =
     let between = answered.0 in
-    let first = found_text a between line answered.1 answered.3 (Later-found between b (AreAnswered-later between b lines answered.2 answered.4) found) in
-    let same = (answered_later a between line answered.1 answered.3).settings in
+    let first = found_text a between line answered.1 answered.3 (stays_found (All IsNamedLine lines) between b (AreAnswered-stays between b lines answered.2 answered.4) found) in
+    let same = (answered_stays a between line answered.1 answered.3).settings in
     let rest = subst (λ s. text_of_pieces s (states between) (given (lines ++ more)) ≡ answered.2 ++ text_of_pieces s (states b) (given more)) same (texts_found between b lines more answered.2 answered.4 found) in
     text_of_pieces-cons (settings a) (states a) line (given (lines ++ more))
     ∙ ap₂ (λ front world. front ++ text_of_pieces (settings a) world (given (lines ++ more))) (sym first.0) (sym first.1)
@@ -100,8 +141,8 @@ worlds_found : (a b : Server) (lines : List (Option Piece)) (text : List ℕ) �
 worlds_found a b [] text answered found = ap states answered.0 ∙ sym (world_after_pieces-nothing (settings a) (states a))
 worlds_found a b (line ∷ lines) text answered found =
     let between = answered.0 in
-    let first = found_text a between line answered.1 answered.3 (Later-found between b (AreAnswered-later between b lines answered.2 answered.4) found) in
-    let same = (answered_later a between line answered.1 answered.3).settings in
+    let first = found_text a between line answered.1 answered.3 (stays_found (All IsNamedLine lines) between b (AreAnswered-stays between b lines answered.2 answered.4) found) in
+    let same = (answered_stays a between line answered.1 answered.3).settings in
     worlds_found between b lines answered.2 answered.4 found
     ∙ ap₂ (λ s world. world_after_pieces s world (given lines)) same first.1
     ∙ sym (world_after_pieces-cons (settings a) (states a) line (given lines))

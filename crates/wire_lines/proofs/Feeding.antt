@@ -26,10 +26,10 @@ Fed-trans a b c first second = record {
 }
 
 pub Fed-later : (a b : Point) → Fed a b → Later a.server b.server
-Fed-later a b fed = AreAnswered-later a.server b.server fed.lines fed.text fed.answered
+Fed-later a b fed = AreAnswered-later a.server b.server (a.begun ++ []) fed.lines (read_lines (b.begun ++ [])) fed.text (fed.reads []) fed.answered
 
 pub Cut-later : (fault : RunFault) (a b : Point) (rest : List ℕ) → Cut fault a b rest → Later a.server b.server
-Cut-later fault a b rest cut = AreAnswered-later a.server b.server cut.lines cut.text cut.answered
+Cut-later fault a b rest cut = AreAnswered-later a.server b.server (a.begun ++ rest) cut.lines cut.behind cut.text cut.reads cut.answered
 
 -- what follows the bytes of both points may be put behind them
 pub Fed-more : (a b : Point) (bytes : List ℕ) → Fed a b → Fed (and_then a bytes) (and_then b bytes)
@@ -146,7 +146,7 @@ Stops-cut most Memory a b rest stops = stops
 Stops-cut most Endless a b rest stops = stops.0
 
 pub Finishes-later : {T : Type 0} (most : ℕ) (a b : Point) (r : Result T RunFault) → Finishes most a b r → Later a.server b.server
-Finishes-later most a b (Ok done) finishes = AreAnswered-later a.server b.server (read_lines a.begun) finishes.text finishes.answered
+Finishes-later most a b (Ok done) finishes = AreAnswered-later a.server b.server a.begun (read_lines a.begun) [] finishes.text (sym (append-nil (read_lines a.begun))) finishes.answered
 Finishes-later most a b (Err fault) finishes = Cut-later fault a b [] (Stops-cut most fault a b [] finishes)
 
 pub Stops-after : (most : ℕ) (fault : RunFault) (a b c : Point) (rest : List ℕ) → Fed a b → Stops most fault b c rest → Stops most fault a c rest

@@ -6,7 +6,8 @@ ghost use Rattle.isolation.specs.Slice.{Note};
 ghost use Rattle.session_engine.specs.Sessions.{AreSound};
 ghost use Rattle.server_world.specs.Noting.{IsNoted};
 ghost use Rattle.server_world.specs.Server.{KnowsItsSessions, seen, seen_as};
-ghost use Rattle.thread_model.specs.Asked.{tag};
+ghost use Rattle.thread_model.specs.Asked.{asked, tag};
+ghost use Rattle.thread_model.specs.Named.{IsNamedAsked};
 ghost use Rattle.wire_devices.specs.Counts.{CountsErrors};
 ghost use Rattle.wire_format.specs.Input.{NoEnd, lines_of, piece_of};
 ghost use Rattle.wire_format.specs.Text.{is_session_text};
@@ -103,7 +104,8 @@ impl Slicing {
 
     /// Notes a command, whose line begins there, and does it.
     fn obey(&mut self, start: usize, given: &Tagged, server: &mut Server) -> Result<(), RunFault>
-        requires { IsTrue (is_session_text given.now.session) }
+        requires text { IsTrue (is_session_text given.now.session) }
+        requires named { IsNamedAsked (asked given.now.command) }
         ensures done { OnOk result (DoesNoted start (tag given.now) (noted self.old (seen_as server.old)) (noted self.new (seen_as server.new))) }
         ensures count { self.new.count ≡ self.old.count }
         ensures stopped { IfErr result (λ fault. (fault ≡ Memory) × RunsShort (Some (Given (tag given.now))) (seen_as server.old) (seen_as server.new)) }

@@ -1,5 +1,6 @@
 use Rattle.thread_model.proofs.FittingCommandLemmas.{keeps_fitting}
 use Rattle.thread_model.proofs.DeclaredLemmas.{keeps_declared}
+use Rattle.thread_model.proofs.NamedLemmas.{keeps_named}
 use Rattle.thread_model.proofs.LawLemmas.{keeps_sound, keeps_under_way}
 use Rattle.thread_model.proofs.commands_keep_sessions_sound.Goals as goal
 
@@ -14,3 +15,6 @@ returns-clause-properties c = keeps_declared
 
 pub returns-clause-fitting : goal.returns-clause-fitting
 returns-clause-fitting c = keeps_fitting
+
+pub returns-clause-names : goal.returns-clause-names
+returns-clause-names c = keeps_named

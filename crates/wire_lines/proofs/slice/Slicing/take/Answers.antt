@@ -1,18 +1,22 @@
-use Rattle.std.proofs.Common.{◌≡◌, ◌+◌, Option, OnOk, refl, sym, subst}
+use Rattle.std.proofs.Common.{◌≡◌, ◌+◌, Ok, Option, OnOk, refl, sym, subst}
 use Rattle.std.proofs.lemmas.Bool.{or_left}
 use Rattle.server_world.specs.Server.{seen_as}
 use Rattle.thread_model.specs.Asked.{tag}
 use Rattle.wire_format.specs.Input.{Piece, piece_of}
 use Rattle.wire_format.proofs.Cutting.{piece_of-blank, piece_of-faulty, piece_of-given}
+use Rattle.wire_format.proofs.NamedLemmas.{read_named}
 use Rattle.wire_format.proofs.Sessions.{session_is_name}
 use Rattle.wire_lines.specs.Taking.{Takes}
 use Rattle.wire_lines.specs.Standing.{noted}
-use Rattle.wire_lines.proofs.Answering.{Later-same}
+use Rattle.wire_lines.proofs.Answering.{Later-same, only_named}
 use Rattle.wire_lines.proofs.Taken.{StopsAt-given, on_ok}
 use Rattle.wire_lines.proofs.slice.Slicing.take.Goals as goal
 
-pub obey-requires : goal.obey-requires
-obey-requires g c = or_left _ _ (session_is_name c.args.line.now (tag c.in-Ok.given) c.in-Ok.ensures)
+pub obey-requires-clause-named : goal.obey-requires-clause-named
+obey-requires-clause-named g c = read_named c.args.line.now (Ok c.in-Ok.given) c.in-Ok.ensures
+
+pub obey-requires-clause-text : goal.obey-requires-clause-text
+obey-requires-clause-text g c = or_left _ _ (session_is_name c.args.line.now (tag c.in-Ok.given) c.in-Ok.ensures)
 
 pub returns-then-is_blank-clause-taken : goal.returns-then-is_blank-clause-taken
 returns-then-is_blank-clause-taken g c =
@@ -43,3 +47,10 @@ returns-in-Err-Fault-clause-taken g c =
 
 pub returns-in-Err-Fault-clause-later : goal.returns-in-Err-Fault-clause-later
 returns-in-Err-Fault-clause-later g c = Later-same (seen_as c.args.server.now) (seen_as c.args.server.now) refl
+
+pub returns-clause-later : goal.returns-clause-later
+returns-clause-later g c = record {
+  settings = c.note_memory_refused.ensures.settings;
+  refused = λ was. c.note_memory_refused.ensures.refused.refused;
+  named = only_named _ _ c.note_memory_refused.ensures.refused;
+}
