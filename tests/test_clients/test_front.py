@@ -321,6 +321,7 @@ class Clients(FrontCases):
             made = [json.loads(client.ask(text_of(connect)))["reply"] for _ in range(count)]
             self.assertEqual(made, list(range(1, count + 1)), "its connections")
             client.say(text_of({"do": "invoke", "object": 1, "method": "told(QString)", "args": ["n" * TEXT_MOST]}))
+            select.select([client.link], [], [], PATIENCE)  # so that the server is at it, and the other one waits for its end
             self.assertEqual(json.loads(other.ask(text_of({"do": "new", "class": "Ear"})))["reply"], 1, "another client")
             self.assertNotIn(b'"reply"', client.until_closed(), "what it is told")
             self.assertEqual(json.loads(other.ask(STATUS))["reply"]["objects"], 1, "the other client later")
