@@ -63,15 +63,18 @@ MAN = $(DESTDIR)$(PREFIX)/share/man/man1
 DOC = $(DESTDIR)$(PREFIX)/share/doc/metad
 SHARE = $(DESTDIR)$(PREFIX)/share/metad
 # the documents and what they lead to, which stands below DOC as it stands here
-DOCUMENTS = README.md CHANGELOG.md $(wildcard docs/*.md docs/*.json clients/*/*.md examples/*/*)
+DOCUMENTS = README.md CHANGELOG.md $(wildcard docs/*.md docs/*.json docs/*.png clients/*/*.md examples/*/*)
 FOLDERS = $(filter-out ./,$(sort $(dir $(DOCUMENTS)))) clients examples
 # the client, which the tools find below SHARE as they find it here
 CLIENT = python/metad
 OF_CLIENT = $(patsubst clients/%,%,$(wildcard clients/$(CLIENT)/*.py clients/$(CLIENT)/py.typed))
 # each is installed as metad-TOOL; what they are made of stands in these folders
-TOOLS = explain check shell front slice
-PARTS = explaining checking shelling fronting slicing
-OF_TOOLS = $(TOOLS) $(patsubst clients/%,%,$(wildcard $(PARTS:%=clients/%/*.py)))
+TOOLS = explain check shell front slice inspect
+PARTS = explaining checking shelling fronting slicing inspecting
+# what the inspector shows beside its code: its page, and the classes of a server without a class file
+PAGE = inspecting/page
+OF_PAGE = $(patsubst clients/%,%,$(wildcard clients/$(PAGE)/* clients/inspecting/*.json))
+OF_TOOLS = $(TOOLS) $(patsubst clients/%,%,$(wildcard $(PARTS:%=clients/%/*.py))) $(OF_PAGE)
 
 # takes bin/metad as it is
 install:
@@ -85,6 +88,7 @@ install:
 		install -d "$(SHARE)/$$it" && \
 		install -m 644 clients/$$it/*.py "$(SHARE)/$$it" || exit; \
 	done
+	for it in $(OF_PAGE); do install -D -m 644 "clients/$$it" "$(SHARE)/$$it" || exit; done
 	for it in $(TOOLS); do \
 		install clients/$$it "$(SHARE)/$$it" && \
 		ln -sf ../share/metad/$$it "$(BIN)/metad-$$it" || exit; \
@@ -99,7 +103,7 @@ uninstall:
 	rm -f "$(BIN)/metad" $(TOOLS:%="$(BIN)/metad-%") "$(MAN)/metad.1" $(if $(SITE),"$(DESTDIR)$(SITE)/metad")
 	rm -f $(DOCUMENTS:%="$(DOC)/%") $(OF_CLIENT:%="$(SHARE)/%") $(OF_TOOLS:%="$(SHARE)/%")
 	rm -rf "$(SHARE)/$(CLIENT)/__pycache__" $(PARTS:%="$(SHARE)/%/__pycache__")
-	for it in $(FOLDERS:%="$(DOC)/%") "$(DOC)" "$(SHARE)/$(CLIENT)" "$(SHARE)/python" $(PARTS:%="$(SHARE)/%") "$(SHARE)"; do \
+	for it in $(FOLDERS:%="$(DOC)/%") "$(DOC)" "$(SHARE)/$(CLIENT)" "$(SHARE)/python" "$(SHARE)/$(PAGE)" $(PARTS:%="$(SHARE)/%") "$(SHARE)"; do \
 		test ! -d "$$it" || rmdir --ignore-fail-on-non-empty "$$it"; \
 	done
 

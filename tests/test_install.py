@@ -15,13 +15,16 @@ from .support.program import ROOT, SECONDS, lay_out, make, run_shell
 
 SHARED = {"bin", "share", "share/man", "share/man/man1", "share/doc"}  # folders that are not the program's own
 DOC = "share/doc/metad"
-TOOLS = {"explain": "explaining", "check": "checking", "shell": "shelling", "front": "fronting", "slice": "slicing"}
+TOOLS = {
+    "explain": "explaining", "check": "checking", "shell": "shelling", "front": "fronting", "slice": "slicing", "inspect": "inspecting",
+}  # fmt: skip
 LINKS = {f"bin/metad-{tool}": f"share/metad/{tool}" for tool in TOOLS}
 PROGRAMS = {"bin/metad", *LINKS, *LINKS.values()}
 DOCUMENTS = ("README.md", "docs/PROTOCOL.md", "clients/python/README.md", "examples/traffic_light/session")
 CLIENT = "share/metad/python"
 ALWAYS = PROGRAMS | {"share/man/man1/metad.1", f"{CLIENT}/metad/__init__.py", *(f"{DOC}/{it}" for it in DOCUMENTS)}
-OF_DOCUMENTS = ("README.md", "CHANGELOG.md", "docs/*.md", "docs/*.json", "clients/*/*.md", "examples/*/*")
+OF_DOCUMENTS = ("README.md", "CHANGELOG.md", "docs/*.md", "docs/*.json", "docs/*.png", "clients/*/*.md", "examples/*/*")
+OF_PAGE = ("inspecting/page/*", "inspecting/*.json")
 OF_CLIENT = ("metad/*.py", "metad/py.typed")
 RELATIVE = re.compile(r"\]\((?!#|\w+:)([^)#]+)[^)]*\)")  # a link of a document to another file or folder
 LINE = b'{"error":"E12","session":"a"}\n'
@@ -44,7 +47,9 @@ def wanted_files():
     for tool, parts in TOOLS.items():
         made |= {name: ROOT / "clients" / tool for name in (f"bin/metad-{tool}", f"share/metad/{tool}")}
         made |= {f"share/metad/{parts}/{path.name}": path for path in (ROOT / "clients" / parts).glob("*.py")}
-    client = ROOT / "clients" / "python"
+    clients = ROOT / "clients"
+    made |= {f"share/metad/{path.relative_to(clients)}": path for pattern in OF_PAGE for path in clients.glob(pattern)}
+    client = clients / "python"
     made |= {f"{CLIENT}/{path.relative_to(client)}": path for pattern in OF_CLIENT for path in client.glob(pattern)}
     documents = [path for pattern in OF_DOCUMENTS for path in ROOT.glob(pattern) if path.is_file()]
     return made | {f"{DOC}/{path.relative_to(ROOT)}": path for path in documents}

@@ -20,6 +20,7 @@ TOOL = ROOT / "tools" / "package.py"
 TIME = 1_700_000_000  # that the files of a package are given
 NEW, FIRST = b'{"session":"a","do":"new","class":"Probe"}\n', b'{"reply":1,"session":"a"}\n'
 USAGE = "usage: metad-front [options] SOCKET PROGRAM [ARGS...]\n"
+INSPECT_USAGE = "usage: metad-inspect [--port PORT] RECORD PROGRAM [ARGS...]\n"
 GLIBC = re.compile(r"glibc (\d+(?:\.\d+)+)")
 SITE = "usr/lib/python3/dist-packages"
 DPKG = ["dpkg", "--force-depends", "--force-script-chrootless"]  # without the packages that it needs, nor their shell
@@ -76,6 +77,8 @@ class Packages(Cases):
         self.check_run(["python3", "-c", code], b"", f"0 {version()[0]}\n".encode(), PYTHONPATH=str(site))
         said = subprocess.run([top / "bin/metad-front", "--help"], capture_output=True, text=True, timeout=SECONDS).stdout
         self.assertTrue(said.startswith(USAGE), said[: len(USAGE)])
+        said = subprocess.run([top / "bin/metad-inspect", "--help"], capture_output=True, text=True, timeout=SECONDS).stdout
+        self.assertTrue(said.startswith(INSPECT_USAGE), said[: len(INSPECT_USAGE)])
 
     def test_tarball(self):
         """It has all that is installed and the checksums of it, and is the same each time."""

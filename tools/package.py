@@ -35,9 +35,9 @@ ABOUT = """\
 metad {version}, for x86-64 Linux with glibc {glibc} or later; the tools need Python {python} or later beside it.
 
 This folder may stand anywhere. With its bin/ on the path there are metad, metad-front, metad-shell, metad-check,
-metad-explain and metad-slice; with share/metad/python on PYTHONPATH programs in Python find the client. man -l
-share/man/man1/metad.1 shows the manual page, and share/doc/metad/README.md leads to the documents. sha256sum -c
-SHA256SUMS compares all files.
+metad-explain, metad-slice and metad-inspect; with share/metad/python on PYTHONPATH programs in Python find the client.
+man -l share/man/man1/metad.1 shows the manual page, and share/doc/metad/README.md leads to the documents. sha256sum
+-c SHA256SUMS compares all files.
 """
 
 CONTROL = """\

@@ -4,9 +4,10 @@ from __future__ import annotations
 
 import socket
 from functools import partial
-from typing import Dict, Iterable, Set
+from typing import Dict, Iterable, Optional, Set
 
 from .clients import Client, Session
+from .inspector import Inspector
 from .lines import ANSWERS, NOBODY, asked_of_front, end_of, line_of, refusal, session_of, shown, with_session
 from .log import Ended, Log
 from .monitors import NOT_KNOWN, Monitors
@@ -28,7 +29,9 @@ class Front:
         self.doors = Doors(self.watch)
         self.monitors = Monitors(self.watch, self.doors, log)
         self.turns = Turns()
+        self.inspector: Optional[Inspector] = None
         self.shared: Dict[str, Session] = {name: Session(name, is_shared=True) for name in shared}
+        self.own: Dict[str, Session] = {}  # those of clients that are there
         self.touched: Set[Client] = set()  # clients that are to be looked after
         self.count = 0  # clients so far
 
@@ -39,7 +42,14 @@ class Front:
             self.watch.wait()
             self.settle()
             self.monitors.settle()
+            if self.inspector:
+                self.inspector.settle()
             self.give()
+
+    def be_shown(self, inspector: Inspector) -> None:
+        """Lets a process hear all lines, and speak for the sessions that are there."""
+        self.inspector = inspector
+        inspector.join(self.turns, lambda name: self.own.get(name) or self.shared.get(name))
 
     def enter(self, link: socket.socket) -> None:
         """Takes a new client, which has a session of its own."""
@@ -47,6 +57,7 @@ class Front:
         session = Session(f"c{self.count}", is_shared=False)
         client = Client(session.name, link, session=session)
         session.members.append(client)
+        self.own[session.name] = session
         self.turns.clients += 1
         self.touched.add(client)
         self.log.note(f"{client.name} has come")
@@ -75,6 +86,7 @@ class Front:
 
     def share(self, client: Client, session: Session) -> None:
         """Lets a client speak for a shared session."""
+        del self.own[client.session.name]
         client.session = session
         session.members.append(client)
         client.unread += line_of({"reply": True, "session": session.name})
@@ -88,6 +100,8 @@ class Front:
     def hear(self, _events: int) -> None:
         """Tells the clients what the server has written. Long calls are not copied line by line."""
         lines = self.server.read()
+        if self.inspector:
+            self.inspector.told(lines)
         told = at = 0  # where what is still to be told begins, and the line that is looked at
         while at < len(lines):
             end = lines.index(b"\n", at) + 1
@@ -164,6 +178,8 @@ class Front:
             client.session.is_begun = True
             self.turns.give(client, line)
             self.server.give(line)
+            if self.inspector:
+                self.inspector.given(client, line)
             self.turns.await_turn(client)
             if not client.is_gone:
                 self.follow(client)
@@ -185,7 +201,15 @@ class Front:
         client.waiting.clear()
         client.unread.clear()
         client.session.members.remove(client)
-        if client.session.is_begun and not client.session.is_shared:
+        if not client.session.is_shared:
+            self.forget(client)
+        self.doors.reopen()
+
+    def forget(self, client: Client) -> None:
+        """Has the session of a client that has gone put back, where the server was given a command of it."""
+        del self.own[client.session.name]
+        if self.inspector:
+            self.inspector.forget(client.session)
+        if client.session.is_begun:
             client.waiting.append(RESET)
             self.turns.await_turn(client)
-        self.doors.reopen()

@@ -14,6 +14,7 @@ from contextlib import ExitStack, contextmanager
 from typing import Iterator
 
 from .front import Front
+from .inspector import Wanted, inspecting
 from .lines import CHUNK, is_name
 from .log import NAME, Ended, Log, say
 from .server import Record, Server, started
@@ -35,6 +36,7 @@ server ends, or something cannot be bound, started or opened, 2 after a mistake 
 ASK_TO_END = (signal.SIGINT, signal.SIGTERM, signal.SIGHUP)
 OWN_NAME = re.compile(r"c[0-9]+")
 MODE = re.compile(r"0?[0-7]{1,3}")
+PORT, PORT_MOST = re.compile(r"[0-9]{1,5}"), 65_535
 
 
 class Asked(Exception):
@@ -73,6 +75,13 @@ def path(word: str) -> str:
     return word
 
 
+def port(word: str) -> int:
+    """The number of a port."""
+    if not PORT.fullmatch(word) or int(word) > PORT_MOST:
+        raise argparse.ArgumentTypeError(f"{word!r} is no number of a port, from 0 to {PORT_MOST}")
+    return int(word)
+
+
 def parser() -> argparse.ArgumentParser:
     """What reads the words of the command line."""
     words = argparse.ArgumentParser(
@@ -92,6 +101,9 @@ def parser() -> argparse.ArgumentParser:
     add("--share", metavar="NAME", type=shared_name, action="append", default=[], help="a session that clients may share")
     add("--monitor", metavar="SOCKET", type=path, help="where monitors connect, who read all lines of the server")
     add("--monitor-mode", metavar="OCTAL", type=mode_of, help="the rights of that socket")
+    add("--inspect", metavar="PORT", type=port, help="show the server as a page at this port of this machine; 0 is any free one")
+    add("--inspect-ask", action="store_true", help="let that page ask the sessions what is not known, which takes turns")
+    add("--inspect-write", action="store_true", help="let that page also give the sessions commands")
     add("--tied", action="store_true", help="end as soon as standard input does, with whoever holds the other side")
     add("socket", metavar="SOCKET", type=path, help=argparse.SUPPRESS)
     add("program", metavar="PROGRAM", type=path, help=argparse.SUPPRESS)
@@ -107,6 +119,8 @@ def words_given() -> argparse.Namespace:
         words.error("--mode is for a socket that the front binds")
     if given.monitor_mode is not None and given.monitor is None:
         words.error("--monitor-mode needs --monitor")
+    if given.inspect is None and (given.inspect_ask or given.inspect_write):
+        words.error("--inspect-ask and --inspect-write need --inspect")
     if given.tied and (sys.stdin is None or not is_pipe(0)):
         words.error("--tied needs a pipe, a socket or a terminal as standard input")
     return given
@@ -156,6 +170,10 @@ def serve(given: argparse.Namespace) -> None:
         process = stack.enter_context(started(given.program, given.args))
         front = Front(Server(process, record), given.share, log)
         front.watch.follow(alarm, READ, asked)
+        if given.inspect is not None:
+            wanted = Wanted(given.inspect, given.inspect_ask or given.inspect_write, given.inspect_write)
+            shown = inspecting(wanted, [given.program, *given.args], front.watch, log)
+            front.be_shown(stack.enter_context(shown))
         if given.tied:
             front.watch.follow(sys.stdin.buffer, READ, look_at_input)
         front.doors.add(listener, front.enter)

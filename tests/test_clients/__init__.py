@@ -1,4 +1,5 @@
-"""What stands in `clients`: the client in Python with its page, the front, `explain`, `check`, `shell` and `slice`."""
+"""What stands in `clients`: the client in Python with its page, the front, `explain`, `check`, `shell`,
+`slice` and `inspect`."""
 
 import sys
 from pathlib import Path

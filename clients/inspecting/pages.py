@@ -1,0 +1,182 @@
+"""What the page may ask for by name, and what it may have done."""
+
+from __future__ import annotations
+
+import json
+from dataclasses import dataclass
+from typing import Any, Callable, Dict, FrozenSet, Optional, Set
+
+from . import graphs, happened, views
+from .entries import Entry
+from .feed import Asking
+from .happened import Sought
+from .replay import Replay
+from .world import World
+
+READING = {
+    "children": ("object",),
+    "get": ("object", "property"),
+    "meta": ("class",),
+    "status": (),
+    "bindingError": ("object", "property"),
+    "dynamicNames": ("object",),
+}  # what the page asks sessions with leave, and what may stand there
+WRITING = {"invoke": ("object", "method", "args", "type"), "set": ("object", "property", "value")}
+ASKED_MOST = 4_096  # objects that are asked for their children at once
+
+Json = Dict[str, Any]
+Asked = Dict[str, str]
+
+
+class Refused(Exception):
+    """Why something is not answered, as a status of HTTP."""
+
+    def __init__(self, status: int) -> None:
+        super().__init__(status)
+        self.status = status
+
+
+@dataclass(frozen=True)
+class Leave:
+    """What the page may do beside looking."""
+
+    ask: bool = False
+    write: bool = False
+
+
+def number_in(asked: Asked, key: str, otherwise: Optional[int] = None) -> Optional[int]:
+    """A whole number that is asked with."""
+    word = asked.get(key, "")
+    return int(word) if word.isdecimal() and len(word) < 16 else otherwise
+
+
+class Pages:
+    """Answers what the page asks for."""
+
+    def __init__(self, world: World, asking: Asking, leave: Leave, words: Any, replay: Optional[Replay] = None) -> None:
+        self.own_world = world
+        self.asking = asking
+        self.leave = leave
+        self.words = words
+        self.replay = replay
+        self.gets: Dict[str, Callable[[World, Asked], Any]] = {
+            "about": self.about, "sessions": self.sessions, "tree": self.tree, "object": self.object, "lines": self.lines,
+            "entry": self.entry, "chain": self.chain, "emissions": self.emissions, "slots": self.slots, "graph": self.graph,
+        }  # fmt: skip
+
+    @property
+    def world(self) -> World:
+        return self.replay.world if self.replay else self.own_world
+
+    def news(self) -> Json:
+        """What is told of each moment."""
+        world = self.world
+        with world.lock:
+            return {**views.summary(world), **self.place()}
+
+    def place(self) -> Json:
+        """How far a record is shown."""
+        return self.replay.place() if self.replay else {}
+
+    def get(self, name: str, asked: Asked) -> Any:
+        """Answers what is asked by a name, with null where nothing is known of it; refuses a name that there is not."""
+        do = self.gets.get(name)
+        world = self.world
+        if do is None:
+            raise Refused(404)
+        with world.lock:
+            return do(world, asked)
+
+    # ---- what is known ----
+
+    def about(self, world: World, _asked: Asked) -> Json:
+        return {
+            "record": self.replay is not None,
+            "ask": self.leave.ask,
+            "write": self.leave.write,
+            "words": self.words,
+            "classes": sorted(world.classes.own) if world.classes.is_whole else None,
+            **views.summary(world),
+            **self.place(),
+        }
+
+    def sessions(self, world: World, asked: Asked) -> Json:
+        start, count = number_in(asked, "from", 0), number_in(asked, "count", 60)
+        return views.sessions(world, start or 0, count or 0, asked.get("sought", ""), asked.get("sort", "name"))
+
+    def tree(self, world: World, asked: Asked) -> Optional[Json]:
+        start, count = number_in(asked, "from", 0), number_in(asked, "count", 60)
+        closed: Set[int] = {int(it) for it in asked.get("closed", "").split(",") if it.isdecimal()}
+        return views.tree(world, asked["session"], start or 0, count or 0, closed, asked.get("sought", ""))
+
+    def object(self, world: World, asked: Asked) -> Optional[Json]:
+        return views.object_of(world, asked["session"], number_in(asked, "number", 0) or 0)
+
+    def sought(self, asked: Asked) -> Sought:
+        """Which commands are sought."""
+        kept: Optional[FrozenSet[int]] = None
+        if asked.get("slice") and self.replay:
+            kept = self.replay.slice(asked["slice"])
+        return Sought(asked.get("session", ""), number_in(asked, "object"), asked.get("signal", ""), kept)
+
+    def lines(self, world: World, asked: Asked) -> Json:
+        return happened.lines(world, self.sought(asked), number_in(asked, "before"), number_in(asked, "count", 60) or 0)
+
+    def entry(self, world: World, asked: Asked) -> Optional[Json]:
+        return happened.whole(world, number_in(asked, "number", 0) or 0)
+
+    def chain(self, world: World, asked: Asked) -> Any:
+        entry: Optional[Entry] = world.entries.get(number_in(asked, "number", 0) or 0)
+        call = number_in(asked, "call", 0) or 0
+        return None if entry is None or call >= len(entry.calls) else happened.chain(world, entry.number, call)
+
+    def emissions(self, world: World, asked: Asked) -> Json:
+        return happened.emissions(world, self.sought(asked), number_in(asked, "count", 500) or 0)
+
+    def slots(self, world: World, asked: Asked) -> Json:
+        return happened.busiest(world, asked.get("session", ""), asked.get("sort", "calls"), number_in(asked, "count", 100) or 0)
+
+    def graph(self, world: World, asked: Asked) -> Optional[Json]:
+        if asked["kind"] == "joins":
+            return graphs.listening(world, asked.get("session", ""))
+        session = world.sessions.get(asked["session"])
+        if session is None:
+            return None
+        return graphs.bindings(session) if asked["kind"] == "bindings" else graphs.connections(session)
+
+    # ---- what is done ----
+
+    def post(self, name: str, asked: Any) -> Any:
+        """Does what the page asks for."""
+        if name == "step" and self.replay:
+            return self.replay.go(int(asked["to"]))
+        if name == "ask":
+            return self.ask(asked["session"], asked["command"])
+        if name == "ask_tree" and self.leave.ask:
+            return self.ask_tree(asked["session"])
+        raise Refused(403 if name == "ask_tree" else 404)
+
+    def ask(self, session: str, command: Json) -> Json:
+        """Gives a command in the name of a session, where that is allowed, and answers with what was told to it."""
+        word = command["do"]
+        is_reading, is_writing = word in READING and self.leave.ask, word in WRITING and self.leave.write
+        if not (is_reading or is_writing) or not set(command) - {"do"} <= set({**READING, **WRITING}[word]):
+            raise Refused(403)
+        entry = self.asking.ask(session, with_numbers(command))
+        return {"answer": None} if entry is None else {**happened.row(entry), "answer": entry.answer.decode()}
+
+    def ask_tree(self, session: str) -> Json:
+        """Asks a session for its roots, and each object for its children."""
+        waiting, count = [{"do": "children"}], 0
+        while waiting and count < ASKED_MOST:
+            entry = self.asking.ask(session, waiting.pop())
+            count += 1
+            if entry is None or entry.error in ("E20", None) and not isinstance(entry.reply, list):
+                break
+            waiting += [{"do": "children", "object": it} for it in entry.reply or ()]
+        return {"asked": count, "left": len(waiting)}
+
+
+def with_numbers(command: Json) -> Json:
+    """A command in which values that a browser had to write as texts of JSON are those values."""
+    return {key: json.loads(it["json"]) if isinstance(it, dict) and "json" in it else it for key, it in command.items()}

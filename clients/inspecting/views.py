@@ -1,0 +1,240 @@
+"""What the page is told, as JSON: of sessions, of trees, and of objects. What is not known is null, or said not to be."""
+
+from __future__ import annotations
+
+from typing import Any, Dict, List, Optional, Set, Tuple
+
+from explaining.objects import ROOT
+
+from . import graphs
+from .classes import Classes
+from .effects import cell_of
+from .forms import formula
+from .session import UNKNOWN, Cell, Connection, Session, Spot
+from .world import BEHIND, MILLION, World
+
+ROWS_MOST = 500  # that are told at once
+LISTED_MOST = 500  # connections of an object that are told
+
+Json = Dict[str, Any]
+
+
+def summary(world: World) -> Json:
+    """What stands at the top of the page, and what is told of each moment."""
+    return {
+        "version": world.version,
+        "sessions": len(world.sessions),
+        "commands": world.entries.count,
+        "lines": world.lines,
+        "rate": world.total_rates.rate(world.clock() // MILLION),
+        "left_out": world.left_out,
+        "behind": world.lag if world.is_live and world.lag > BEHIND else 0,
+        "waiting": len(world.under_way),
+    }
+
+
+# ---- sessions ----
+
+
+def counts(session: Session) -> Json:
+    """How much a session has, each with whether that is known."""
+    objects = session.objects
+    are_known = session.is_known and not objects.has_earlier
+    return {
+        "objects": [len(objects.classes), are_known and len(objects.sure) == len(objects.classes)],
+        "connections": [len(session.connections), session.are_connections_sure],
+        "queued": [session.queued, session.is_queue_sure],
+        "bindings": [len(session.bindings), session.is_known],
+        "joins": [len(session.joins), session.is_known],
+        "publications": [len(session.publications), session.is_known],
+    }
+
+
+def session_row(session: Session, second: int) -> Json:
+    return {
+        "name": session.name,
+        **counts(session),
+        "rate": session.rate(second),
+        "lines": session.lines,
+        "commands": session.commands,
+        "failed": session.failed,
+        "gone": session.is_gone,
+        "group": session.groups,
+    }
+
+
+SORTS = {
+    "name": lambda it, _second: [int(part) if part.isdigit() else part for part in split_digits(it.name)],
+    "objects": lambda it, _second: -len(it.objects.classes),
+    "connections": lambda it, _second: -len(it.connections),
+    "queued": lambda it, _second: -it.queued,
+    "rate": lambda it, second: -it.rate(second),
+    "lines": lambda it, _second: -it.lines,
+}
+
+
+def split_digits(name: str) -> List[str]:
+    """A name in pieces of letters and of digits, the first of letters."""
+    pieces = [""]
+    for letter in name:
+        if letter.isdigit() == (len(pieces) % 2 == 0):
+            pieces[-1] += letter
+        else:
+            pieces.append(letter)
+    return pieces
+
+
+def sessions(world: World, start: int, count: int, sought: str, order: str) -> Json:
+    """Some of the sessions, in an order."""
+    second = world.clock() // MILLION
+    found = [it for it in world.sessions.values() if sought in it.name]
+    key = SORTS.get(order, SORTS["name"])
+    if order != "first":
+        found.sort(key=lambda it: key(it, second))
+    rows = [session_row(it, second) for it in found[start : start + min(count, ROWS_MOST)]]
+    return {"total": len(found), "from": start, "rows": rows}
+
+
+# ---- trees ----
+
+
+def flattened(session: Session, closed: Set[int]) -> List[Tuple[int, int]]:
+    """The objects of a session with their levels, as the tree shows them; last, on level -1, those of which it is not known
+    where they stand."""
+    objects, found = session.objects, []
+    waiting = [(it, 0) for it in reversed(objects.below.get(ROOT, []))]
+    while waiting:
+        number, level = waiting.pop()
+        found.append((number, level))
+        if number not in closed:
+            waiting += [(it, level + 1) for it in reversed(objects.below.get(number, []))]
+    return found + [(it, -1) for it in objects.adrift()]
+
+
+def tree_row(session: Session, number: int, level: int) -> Json:
+    objects = session.objects
+    return {
+        "object": number,
+        "level": level,
+        "class": objects.classes.get(number),
+        "name": objects.names.get(number),
+        "below": len(objects.below.get(number, ())),
+        "blocked": session.blocked.get(number, False),
+        "sure": number in objects.sure,
+        "whole": number in objects.whole,
+    }
+
+
+def tree(world: World, name: str, start: int, count: int, closed: Set[int], sought: str) -> Optional[Json]:
+    """Some of the rows of a session's tree."""
+    session = world.sessions.get(name)
+    if session is None:
+        return None
+    rows = flattened(session, closed)
+    if sought:
+        rows = [it for it in rows if is_sought(session, it[0], sought)]
+    shown = [tree_row(session, *it) for it in rows[start : start + min(count, ROWS_MOST)]]
+    known = session.is_known and not session.objects.has_earlier
+    whole = known and session.objects.whole.issuperset(session.objects.tree_below(ROOT))
+    return {"total": len(rows), "from": start, "rows": shown, "known": known, "whole": whole, "failed": session.failed}
+
+
+def is_sought(session: Session, number: int, sought: str) -> bool:
+    """Whether the number, the class or the name of an object has a text in it."""
+    texts = (f"#{number}", session.objects.classes.get(number) or "", session.objects.names.get(number) or "")
+    return any(sought in it for it in texts)
+
+
+# ---- objects ----
+
+
+def value_of(cell: Cell) -> Json:
+    """A value as the page is told it: null where it is not known, as no property has that value. Whole numbers beyond what
+    a browser can tell apart are texts of digits."""
+    if cell.value is UNKNOWN:
+        return {"value": None, "sure": False, "entry": cell.entry}
+    return {"value": told(cell.value), "sure": cell.is_sure, "entry": cell.entry}
+
+
+def told(value: Any) -> Any:
+    """A value that a browser reads as it is."""
+    is_large = isinstance(value, int) and not isinstance(value, bool) and abs(value) >= 2**53
+    return {"large": str(value)} if is_large else value
+
+
+def property_row(classes: Classes, session: Session, spot: Spot) -> Json:
+    declared = classes.property(session.objects.classes.get(spot[0]), spot[1])
+    binding, error = session.bindings.get(spot), session.errors.get(spot)
+    return {
+        "name": spot[1],
+        "type": declared.kind if declared else None,
+        "notify": declared.notify if declared else None,
+        "bindable": declared.is_bindable if declared else None,
+        "dynamic": declared is None and session.objects.classes.get(spot[0]) in classes,
+        **value_of(cell_of(classes, session, spot)),
+        "binding": formula(binding.form, spot[0]) if binding else None,
+        "bound_by": binding.entry if binding else None,
+        "error": [error.value, error.is_sure, error.entry] if error else None,
+        "readers": [list(it) for it in sorted(session.readers.get(spot, ()))[:20]],
+    }
+
+
+def connection_row(session: Session, it: Connection) -> Json:
+    return {
+        "number": it.number,
+        "sender": it.sender,
+        "signal": it.signal,
+        "receiver": it.receiver,
+        "method": it.method,
+        "queued": it.is_queued,
+        "single": it.is_single,
+        "functor": it.is_functor,
+        "entry": it.entry,
+        "calls": it.calls,
+        "sender_label": graphs.label(session, it.sender),
+        "receiver_label": graphs.label(session, it.receiver),
+    }
+
+
+def object_of(world: World, name: str, number: int) -> Optional[Json]:
+    """All that is known of an object."""
+    session = world.sessions.get(name)
+    if session is None:
+        return None
+    objects, classes = session.objects, world.classes
+    class_name = objects.classes.get(number)
+    declared = [it.name for it in classes.properties(class_name)]
+    names = [*declared, *sorted(set(session.of_object.get(number, ())).difference(declared))]
+    rows = [property_row(classes, session, (number, it)) for it in names]
+    keys = sorted(session.by_end.get(number, ()))
+    ends = [session.connections[it] for it in keys]
+    return {
+        "session": name,
+        "object": number,
+        "is_there": number in objects.classes,
+        "sure": number in objects.sure,
+        "class": class_name,
+        "chain": [it.name for it in reversed(classes.chain(class_name))],
+        "class_known": class_name in classes,
+        "name": objects.names.get(number),
+        "parent": objects.parents.get(number),
+        "children": objects.below.get(number, [])[:LISTED_MOST],
+        "blocked": session.blocked.get(number, False),
+        "properties": [it for it in rows if it["type"] is not None or it["value"] is not None or it["entry"]],
+        "methods": methods_of(world, class_name),
+        "out": [connection_row(session, it) for it in ends if it.sender == number][:LISTED_MOST],
+        "in": [connection_row(session, it) for it in ends if it.receiver == number][:LISTED_MOST],
+        "connections_known": session.are_connections_sure,
+        "published": [[it, spot[1]] for it, spot in session.publications.items() if spot[0] == number],
+        "joins": [[it.source, it.name, it.method] for it in session.joins if it.object == number],
+        "version": session.version,
+    }
+
+
+def methods_of(world: World, class_name: Optional[str]) -> List[Json]:
+    """The methods of a class: of the class file, or as `meta` has told them."""
+    found = world.classes.methods(class_name)
+    if class_name in world.classes or class_name not in world.met:
+        return [{"text": text, "kind": kind, "of": of, "body": world.classes.body(of, text)} for text, kind, of in found]
+    texts = world.met[class_name or ""].get("methods", [])
+    return [{"text": text, "kind": None, "of": None, "body": None} for text in texts]

@@ -1,0 +1,243 @@
+"""All that is known of a server: its sessions, and the newest commands with what was told to them."""
+
+from __future__ import annotations
+
+import json
+import threading
+from collections import deque
+from time import monotonic_ns
+from typing import Any, Deque, Dict, Iterator, List, Optional, Sequence, Set, Tuple
+
+from explaining.held import is_deep
+
+from .classes import Classes
+from .effects import count_of
+from .entries import CALLS_MOST, TEXT_MOST, Call, Entries, Entry, Warned
+from .learning import Learning, settle_queue
+from .session import Living, Posting, Session, Spot
+
+NOBODY = "-"
+READER = json.JSONDecoder()
+MILLION = 1_000_000
+BEHIND = 500_000  # from which on what is known counts as behind
+
+
+class World:
+    """What is known of a server. Whoever reads or changes it holds `lock`."""
+
+    def __init__(self, classes: Classes) -> None:
+        self.lock = threading.RLock()
+        self.classes = classes
+        self.learning = Learning(classes)
+        self.sessions: Dict[str, Session] = {}
+        self.entries = Entries()
+        self.under_way: Deque[Entry] = deque()
+        self.met: Dict[str, Any] = {}  # what `meta` has told of classes
+        self.listeners: Dict[str, Set[str]] = {}  # by a session's name, those that have joined it
+        self.slots: Dict[Tuple[str, str, str], List[int]] = {}  # of a session, class and slot: calls, commands, time, worst, its entry
+        self.now = 0  # in millionths of a second, as the front says it
+        self.last_end = 0
+        self.lag = 0  # how far what is known is behind, at the last lines that came
+        self.is_live = False
+        self.lines = 0
+        self.left_out = 0
+        self.total_rates = Session("")
+        self.version = 0
+
+    def clock(self) -> int:
+        """The time up to which all is known, as the front says it."""
+        if not self.is_live or self.lag > BEHIND:
+            return self.now
+        return max(self.now, monotonic_ns() // 1_000)
+
+    # ---- lines ----
+
+    def begin(self, raw: bytes, session: Optional[str] = None, by_inspector: bool = False) -> Entry:
+        """A command was given to the server."""
+        self.entries.count += 1
+        asked = asked_of(raw)
+        name = session or asked.get("session")
+        entry = Entry(self.entries.count, name if isinstance(name, str) else NOBODY, raw[:TEXT_MOST], asked, self.now, by_inspector)
+        self.under_way.append(entry)
+        return entry
+
+    def tell(self, raw: bytes) -> Optional[Entry]:
+        """The server has written a line; answers the command that it ends."""
+        self.lines += 1
+        if not self.under_way:
+            self.left_out += 1
+            return None
+        entry, held = self.under_way[0], asked_of(raw)
+        entry.lines += 1
+        entry.size += len(raw)
+        if "call" in held:
+            self.hear_call(entry, held)
+        elif "warning" in held:
+            entry.warnings.append(Warned(held["warning"], held.get("object", 0), held.get("property", ""), len(entry.calls)))
+        else:
+            self.under_way.popleft()
+            self.end(entry, raw, held)
+            return entry
+        return None
+
+    def hear_call(self, entry: Entry, held: Dict[str, Any]) -> None:
+        """A slot or a functor was called."""
+        if len(entry.calls) >= CALLS_MOST:
+            entry.left_out += 1
+        else:
+            entry.calls.append(Call(held["object"], held["call"], held["args"], held["sender"]))
+
+    def end(self, entry: Entry, raw: bytes, held: Dict[str, Any]) -> None:
+        """A command has ended."""
+        entry.ended, entry.answer = self.now, raw[:TEXT_MOST]
+        entry.taken = max(0, self.now - max(entry.given, self.last_end))
+        self.last_end = self.now
+        entry.reply, entry.error = held.get("reply"), held.get("error")
+        entry.size += len(entry.raw) + 512 * (1 + len(entry.calls))
+        entry.session = held.get("session", entry.session)
+        self.version += 1
+        second = self.now // MILLION
+        self.total_rates.count_lines(entry.lines + 1, second)
+        if entry.session != NOBODY:
+            session = self.session(entry.session)
+            session.count_lines(entry.lines + 1, second)
+            session.commands += 1
+            try:
+                self.learn(session, entry)
+            except (KeyError, TypeError, ValueError, AttributeError):
+                session.is_known = False  # it was answered as a command, and is none that is known here
+        self.entries.add(entry)
+
+    def session(self, name: str) -> Session:
+        """A session, which may be new."""
+        found = self.sessions.get(name)
+        if found is None:
+            found = self.sessions[name] = Session(name)
+        return found
+
+    def learn(self, session: Session, entry: Entry) -> None:
+        """Learns what a command has done to its session, and to those that listen to it."""
+        if entry.word == "meta" and isinstance(entry.reply, dict):
+            self.met[entry.asked.get("class", "")] = entry.reply
+        trace = self.learning.trace(session, entry)
+        may_post = bool(session.publications) and trace.may_post_unseen(entry.word == "spin")
+        posted = [it for event, spot in trace.postings() for it in self.addressed(session, event, spot)] if entry.error is None else []
+        self.learning.learn(session, entry, trace)
+        self.count_slots(session, entry)
+        for event, call in trace.met:
+            poster = self.entries.get(event.entry)
+            if poster is not None and event.path:
+                poster.emission_of(*event.path[-1], event.call).events.append((entry.number, call))
+        for to, event in posted:
+            self.post(to, event)
+        if may_post:
+            self.doubt_listeners(session)
+        settle_queue(session, entry)
+        self.know_listening(session, entry)
+        if entry.word == "reset" and entry.error is None:
+            self.reset(session)
+
+    def doubt_listeners(self, session: Session) -> None:
+        """What a session publishes may have been sent unseen: how many events wait for those that listen is not known."""
+        for name in self.listeners.get(session.name, ()):
+            if name in self.sessions:
+                self.sessions[name].is_queue_sure = False
+
+    def know_listening(self, session: Session, entry: Entry) -> None:
+        """Keeps which sessions listen to which."""
+        if entry.word == "join" and entry.error is None:
+            self.listeners.setdefault(entry.asked["from"], set()).add(session.name)
+
+    def reset(self, session: Session) -> None:
+        """A session is as before its first command; where its client has gone, it is forgotten."""
+        if session.is_gone:
+            self.sessions.pop(session.name, None)
+            return
+        fresh = Session(session.name)
+        fresh.lines, fresh.commands, fresh.rates = session.lines, session.commands, session.rates
+        fresh.version = session.version + 1
+        self.sessions[session.name] = fresh
+
+    # ---- events ----
+
+    def addressed(self, session: Session, posting: Posting, spot: Spot) -> Iterator[Tuple[Session, Posting]]:
+        """The sessions at which an event arrives: its own where it names an object, and else those that listen."""
+        if posting.object:
+            yield session, posting
+            return
+        for name, published in session.publications.items():
+            if published == spot:
+                for listener in self.listeners.get(session.name, ()):
+                    if listener in self.sessions:
+                        yield from self.arriving(self.sessions[listener], session.name, name, posting, spot)
+
+    def arriving(self, session: Session, source: str, name: str, posting: Posting, spot: Spot) -> Iterator[Tuple[Session, Posting]]:
+        """What a session has published arrives at one that listens to it, once for each join that takes it."""
+        kinds = spot[1].partition("(")[2].rstrip(")")
+        for join in session.joins:
+            if (join.source, join.name, ",".join(join.types)) == (source, name, kinds):
+                args = posting.args[: count_of(join.method)] if isinstance(posting.args, list) else posting.args
+                yield session, posting._replace(object=join.object, method=join.method, sender=0, args=args)
+
+    def post(self, session: Session, posting: Posting) -> None:
+        """An event is posted to a session, or may be."""
+        session.postings.append(posting)
+        session.version += 1
+        session.queued += posting.is_sure
+        if posting.path or not posting.is_sure:
+            session.is_queue_sure = False  # a signal may be sent more often than is known, or not at all
+
+    # ---- what is counted ----
+
+    def count_slots(self, session: Session, entry: Entry) -> None:
+        """Counts the calls of each slot, and how long the commands took that have called it."""
+        met: Dict[Tuple[str, str, str], int] = {}
+        for call in entry.calls:
+            key = (session.name, call.class_name or "", call.call)
+            met[key] = met.get(key, 0) + 1
+        for key, calls in met.items():
+            counted = self.slots.setdefault(key, [0, 0, 0, 0, 0])
+            counted[0] += calls
+            counted[1] += 1
+            counted[2] += entry.taken
+            if entry.taken >= counted[3]:
+                counted[3:] = [entry.taken, entry.number]
+
+    # ---- what the front says ----
+
+    def go(self, name: str) -> None:
+        """The client of a session has gone, whose reset may still come."""
+        session = self.sessions.get(name)
+        if session is not None:
+            session.is_gone = True
+            for join in session.joins:
+                self.listeners.get(join.source, set()).discard(name)
+        for names in [it for it in self.slots if it[0] == name]:
+            del self.slots[names]
+
+    def leave_out(self, lines: int, sessions: Sequence[str], under_way: Sequence[str]) -> None:
+        """Lines were left out: of these sessions nothing is known for certain any more."""
+        self.left_out += lines
+        self.version += 1
+        for name in sessions:
+            known = Session(name)
+            known.objects = Living()
+            known.objects.has_earlier, known.is_known = True, False
+            known.are_connections_sure, known.is_queue_sure, known.last_connection = False, False, None
+            before = self.sessions.get(name)
+            if before is not None:
+                known.lines, known.commands, known.rates, known.is_gone = before.lines, before.commands, before.rates, before.is_gone
+                known.joins, known.publications = before.joins, before.publications
+            self.sessions[name] = known
+        self.under_way.clear()
+        for name in under_way:
+            self.begin(b"", name)
+
+
+def asked_of(raw: bytes) -> Dict[str, Any]:
+    """The members of a line that is a JSON object, or none."""
+    try:
+        found = READER.decode(raw.decode())
+    except (ValueError, RecursionError):
+        return {}
+    return found if isinstance(found, dict) and not (raw.count(b"[") + raw.count(b"{") > 100 and is_deep(found)) else {}

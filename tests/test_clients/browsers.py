@@ -1,0 +1,149 @@
+"""A real browser for tests of the page: Chromium without a screen, driven by its DevTools protocol over two pipes."""
+
+import base64
+import json
+import os
+import select
+import shutil
+import signal
+import subprocess
+import tempfile
+import time
+from pathlib import Path
+
+NAMES = ("chromium", "chromium-browser", "google-chrome", "chrome")
+WORDS = (
+    "--headless=new", "--no-sandbox", "--disable-gpu", "--disable-dev-shm-usage", "--no-first-run", "--mute-audio",
+    "--disable-background-networking", "--disable-component-update", "--remote-debugging-pipe", "--window-size=1400,860",
+    "--host-resolver-rules=MAP * ~NOTFOUND, EXCLUDE 127.0.0.1",
+)  # fmt: skip
+PATIENCE = 60  # seconds, as a browser is slow on a busy machine
+READ, WRITE = 3, 4  # the files by which the browser is driven
+OPEN = "about:blank"
+
+
+def browser_here():
+    """The path of a browser, or None."""
+    return next((found for found in map(shutil.which, NAMES) if found), None)
+
+
+class Fault(Exception):
+    """What the page or the browser says is wrong."""
+
+
+class Browser:
+    """A browser with one page."""
+
+    def __init__(self, path):
+        self.profile = tempfile.mkdtemp(prefix="metad-browser-")
+        self.count, self.held, self.events = 0, b"", []
+        near_in, far_out = os.pipe()
+        far_in, near_out = os.pipe()
+
+        def lay():
+            """Lays the pipes where the browser looks for them."""
+            kept_in, kept_out = os.dup(far_in), os.dup(far_out)
+            os.dup2(kept_in, READ)
+            os.dup2(kept_out, WRITE)
+
+        words = [path, *WORDS, f"--user-data-dir={self.profile}", OPEN]
+        nothing = subprocess.DEVNULL
+        self.process = subprocess.Popen(words, stdin=nothing, stdout=nothing, stderr=nothing, close_fds=False, preexec_fn=lay, start_new_session=True)
+        os.close(far_in)
+        os.close(far_out)
+        self.input, self.output = near_out, near_in
+        target = self.ask("Target.createTarget", url=OPEN)["targetId"]
+        self.session = None
+        self.session = self.ask("Target.attachToTarget", targetId=target, flatten=True)["sessionId"]
+        for word in ("Page.enable", "Runtime.enable", "Log.enable"):
+            self.ask(word)
+
+    session = None
+
+    def __enter__(self):
+        return self
+
+    def __exit__(self, *_error):
+        os.killpg(self.process.pid, signal.SIGKILL)  # with the processes that it has started, which would write on
+        self.process.wait()
+        os.close(self.input)
+        os.close(self.output)
+        shutil.rmtree(self.profile, ignore_errors=True)
+
+    def hear(self, until):
+        """The next message."""
+        while b"\0" not in self.held:
+            left = until - time.monotonic()
+            if left <= 0 or not select.select([self.output], [], [], left)[0]:
+                raise Fault("the browser says nothing")
+            data = os.read(self.output, 1 << 20)
+            if not data:
+                raise Fault("the browser has ended")
+            self.held += data
+        message, _, self.held = self.held.partition(b"\0")
+        return json.loads(message)
+
+    def ask(self, method, **params):
+        """Does something, and answers what came of it; what happens meanwhile is kept in `events`."""
+        self.count += 1
+        asked = {"id": self.count, "method": method, "params": params, **({"sessionId": self.session} if self.session else {})}
+        os.write(self.input, json.dumps(asked).encode() + b"\0")
+        until = time.monotonic() + PATIENCE
+        while True:
+            said = self.hear(until)
+            if said.get("id") == self.count:
+                if "error" in said:
+                    raise Fault(f"{method}: {said['error']}")
+                return said["result"]
+            self.events.append(said)
+
+    def open(self, address):
+        self.ask("Page.navigate", url=address)
+
+    def value(self, script):
+        """The value of an expression in the page."""
+        said = self.ask("Runtime.evaluate", expression=script, returnByValue=True, awaitPromise=True)
+        if "exceptionDetails" in said:
+            raise Fault(said["exceptionDetails"].get("exception", {}).get("description", "an exception"))
+        return said["result"].get("value")
+
+    def wait_for(self, script, seconds=PATIENCE):
+        """The value of an expression, as soon as it is true."""
+        until = time.monotonic() + seconds
+        while True:
+            found = self.value(script)
+            if found:
+                return found
+            if time.monotonic() > until:
+                raise Fault(f"it is not so in {seconds} seconds: {script}\n{self.value('document.body.innerText')}")
+            time.sleep(0.02)
+
+    def click(self, selector):
+        """Clicks the first element of a selector, as soon as it is there."""
+        self.wait_for(f"Boolean(document.querySelector({json.dumps(selector)}))")
+        self.value(f"document.querySelector({json.dumps(selector)}).dispatchEvent(new MouseEvent('click', {{bubbles: true}}))")
+
+    def write(self, selector, text):
+        """Writes into a field."""
+        found = f"document.querySelector({json.dumps(selector)})"
+        self.value(f"{{ const it = {found}; it.value = {json.dumps(text)}; it.dispatchEvent(new Event('input', {{bubbles: true}})); it.dispatchEvent(new Event('change', {{bubbles: true}})); }}")
+
+    def texts(self, selector):
+        """The texts of all elements of a selector."""
+        return self.value(f"[...document.querySelectorAll({json.dumps(selector)})].map((it) => it.textContent)")
+
+    def faults(self):
+        """What the page has said is wrong: exceptions, and what its policy has refused."""
+        self.value("1")
+        found = []
+        for it in self.events:
+            if it.get("method") == "Runtime.exceptionThrown":
+                found.append(json.dumps(it["params"]["exceptionDetails"])[:500])
+            if it.get("method") == "Log.entryAdded" and it["params"]["entry"]["level"] == "error":
+                found.append(it["params"]["entry"]["text"])
+        return found
+
+    def picture(self, path):
+        """Writes what is seen as PNG."""
+        data = self.ask("Page.captureScreenshot", format="png")["data"]
+        Path(path).write_bytes(base64.b64decode(data))
