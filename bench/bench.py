@@ -18,12 +18,11 @@ from pathlib import Path
 
 import marks
 import times
-from counting import Fault, Room, counted, has_valgrind
+from counting import HOW_TO_COUNT, Fault, Room, counted, has_valgrind
 from figures import FIGURES, Figure, Ratio
 
 MOST_OF_LAST = 1.03
 NAMES = max(len(it.name) for it in FIGURES)
-HOW_TO_COUNT = "valgrind counts the instructions: apt-get install valgrind (Debian)"
 
 
 def value_of(program, figure, values, room, counter):

@@ -11,6 +11,7 @@ from shutil import which
 
 CALLGRIND = ["valgrind", "--tool=callgrind", "--callgrind-out-file=/dev/null"]
 COLLECTED = re.compile(r"Collected : (\d+)")
+HOW_TO_COUNT = "valgrind counts the instructions: apt-get install valgrind (Debian)"
 TURNS = "100000"  # enough for all connections of a session
 
 

@@ -4,7 +4,7 @@ from collections.abc import Callable, Iterable
 from dataclasses import dataclass, replace
 
 import inputs
-from lines import METHODS, lamps, usual_classes
+from lines import CELL_DESCRIBED, METHODS, demonstration_classes, lamps, usual_classes
 
 Line = tuple[str, str]
 
@@ -25,6 +25,12 @@ MOST_BINDINGS = 1_024  # as many as a session may have
 RINGS = 20
 TREES = 2
 METAS = 300
+SOME_OBJECTS = 1_000
+SOME_CONNECTIONS = 10_000
+SENDERS = 16
+LOOKS = 20
+LONG_CHAIN = 10
+CHAINS = 100
 CLASSES = 1_024  # as many as a file may have
 
 
@@ -80,9 +86,14 @@ def grown(name, make, small, large, things, limit=Ratio.limit):
 # Each of these makes a figure.
 
 
-def line(name, lines, count=SOME_LINES):
+def line(name, lines, count=SOME_LINES, classes=usual_classes):
     """A figure of each of many lines; `lines` gives the input with so many."""
-    return Figure(name, "line", count, lambda times: lines(times * count))
+    return Figure(name, "line", count, lambda times: lines(times * count), classes=lambda times: classes())
+
+
+def line_told(name, lines, count, told, classes=usual_classes):
+    """A figure of each line that is told, where so many are told each time; `lines` gives the input of so many times."""
+    return Figure(name, "line told", count, lambda times: lines(times * count), told, classes=lambda times: classes())
 
 
 def so_many(count, things):
@@ -112,6 +123,17 @@ def beside_connections(session):
     )
 
 
+def in_trees(name, **shape):
+    """The figure of trees that are made and deleted, of one shape."""
+    return Figure(name, "line", TREES * (OBJECTS + 1), lambda times: inputs.in_trees(times * TREES, OBJECTS, **shape))
+
+
+def tied_by_chance(name, **kind):
+    """The figure of connections by chance that come and go beside many of them."""
+    name = f"{name}, beside {SOME_CONNECTIONS:,} of {SOME_OBJECTS:,} objects by chance"
+    return line(name, lambda lines: inputs.ties_by_chance(SOME_OBJECTS, SOME_CONNECTIONS, lines, **kind))
+
+
 def tied(session):
     """Makes the figure of connections that come and go beside so many of others."""
     return lambda count: line(
@@ -136,14 +158,20 @@ def many_at_once(name, unit, lines, less, work):
     return made
 
 
-def heard(name, others=lambda: ()):
+def heard(name, others=lambda: (), **how):
     """The figure of calls of many ears, with other lines before it."""
-    return Figure(name, "call", RINGS, lambda times: inputs.heard_by(EARS, times * RINGS, others()), EARS)
+    return Figure(name, "call", RINGS, lambda times: inputs.heard_by(EARS, times * RINGS, others(), **how), EARS)
 
 
 def told(name, kind, slot):
     """The figure of calls of many slots by a property that is set."""
     return Figure(name, "call", RINGS, lambda times: inputs.cells(kind, slot, EARS, times * RINGS), EARS)
+
+
+def chained(chains):
+    """The figure of what is told where properties set each other in so many chains."""
+    name = f"a set and its calls, in {so_many(chains, 'chains')} of {LONG_CHAIN} properties that set each other"
+    return line_told(name, lambda times: inputs.chains_by_notify(chains, LONG_CHAIN, times), LINES // LONG_CHAIN, LONG_CHAIN)
 
 
 def followed(bindings):
@@ -197,12 +225,7 @@ SENT_AND_SPUN = Figure(
 NONE_SEEN = line("children of an object without any", lambda lines: inputs.seen(0, lines))
 NONE_SEARCHED = line("find below an object without children", lambda lines: inputs.searched(0, lines))
 
-IN_TREES = Figure(
-    f"new and delete, in trees of {OBJECTS:,} objects",
-    "line",
-    TREES * (OBJECTS + 1),
-    lambda times: inputs.in_trees(times * TREES, OBJECTS),
-)
+IN_TREES = in_trees(f"new and delete, in trees of {OBJECTS:,} objects")
 CALLED = many_at_once("a call, of a signal with {:,} connections", "call", inputs.rings, SENT, LINES)
 POSTED = many_at_once("an event posted and taken, {:,} at once", "event", inputs.rings_later, SENT_AND_SPUN, LINES)
 SEEN = many_at_once("children, of {:,}", "object", inputs.seen, NONE_SEEN, 4 * LINES)
@@ -210,6 +233,14 @@ SEARCHED = many_at_once("find, among {:,}", "object", inputs.searched, NONE_SEAR
 ARRIVED = many_at_once("a post, in {:,} sessions", "arrival", inputs.posted, unheard(FEW), LINES)
 
 HEARD = heard(f"a call, of a signal with {EARS:,} ears")
+HEARD_BEHIND_BROKEN = heard(f"a call, of a signal with {EARS:,} ears, after a connection was broken", is_broken=True)
+HEARD_IN_TURN = Figure(
+    f"a call, of one of {SENDERS} signals with {EARS:,} ears, connected in turn",
+    "call",
+    RINGS,
+    lambda times: inputs.heard_in_turn(SENDERS, EARS, times * RINGS),
+    EARS,
+)
 HEARD_BESIDE_SESSIONS = heard(f"a call, beside {SESSIONS:,} other sessions", lambda: inputs.other_sessions(SESSIONS))
 HEARD_BESIDE_OTHERS = heard(
     f"a call, beside {OTHER_CONNECTIONS:,} other connections", lambda: inputs.other_connections(OTHER_CONNECTIONS, EARS)
@@ -223,16 +254,25 @@ FIGURES = [
     Figure("new, set and get in each of many sessions", "line", 3 * SESSIONS, lambda times: inputs.once_each(times * SESSIONS)),
     line("set and get, with blanks and escapes", lambda lines: inputs.spelled(inputs.in_turn(1, lines)), LINES),
     line("set of a list, which is refused", inputs.with_lists),
+    line("set and get of a declared int", inputs.ints, LINES, demonstration_classes),
+    line("set and get of a dynamic property", inputs.tags, LINES, demonstration_classes),
     *grown("set of an int", set_beside, 1, OBJECTS, "objects"),
     IN_TREES,
+    in_trees(f"new and delete, in binary trees of {OBJECTS:,} objects", of_each=2),
+    beside_objects(SOME_OBJECTS),
     *grown("new and delete", beside_objects, 1, OBJECTS, "objects"),
     *grown("new and delete", beside_connections("a"), FEW, CONNECTIONS, "connections of others"),
     *grown("new and delete", beside_connections("b"), FEW, CONNECTIONS, "of another session"),
     *grown("connect and disconnect", tied("a"), FEW, CONNECTIONS - 1, "of others"),
     *grown("connect and disconnect", tied("b"), FEW, CONNECTIONS, "of another session"),
+    tied_by_chance("connect and disconnect"),
+    tied_by_chance("connect with unique and disconnect by pattern", unique=True),
     SENT,
+    line_told("invoke of a slot", inputs.notes, SOME_LINES, 2, demonstration_classes),
     *grown("a call", CALLED, FEW, CONNECTIONS, "connections"),
     HEARD,
+    HEARD_BEHIND_BROKEN,
+    HEARD_IN_TURN,
     HEARD_BESIDE_SESSIONS,
     Ratio(f"a call: from no other sessions to {SESSIONS:,}", HEARD_BESIDE_SESSIONS, HEARD),
     HEARD_BESIDE_OTHERS,
@@ -240,6 +280,8 @@ FIGURES = [
     TOLD,
     TOLD_SETS,
     Ratio("a call by NOTIFY: from a slot that does nothing to one that sets", TOLD_SETS, TOLD, 1.5),
+    chained(1),
+    chained(CHAINS),
     *grown("a binding", followed, 2 * FEW, BINDINGS, "in a chain"),
     *grown("set of what a binding reads", paired, 10, MOST_BINDINGS, "bindings", 1.1),
     UNREAD,
@@ -248,6 +290,7 @@ FIGURES = [
     GROUPED,
     Ratio("set of what no binding reads: from outside a group to one", GROUPED, UNREAD_BESIDE, 1.1),
     SENT_AND_SPUN,
+    line_told("a queued signal, posted and taken", inputs.posted_and_taken, SOME_LINES, 3, demonstration_classes),
     *grown("an event", POSTED, FEW, CONNECTIONS, "at once", 1.2),
     *grown("set of what is published", unheard, FEW, MANY_SESSIONS, "sessions", 1.02),
     *grown("a post", ARRIVED, FEW, SESSIONS, "sessions"),
@@ -256,6 +299,8 @@ FIGURES = [
     *grown("children", SEEN, FEW, OBJECTS, "objects", 2),
     NONE_SEARCHED,
     *grown("find", SEARCHED, FEW, OBJECTS, "objects", 2),
+    line(f"find of a name, in a tree of {SOME_OBJECTS:,}", lambda lines: inputs.found_last(SOME_OBJECTS, lines), LOOKS),
+    line("meta of Cell", lambda lines: inputs.metas(lines, CELL_DESCRIBED), SOME_LINES, demonstration_classes),
     line(f"meta of a class with {METHODS} methods", inputs.metas, METAS),
     *grown("a class file", class_file, 2 * FEW, CLASSES, "classes"),
     *(memory(it) for it in (in_sessions(1), IN_TREES, HEARD, POSTED(CONNECTIONS), listened(LISTENERS))),

@@ -3,6 +3,9 @@
 They are the same in every run. Each makes what has to be there, and then does what is counted so many times.
 """
 
+from itertools import chain as all_of
+from random import Random
+
 from lines import (
     begin,
     called,
@@ -11,21 +14,29 @@ from lines import (
     connect,
     delete,
     disconnect,
+    disconnect_ends,
     end,
+    find,
     find_none,
     follow,
     join,
     look_around,
     meta,
     new,
+    note,
+    noted,
     pair,
+    ping,
     publish,
     read,
+    read_tag,
     read_x,
     ring,
+    set_tag,
     set_x,
     set_y,
     spin,
+    title,
     write,
     write_list,
 )
@@ -80,19 +91,37 @@ def with_lists(lines):
     yield from (write_list("a", number) for number in range(lines))
 
 
-def metas(lines):
-    """Lines that ask for a class with as many methods as there may be."""
-    return (meta("a") for _ in range(lines))
+def metas(lines, *described):
+    """Lines that ask for a class with as many methods as there may be, or for another one that is described."""
+    return (meta("a", *described) for _ in range(lines))
+
+
+def values_in_turn(write_value, read_value, lines):
+    """A Cell, of which a value is written by a line and read by another one again and again."""
+    yield new("a", 1, "Cell")
+    for value in range(1, lines // 2 + 1):
+        yield write_value("a", value)
+        yield read_value("a", value)
+
+
+def ints(lines):
+    """A declared int, which is set and read."""
+    return values_in_turn(set_x, lambda session, value: read_x(session, 1, value), lines)
+
+
+def tags(lines):
+    """A dynamic property, which is set and read."""
+    return values_in_turn(set_tag, read_tag, lines)
 
 
 # Trees.
 
 
-def in_trees(rounds, objects):
-    """In each round a tree of objects, made from its root down and deleted at once."""
+def in_trees(rounds, objects, of_each=CHILDREN_OF_EACH):
+    """In each round a tree of objects with so many children each, made from its root down and deleted at once."""
     for root in range(1, rounds * objects + 1, objects):
         yield new("a", root)
-        yield from (child("a", root + place // CHILDREN_OF_EACH, root + place + 1) for place in range(objects - 1))
+        yield from (child("a", root + place // of_each, root + place + 1) for place in range(objects - 1))
         yield delete("a", root)
 
 
@@ -112,6 +141,14 @@ def searched(number, looks):
     """A family, in which a name that no child has is looked for again and again."""
     yield from family(number)
     yield from [find_none("a", 1)] * looks
+
+
+def found_last(number, looks):
+    """A tree of so many objects with a name each, in which that of the last one is looked for again and again."""
+    yield new("a", 1)
+    yield from (child("a", 1 + place // CHILDREN_OF_EACH, place + 2) for place in range(number - 1))
+    yield from (title("a", it, f"lamp {it}") for it in range(1, number + 1))
+    yield from [find("a", 1, f"lamp {number}", number)] * looks
 
 
 def come_and_go(first, lines):
@@ -152,7 +189,49 @@ def tie_and_untie(session, count, lines):
         yield disconnect("a", number)
 
 
+def random_ends(objects, seed):
+    """The ends of connections of so many objects by chance, in all different ones."""
+    chance, seen = Random(seed), set()
+    while True:
+        ends = chance.randint(1, objects), chance.randint(1, objects)
+        if ends not in seen:
+            seen.add(ends)
+            yield ends
+
+
+def tie_cells(ends, number, **kind):
+    """A connection of these Cells, which gets this number."""
+    return connect("a", *ends, number, "xChanged(int)", "setX(int)", **kind)
+
+
+def ties_by_chance(objects, count, lines, **kind):
+    """So many connections of so many Cells, all by chance. Then one more is made again and again, and any one broken: by its
+    number, or where they are unique by its ends."""
+    yield from numbered("a", 1, ["Cell"] * objects)
+    found, chance, standing = random_ends(objects, "ends"), Random("broken"), []
+    for number in range(1, count + lines // 2 + 1):
+        ends = next(found)
+        yield tie_cells(ends, number, **kind)
+        standing.append((number, ends))
+        if number > count:
+            broken, ends = standing.pop(chance.randrange(len(standing)))
+            yield disconnect_ends("a", *ends, "xChanged(int)", "setX(int)") if kind else disconnect("a", broken)
+
+
 # Calls and events.
+
+
+def notes(lines):
+    """A slot that is called by a command again and again."""
+    yield new("a", 1, "Probe")
+    yield from [note("a")] * lines
+
+
+def posted_and_taken(times):
+    """A signal with one queued connection, sent so many times; after each of them the event is taken."""
+    yield new("a", 1, "Probe")
+    yield connect("a", 1, 1, 1, "ping()", "note()", type="queued")
+    yield from [ping("a"), spin("a", 1, noted("a", 1))] * times
 
 
 def rings(count, times):
@@ -167,12 +246,24 @@ def rings_later(count, times):
     yield from [ring("a"), spin("a", count, called("a", "hear(int)", [2] * count, 5))] * times
 
 
-def heard_by(ears, times, others=()):
-    """A bell that rings so many times for so many ears, with these lines before the first time."""
+def heard_by(ears, times, others=(), is_broken=False):
+    """A bell that rings so many times for so many ears, with these lines before the first time; before they were connected,
+    a connection may have been broken."""
     numbers = range(2, ears + 2)
     yield from numbered("a", 1, ["Bell", *["Ear"] * ears])
-    yield from (connect("a", 1, ear, ear - 1) for ear in numbers)
+    if is_broken:
+        yield from (connect("a", 1, 2, 1), disconnect("a", 1))
+    yield from (connect("a", 1, ear, ear - 1 + is_broken) for ear in numbers)
     yield from others
+    yield from [ring("a", called("a", "hear(int)", numbers, 5))] * times
+
+
+def heard_in_turn(bells, ears, times):
+    """So many bells, which were connected with each of so many ears in turn; the first of them rings so many times."""
+    numbers = range(bells + 1, bells + ears + 1)
+    yield from numbered("a", 1, ["Bell"] * bells + ["Ear"] * ears)
+    ends = ((bell, ear) for ear in numbers for bell in range(1, bells + 1))
+    yield from (connect("a", *it, number) for number, it in enumerate(ends, 1))
     yield from [ring("a", called("a", "hear(int)", numbers, 5))] * times
 
 
@@ -204,6 +295,19 @@ def set_beside(standing, times):
     """A Cell that is set so many times beside so many others, without anybody to tell."""
     yield from numbered("a", 1, ["Cell"] * (standing + 1))
     yield from (set_x("a", value) for value in range(1, times + 1))
+
+
+def chains_by_notify(chains, length, times):
+    """So many chains of Cells, in each of which each one sets the next; in turn the first one of a chain is set, so many
+    times in all."""
+    firsts = range(1, chains * length + 1, length)
+    yield from numbered("a", 1, ["Cell"] * (chains * length))
+    senders = all_of.from_iterable(range(first, first + length - 1) for first in firsts)
+    yield from (tie_cells((it, it + 1), number) for number, it in enumerate(senders, 1))
+    for time in range(times):
+        first, value = firsts[time % chains], time + 1
+        calls = "".join(called("a", "setX(int)", [it + 1], value, sender=it) for it in range(first, first + length - 1))
+        yield set_x("a", value, calls, first)
 
 
 # Bindings.

@@ -1,6 +1,10 @@
 """Lines of input, each with the text that must be told to it, and the classes that they name."""
 
 import json
+from pathlib import Path
+
+ROWS = Path(__file__).resolve().parent.parent / "tests" / "rows"
+DEMONSTRATION = ROWS / "class_file_of_the_demonstration_classes" / "classes.json"
 
 ENCODE = json.JSONEncoder(separators=(",", ":"), sort_keys=True).encode
 
@@ -32,6 +36,16 @@ PAIR = {
 
 METHODS = 256  # as many as a class may have
 METHODS_OF_QOBJECT = ["destroyed()", "objectNameChanged(QString)", "deleteLater()"]
+
+# What `meta` tells of the Cell of the demonstration classes.
+CELL_DESCRIBED = {
+    "class": "Cell",
+    "methodOffset": len(METHODS_OF_QOBJECT),
+    "methods": [*METHODS_OF_QOBJECT, "xChanged(int)", "seen(int)", "setX(int)"],
+    "properties": ["objectName", "x", "y", "z", "flag", "big"],
+    "propertyOffset": 1,
+    "super": "QObject",
+}
 
 LAMPS_IN_CHAIN = 8
 
@@ -76,8 +90,13 @@ def class_file(classes):
 
 
 def usual_classes():
-    """The class file of all inputs but those that are class files themselves."""
+    """The class file of all inputs but those that say another one, or are class files themselves."""
     return class_file(ENCODE(it) for it in (BELL, EAR, CELL, LINK, PAIR, PANEL))
+
+
+def demonstration_classes():
+    """The class file of the program's own classes, a Cell with several methods and properties and a Probe."""
+    return DEMONSTRATION.read_text()
 
 
 def lamps(count):
@@ -96,9 +115,9 @@ def reply(session, value):
     return ENCODE({"reply": value, "session": session}) + "\n"
 
 
-def called(session, slot, receivers, value, sender=1):
+def called(session, slot, receivers, *args, sender=1):
     """The lines that tell of one call of each receiver."""
-    keys = {"args": [value], "call": slot, "sender": sender, "session": session}
+    keys = {"args": args, "call": slot, "sender": sender, "session": session}
     return "".join(ENCODE({"object": it, **keys}) + "\n" for it in receivers)
 
 
@@ -125,9 +144,23 @@ def read(session, value):
     return command(session, "get", object=1, property="objectName"), reply(session, value)
 
 
-def set_x(session, value, calls=""):
-    """The first object, a Cell or a Link, is set, which makes these calls."""
-    return command(session, "set", object=1, property="x", value=value), calls + reply(session, True)
+def title(session, number, name):
+    """An object gets a name."""
+    return command(session, "set", object=number, property="objectName", value=name), reply(session, True)
+
+
+def set_x(session, value, calls="", number=1):
+    """An object, a Cell or a Link, is set, which makes these calls."""
+    return command(session, "set", object=number, property="x", value=value), calls + reply(session, True)
+
+
+def set_tag(session, value):
+    """The first object gets a dynamic property, or another value of it."""
+    return command(session, "set", object=1, property="tag", value=value), reply(session, False)
+
+
+def read_tag(session, value):
+    return command(session, "get", object=1, property="tag"), reply(session, value)
 
 
 def follow(session, number, other):
@@ -176,6 +209,27 @@ def disconnect(session, number):
     return command(session, "disconnect", connection=number), reply(session, True)
 
 
+def disconnect_ends(session, sender, receiver, signal, method):
+    """The one connection with these ends is broken."""
+    ends = {"sender": sender, "signal": signal, "receiver": receiver, "method": method}
+    return command(session, "disconnect", **ends), reply(session, 1)
+
+
+def ping(session, calls=""):
+    """The first object, a Probe, sends its signal, which makes these calls."""
+    return command(session, "invoke", object=1, method="ping()", args=[]), calls + reply(session, True)
+
+
+def noted(session, sender):
+    """The line that tells of a call of the first object, a Probe."""
+    return called(session, "note()", [1], sender=sender)
+
+
+def note(session):
+    """The first object, a Probe, is called."""
+    return command(session, "invoke", object=1, method="note()", args=[]), noted(session, 0) + reply(session, True)
+
+
 def ring(session, calls=""):
     """The first object, a Bell, rings, which makes these calls."""
     return command(session, "invoke", object=1, method="rang(int)", args=[5]), calls + reply(session, True)
@@ -201,8 +255,12 @@ def children(session, number, found):
     return command(session, "children", object=number), reply(session, found)
 
 
+def find(session, number, name, found):
+    return command(session, "find", object=number, name=name), reply(session, found)
+
+
 def find_none(session, number):
-    return command(session, "find", object=number, name="none"), reply(session, None)
+    return find(session, number, "none", None)
 
 
 def look_around(session):
@@ -210,5 +268,5 @@ def look_around(session):
     return command(session, "children"), reply(session, [])
 
 
-def meta(session):
-    return command(session, "meta", **{"class": "Panel"}), reply(session, PANEL_DESCRIBED)
+def meta(session, described=PANEL_DESCRIBED):
+    return command(session, "meta", **{"class": described["class"]}), reply(session, described)
