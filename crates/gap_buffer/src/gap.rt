@@ -162,12 +162,12 @@ fn filled<T: Copy>(places: &mut Vec<T>, gap: Gap, at: usize, element: T) -> Gap
     }
 }
 
-/// Whether so few elements stand behind a place that these are moved by one, rather than the gap to there.
-fn is_behind(gap: Gap, at: usize, len: usize) -> bool
-    requires { at ≤ len }
+/// Whether a place is so far behind the gap that elements behind it are moved by one, rather than the gap
+/// to there.
+fn is_far(gap: Gap, at: usize, most: usize) -> bool
     ensures { IsTrue result → gap.start ≤ at }
 {
-    len - at < at.saturating_sub(gap.start as usize)
+    most < at.saturating_sub(gap.start as usize)
 }
 
 /// Gives a gap that has no place half of those that are free, up to a sixteenth of all. They hold an
@@ -222,7 +222,7 @@ pub(crate) fn inserted<T: Copy>(places: &mut Vec<T>, gap: Gap, at: usize, elemen
     if at == len {
         return pushed(places, gap, element);
     }
-    if is_behind(gap, at, len) && has_room(places) {
+    if is_far(gap, at, len - at) && has_room(places) {
         inserted_behind(places, gap, at, element);
         return gap;
     }
@@ -257,7 +257,8 @@ fn widened<T: Copy>(places: &mut Vec<T>, gap: Gap, at: usize) -> Gap
     }
 }
 
-/// Takes an element out, by the faster way, and gives up a gap that has come to the end.
+/// Takes an element out, by the faster way, and gives up a gap that has come to the end. The gap goes
+/// twice as far as elements would, since mostly the next one goes out near this one.
 pub(crate) fn removed<T: Copy>(places: &mut Vec<T>, gap: Gap, at: usize) -> Gap
     requires gap { IsGapOf places.old.items gap }
     requires within { at < length (listed places.old.items gap) }
@@ -265,7 +266,7 @@ pub(crate) fn removed<T: Copy>(places: &mut Vec<T>, gap: Gap, at: usize) -> Gap
     ensures fits { IsGapOf places.new.items result }
     ensures capacity { vec_capacity places.new ≡ vec_capacity places.old }
 {
-    if gap.gone > 0 && is_behind(gap, at, count(places, gap)) {
+    if gap.gone > 0 && is_far(gap, at, (count(places, gap) - at) * 2) {
         removed_behind(places, gap, at);
         return gap;
     }
