@@ -15,21 +15,21 @@ found_more n i rows passes level h =
     let e : n - i ≡ suc (n - (i + 1)) = omega arith in
     rw e refl
 
+some_first : (o rest : Option ℕ) → is_some o ≡ true → option_or o rest ≡ o
+some_first None rest e = absurd (cc)
+some_first (Some x) rest e = refl
+
+none_first : (o rest : Option ℕ) → is_some o ≡ false → option_or o rest ≡ rest
+none_first None rest e = refl
+none_first (Some x) rest e = absurd (cc)
+
 -- one level of a search that finds `all` in the end
 module _ (n i : ℕ) (rows : List Row) (passes : ℕ → Bool) (level : List ℕ) (all : Option ℕ) (within : i < n) (whole : found_within (n - i) rows passes level ≡ all) where
   pub none_left : level ≡ [] → None ≡ all
   none_left e = sym (found_nothing (n - i) rows passes) ∙ (ap (found_within (n - i) rows passes) (sym e) ∙ whole)
 
   pub found_here : (found : Option ℕ) → found ≡ find passes level → is_some found ≡ true → found ≡ all
-  found_here found is some = by (find passes level) found is some (sym (found_more n i rows passes level within) ∙ whole)
-    where
-      by : (here found : Option ℕ) → found ≡ here → is_some found ≡ true → option_or here (found_within (n - (i + 1)) rows passes (children_of rows level)) ≡ all → found ≡ all
-      by None found is some h = absurd (cc)
-      by (Some x) found is some h = is ∙ h
+  found_here found is some = sym (some_first found _ some) ∙ (ap (λ o. option_or o (found_within (n - (i + 1)) rows passes (children_of rows level))) is ∙ (sym (found_more n i rows passes level within) ∙ whole))
 
   pub found_later : (found : Option ℕ) → found ≡ find passes level → is_some found ≡ false → found_within (n - (i + 1)) rows passes (children_of rows level) ≡ all
-  found_later found is none = by (find passes level) found is none (sym (found_more n i rows passes level within) ∙ whole)
-    where
-      by : (here found : Option ℕ) → found ≡ here → is_some found ≡ false → option_or here (found_within (n - (i + 1)) rows passes (children_of rows level)) ≡ all → found_within (n - (i + 1)) rows passes (children_of rows level) ≡ all
-      by None found is none h = h
-      by (Some x) found is none h = absurd (cc)
+  found_later found is none = sym (none_first found _ none) ∙ (ap (λ o. option_or o (found_within (n - (i + 1)) rows passes (children_of rows level))) is ∙ (sym (found_more n i rows passes level within) ∙ whole))

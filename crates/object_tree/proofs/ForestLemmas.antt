@@ -1,357 +1,357 @@
 -- Every change leaves a sound forest.
-use Rattle.std.proofs.Common.{◌≡◌, ◌≢◌, ℕ, ◌+◌, ◌-◌, ◌<◌, ◌≤◌, ◌^◌, ◌==◌, Bool, true, false, not, ◌&&◌, cond, List, [], ◌∷◌, ◌++◌, Option, Some, None, length, map, filter, get_or, set, refl, sym, ap, ◌∙◌, arith, subst, inl, inr, ⊎_elim, ◌⊎◌, nat_eq}
-use Rattle.std.specs.Cmp.{nat_eq_equiv}
-use Rattle.std.specs.List.{All, IsDistinct, list_any}
-use Rattle.std.specs.List.Sorted.{IsStrictlySortedBy}
-use Rattle.std.specs.Option.{option_map, option_map_or, option_and_then, option_or, is_some}
-use Rattle.std.specs.Ordering.{nat_cmp}
-use Rattle.std.proofs.lemmas.Bool.{cond-true, cond-false, eqb-true, eq-eqb, ne_eqb, cases_eq, false≢true, and_parts, and_from}
-use Rattle.std.proofs.lemmas.List.{length-map, length_push, map_push, map-set, get_or-map}
-use Rattle.std.proofs.lemmas.List.Elements.{All-filter, All-map, All-push, All-weaker, recursion_from_All}
-use Rattle.std.proofs.lemmas.List.Folds.{find-append, list_any_none}
-use Rattle.std.proofs.lemmas.List.Kept.{IsStrictlySortedBy-filter}
-use Rattle.std.proofs.lemmas.Map.Keys.{IsDistinct-push}
-use Rattle.std.proofs.lemmas.Map.Made.{is_member-filter}
+use Rattle.std.proofs.Common.{◌≡◌, ◌≢◌, ℕ, zero, suc, ◌+◌, ◌-◌, ◌<◌, ◌≤◌, ◌^◌, ◌==◌, Bool, true, false, not, ◌||◌, cond, List, [], ◌∷◌, ◌++◌, Option, Some, None, length, map, get_or, refl, sym, ap, ◌∙◌, arith, subst, inl, inr, ⊎_elim, ◌⊎◌, nat_eq}
+use Rattle.std.specs.List.{All, AllPairs, list_any}
+use Rattle.std.specs.Option.{option_and_then, option_map, option_map_or, option_or, is_some}
+use Rattle.std.proofs.lemmas.Bool.{cases_eq, cond_both, cond-true, cond-false, eqb-true, eqb-false, eq-eqb, ne_eqb, false≢true, or_cases, or_left}
+use Rattle.std.proofs.lemmas.List.{length-map, length_push, get_or-map}
+use Rattle.std.proofs.lemmas.List.Elements.{All-filter, All-map, All-push, All-weaker}
+use Rattle.std.proofs.lemmas.List.Folds.{find-append}
+use Rattle.std.proofs.lemmas.List.Kept.{AllPairs-filter}
+use Rattle.std.proofs.lemmas.List.Quantifiers.{all_pairs_push}
+use Rattle.std.proofs.lemmas.List.Sums.{count_by-le-length, length-filter}
+use Rattle.std.proofs.lemmas.Map.Keys.{IsDistinct-from_apart, apart_from_distinct, below_from_sorted, sorted_from_strictly_increasing}
 use Rattle.object_tree.specs.declared.row.Row.{Row}
 use Rattle.object_tree.specs.declared.row.TheConstants.{OBJECTS, DEPTH}
 use Rattle.object_tree.specs.Rows.{has_number, has_parent, is_same, is_there, numbers, parent_of, row_of, stamps}
 use Rattle.object_tree.specs.Lines.{depth_at, height, is_below, levels_within, line, line_at, walk}
 use Rattle.object_tree.specs.Forest.{Forest, IsSound, empty_forest}
 use Rattle.object_tree.specs.Changes.{added, changed, marked, moved, orphaned, removed, with_blocked}
-use Rattle.object_tree.proofs.NumberLemmas.{at_place, without}
-use Rattle.object_tree.proofs.RowLemmas.{IsDistinct-stamps_filter, change_one, distinct-set, find-filter_other, find-filter_same, length-filter_le, levels_child, levels_one, numbers-filter, numbers-mapped, rise_push, row-number, row_of-mapped, stamps-mapped, there_among}
-use Rattle.object_tree.proofs.TreeLemmas.{IsTree, added_tree, cut_tree, lines_from_tree, moved_tree, tree_from_lines}
-use Rattle.object_tree.proofs.LineLemmas.{among}
+use Rattle.object_tree.proofs.NumberLemmas.{nowhere, number_of, there_at, without}
+use Rattle.object_tree.proofs.RowLemmas.{change_one, levels_child, levels_one, row-number, row_of-mapped, row_of-without, there_child}
+use Rattle.object_tree.proofs.TreeLemmas.{AreRanked, above, above_parent, depth_within, line_of, ranked_above, walk_within}
 
--- the shape of the trees of some rows
-abbrev pub AreTrees : List Row → Type 0
-AreTrees rows = IsTree (parent_of rows) (numbers rows) DEPTH
+pub nobody : Row
+nobody = record { number = 0; class = 0; parent = None; stamp = 0; dying = false; blocked = false }
 
-same_length : (rows : List Row) → length (numbers rows) ≡ length rows
-same_length rows = length-map rows (λ (row : Row). row.number)
+-- a row among those that were made so far
+pub record IsGiven (last_number last_stamp : ℕ) (row : Row) : Type 0 where
+  pub begins : 1 ≤ row.number
+  pub number : row.number ≤ last_number
+  pub stamp : row.stamp ≤ last_stamp
 
-line_is : (rows : List Row) (n : ℕ) → line rows n ≡ walk (parent_of rows) (length (numbers rows)) n
-unfolding line
-line_is rows n = λ i. walk (parent_of rows) (sym (same_length rows) i) n
-
-line_at_is : (rows : List Row) (o : Option ℕ) → line_at rows o ≡ option_map_or (walk (parent_of rows) (length (numbers rows))) o []
-line_at_is rows None = refl
-line_at_is rows (Some p) = line_is rows p
-
-pub trees_of : (forest : Forest) → IsSound forest → AreTrees forest.rows
-trees_of forest sound =
-    let rows = forest.rows in
-    tree_from_lines (parent_of rows) (numbers rows) DEPTH
-    (λ n p e. sym (there_among rows p) ∙ sound.parents n p e)
-    (λ n there. sym (line_is rows n) ∙ (sound.lines n (there_among rows n ∙ there) ∙ ap (λ l. n ∷ l) (line_at_is rows (parent_of rows n))))
-    (λ n there. omega (arith, ap length (line_is rows n), sound.depths n (there_among rows n ∙ there)))
+-- a row before another one: no two have one stamp
+pub record Precedes (a b : Row) : Type 0 where
+  pub number : a.number < b.number
+  pub stamp : a.stamp ≢ b.stamp
 
 -- what a forest has beside its trees
 pub record IsCounted (forest : Forest) : Type 0 where
-  pub numbers_rise : IsStrictlySortedBy nat_cmp (numbers forest.rows)
-  pub numbers_begin : All (λ (row : Row). 1 ≤ row.number) forest.rows
-  pub numbers_given : All (λ (row : Row). row.number ≤ forest.last_number) forest.rows
+  pub each : All (IsGiven forest.last_number forest.last_stamp) forest.rows
+  pub apart : AllPairs Precedes forest.rows
   pub numbers_fit : forest.last_number < 2 ^ 32
-  pub stamps_differ : IsDistinct (λ a b. a == b) (stamps forest.rows)
-  pub stamps_given : All (λ (row : Row). row.stamp ≤ forest.last_stamp) forest.rows
   pub stamps_fit : forest.last_stamp < 2 ^ 64
   pub objects : length forest.rows ≤ OBJECTS
 
-pub sound_from : (forest : Forest) → IsCounted forest → AreTrees forest.rows → IsSound forest
-sound_from forest counted trees =
-    let rows = forest.rows in
-    record {
-      numbers_rise = counted.numbers_rise;
-      numbers_begin = counted.numbers_begin;
-      numbers_given = counted.numbers_given;
-      numbers_fit = counted.numbers_fit;
-      stamps_differ = counted.stamps_differ;
-      stamps_given = counted.stamps_given;
-      stamps_fit = counted.stamps_fit;
-      objects = counted.objects;
-      parents = λ n p e. there_among rows p ∙ trees.closed n p e;
-      lines = λ n there. line_is rows n ∙ (lines_from_tree (parent_of rows) (numbers rows) DEPTH trees n (sym (there_among rows n) ∙ there) ∙ ap (λ l. n ∷ l) (sym (line_at_is rows (parent_of rows n))));
-      depths = λ n there. omega (arith, ap length (line_is rows n), trees.shallow n (sym (there_among rows n) ∙ there));
-    }
+pub counted_of : (forest : Forest) → IsSound forest → IsCounted forest
+counted_of forest sound = record {
+  each = λ k d within. record { begins = sound.numbers_begin k d within; number = sound.numbers_given k d within; stamp = sound.stamps_given k d within };
+  apart = λ i j d lt within. record {
+    number = omega (arith, below_from_sorted (numbers forest.rows) i j 0 sound.numbers_rise lt (omega (arith, within, length-map forest.rows number_of)), get_or-map number_of forest.rows i d 0 (omega arith), get_or-map number_of forest.rows j d 0 within);
+    stamp = λ same. eqb-false _ _ (apart_from_distinct nat_eq (stamps forest.rows) i j 0 sound.stamps_differ lt (omega (arith, within, length-map forest.rows (λ (row : Row). row.stamp))))
+        (get_or-map (λ (row : Row). row.stamp) forest.rows i d 0 (omega arith) ∙ (same ∙ sym (get_or-map (λ (row : Row). row.stamp) forest.rows j d 0 within)));
+  };
+  numbers_fit = sound.numbers_fit;
+  stamps_fit = sound.stamps_fit;
+  objects = sound.objects;
+}
+
+pub sound_from : (forest : Forest) (rank : ℕ → ℕ) → IsCounted forest → AreRanked forest.rows rank → IsSound forest
+sound_from forest rank counted ranked = record {
+  numbers_rise = sorted_from_strictly_increasing (numbers forest.rows) (λ k within.
+      let inside : k + 1 < length forest.rows = omega (arith, within, length-map forest.rows number_of) in
+      omega (arith, (counted.apart k (k + 1) nobody (omega arith) inside).number, get_or-map number_of forest.rows k nobody 0 (omega arith), get_or-map number_of forest.rows (k + 1) nobody 0 inside));
+  numbers_begin = λ k d within. (counted.each k d within).begins;
+  numbers_given = λ k d within. (counted.each k d within).number;
+  numbers_fit = counted.numbers_fit;
+  stamps_differ = IsDistinct-from_apart nat_eq (stamps forest.rows) (λ i j d lt within.
+      let inside : j < length forest.rows = omega (arith, within, length-map forest.rows (λ (row : Row). row.stamp)) in
+      ne_eqb _ _ (λ same. (counted.apart i j nobody lt inside).stamp (sym (get_or-map (λ (row : Row). row.stamp) forest.rows i nobody d (omega arith)) ∙ (same ∙ get_or-map (λ (row : Row). row.stamp) forest.rows j nobody d inside))));
+  stamps_given = λ k d within. (counted.each k d within).stamp;
+  stamps_fit = counted.stamps_fit;
+  objects = counted.objects;
+  parents = λ n p is. (ranked.parents n p is).0;
+  lines = line_of forest.rows rank ranked;
+  depths = depth_within forest.rows rank ranked;
+}
 
 pub sound_empty : IsSound empty_forest
-unfolding IsStrictlySortedBy IsDistinct
-sound_empty = sound_from empty_forest
-    (record {
-      numbers_rise = tt;
-      numbers_begin = λ k d h. absurd (omega arith);
-      numbers_given = λ k d h. absurd (omega arith);
-      numbers_fit = omega arith;
-      stamps_differ = tt;
-      stamps_given = λ k d h. absurd (omega arith);
-      stamps_fit = omega arith;
-      objects = omega arith;
-    })
-    (record {
-      closed = λ n p e. absurd (cc);
-      ended = λ n there. absurd (cc);
-      shallow = λ n there. absurd (cc);
-    })
+sound_empty = sound_from empty_forest (λ n. 0)
+    (record { each = λ k d h. absurd (omega arith); apart = λ i j d lt h. absurd (omega arith); numbers_fit = omega arith; stamps_fit = omega arith; objects = omega arith })
+    (record { parents = λ n p e. absurd (cc); shallow = λ n there. absurd (cc) })
 
--- a change of one row that keeps its number, its stamp and its parent
-pub sound_changed : (f : Row → Row) (o : ℕ) (forest : Forest) → ((row : Row) → (f row).number ≡ row.number) → ((row : Row) → (f row).stamp ≡ row.stamp) → ((row : Row) → (f row).parent ≡ row.parent) → IsSound forest → IsSound (record forest { rows = changed f o forest.rows })
-sound_changed f o forest number stamp parent sound = sound_from _ counted trees
-  where
-    either : (P : Row → Row → Type 0) → ((row : Row) → P row (f row)) → ((row : Row) → P row row) → (row : Row) → P row (change_one f o row)
-    either P changes stays row = by (has_number o row)
-      where
-        by : (b : Bool) → P row (cond b (f row) row)
-        by true = changes row
-        by false = stays row
+-- rows that are edited one by one, and keep their numbers
+module _ (f : Row → Row) (keeps : (row : Row) → (f row).number ≡ row.number) (rows : List Row) where
+  each-mapped : (P Q : Row → Type 0) → ((row : Row) → P row → Q (f row)) → All P rows → All Q (map f rows)
+  each-mapped P Q edits each = All-map Q f rows (All-weaker P (λ row. Q (f row)) edits rows each)
 
-    number' : (row : Row) → (change_one f o row).number ≡ row.number
-    number' = either (λ r s. s.number ≡ r.number) number (λ r. refl)
+  there-mapped : (n : ℕ) → is_there (map f rows) n ≡ is_there rows n
+  there-mapped n = ap is_some (row_of-mapped f keeps rows n) ∙ by (row_of rows n)
+    where
+      by : (r : Option Row) → is_some (option_map f r) ≡ is_some r
+      by None = refl
+      by (Some row) = refl
 
-    stamp' : (row : Row) → (change_one f o row).stamp ≡ row.stamp
-    stamp' = either (λ r s. s.stamp ≡ r.stamp) stamp (λ r. refl)
+  parent-mapped : (n p : ℕ) → parent_of (map f rows) n ≡ Some p → (row : Row) × (row_of rows n ≡ Some row) × ((f row).parent ≡ Some p)
+  parent-mapped n p is = by (row_of rows n) refl (ap (option_and_then (λ (row : Row). row.parent)) (sym (row_of-mapped f keeps rows n)) ∙ is)
+    where
+      by : (r : Option Row) → row_of rows n ≡ r → option_and_then (λ (row : Row). row.parent) (option_map f r) ≡ Some p → (row : Row) × (row_of rows n ≡ Some row) × ((f row).parent ≡ Some p)
+      by None found e = absurd (cc)
+      by (Some row) found e = (row, found, e)
 
-    parent' : (row : Row) → (change_one f o row).parent ≡ row.parent
-    parent' = either (λ r s. s.parent ≡ r.parent) parent (λ r. refl)
+  apart-mapped : (P : Row → Type 0) → ((a b : Row) → P a → P b → Precedes a b → (f a).stamp ≢ (f b).stamp) → All P rows → AllPairs Precedes rows → AllPairs Precedes (map f rows)
+  apart-mapped P differ all apart i j d lt within =
+      let inside : j < length rows = omega (arith, within, length-map rows f) in
+      let a : Row = get_or rows i d in
+      let b : Row = get_or rows j d in
+      let before : Precedes a b = apart i j d lt inside in
+      rw (get_or-map f rows i d d (omega arith), get_or-map f rows j d d inside) (record { number = omega (arith, keeps a, keeps b, before.number); stamp = differ a b (all i d (omega arith)) (all j d inside) before })
 
-    same_numbers : numbers (changed f o forest.rows) ≡ numbers forest.rows
-    same_numbers = numbers-mapped (change_one f o) number' forest.rows
+-- edits that keep stamps too, and give no row another parent
+module _ (f : Row → Row) (number : (row : Row) → (f row).number ≡ row.number) (stamp : (row : Row) → (f row).stamp ≡ row.stamp)
+    (parent : (row : Row) (p : ℕ) → (f row).parent ≡ Some p → row.parent ≡ Some p) (forest : Forest) (sound : IsSound forest) where
+  pub sound_edited : IsSound (record forest { rows = map f forest.rows })
+  sound_edited =
+      let counted = counted_of forest sound in
+      let ranked = ranked_above forest sound in
+      sound_from _ (above forest.rows)
+      (record {
+        each = each-mapped f number forest.rows (IsGiven forest.last_number forest.last_stamp) (IsGiven forest.last_number forest.last_stamp)
+            (λ row given. record { begins = omega (arith, number row, given.begins); number = omega (arith, number row, given.number); stamp = omega (arith, stamp row, given.stamp) }) counted.each;
+        apart = apart-mapped f number forest.rows (IsGiven forest.last_number forest.last_stamp) (λ a b _ _ before same. before.stamp (sym (stamp a) ∙ (same ∙ stamp b))) counted.each counted.apart;
+        numbers_fit = counted.numbers_fit;
+        stamps_fit = counted.stamps_fit;
+        objects = omega (arith, counted.objects, length-map forest.rows f);
+      })
+      (record {
+        parents = λ n p is.
+            let had = parent-mapped f number forest.rows n p is in
+            let up = ranked.parents n p (ap (option_and_then (λ (row : Row). row.parent)) had.1 ∙ parent had.0 p had.2) in
+            (there-mapped f number forest.rows p ∙ up.0, up.1);
+        shallow = λ n there. ranked.shallow n (sym (there-mapped f number forest.rows n) ∙ there);
+      })
 
-    same_stamps : stamps (changed f o forest.rows) ≡ stamps forest.rows
-    same_stamps = stamps-mapped (change_one f o) stamp' forest.rows
-
-    same_parent : (n : ℕ) → parent_of (changed f o forest.rows) n ≡ parent_of forest.rows n
-    same_parent n = ap (option_and_then (λ (row : Row). row.parent)) (row_of-mapped (change_one f o) number' forest.rows n) ∙ by (row_of forest.rows n)
-      where
-        by : (r : Option Row) → option_and_then (λ (row : Row). row.parent) (option_map (change_one f o) r) ≡ option_and_then (λ (row : Row). row.parent) r
-        by None = refl
-        by (Some row) = parent' row
-
-    counted : IsCounted (record forest { rows = changed f o forest.rows })
-    counted = record {
-      numbers_rise = subst (IsStrictlySortedBy nat_cmp) (sym same_numbers) sound.numbers_rise;
-      numbers_begin = All-map (λ (row : Row). 1 ≤ row.number) (change_one f o) forest.rows (All-weaker (λ (row : Row). 1 ≤ row.number) (λ (row : Row). 1 ≤ (change_one f o row).number) (λ row h. omega (arith, number' row)) forest.rows sound.numbers_begin);
-      numbers_given = All-map (λ (row : Row). row.number ≤ forest.last_number) (change_one f o) forest.rows (All-weaker (λ (row : Row). row.number ≤ forest.last_number) (λ (row : Row). (change_one f o row).number ≤ forest.last_number) (λ row h. omega (arith, number' row)) forest.rows sound.numbers_given);
-      numbers_fit = sound.numbers_fit;
-      stamps_differ = subst (IsDistinct (λ a b. a == b)) (sym same_stamps) sound.stamps_differ;
-      stamps_given = All-map (λ (row : Row). row.stamp ≤ forest.last_stamp) (change_one f o) forest.rows (All-weaker (λ (row : Row). row.stamp ≤ forest.last_stamp) (λ (row : Row). (change_one f o row).stamp ≤ forest.last_stamp) (λ row h. omega (arith, stamp' row)) forest.rows sound.stamps_given);
-      stamps_fit = sound.stamps_fit;
-      objects = omega (arith, sound.objects, length-map forest.rows (change_one f o));
-    }
-
-    trees : AreTrees (changed f o forest.rows)
-    trees =
-        let old = trees_of forest sound in
-        let P : (ℕ → Option ℕ) → Type 0 = λ up. IsTree up (numbers (changed f o forest.rows)) DEPTH in
-        subst P (λ i n. sym (same_parent n) i) (subst (λ ns. IsTree (parent_of forest.rows) ns DEPTH) (sym same_numbers) old)
+-- such an edit of one row
+pub sound_changed : (f : Row → Row) (o : ℕ) (forest : Forest) → ((row : Row) → (f row).number ≡ row.number) → ((row : Row) → (f row).stamp ≡ row.stamp) → ((row : Row) (p : ℕ) → (f row).parent ≡ Some p → row.parent ≡ Some p) → IsSound forest → IsSound (record forest { rows = changed f o forest.rows })
+sound_changed f o forest number stamp parent sound = sound_edited (change_one f o)
+    (λ row. cond_both (has_number o row) (f row) row (λ r. r.number ≡ row.number) (λ _. number row) (λ _. refl))
+    (λ row. cond_both (has_number o row) (f row) row (λ r. r.stamp ≡ row.stamp) (λ _. stamp row) (λ _. refl))
+    (λ row p. cond_both (has_number o row) (f row) row (λ r. r.parent ≡ Some p → row.parent ≡ Some p) (λ _. parent row p) (λ _ is. is)) forest sound
 
 pub sound_marked : (forest : Forest) (o : ℕ) → IsSound forest → IsSound (marked forest o)
 unfolding marked
-sound_marked forest o sound = sound_changed (λ row. record row { dying = true }) o forest (λ row. refl) (λ row. refl) (λ row. refl) sound
+sound_marked forest o sound = sound_changed (λ row. record row { dying = true }) o forest (λ row. refl) (λ row. refl) (λ row p is. is) sound
 
 pub sound_blocked : (forest : Forest) (o : ℕ) (on : Bool) → IsSound forest → IsSound (with_blocked forest o on)
 unfolding with_blocked
-sound_blocked forest o on sound = sound_changed (λ row. record row { blocked = on }) o forest (λ row. refl) (λ row. refl) (λ row. refl) sound
+sound_blocked forest o on sound = sound_changed (λ row. record row { blocked = on }) o forest (λ row. refl) (λ row. refl) (λ row p is. is) sound
 
-module _ (forest : Forest) (o : ℕ) (sound : IsSound forest) where
-  abbrev gone_rows : List Row
-  gone_rows = map (orphaned o) (without o forest.rows)
+-- an object that has no child goes
+module _ (forest : Forest) (o : ℕ) (sound : IsSound forest) (childless : (n : ℕ) → parent_of forest.rows n ≢ Some o) where
+  -- those that are left are found as before
+  stays : (n : ℕ) → is_there (without o forest.rows) n ≡ true → n ≢ o
+  stays n there same = false≢true (ap is_some (sym (row_of-without o n forest.rows ∙ cond-true (n == o) None (row_of forest.rows n) (eq-eqb n o same))) ∙ there)
 
-  orphan_number : (row : Row) → (orphaned o row).number ≡ row.number
-  orphan_number row = by (has_parent (Some o) row)
-    where
-      by : (b : Bool) → (cond b (record row { parent = None }) row).number ≡ row.number
-      by true = refl
-      by false = refl
+  still : (n : ℕ) → n ≢ o → row_of (without o forest.rows) n ≡ row_of forest.rows n
+  still n other = row_of-without o n forest.rows ∙ cond-false (n == o) None (row_of forest.rows n) (ne_eqb n o other)
 
-  orphan_stamp : (row : Row) → (orphaned o row).stamp ≡ row.stamp
-  orphan_stamp row = by (has_parent (Some o) row)
-    where
-      by : (b : Bool) → (cond b (record row { parent = None }) row).stamp ≡ row.stamp
-      by true = refl
-      by false = refl
+  pub sound_without : IsSound (record forest { rows = without o forest.rows })
+  sound_without =
+      let counted = counted_of forest sound in
+      let ranked = ranked_above forest sound in
+      let keep : Row → Bool = λ row. not (has_number o row) in
+      sound_from _ (above forest.rows)
+      (record {
+        each = All-filter keep (IsGiven forest.last_number forest.last_stamp) forest.rows counted.each;
+        apart = AllPairs-filter Precedes keep forest.rows counted.apart;
+        numbers_fit = counted.numbers_fit;
+        stamps_fit = counted.stamps_fit;
+        objects = omega (arith, counted.objects, length-filter keep forest.rows, count_by-le-length keep forest.rows);
+      })
+      (record {
+        parents = λ n p is.
+            let was : parent_of forest.rows n ≡ Some p = ap (option_and_then (λ (row : Row). row.parent)) (sym (still n (stays n (there_child (without o forest.rows) n p is)))) ∙ is in
+            (ap is_some (still p (λ same. childless n (was ∙ ap Some same))) ∙ (ranked.parents n p was).0, (ranked.parents n p was).1);
+        shallow = λ n there. ranked.shallow n (ap is_some (sym (still n (stays n there))) ∙ there);
+      })
 
-  -- a parent that stays is not the one that went
+module _ (o : ℕ) where
+  pub orphan_number : (row : Row) → (orphaned o row).number ≡ row.number
+  orphan_number row = cond_both (has_parent (Some o) row) (record row { parent = None }) row (λ r. r.number ≡ row.number) (λ _. refl) (λ _. refl)
+
   orphan_parent : (row : Row) (p : ℕ) → (orphaned o row).parent ≡ Some p → (row.parent ≡ Some p) × (p ≢ o)
-  orphan_parent row p e = by (has_parent (Some o) row) refl e
+  orphan_parent row p = cond_both (has_parent (Some o) row) (record row { parent = None }) row (λ r. r.parent ≡ Some p → (row.parent ≡ Some p) × (p ≢ o)) (λ has is. absurd (cc))
+      (λ lacks is. (is, λ same. false≢true (sym lacks ∙ (ap (λ r. is_same r (Some o)) is ∙ eq-eqb p o same))))
+
+  orphans_without : (rows : List Row) → without o (map (orphaned o) rows) ≡ map (orphaned o) (without o rows)
+  orphans_without [] = refl
+  orphans_without (row ∷ rest) = (λ i. cond (not (orphan_number row i == o)) (orphaned o row ∷ orphans_without rest i) (orphans_without rest i)) ∙ by (row.number == o)
     where
-      by : (b : Bool) → has_parent (Some o) row ≡ b → (cond b (record row { parent = None }) row).parent ≡ Some p → (row.parent ≡ Some p) × (p ≢ o)
-      by true is e = absurd (cc)
-      by false is e = (e, λ same. false≢true (sym is ∙ (ap (λ r. is_same r (Some o)) e ∙ eq-eqb p o same)))
+      by : (b : Bool) → cond (not b) (orphaned o row ∷ map (orphaned o) (without o rest)) (map (orphaned o) (without o rest)) ≡ map (orphaned o) (cond (not b) (row ∷ without o rest) (without o rest))
+      by true = refl
+      by false = refl
 
-  row_of-gone : (n : ℕ) → n ≢ o → row_of gone_rows n ≡ option_map (orphaned o) (row_of forest.rows n)
-  row_of-gone n other = row_of-mapped (orphaned o) orphan_number (without o forest.rows) n ∙ ap (option_map (orphaned o)) (find-filter_other o n forest.rows other)
-
-  parent_of-gone : parent_of gone_rows o ≡ None
-  parent_of-gone = ap (option_and_then (λ (row : Row). row.parent)) (row_of-mapped (orphaned o) orphan_number (without o forest.rows) o ∙ ap (option_map (orphaned o)) (find-filter_same o forest.rows))
-
-  parent_stays : (n p : ℕ) → parent_of gone_rows n ≡ Some p → (parent_of forest.rows n ≡ Some p) × (p ≢ o)
-  parent_stays n p e = ⊎_elim
-      (λ same. absurd (let none : None ≡ Some p = sym parent_of-gone ∙ (ap (parent_of gone_rows) (sym same) ∙ e) in cc))
-      (λ other. by (row_of forest.rows n) (ap (option_and_then (λ (row : Row). row.parent)) (sym (row_of-gone n other)) ∙ e))
-      (cases_eq n o)
-    where
-      by : (r : Option Row) → option_and_then (λ (row : Row). row.parent) (option_map (orphaned o) r) ≡ Some p → (option_and_then (λ (row : Row). row.parent) r ≡ Some p) × (p ≢ o)
-      by None e = absurd (cc)
-      by (Some row) e = orphan_parent row p e
-
-  fewer_parents : (n : ℕ) → (parent_of gone_rows n ≡ parent_of forest.rows n) ⊎ (parent_of gone_rows n ≡ None)
-  fewer_parents n = by (parent_of gone_rows n) refl
-    where
-      by : (r : Option ℕ) → parent_of gone_rows n ≡ r → (parent_of gone_rows n ≡ parent_of forest.rows n) ⊎ (parent_of gone_rows n ≡ None)
-      by None e = inr e
-      by (Some p) e = inl (e ∙ sym (parent_stays n p e).0)
-
-  gone_numbers : numbers gone_rows ≡ filter (λ m. not (m == o)) (numbers forest.rows)
-  gone_numbers = numbers-mapped (orphaned o) orphan_number (without o forest.rows) ∙ numbers-filter (λ m. not (m == o)) forest.rows
-
-  gone_among : (n : ℕ) → among (numbers gone_rows) n ≡ (among (numbers forest.rows) n && not (n == o))
-  gone_among n = ap (λ ns. among ns n) gone_numbers ∙ is_member-filter nat_eq_equiv (λ m. not (m == o)) n (λ x e. ap (λ m. not (m == o)) (eqb-true n x e)) (numbers forest.rows)
-
-  gone_stamps : stamps gone_rows ≡ stamps (without o forest.rows)
-  gone_stamps = stamps-mapped (orphaned o) orphan_stamp (without o forest.rows)
-
-  gone_counted : IsCounted (record forest { rows = gone_rows })
-  gone_counted = record {
-    numbers_rise = subst (IsStrictlySortedBy nat_cmp) (sym gone_numbers) (IsStrictlySortedBy-filter nat_cmp (λ m. not (m == o)) (numbers forest.rows) sound.numbers_rise);
-    numbers_begin = All-map (λ (row : Row). 1 ≤ row.number) (orphaned o) (without o forest.rows) (All-weaker (λ (row : Row). 1 ≤ row.number) (λ (row : Row). 1 ≤ (orphaned o row).number) (λ row h. omega (arith, orphan_number row)) (without o forest.rows) (All-filter (λ row. not (has_number o row)) (λ (row : Row). 1 ≤ row.number) forest.rows sound.numbers_begin));
-    numbers_given = All-map (λ (row : Row). row.number ≤ forest.last_number) (orphaned o) (without o forest.rows) (All-weaker (λ (row : Row). row.number ≤ forest.last_number) (λ (row : Row). (orphaned o row).number ≤ forest.last_number) (λ row h. omega (arith, orphan_number row)) (without o forest.rows) (All-filter (λ row. not (has_number o row)) (λ (row : Row). row.number ≤ forest.last_number) forest.rows sound.numbers_given));
-    numbers_fit = sound.numbers_fit;
-    stamps_differ = subst (IsDistinct (λ a b. a == b)) (sym gone_stamps) (IsDistinct-stamps_filter (λ row. not (has_number o row)) forest.rows sound.stamps_differ);
-    stamps_given = All-map (λ (row : Row). row.stamp ≤ forest.last_stamp) (orphaned o) (without o forest.rows) (All-weaker (λ (row : Row). row.stamp ≤ forest.last_stamp) (λ (row : Row). (orphaned o row).stamp ≤ forest.last_stamp) (λ row h. omega (arith, orphan_stamp row)) (without o forest.rows) (All-filter (λ row. not (has_number o row)) (λ (row : Row). row.stamp ≤ forest.last_stamp) forest.rows sound.stamps_given));
-    stamps_fit = sound.stamps_fit;
-    objects = omega (arith, sound.objects, length-map (without o forest.rows) (orphaned o), length-filter_le (λ row. not (has_number o row)) forest.rows);
-  }
-
-  pub sound_removed : IsSound (removed forest o)
+  pub sound_removed : (forest : Forest) → IsSound forest → IsSound (removed forest o)
   unfolding removed
-  sound_removed = sound_from _ gone_counted (cut_tree (parent_of forest.rows) (numbers forest.rows) DEPTH old (parent_of gone_rows) (numbers gone_rows)
-      fewer_parents
-      (λ n there. (and_parts _ _ (sym (gone_among n) ∙ there)).0)
-      (λ n p e. let stays = parent_stays n p e in gone_among p ∙ and_from _ _ (old.closed n p stays.0) (ap not (ne_eqb p o stays.1))))
-    where
-      old : AreTrees forest.rows
-      old = trees_of forest sound
+  sound_removed forest sound = subst (λ rows. IsSound (record forest { rows = rows })) (orphans_without forest.rows)
+      (sound_without (record forest { rows = map (orphaned o) forest.rows }) o
+      (sound_edited (orphaned o) orphan_number (λ row. cond_both (has_parent (Some o) row) (record row { parent = None }) row (λ r. r.stamp ≡ row.stamp) (λ _. refl) (λ _. refl)) (λ row p is. (orphan_parent row p is).0) forest sound)
+      (λ n is. let had = parent-mapped (orphaned o) orphan_number forest.rows n o is in (orphan_parent had.0 o had.2).1 refl))
 
 module _ (forest : Forest) (parent : Option ℕ) (class : ℕ) (sound : IsSound forest) where
+  abbrev new : ℕ
+  new = forest.last_number + 1
+
   abbrev new_row : Row
   new_row = record { number = forest.last_number + 1; class = class; parent = parent; stamp = forest.last_stamp + 1; dying = false; blocked = false }
 
-  new_numbers : numbers (forest.rows ++ new_row ∷ []) ≡ numbers forest.rows ++ (forest.last_number + 1) ∷ []
-  new_numbers = map_push (λ (row : Row). row.number) forest.rows new_row
-
-  new_stamps : stamps (forest.rows ++ new_row ∷ []) ≡ stamps forest.rows ++ (forest.last_stamp + 1) ∷ []
-  new_stamps = map_push (λ (row : Row). row.stamp) forest.rows new_row
-
-  absent : among (numbers forest.rows) (forest.last_number + 1) ≡ false
-  absent = list_any_none (λ x. (forest.last_number + 1) == x) (numbers forest.rows) (All-map (λ x. ((forest.last_number + 1) == x) ≡ false) (λ (row : Row). row.number) forest.rows (All-weaker (λ (row : Row). row.number ≤ forest.last_number) (λ (row : Row). ((forest.last_number + 1) == row.number) ≡ false) (λ row h. ne_eqb _ _ (λ same. absurd (omega arith))) forest.rows sound.numbers_given))
-
-  absent_stamp : list_any (nat_eq (forest.last_stamp + 1)) (stamps forest.rows) ≡ false
-  absent_stamp = list_any_none (nat_eq (forest.last_stamp + 1)) (stamps forest.rows) (All-map (λ x. nat_eq (forest.last_stamp + 1) x ≡ false) (λ (row : Row). row.stamp) forest.rows (All-weaker (λ (row : Row). row.stamp ≤ forest.last_stamp) (λ (row : Row). nat_eq (forest.last_stamp + 1) row.stamp ≡ false) (λ row h. ne_eqb _ _ (λ same. absurd (omega arith))) forest.rows sound.stamps_given))
-
-  row_of-new : (n : ℕ) → row_of (forest.rows ++ new_row ∷ []) n ≡ option_or (row_of forest.rows n) (cond ((forest.last_number + 1) == n) (Some new_row) None)
-  row_of-new n = find-append (has_number n) forest.rows (new_row ∷ [])
-
-  parent_of-new : parent_of (forest.rows ++ new_row ∷ []) (forest.last_number + 1) ≡ parent
-  parent_of-new = ap (option_and_then (λ (row : Row). row.parent)) (row_of-new (forest.last_number + 1)) ∙ (by (row_of forest.rows (forest.last_number + 1)) (there_among forest.rows (forest.last_number + 1) ∙ absent) ∙ ap (option_and_then (λ (row : Row). row.parent)) (cond-true _ (Some new_row) None (eq-eqb _ _ refl)))
-    where
-      by : (r : Option Row) → is_some r ≡ false → option_and_then (λ (row : Row). row.parent) (option_or r (cond ((forest.last_number + 1) == (forest.last_number + 1)) (Some new_row) None)) ≡ option_and_then (λ (row : Row). row.parent) (cond ((forest.last_number + 1) == (forest.last_number + 1)) (Some new_row) None)
-      by None none = refl
-      by (Some row) none = absurd (cc)
-
-  parent_of-old : (n : ℕ) → n ≢ forest.last_number + 1 → parent_of (forest.rows ++ new_row ∷ []) n ≡ parent_of forest.rows n
-  parent_of-old n other = ap (option_and_then (λ (row : Row). row.parent)) (row_of-new n ∙ (ap (option_or (row_of forest.rows n)) (cond-false _ (Some new_row) None (ne_eqb _ _ (λ same. other (sym same)))) ∙ by (row_of forest.rows n)))
+  -- the new row is found, and all others as before
+  row_of-new : (n : ℕ) → row_of (forest.rows ++ new_row ∷ []) n ≡ cond (n == new) (Some new_row) (row_of forest.rows n)
+  row_of-new n = find-append (has_number n) forest.rows (new_row ∷ []) ∙ ⊎_elim
+      (λ (same : n ≡ new).
+      let absent = (nowhere number_of (λ r. r) new forest.rows new_row (λ k within is. absurd (omega (arith, sound.numbers_given k new_row within, is)))).0 in
+      rw (same, absent, eq-eqb new new refl) refl)
+      (λ other. rw (ne_eqb n new other, ne_eqb new n (λ same. other (sym same))) (by (row_of forest.rows n)))
+      (cases_eq n new)
     where
       by : (r : Option Row) → option_or r None ≡ r
       by None = refl
       by (Some row) = refl
 
+  old : (n : ℕ) → is_there forest.rows n ≡ true → n ≢ new
+  old n there same = let place = there_at forest.rows n there in absurd (omega (arith, sound.numbers_given place.0 nobody place.1, place.2 nobody, same))
+
+  row_of-old : (n : ℕ) → n ≢ new → row_of (forest.rows ++ new_row ∷ []) n ≡ row_of forest.rows n
+  row_of-old n other = row_of-new n ∙ cond-false (n == new) (Some new_row) (row_of forest.rows n) (ne_eqb n new other)
+
   pub sound_added : forest.last_number < 2 ^ 32 - 1 → forest.last_stamp < 2 ^ 64 - 1 → length forest.rows < OBJECTS → depth_at forest.rows parent < DEPTH → ((p : ℕ) → parent ≡ Some p → is_there forest.rows p ≡ true) → IsSound (added forest parent class)
   unfolding added
-  sound_added number stamp room shallow above = sound_from _ counted trees
-    where
-      counted : IsCounted (record { rows = forest.rows ++ new_row ∷ []; last_number = forest.last_number + 1; last_stamp = forest.last_stamp + 1 })
-      counted = record {
-        numbers_rise = subst (IsStrictlySortedBy nat_cmp) (sym new_numbers) (rise_push (numbers forest.rows) (forest.last_number + 1) sound.numbers_rise (recursion_from_All (λ n. n < forest.last_number + 1) (numbers forest.rows) (All-map (λ n. n < forest.last_number + 1) (λ (row : Row). row.number) forest.rows (All-weaker (λ (row : Row). row.number ≤ forest.last_number) (λ (row : Row). row.number < forest.last_number + 1) (λ row h. omega arith) forest.rows sound.numbers_given))));
-        numbers_begin = All-push (λ (row : Row). 1 ≤ row.number) forest.rows new_row sound.numbers_begin (omega arith);
-        numbers_given = All-push (λ (row : Row). row.number ≤ forest.last_number + 1) forest.rows new_row (All-weaker (λ (row : Row). row.number ≤ forest.last_number) (λ (row : Row). row.number ≤ forest.last_number + 1) (λ row h. omega arith) forest.rows sound.numbers_given) (omega arith);
+  sound_added number stamp room shallow there_above =
+      let counted = counted_of forest sound in
+      let ranked = ranked_above forest sound in
+      sound_from _ (λ n. cond (n == new) (depth_at forest.rows parent) (above forest.rows n))
+      (record {
+        each = All-push (IsGiven (forest.last_number + 1) (forest.last_stamp + 1)) forest.rows new_row (All-weaker (IsGiven forest.last_number forest.last_stamp) (IsGiven (forest.last_number + 1) (forest.last_stamp + 1)) (λ row given. record { begins = given.begins; number = omega (arith, given.number); stamp = omega (arith, given.stamp) }) forest.rows counted.each) (record { begins = omega arith; number = omega arith; stamp = omega arith });
+        apart = all_pairs_push Precedes forest.rows new_row counted.apart (λ k d within. record { number = omega (arith, (counted.each k d within).number); stamp = λ same. absurd (omega (arith, same, (counted.each k d within).stamp)) });
         numbers_fit = omega arith;
-        stamps_differ = subst (IsDistinct (λ a b. a == b)) (sym new_stamps) (IsDistinct-push nat_eq_equiv (stamps forest.rows) (forest.last_stamp + 1) sound.stamps_differ absent_stamp);
-        stamps_given = All-push (λ (row : Row). row.stamp ≤ forest.last_stamp + 1) forest.rows new_row (All-weaker (λ (row : Row). row.stamp ≤ forest.last_stamp) (λ (row : Row). row.stamp ≤ forest.last_stamp + 1) (λ row h. omega arith) forest.rows sound.stamps_given) (omega arith);
         stamps_fit = omega arith;
         objects = omega (arith, length_push forest.rows new_row);
-      }
+      })
+      (record {
+        parents = λ n p is. ⊎_elim
+            (λ (same : n ≡ new).
+            let at : parent ≡ Some p = ap (option_and_then (λ (row : Row). row.parent)) (sym (row_of-new n ∙ cond-true (n == new) (Some new_row) (row_of forest.rows n) (eq-eqb n new same))) ∙ is in
+            let there = there_above p at in
+            (ap is_some (row_of-old p (old p there)) ∙ there, rw (ne_eqb p new (old p there), eq-eqb n new same) (omega (arith, ap (depth_at forest.rows) at, ap length (sound.lines p there)))))
+            (λ other.
+            let up = ranked.parents n p (ap (option_and_then (λ (row : Row). row.parent)) (sym (row_of-old n other)) ∙ is) in
+            (ap is_some (row_of-old p (old p up.0)) ∙ up.0, rw (ne_eqb p new (old p up.0), ne_eqb n new other) up.1))
+            (cases_eq n new);
+        shallow = λ n there. cond_both (n == new) (depth_at forest.rows parent) (above forest.rows n) (λ rank. rank < DEPTH) (λ _. shallow) (λ other. ranked.shallow n (ap is_some (sym (row_of-old n (eqb-false n new other))) ∙ there));
+      })
 
-      trees : AreTrees (forest.rows ++ new_row ∷ [])
-      trees = subst (λ ns. IsTree (parent_of (forest.rows ++ new_row ∷ [])) ns DEPTH) (sym new_numbers)
-          (added_tree (parent_of forest.rows) (numbers forest.rows) DEPTH (trees_of forest sound) (parent_of (forest.rows ++ new_row ∷ [])) (forest.last_number + 1) parent
-          absent parent_of-new parent_of-old
-          (λ p e. sym (there_among forest.rows p) ∙ above p e)
-          (omega (arith, ap length (line_at_is forest.rows parent))))
+-- what hangs below an object stands lower by as many levels as hang there at least
+module _ (forest : Forest) (o : ℕ) (sound : IsSound forest) where
+  hangs : (f n : ℕ) → list_any (λ above. o == above) (walk (parent_of forest.rows) f n) ≡ true
+      → (steps : ℕ) × (above forest.rows n ≡ above forest.rows o + steps) × ((f g : ℕ) → g ≡ f + steps → levels_within f forest.rows n + steps ≤ levels_within g forest.rows o)
+  hangs zero n in' = absurd (cc)
+  hangs (suc f) n in' = ⊎_elim
+      (λ (here : (o == n) ≡ true).
+      let same : o ≡ n = eqb-true o n here in
+      (0, omega (arith, ap (above forest.rows) same), λ f g is. (let few : g ≡ f = omega arith in omega (arith, ap (λ m. levels_within f forest.rows m) same, ap (λ k. levels_within k forest.rows o) few))))
+      (λ later. by (λ p. hangs f p) (parent_of forest.rows n) refl later)
+      (or_cases (o == n) _ in')
+    where
+      by : ((p : ℕ) → list_any (λ above. o == above) (walk (parent_of forest.rows) f p) ≡ true → (steps : ℕ) × (above forest.rows p ≡ above forest.rows o + steps) × ((f g : ℕ) → g ≡ f + steps → levels_within f forest.rows p + steps ≤ levels_within g forest.rows o)) → (r : Option ℕ) → parent_of forest.rows n ≡ r → list_any (λ above. o == above) (option_map_or (walk (parent_of forest.rows) f) r []) ≡ true
+          → (steps : ℕ) × (above forest.rows n ≡ above forest.rows o + steps) × ((f g : ℕ) → g ≡ f + steps → levels_within f forest.rows n + steps ≤ levels_within g forest.rows o)
+      by rest None is later = absurd (cc)
+      by rest (Some p) is later =
+          let up = rest p later in
+          (suc up.0, omega (arith, up.1, above_parent forest sound n p is), λ f g sum. omega (arith, levels_child forest.rows f n p is, up.2 (suc f) g (omega arith)))
 
-module _ (forest : Forest) (o : ℕ) (parent : Option ℕ) (k : ℕ) (d : Row) (sound : IsSound forest) (within : k < length forest.rows) (is : (get_or forest.rows k d).number ≡ o) where
+  pub hangs_below : (n : ℕ) → is_below forest.rows o n ≡ true
+      → (steps : ℕ) × (above forest.rows n ≡ above forest.rows o + steps) × ((f g : ℕ) → g ≡ f + steps → levels_within f forest.rows n + steps ≤ levels_within g forest.rows o)
+  unfolding line
+  hangs_below n in' = hangs (length forest.rows) n in'
+
+  -- a child is below another one where its parent is
+  below_parent : (n p : ℕ) → n ≢ o → parent_of forest.rows n ≡ Some p → is_below forest.rows o n ≡ is_below forest.rows o p
+  below_parent n p other is =
+      ap (list_any (λ above. o == above)) (sound.lines n (there_child forest.rows n p is) ∙ ap (λ q. n ∷ line_at forest.rows q) is)
+      ∙ ap (λ b. b || is_below forest.rows o p) (ne_eqb o n (λ same. other (sym same)))
+
+  below_itself : is_there forest.rows o ≡ true → is_below forest.rows o o ≡ true
+  below_itself there = ap (list_any (λ above. o == above)) (sound.lines o there) ∙ or_left (o == o) _ (eq-eqb o o refl)
+
+  few_above : (n : ℕ) → is_there forest.rows n ≡ true → above forest.rows n < length forest.rows
+  unfolding line
+  few_above n there = omega (arith, ap length (sound.lines n there), walk_within (parent_of forest.rows) (length forest.rows) n)
+
+module _ (forest : Forest) (o : ℕ) (parent : Option ℕ) (sound : IsSound forest) (there : is_there forest.rows o ≡ true) where
   abbrev moves : Row → Row
   moves row = record row { parent = parent; stamp = forest.last_stamp + 1 }
 
   move_number : (row : Row) → (change_one moves o row).number ≡ row.number
-  move_number row = by (has_number o row)
+  move_number row = cond_both (has_number o row) (moves row) row (λ r. r.number ≡ row.number) (λ _. refl) (λ _. refl)
+
+  parent_of-moved : (n p : ℕ) → parent_of (changed moves o forest.rows) n ≡ Some p → ((n ≡ o) × (parent ≡ Some p)) ⊎ ((n ≢ o) × (parent_of forest.rows n ≡ Some p))
+  parent_of-moved n p is =
+      let had = parent-mapped (change_one moves o) move_number forest.rows n p is in
+      let row : Row = had.0 in
+      let numbered : row.number ≡ n = row-number forest.rows n row had.1 in
+      cond_both (has_number o row) (moves row) row (λ r. r.parent ≡ Some p → ((n ≡ o) × (parent ≡ Some p)) ⊎ ((n ≢ o) × (parent_of forest.rows n ≡ Some p)))
+      (λ same e. inl (sym numbered ∙ eqb-true row.number o same, e))
+      (λ other e. inr (λ same. eqb-false row.number o other (numbered ∙ same), ap (option_and_then (λ (r : Row). r.parent)) had.1 ∙ e)) had.2
+
+  -- those that are below it come to stand below its new parent
+  abbrev rank : ℕ → ℕ
+  rank n = cond (is_below forest.rows o n) (above forest.rows n - above forest.rows o + depth_at forest.rows parent) (above forest.rows n)
+
+  rank_parent : (n p : ℕ) → n ≢ o → parent_of forest.rows n ≡ Some p → rank p < rank n
+  rank_parent n p other is = rw (below_parent forest o sound n p other is) (by (is_below forest.rows o p) refl)
     where
-      by : (b : Bool) → (cond b (moves row) row).number ≡ row.number
-      by true = refl
-      by false = refl
-
-  move_stamp : (row : Row) → row.stamp ≤ forest.last_stamp → (change_one moves o row).stamp ≤ forest.last_stamp + 1
-  move_stamp row h = by (has_number o row)
-    where
-      by : (b : Bool) → (cond b (moves row) row).stamp ≤ forest.last_stamp + 1
-      by true = omega arith
-      by false = omega arith
-
-  moved_numbers : numbers (changed moves o forest.rows) ≡ numbers forest.rows
-  moved_numbers = numbers-mapped (change_one moves o) move_number forest.rows
-
-  moved_stamps : stamps (changed moves o forest.rows) ≡ set (stamps forest.rows) k (forest.last_stamp + 1)
-  moved_stamps = ap stamps (at_place moves o forest.rows k d sound.numbers_rise within is).1 ∙ map-set (λ (row : Row). row.stamp) forest.rows k (moves (get_or forest.rows k d))
-
-  moved_differ : IsDistinct nat_eq (set (stamps forest.rows) k (forest.last_stamp + 1))
-  moved_differ = distinct-set (stamps forest.rows) k (forest.last_stamp + 1) sound.stamps_differ (omega (arith, length-map forest.rows (λ (row : Row). row.stamp))) (λ i e h other same.
-      let short : i < length forest.rows = omega (arith, length-map forest.rows (λ (row : Row). row.stamp)) in
-      absurd (omega (arith, get_or-map (λ (row : Row). row.stamp) forest.rows i d e short, sound.stamps_given i d short)))
-
-  row_of-moved : (n : ℕ) → row_of (changed moves o forest.rows) n ≡ option_map (change_one moves o) (row_of forest.rows n)
-  row_of-moved n = row_of-mapped (change_one moves o) move_number forest.rows n
-
-  parent_of-moved : parent_of (changed moves o forest.rows) o ≡ parent
-  parent_of-moved =
-      let here = get_or forest.rows k d in
-      ap (option_and_then (λ (row : Row). row.parent)) (row_of-moved o ∙ ap (option_map (change_one moves o)) (at_place moves o forest.rows k d sound.numbers_rise within is).0)
-      ∙ ap (λ (row : Row). row.parent) (cond-true (has_number o here) (moves here) here (eq-eqb here.number o is))
-
-  parent_of-other : (n : ℕ) → n ≢ o → parent_of (changed moves o forest.rows) n ≡ parent_of forest.rows n
-  parent_of-other n other = ap (option_and_then (λ (row : Row). row.parent)) (row_of-moved n) ∙ by (row_of forest.rows n) refl
-    where
-      by : (r : Option Row) → row_of forest.rows n ≡ r → option_and_then (λ (row : Row). row.parent) (option_map (change_one moves o) r) ≡ option_and_then (λ (row : Row). row.parent) r
-      by None e = refl
-      by (Some row) e = ap (λ (row : Row). row.parent) (cond-false (has_number o row) (moves row) row (ne_eqb row.number o (λ same. other (sym (row-number forest.rows n row e) ∙ same))))
+      by : (b : Bool) → is_below forest.rows o p ≡ b → cond b (above forest.rows p - above forest.rows o + depth_at forest.rows parent) (above forest.rows p) < cond b (above forest.rows n - above forest.rows o + depth_at forest.rows parent) (above forest.rows n)
+      by true below = omega (arith, (hangs_below forest o sound p below).1, above_parent forest sound n p is)
+      by false apart = omega (arith, above_parent forest sound n p is)
 
   pub sound_moved : forest.last_stamp < 2 ^ 64 - 1 → ((p : ℕ) → parent ≡ Some p → (is_there forest.rows p ≡ true) × (is_below forest.rows o p ≡ false)) → depth_at forest.rows parent + height forest.rows o ≤ DEPTH → IsSound (moved forest o parent)
   unfolding moved height
-  sound_moved stamp above shallow = sound_from _ counted (subst (λ ns. IsTree (parent_of (changed moves o forest.rows)) ns DEPTH) (sym moved_numbers) trees)
-    where
-      counted : IsCounted (record { rows = changed moves o forest.rows; last_number = forest.last_number; last_stamp = forest.last_stamp + 1 })
-      counted = record {
-        numbers_rise = subst (IsStrictlySortedBy nat_cmp) (sym moved_numbers) sound.numbers_rise;
-        numbers_begin = All-map (λ (row : Row). 1 ≤ row.number) (change_one moves o) forest.rows (All-weaker (λ (row : Row). 1 ≤ row.number) (λ (row : Row). 1 ≤ (change_one moves o row).number) (λ row h. omega (arith, move_number row)) forest.rows sound.numbers_begin);
-        numbers_given = All-map (λ (row : Row). row.number ≤ forest.last_number) (change_one moves o) forest.rows (All-weaker (λ (row : Row). row.number ≤ forest.last_number) (λ (row : Row). (change_one moves o row).number ≤ forest.last_number) (λ row h. omega (arith, move_number row)) forest.rows sound.numbers_given);
-        numbers_fit = sound.numbers_fit;
-        stamps_differ = subst (IsDistinct (λ a b. a == b)) (sym moved_stamps) moved_differ;
-        stamps_given = All-map (λ (row : Row). row.stamp ≤ forest.last_stamp + 1) (change_one moves o) forest.rows (All-weaker (λ (row : Row). row.stamp ≤ forest.last_stamp) (λ (row : Row). (change_one moves o row).stamp ≤ forest.last_stamp + 1) move_stamp forest.rows sound.stamps_given);
+  sound_moved stamp above_it fits =
+      let counted = counted_of forest sound in
+      let ranked = ranked_above forest sound in
+      sound_from _ rank
+      (record {
+        each = each-mapped (change_one moves o) move_number forest.rows (IsGiven forest.last_number forest.last_stamp) (IsGiven forest.last_number (forest.last_stamp + 1)) (λ row given. record {
+          begins = omega (arith, move_number row, given.begins);
+          number = omega (arith, move_number row, given.number);
+          stamp = cond_both (has_number o row) (moves row) row (λ r. r.stamp ≤ forest.last_stamp + 1) (λ _. omega arith) (λ _. omega (arith, given.stamp));
+        }) counted.each;
+        apart = apart-mapped (change_one moves o) move_number forest.rows (IsGiven forest.last_number forest.last_stamp) move_apart counted.each counted.apart;
+        numbers_fit = counted.numbers_fit;
         stamps_fit = omega arith;
-        objects = omega (arith, sound.objects, length-map forest.rows (change_one moves o));
-      }
-
-      trees : IsTree (parent_of (changed moves o forest.rows)) (numbers forest.rows) DEPTH
-      trees = moved_tree (parent_of forest.rows) (numbers forest.rows) DEPTH (trees_of forest sound) (parent_of (changed moves o forest.rows)) o parent
-          parent_of-moved parent_of-other
-          (λ p e. (sym (there_among forest.rows p) ∙ (above p e).0, ap (λ l. among l o) (sym (line_is forest.rows p)) ∙ (above p e).1))
-          (λ f n. levels_within f forest.rows n) (levels_one forest.rows) (λ f n p there e. levels_child forest.rows f n p e)
-          (omega (arith, ap length (line_at_is forest.rows parent), ap (λ f. levels_within f forest.rows o) (same_length forest.rows)))
+        objects = omega (arith, counted.objects, length-map forest.rows (change_one moves o));
+      })
+      (record {
+        parents = λ n p is. ⊎_elim
+            (λ (here : (n ≡ o) × (parent ≡ Some p)).
+            let at = above_it p here.1 in
+            (there-mapped (change_one moves o) move_number forest.rows p ∙ at.0, rw (here.0, at.1, below_itself forest o sound there) (omega (arith, ap (depth_at forest.rows) here.1, ap length (sound.lines p at.0)))))
+            (λ (elsewhere : (n ≢ o) × (parent_of forest.rows n ≡ Some p)). (there-mapped (change_one moves o) move_number forest.rows p ∙ sound.parents n p elsewhere.1, rank_parent n p elsewhere.0 elsewhere.1))
+            (parent_of-moved n p is);
+        shallow = λ n stood.
+            let stands : is_there forest.rows n ≡ true = sym (there-mapped (change_one moves o) move_number forest.rows n) ∙ stood in
+            cond_both (is_below forest.rows o n) (above forest.rows n - above forest.rows o + depth_at forest.rows parent) (above forest.rows n) (λ rank. rank < DEPTH)
+            (λ below.
+            let hung = hangs_below forest o sound n below in
+            let left : ℕ = length forest.rows - hung.0 - 1 in
+            omega (arith, fits, hung.1, few_above forest o sound n stands, levels_one forest.rows left n, hung.2 (suc left) (length forest.rows) (omega (arith, hung.1, few_above forest o sound n stands))))
+            (λ _. ranked.shallow n stands);
+      })
+    where
+      move_apart : (a b : Row) → IsGiven forest.last_number forest.last_stamp a → IsGiven forest.last_number forest.last_stamp b → Precedes a b → (change_one moves o a).stamp ≢ (change_one moves o b).stamp
+      move_apart a b is_a is_b before = by (a.number == o) (b.number == o) refl refl
+        where
+          by : (x y : Bool) → (a.number == o) ≡ x → (b.number == o) ≡ y → (cond x (moves a) a).stamp ≢ (cond y (moves b) b).stamp
+          by true true at_a at_b = λ same. absurd (omega (arith, before.number, eqb-true a.number o at_a, eqb-true b.number o at_b))
+          by true false at_a at_b = λ same. absurd (omega (arith, same, is_b.stamp))
+          by false true at_a at_b = λ same. absurd (omega (arith, same, is_a.stamp))
+          by false false at_a at_b = before.stamp

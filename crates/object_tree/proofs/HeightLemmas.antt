@@ -1,5 +1,6 @@
 -- How many levels hang at an object.
-use Rattle.std.proofs.Common.{◌≡◌, ℕ, suc, zero, ◌+◌, ◌-◌, Bool, true, false, cond, List, [], ◌∷◌, Some, length, map, filter, max, refl, ap, ◌∙◌, arith, nat_lt}
+use Rattle.std.proofs.Common.{◌≡◌, ℕ, suc, zero, ◌+◌, ◌-◌, List, [], ◌∷◌, Some, length, map, filter, max, refl, ap, ◌∙◌, arith, nat_lt}
+use Rattle.std.proofs.lemmas.Bool.{cond_both}
 use Rattle.object_tree.specs.declared.child.Child.{Child}
 use Rattle.object_tree.specs.declared.row.Row.{Row}
 use Rattle.object_tree.specs.Rows.{by_stamp, children, has_parent, inserted, numbers}
@@ -8,11 +9,8 @@ use Rattle.object_tree.specs.Lines.{greatest, levels_within}
 -- the greatest of some numbers is that in any order
 greatest-inserted : (f : ℕ → ℕ) (row : Row) (rows : List Row) → greatest (map f (numbers (inserted row rows))) ≡ max (f row.number) (greatest (map f (numbers rows)))
 greatest-inserted f row [] = refl
-greatest-inserted f row (first ∷ rest) = by (nat_lt row.stamp first.stamp) (greatest-inserted f row rest)
-  where
-    by : (b : Bool) → greatest (map f (numbers (inserted row rest))) ≡ max (f row.number) (greatest (map f (numbers rest))) → greatest (map f (numbers (cond b (row ∷ first ∷ rest) (first ∷ inserted row rest)))) ≡ max (f row.number) (max (f first.number) (greatest (map f (numbers rest))))
-    by true h = refl
-    by false h = omega (arith, h)
+greatest-inserted f row (first ∷ rest) = cond_both (nat_lt row.stamp first.stamp) (row ∷ first ∷ rest) (first ∷ inserted row rest) (λ list. greatest (map f (numbers list)) ≡ max (f row.number) (max (f first.number) (greatest (map f (numbers rest)))))
+    (λ _. refl) (λ _. omega (arith, greatest-inserted f row rest))
 
 greatest-by_stamp : (f : ℕ → ℕ) (rows : List Row) → greatest (map f (numbers (by_stamp rows))) ≡ greatest (map (λ (row : Row). f row.number) rows)
 greatest-by_stamp f [] = refl

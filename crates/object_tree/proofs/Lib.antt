@@ -1,8 +1,6 @@
-pub mod KeyedListLemmas
 pub mod NumberLemmas
 pub mod HeightLemmas
 pub mod FindBelowLemmas
-pub mod LineLemmas
 pub mod TreeLemmas
 pub mod KeyLemmas
 pub mod KeptLemmas
@@ -10,7 +8,5 @@ pub mod RowLemmas
 pub mod ChildLemmas
 pub mod ForestLemmas
 pub mod RefusingLemmas
-pub mod ChangesLemmas
 pub mod NearestLemmas
-pub mod PlaceLemmas
 pub mod LawLemmas

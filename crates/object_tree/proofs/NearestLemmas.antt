@@ -1,31 +1,27 @@
 -- The search by levels finds what is nearest.
-use Rattle.std.proofs.Common.{◌≡◌, ℕ, suc, zero, ◌+◌, ◌-◌, ◌<◌, ◌≤◌, ◌==◌, Bool, true, false, ◌&&◌, ◌||◌, cond, List, [], ◌∷◌, ◌++◌, Option, Some, None, length, filter, find, drop, refl, sym, ap, ◌∙◌, arith, subst, inl, inr, ◌⊎◌, ⊎_elim, nat_lt}
+use Rattle.std.proofs.Common.{◌||◌, ◌≡◌, ℕ, suc, zero, ◌+◌, ◌-◌, ◌<◌, ◌≤◌, ◌==◌, Bool, true, false, ◌&&◌, cond, List, [], ◌∷◌, ◌++◌, Option, Some, None, length, filter, find, drop, refl, sym, ap, ◌∙◌, arith, subst, ⊎_elim, nat_lt}
 use Rattle.std.specs.Cmp.{nat_eq_equiv}
 use Rattle.std.specs.List.{flat_map, list_any}
-use Rattle.std.specs.Option.{option_and_then, option_or, is_some}
-use Rattle.std.proofs.lemmas.Bool.{cases_Bool, cond-true, cond-false, eqb-true, eqb-false, eq-eqb, ne_eqb, cases_eq, false≢true, or_cases, or_left, or_right, and_parts, false_from_ne_true, ltb-true}
-use Rattle.std.proofs.lemmas.List.{append-nil, append_assoc}
+use Rattle.std.specs.Option.{option_or}
+use Rattle.std.proofs.lemmas.Bool.{cases_Bool, cond-true, cond-false, eqb-true, eq-eqb, ne_eqb, cases_eq, false≢true, or_cases, or_left, or_right, and_parts, false_from_ne_true, ltb-true}
+use Rattle.std.proofs.lemmas.List.{append-nil}
 use Rattle.std.proofs.lemmas.List.Elements.{filter-append}
-use Rattle.std.proofs.lemmas.List.Folds.{list_any-append}
+use Rattle.std.proofs.lemmas.Grind.{flat_map-append}
+use Rattle.std.proofs.lemmas.List.Folds.{Any-from_list_any, list_any-append, list_any_at}
 use Rattle.std.proofs.lemmas.Map.Made.{is_member-filter}
-use Rattle.std.proofs.lemmas.Map.Keys.{sorted_head, sorted_tail}
-use Rattle.std.specs.Ordering.{nat_cmp}
 use Rattle.object_tree.specs.declared.row.Row.{Row}
-use Rattle.object_tree.specs.Rows.{by_stamp, children, has_parent, inserted, is_same, is_there, numbers, parent_of, row_of}
+use Rattle.object_tree.specs.Rows.{children, parent_of}
 use Rattle.object_tree.specs.Lines.{depth, line, line_at, walk}
 use Rattle.object_tree.specs.Forest.{Forest, IsSound}
 use Rattle.object_tree.specs.Finding.{IsFirstAtLeast, IsNearest, all_below, children_of, found_below, found_within, preorder_within}
-use Rattle.object_tree.proofs.NumberLemmas.{Rise, absent}
-use Rattle.object_tree.proofs.LineLemmas.{among, walk_within}
+use Rattle.object_tree.proofs.NumberLemmas.{found}
+use Rattle.object_tree.proofs.ChildLemmas.{child_parent}
+use Rattle.object_tree.proofs.RowLemmas.{among}
+use Rattle.object_tree.proofs.TreeLemmas.{walk_within}
 
 -- lists of numbers
 any_at : (p : ℕ → Bool) (xs : List ℕ) → list_any p xs ≡ true → (m : ℕ) × (among xs m ≡ true) × (p m ≡ true)
-any_at p [] e = absurd (cc)
-any_at p (x ∷ xs) e = by (any_at p xs) (or_cases (p x) _ e)
-  where
-    by : (list_any p xs ≡ true → (m : ℕ) × (among xs m ≡ true) × (p m ≡ true)) → (p x ≡ true) ⊎ (list_any p xs ≡ true) → (m : ℕ) × (among (x ∷ xs) m ≡ true) × (p m ≡ true)
-    by rest (inl here) = (x, or_left (x == x) _ (eq-eqb x x refl), here)
-    by rest (inr later) = let h = rest later in (h.0, or_right (h.0 == x) _ h.1, h.2)
+any_at p xs e = let any = Any-from_list_any p xs e in (any.1, list_any_at (λ x. any.1 == x) xs any.0 any.1 any.2 (eq-eqb _ _ (sym any.3)), any.4)
 
 none_at : (p : ℕ → Bool) (xs : List ℕ) → find p xs ≡ None → (m : ℕ) → among xs m ≡ true → p m ≡ true → ⊥
 none_at p [] e m in' pass = absurd (cc)
@@ -38,11 +34,7 @@ none_at p (x ∷ xs) e m in' pass = ⊎_elim
     (cases_Bool (p x))
 
 found_in : (p : ℕ → Bool) (xs : List ℕ) (m : ℕ) → find p xs ≡ Some m → among xs m ≡ true
-found_in p [] m e = absurd (cc)
-found_in p (x ∷ xs) m e = ⊎_elim
-    (λ here. let same : x ≡ m = (let some : Some x ≡ Some m = sym (cond-true (p x) (Some x) (find p xs) here) ∙ e in cc) in or_left (m == x) _ (eq-eqb m x (sym same)))
-    (λ other. or_right (m == x) _ (found_in p xs m (sym (cond-false (p x) (Some x) (find p xs) other) ∙ e)))
-    (cases_Bool (p x))
+found_in p xs m e = let place = found p xs m e in list_any_at (λ x. m == x) xs place.at m place.within (eq-eqb _ _ (sym (place.is m)))
 
 find_both : (p q : ℕ → Bool) (xs : List ℕ) → find (λ m. p m && q m) xs ≡ find p (filter q xs)
 find_both p q [] = refl
@@ -58,16 +50,11 @@ among-filter : (q : ℕ → Bool) (xs : List ℕ) (m : ℕ) → among (filter q 
 among-filter q xs m = is_member-filter nat_eq_equiv q m (λ x e. ap q (eqb-true m x e)) xs
 
 flat_at : (g : ℕ → List ℕ) (xs : List ℕ) (m : ℕ) → among (flat_map g xs) m ≡ true → (c : ℕ) × (among xs c ≡ true) × (among (g c) m ≡ true)
-flat_at g [] m e = absurd (cc)
-flat_at g (x ∷ xs) m e = by (flat_at g xs m) (or_cases (among (g x) m) _ (sym (list_any-append (λ y. m == y) (g x) (flat_map g xs)) ∙ e))
+flat_at g xs m e = any_at (λ c. among (g c) m) xs (sym (any-flat_map xs) ∙ e)
   where
-    by : (among (flat_map g xs) m ≡ true → (c : ℕ) × (among xs c ≡ true) × (among (g c) m ≡ true)) → (among (g x) m ≡ true) ⊎ (among (flat_map g xs) m ≡ true) → (c : ℕ) × (among (x ∷ xs) c ≡ true) × (among (g c) m ≡ true)
-    by rest (inl here) = (x, or_left (x == x) _ (eq-eqb x x refl), here)
-    by rest (inr later) = let h = rest later in (h.0, or_right (h.0 == x) _ h.1, h.2)
-
-flat_map-append : (g : ℕ → List ℕ) (xs ys : List ℕ) → flat_map g (xs ++ ys) ≡ flat_map g xs ++ flat_map g ys
-flat_map-append g [] ys = refl
-flat_map-append g (x ∷ xs) ys = ap (λ l. g x ++ l) (flat_map-append g xs ys) ∙ sym (append_assoc (g x) (flat_map g xs) (flat_map g ys))
+    any-flat_map : (xs : List ℕ) → among (flat_map g xs) m ≡ list_any (λ c. among (g c) m) xs
+    any-flat_map [] = refl
+    any-flat_map (x ∷ xs) = list_any-append (λ y. m == y) (g x) (flat_map g xs) ∙ ap (λ b. among (g x) m || b) (any-flat_map xs)
 
 flat_map-flat_map : (g h : ℕ → List ℕ) (xs : List ℕ) → flat_map g (flat_map h xs) ≡ flat_map (λ x. flat_map g (h x)) xs
 flat_map-flat_map g h [] = refl
@@ -180,47 +167,6 @@ module _ (rows : List Row) (dep : ℕ → ℕ) (lower : (n c : ℕ) → among (c
 
     pub nearest : Nearest (found_within (suc f) rows passes (kids object))
     nearest = nearest_of _ (subst (λ l. FoundOn passes object 1 (1 + suc f) (found_within (suc f) rows passes l)) (append-nil (kids object)) (found_on passes (suc f) 1 object))
-
--- who is among the children of an object has it as parent
-among-inserted : (row : Row) (rows : List Row) (m : ℕ) → among (numbers (inserted row rows)) m ≡ (m == row.number || among (numbers rows) m)
-among-inserted row [] m = refl
-among-inserted row (first ∷ rest) m = by (nat_lt row.stamp first.stamp) (among-inserted row rest m)
-  where
-    swap : (a b c : Bool) → (a || (b || c)) ≡ (b || (a || c))
-    swap true true c = refl
-    swap true false c = refl
-    swap false b c = refl
-
-    by : (b : Bool) → among (numbers (inserted row rest)) m ≡ (m == row.number || among (numbers rest) m) → among (numbers (cond b (row ∷ first ∷ rest) (first ∷ inserted row rest))) m ≡ (m == row.number || (m == first.number || among (numbers rest) m))
-    by true h = refl
-    by false h = ap (λ b. m == first.number || b) h ∙ swap (m == first.number) (m == row.number) (among (numbers rest) m)
-
-among-by_stamp : (rows : List Row) (m : ℕ) → among (numbers (by_stamp rows)) m ≡ among (numbers rows) m
-among-by_stamp [] m = refl
-among-by_stamp (row ∷ rest) m = among-inserted row (by_stamp rest) m ∙ ap (λ b. m == row.number || b) (among-by_stamp rest m)
-
-filtered_row : (p : Row → Bool) (rows : List Row) (m : ℕ) → Rise rows → among (numbers (filter p rows)) m ≡ true → (row : Row) × (row_of rows m ≡ Some row) × (p row ≡ true)
-filtered_row p [] m rise in' = absurd (cc)
-filtered_row p (row ∷ rest) m rise in' = by (p row) (row.number == m) refl refl (filtered_row p rest m (sorted_tail nat_cmp row.number (numbers rest) rise)) in'
-  where
-    behind : row.number ≡ m → row_of rest m ≡ None
-    behind same = (absent (λ r. r) m row.number rest (omega arith) (sorted_head nat_cmp row.number (numbers rest) rise)).0
-
-    by : (a b : Bool) → p row ≡ a → (row.number == m) ≡ b → (among (numbers (filter p rest)) m ≡ true → (r : Row) × (row_of rest m ≡ Some r) × (p r ≡ true)) → among (numbers (cond a (row ∷ filter p rest) (filter p rest))) m ≡ true → (r : Row) × (cond b (Some row) (row_of rest m) ≡ Some r) × (p r ≡ true)
-    by true true pass same later in' = (row, refl, pass)
-    by true false pass other later in' = later (⊎_elim (λ t. absurd (eqb-false _ _ other (sym (eqb-true _ _ t)))) (λ t. t) (or_cases (m == row.number) _ in'))
-    by false true fail same later in' = let h = later in' in absurd (let none : None ≡ Some h.0 = sym (behind (eqb-true _ _ same)) ∙ h.1 in cc)
-    by false false fail other later in' = later in'
-
-pub child_parent : (rows : List Row) (n c : ℕ) → Rise rows → among (children rows (Some n)) c ≡ true → (parent_of rows c ≡ Some n) × (is_there rows c ≡ true)
-unfolding children
-child_parent rows n c rise in' =
-    let h = filtered_row (has_parent (Some n)) rows c rise (sym (among-by_stamp (filter (has_parent (Some n)) rows) c) ∙ in') in
-    (ap (option_and_then (λ (row : Row). row.parent)) h.1 ∙ by h.0.parent h.2, ap is_some h.1)
-  where
-    by : (p : Option ℕ) → is_same p (Some n) ≡ true → p ≡ Some n
-    by None e = absurd (cc)
-    by (Some x) e = ap Some (eqb-true x n e)
 
 module _ (forest : Forest) (sound : IsSound forest) where
   child_lower : (n c : ℕ) → among (children forest.rows (Some n)) c ≡ true → depth forest.rows c ≡ suc (depth forest.rows n)

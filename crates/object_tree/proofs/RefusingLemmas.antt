@@ -29,9 +29,6 @@ there_allowed rows n e = by (row_of rows n) e
 parent_allowed : (rows : List Row) (parent : Option ℕ) → parent_refusal rows parent ≡ None → (p : ℕ) → parent ≡ Some p → is_there rows p ≡ true
 parent_allowed rows parent e p is = there_allowed rows p (ap (λ q. parent_refusal rows q) (sym is) ∙ e)
 
-below_last : (last top : ℕ) → nat_le top last ≡ false → last < top
-below_last last top e = leb-false top last e
-
 pub record CanAdd (forest : Forest) (parent : Option ℕ) : Type 0 where
   pub number : forest.last_number < 2 ^ 32 - 1
   pub stamp : forest.last_stamp < 2 ^ 64 - 1
@@ -47,10 +44,10 @@ add_allowed forest parent e =
     let third = or_none (number_refusal forest.last_number) _ second.1 in
     let room = or_parts (nat_le OBJECTS (length forest.rows)) _ (if_none _ _ second.0) in
     record {
-      number = below_last forest.last_number (2 ^ 32 - 1) (if_none _ _ third.0);
-      stamp = below_last forest.last_stamp (2 ^ 64 - 1) (if_none _ _ third.1);
-      room = below_last (length forest.rows) OBJECTS room.0;
-      shallow = below_last (depth_at forest.rows parent) DEPTH room.1;
+      number = leb-false (2 ^ 32 - 1) forest.last_number (if_none _ _ third.0);
+      stamp = leb-false (2 ^ 64 - 1) forest.last_stamp (if_none _ _ third.1);
+      room = leb-false OBJECTS (length forest.rows) room.0;
+      shallow = leb-false DEPTH (depth_at forest.rows parent) room.1;
       above = parent_allowed forest.rows parent first.0;
     }
 
@@ -69,7 +66,7 @@ move_allowed forest object parent e another =
     let third = or_none (cycle_refusal forest.rows object parent) _ rest in
     let fourth = or_none (depth_refusal forest.rows object parent) _ third.1 in
     record {
-      stamp = below_last forest.last_stamp (2 ^ 64 - 1) (if_none _ _ fourth.1);
+      stamp = leb-false (2 ^ 64 - 1) forest.last_stamp (if_none _ _ fourth.1);
       there = there_allowed forest.rows object first.0;
       above = λ p is. (parent_allowed forest.rows parent second.0 p is, if_none _ _ (ap (λ q. cycle_refusal forest.rows object q) (sym is) ∙ third.0));
       shallow = ltb-false DEPTH (depth_at forest.rows parent + height forest.rows object) (if_none _ _ fourth.0);

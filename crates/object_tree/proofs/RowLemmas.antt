@@ -1,19 +1,17 @@
 -- What edits of rows leave of numbers, stamps and parents.
-use Rattle.std.proofs.Common.{◌≡◌, ◌≢◌, ℕ, suc, ◌+◌, ◌<◌, ◌≤◌, ◌==◌, Bool, true, false, not, ◌||◌, cond, List, [], ◌∷◌, ◌++◌, Option, Some, None, Less, length, map, filter, find, get_or, set, refl, sym, ap, ◌∙◌, arith, ⊎_elim, nat_eq}
+use Rattle.std.proofs.Common.{◌≡◌, ℕ, suc, ◌+◌, ◌≤◌, ◌==◌, Bool, true, false, not, ◌||◌, cond, List, [], ◌∷◌, Option, Some, None, map, filter, find, refl, sym, ap, ◌∙◌, arith, ⊎_elim}
 use Rattle.std.specs.Cmp.{nat_eq_equiv}
-use Rattle.std.specs.List.{AllByRecursion, IsDistinct}
-use Rattle.std.specs.List.Sorted.{IsStrictlySortedBy}
+use Rattle.std.specs.List.{list_any}
 use Rattle.std.specs.Option.{option_map, option_and_then, is_some}
-use Rattle.std.specs.Ordering.{nat_cmp}
-use Rattle.std.proofs.lemmas.Bool.{cases_Bool, cases_eq, cond-true, cond-false, eqb-true, eq-eqb, ne_eqb, false≢true}
-use Rattle.std.proofs.lemmas.Bool.Decides.{nat_tests}
-use Rattle.std.proofs.lemmas.List.{length-set, get_or-set_same, get_or-set_other}
-use Rattle.std.proofs.lemmas.Map.Keys.{IsDistinct-from_apart, apart_from_distinct, IsDistinct-cons, IsDistinct-head, IsDistinct-tail}
+use Rattle.std.proofs.lemmas.Bool.{cases_Bool, cond_both, cond-true, cond-false, eqb-true, eqb-false, eq-eqb, false≢true}
 use Rattle.object_tree.specs.declared.row.Row.{Row}
-use Rattle.object_tree.specs.Rows.{has_number, has_parent, is_same, is_there, numbers, parent_of, row_of, stamps}
+use Rattle.object_tree.specs.Rows.{has_number, has_parent, is_same, is_there, numbers, parent_of, row_of}
 use Rattle.object_tree.specs.Lines.{greatest, levels_within}
 use Rattle.object_tree.proofs.NumberLemmas.{without}
-use Rattle.object_tree.proofs.LineLemmas.{among}
+
+-- is a number among these
+abbrev pub among : List ℕ → ℕ → Bool
+among ns n = list_any (λ x. n == x) ns
 
 -- an object is there exactly where its number is
 pub there_among : (rows : List Row) (n : ℕ) → is_there rows n ≡ among (numbers rows) n
@@ -31,6 +29,14 @@ row-number (first ∷ rest) n row e = ⊎_elim
     (λ t. let same : first ≡ row = (let h : Some first ≡ Some row = sym (cond-true (first.number == n) (Some first) (row_of rest n) t) ∙ e in cc) in ap (λ (r : Row). r.number) (sym same) ∙ eqb-true first.number n t)
     (λ f. row-number rest n row (sym (cond-false (first.number == n) (Some first) (row_of rest n) f) ∙ e))
     (cases_Bool (first.number == n))
+
+-- who has a parent is there
+pub there_child : (rows : List Row) (n p : ℕ) → parent_of rows n ≡ Some p → is_there rows n ≡ true
+there_child rows n p is = by (row_of rows n) is
+  where
+    by : (r : Option Row) → option_and_then (λ (row : Row). row.parent) r ≡ Some p → is_some r ≡ true
+    by None e = absurd (cc)
+    by (Some row) e = refl
 
 -- a map that keeps numbers
 module _ (f : Row → Row) (keeps : (row : Row) → (f row).number ≡ row.number) where
@@ -50,25 +56,18 @@ module _ (f : Row → Row) (keeps : (row : Row) → (f row).number ≡ row.numbe
 abbrev pub change_one : (Row → Row) → ℕ → Row → Row
 change_one f o row = cond (has_number o row) (f row) row
 
-pub stamps-mapped : (f : Row → Row) → ((row : Row) → (f row).stamp ≡ row.stamp) → (rows : List Row) → stamps (map f rows) ≡ stamps rows
-stamps-mapped f keeps [] = refl
-stamps-mapped f keeps (row ∷ rest) = λ i. keeps row i ∷ stamps-mapped f keeps rest i
-
--- where nothing is found, nothing is filtered out
-pub find-filter_other : (o n : ℕ) (rows : List Row) → n ≢ o → row_of (without o rows) n ≡ row_of rows n
-find-filter_other o n [] other = refl
-find-filter_other o n (row ∷ rest) other = ⊎_elim
-    (λ gone. let passed : (row.number == n) ≡ false = ne_eqb row.number n (λ e. other (sym e ∙ eqb-true row.number o gone)) in
-    (λ i. find (has_number n) (cond (not (gone i)) (row ∷ without o rest) (without o rest))) ∙ (find-filter_other o n rest other ∙ sym (cond-false (row.number == n) (Some row) (row_of rest n) passed)))
-    (λ kept. (λ i. find (has_number n) (cond (not (kept i)) (row ∷ without o rest) (without o rest))) ∙ λ i. cond (row.number == n) (Some row) (find-filter_other o n rest other i))
-    (cases_Bool (row.number == o))
-
-pub find-filter_same : (o : ℕ) (rows : List Row) → row_of (without o rows) o ≡ None
-find-filter_same o [] = refl
-find-filter_same o (row ∷ rest) = ⊎_elim
-    (λ gone. (λ i. find (has_number o) (cond (not (gone i)) (row ∷ without o rest) (without o rest))) ∙ find-filter_same o rest)
-    (λ kept. (λ i. find (has_number o) (cond (not (kept i)) (row ∷ without o rest) (without o rest))) ∙ (cond-false (row.number == o) (Some row) (row_of (without o rest) o) kept ∙ find-filter_same o rest))
-    (cases_Bool (row.number == o))
+-- what is found without the row of an object
+pub row_of-without : (o n : ℕ) (rows : List Row) → row_of (without o rows) n ≡ cond (n == o) None (row_of rows n)
+row_of-without o n [] = cond_both (n == o) None None (λ r. None ≡ r) (λ _. refl) (λ _. refl)
+row_of-without o n (row ∷ rest) = by (row.number == o) (row.number == n) (n == o) refl refl refl (row_of-without o n rest)
+  where
+    by : (a b e : Bool) → (row.number == o) ≡ a → (row.number == n) ≡ b → (n == o) ≡ e → row_of (without o rest) n ≡ cond (n == o) None (row_of rest n) → find (has_number n) (cond (not a) (row ∷ without o rest) (without o rest)) ≡ cond e None (cond b (Some row) (row_of rest n))
+    by true true true is_a is_b is_e h = h ∙ λ i. cond (is_e i) None (row_of rest n)
+    by true true false is_a is_b is_e h = absurd (eqb-false n o is_e (sym (eqb-true row.number n is_b) ∙ eqb-true row.number o is_a))
+    by true false e is_a is_b is_e h = h ∙ λ i. cond (is_e i) None (row_of rest n)
+    by false true true is_a is_b is_e h = absurd (eqb-false row.number o is_a (eqb-true row.number n is_b ∙ eqb-true n o is_e))
+    by false true false is_a is_b is_e h = (λ i. cond (is_b i) (Some row) (row_of (without o rest) n))
+    by false false e is_a is_b is_e h = (λ i. cond (is_b i) (Some row) (row_of (without o rest) n)) ∙ (h ∙ λ i. cond (is_e i) None (row_of rest n))
 
 pub numbers-filter : (p : ℕ → Bool) (rows : List Row) → numbers (filter (λ row. p row.number) rows) ≡ filter p (numbers rows)
 numbers-filter p [] = refl
@@ -77,56 +76,6 @@ numbers-filter p (row ∷ rest) = by (p row.number) (numbers-filter p rest)
     by : (b : Bool) → numbers (filter (λ row. p row.number) rest) ≡ filter p (numbers rest) → numbers (cond b (row ∷ filter (λ row. p row.number) rest) (filter (λ row. p row.number) rest)) ≡ cond b (row.number ∷ filter p (numbers rest)) (filter p (numbers rest))
     by true h = ap (λ l. row.number ∷ l) h
     by false h = h
-
--- what holds of each stamp holds of those that stay
-stamps_kept : (P : ℕ → Type 0) (p : Row → Bool) (rows : List Row) → AllByRecursion P (stamps rows) → AllByRecursion P (stamps (filter p rows))
-stamps_kept P p [] all = tt
-stamps_kept P p (row ∷ rest) all = by (p row) (stamps_kept P p rest all.1)
-  where
-    by : (b : Bool) → AllByRecursion P (stamps (filter p rest)) → AllByRecursion P (stamps (cond b (row ∷ filter p rest) (filter p rest)))
-    by true h = (all.0, h)
-    by false h = h
-
-pub IsDistinct-stamps_filter : (p : Row → Bool) (rows : List Row) → IsDistinct nat_eq (stamps rows) → IsDistinct nat_eq (stamps (filter p rows))
-IsDistinct-stamps_filter p [] differ = differ
-IsDistinct-stamps_filter p (row ∷ rest) differ = by (p row) (IsDistinct-stamps_filter p rest (IsDistinct-tail nat_eq row.stamp (stamps rest) differ))
-  where
-    by : (b : Bool) → IsDistinct nat_eq (stamps (filter p rest)) → IsDistinct nat_eq (stamps (cond b (row ∷ filter p rest) (filter p rest)))
-    by true h = IsDistinct-cons nat_eq row.stamp (stamps (filter p rest)) (stamps_kept (λ y. nat_eq row.stamp y ≡ false) p rest (IsDistinct-head nat_eq row.stamp (stamps rest) differ)) h
-    by false h = h
-
--- another number among some that differ
-pub distinct-set : (ns : List ℕ) (k x : ℕ) → IsDistinct nat_eq ns → k < length ns → ((i d : ℕ) → i < length ns → i ≢ k → get_or ns i d ≢ x) → IsDistinct nat_eq (set ns k x)
-distinct-set ns k x differ within others = IsDistinct-from_apart nat_eq (set ns k x) (λ i j e lt h.
-    let all = length-set ns k x in
-    ⊎_elim
-    (λ at_i. ne_eqb _ _ (λ same. others j e (omega arith) (λ at_j. absurd (omega arith)) (sym (get_or-set_other ns k j x e (λ at_j. absurd (omega arith))) ∙ (sym same ∙ (ap (λ m. get_or (set ns k x) m e) at_i ∙ get_or-set_same ns k x e within)))))
-    (λ not_i. ⊎_elim
-    (λ at_j. ne_eqb _ _ (λ same. others i e (omega arith) not_i (sym (get_or-set_other ns k i x e not_i) ∙ (same ∙ (ap (λ m. get_or (set ns k x) m e) at_j ∙ get_or-set_same ns k x e within)))))
-    (λ not_j. (λ t. nat_eq (get_or-set_other ns k i x e not_i t) (get_or-set_other ns k j x e not_j t)) ∙ apart_from_distinct nat_eq ns i j e differ lt (omega arith))
-    (cases_eq j k))
-    (cases_eq i k))
-
-pub length-filter_le : (p : Row → Bool) (rows : List Row) → length (filter p rows) ≤ length rows
-length-filter_le p [] = omega arith
-length-filter_le p (row ∷ rest) = by (p row) (length-filter_le p rest)
-  where
-    by : (b : Bool) → length (filter p rest) ≤ length rest → length (cond b (row ∷ filter p rest) (filter p rest)) ≤ suc (length rest)
-    by true h = omega arith
-    by false h = omega arith
-
-less_cmp : (a b : ℕ) → a < b → nat_cmp a b ≡ Less
-less_cmp a b h = grind (arith, nat_tests)
-
--- numbers that rise, and one above them
-pub rise_push : (ns : List ℕ) (y : ℕ) → IsStrictlySortedBy nat_cmp ns → AllByRecursion (λ n. n < y) ns → IsStrictlySortedBy nat_cmp (ns ++ y ∷ [])
-unfolding IsStrictlySortedBy
-rise_push [] y rise below = (tt, tt)
-rise_push (n ∷ ns) y rise below = (last ns rise.0, rise_push ns y rise.1 below.1)
-  where
-    last : (ms : List ℕ) → AllByRecursion (λ m. nat_cmp n m ≡ Less) ms → AllByRecursion (λ m. nat_cmp n m ≡ Less) (ms ++ y ∷ [])
-    last [] all = (less_cmp n y below.0, tt)
-    last (m ∷ ms) all = (all.0, last ms all.1)
 
 -- a child of an object adds to the levels at it
 greatest_has : (F : Row → ℕ) (p : Row → Bool) (rows : List Row) (n : ℕ) (row : Row) → row_of rows n ≡ Some row → p row ≡ true → F row ≤ greatest (map F (filter p rows))

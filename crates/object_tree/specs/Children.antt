@@ -9,9 +9,8 @@ use Rattle.shared_rows.specs.Links.{AreLinked}
 use Rattle.object_tree.specs.declared.row.Row.{Row}
 use Rattle.object_tree.specs.declared.child.Child.{Child}
 use Rattle.object_tree.specs.declared.child.Kids.{Kids}
-use Rattle.object_tree.specs.declared.objects.Kinship.{Kinship}
+use Rattle.object_tree.specs.declared.forests.Kinship.{Kinship}
 use Rattle.object_tree.specs.Forest.{Forest, IsSound}
-use Rattle.object_tree.specs.Table.{forest_at}
 
 -- the number of a parent, and 0 where there is none, since no object has number 0
 abbrev pub order_of : Option ℕ → ℕ
@@ -48,11 +47,12 @@ rows_of keyed = map (λ (k : Keyed Row). k.row) keyed
 abbrev pub forest_of : List (Keyed Row) → Kinship → Forest
 forest_of keyed kinship = record { rows = rows_of keyed; last_number = kinship.last_number; last_stamp = kinship.last_stamp }
 
--- both tables have the same places, and at each one the children of all parents are those of its rows
+-- the children of all parents are those of the rows of a place, and its forest is sound
+pub record IsPlaceKept (keyed : List (Keyed Row)) (kinship : Kinship) : Type 0 where
+  pub linked : AreLinked child_of (rows_of keyed) kinship.children.links
+  pub sound : IsSound (forest_of keyed kinship)
+
+-- both tables have the same places
 pub record IsKept (rows : Table (List (Keyed Row))) (kinships : Table Kinship) : Type 0 where
   pub same : length rows.places ≡ length kinships.places
-  pub linked : (place : ℕ) (default : Kinship) → place < length kinships.places → AreLinked child_of (rows_of (rows_at rows place)) (slice_index_or kinships.places place default).children.links
-
--- every forest is sound
-abbrev pub AreSound : Table Forest → Type 0
-AreSound table = (place : ℕ) → place < length table.places → IsSound (forest_at table place)
+  pub each : (place : ℕ) (default : Kinship) → place < length kinships.places → IsPlaceKept (rows_at rows place) (slice_index_or kinships.places place default)

@@ -1,27 +1,31 @@
 //! A forest for each place.
-ghost use Rattle.std.specs.Prelude.{◌≡◌, ◌+◌, ◌≤◌, ℕ, Bool, [], false, IfOk, OnOk, OnErr, Option, length};
-ghost use Rattle.std.specs.Option.{option_map_or};
-ghost use Rattle.std.specs.Result.{result_err};
+ghost use Rattle.std.specs.Prelude.{◌≡◌, ◌≤◌, [], IfOk, OnOk, OnErr, length};
 ghost use Rattle.places.specs.Table.{IsPlace, opened};
-ghost use Rattle.refusals.specs.Answers.{RefusedBy};
-ghost use Rattle.object_tree.specs.Rows.{children, row_of};
+ghost use Rattle.object_tree.specs.Rows.{row_of};
 ghost use Rattle.object_tree.specs.Forest.{IsSound, empty_forest};
-ghost use Rattle.object_tree.specs.Refusing.{add_refusal, object_refusal, parent_refusal, set_parent_refusal};
-ghost use Rattle.object_tree.specs.Changes.{added, marked, removed, reparented, with_blocked};
-ghost use Rattle.object_tree.specs.Finding.{AnswersBy, found_below, IsNearest};
 ghost use Rattle.object_tree.specs.Table.{forest_at, with_forest};
 
-use crate::objects::Objects;
+use crate::child::Child;
 use crate::row::Row;
-use refusals::{Code, Fault};
+use places::Places;
+use shared_rows::{Links, SharedRows};
 use std::alloc::{AllocError, Global};
 use std::marker::Model;
+
+/// What a place has beside its rows.
+#[derive(Drop)]
+pub(crate) struct Kinship {
+    pub(crate) last_number: u32,
+    pub(crate) last_stamp: u64,
+    pub(crate) children: Links<Child>,
+}
 
 /// The objects of each session, by place. No call touches another place than the one that it names.
 #[derive(Drop)]
 pub struct Forests {
-    objects: Objects,
-    alloc: Global,
+    pub(crate) rows: SharedRows<Row>,
+    pub(crate) kinships: Places<Kinship>,
+    pub(crate) alloc: Global,
 }
 
 impl Model for Forests {
@@ -30,11 +34,12 @@ impl Model for Forests {
 
     ghost Value = { Table Forest };
 
-    ghost use Rattle.object_tree.specs.Children.{AreSound};
+    ghost use Rattle.places.specs.Joined.{joined_tables};
+    ghost use Rattle.object_tree.specs.Children.{IsKept, forest_of};
 
-    ghost view = { λ f. f.objects };
+    ghost view = { λ forests. joined_tables forest_of forests.rows forests.kinships };
 
-    ghost invariant = { λ f. AreSound f.objects };
+    ghost invariant = { λ forests. IsKept forests.rows forests.kinships };
 }
 
 impl Forests {
@@ -43,7 +48,8 @@ impl Forests {
         ensures { result.places ≡ [] }
     {
         Forests {
-            objects: Objects::new(alloc),
+            rows: SharedRows::new(alloc),
+            kinships: Places::new(alloc),
             alloc,
         }
     }
@@ -56,7 +62,8 @@ impl Forests {
         ensures full { OnErr result (self.old.room ≡ 0) }
         ensures err { OnErr result (self.new ≡ self.old) }
     {
-        self.objects.ready()
+        self.rows.ready()?;
+        self.kinships.ready()
     }
 
     /// Opens the next place with no objects, and returns its number.
@@ -65,7 +72,8 @@ impl Forests {
         ensures place { result ≡ length self.old.places }
         ensures opened { self.new ≡ opened self.old empty_forest }
     {
-        self.objects.open()
+        self.rows.open();
+        self.kinships.open(no_kinship(self.alloc))
     }
 
     /// Takes all objects of a place out, and gives their memory back; their numbers are then given
@@ -74,131 +82,8 @@ impl Forests {
         requires { IsPlace self.old place }
         ensures { self.new ≡ with_forest self.old place empty_forest }
     {
-        self.objects.clear(place);
-    }
-
-    /// Adds an object, and returns its number.
-    ///
-    /// The first refusal of these counts: `NoSuchObject` for a parent that is not there, `Dying` for one
-    /// that is dying, `Limit` where the place holds 4,096 objects or the parent stands on level 64, and
-    /// `NumbersUsedUp` where the numbers or the stamps have run out.
-    pub fn add(&mut self, place: usize, parent: Option<u32>, class: u32) -> Result<u32, Fault>
-        requires { IsPlace self.old place }
-        ensures refusal { RefusedBy (add_refusal (forest_at self.old place) parent) result }
-        ensures number { IfOk result (λ number. number ≡ (forest_at self.old place).last_number + 1) }
-        ensures ok { OnOk result (self.new ≡ with_forest self.old place
-            (added (forest_at self.old place) parent class)) }
-        ensures err { OnErr result (self.new ≡ self.old) }
-    {
-        if let Some(code) = self.objects.add_refusal(place, parent) {
-            return Err(Fault::Refused(code));
-        }
-        Ok(self.objects.push(place, parent, class)?)
-    }
-
-    /// Gives an object another parent, or makes it a root, behind all that are there; it takes no memory.
-    ///
-    /// The first refusal of these counts: `NoSuchObject` and `Dying` for the object, then both for the
-    /// parent. Of the parent that the object has nothing more is asked, and nothing changes. Else:
-    /// `Cycle` where the parent is the object or below it, `Limit` where something that hangs at the
-    /// object would stand below level 64, and `NumbersUsedUp` where the stamps have run out.
-    pub fn set_parent(&mut self, place: usize, object: u32, parent: Option<u32>) -> Result<(), Code>
-        requires { IsPlace self.old place }
-        ensures refusal { result_err result ≡ set_parent_refusal (forest_at self.old place) object parent }
-        ensures ok { OnOk result (self.new ≡ with_forest self.old place
-            (reparented (forest_at self.old place) object parent)) }
-        ensures err { OnErr result (self.new ≡ self.old) }
-    {
-        if let Some(code) = self.objects.set_parent_refusal(place, object, parent) {
-            return Err(code);
-        }
-        if !self.objects.keeps_parent(place, object, parent) {
-            self.objects.move_to(place, object, parent);
-        }
-        Ok(())
-    }
-
-    /// Marks an object as one that is being deleted.
-    pub fn mark_dying(&mut self, place: usize, object: u32)
-        requires { IsPlace self.old place }
-        ensures { self.new ≡ with_forest self.old place (marked (forest_at self.old place) object) }
-    {
-        self.objects.mark_dying(place, object);
-    }
-
-    /// Takes an object out. Its children become roots and keep their stamps.
-    pub fn remove(&mut self, place: usize, object: u32)
-        requires { IsPlace self.old place }
-        ensures { self.new ≡ with_forest self.old place (removed (forest_at self.old place) object) }
-    {
-        self.objects.remove(place, object);
-    }
-
-    /// Blocks the signals of an object, or lets them through, and returns whether they were blocked.
-    pub fn set_blocked(&mut self, place: usize, object: u32, on: bool) -> bool
-        requires { IsPlace self.old place }
-        ensures before { result ≡ option_map_or (λ row. row.blocked)
-            (row_of (forest_at self.old place).rows object) false }
-        ensures after { self.new ≡ with_forest self.old place
-            (with_blocked (forest_at self.old place) object on) }
-    {
-        self.objects.set_blocked(place, object, on)
-    }
-
-    /// The children of a parent in the order in which they came to it; of no parent, the roots.
-    pub fn children(&self, place: usize, parent: Option<u32>) -> Result<Vec<u32>, AllocError>
-        requires { IsPlace self.now place }
-        ensures { IfOk result (λ found. found.items ≡ children (forest_at self.now place).rows parent) }
-    {
-        self.objects.children(self.alloc, place, parent)
-    }
-
-    /// The object below another one at the least depth that passes, among equals the first in
-    /// preorder. An `AllocError` of the test is returned as it is.
-    ///
-    /// The clauses speak of every `passes` that gives what the test returns: `levels` says which object
-    /// is found by the levels, and `nearest` that this is the one in depth and preorder.
-    pub fn find_child<F>(
-        &self,
-        place: usize,
-        object: u32,
-        test: F,
-    ) -> Result<Option<u32>, AllocError>
-    where
-        F: Fn(u32) -> Result<bool, AllocError>,
-        requires place { IsPlace self.now place }
-        requires callable { F.IsAlwaysCallable test }
-        ensures levels { (passes : ℕ → Bool) → AnswersBy (F.post test) passes
-            → IfOk result (λ found. found ≡ found_below (forest_at self.now place).rows object passes) }
-        ensures nearest { (passes : ℕ → Bool) → AnswersBy (F.post test) passes
-            → IfOk result (λ found. IsNearest (forest_at self.now place).rows object passes found) }
-    {
-        self.objects.find_below(self.alloc, place, object, &test)
-    }
-
-    /// The row of an object.
-    pub fn row(&self, place: usize, object: u32) -> Option<Row>
-        requires { IsPlace self.now place }
-        ensures { result ≡ row_of (forest_at self.now place).rows object }
-    {
-        self.objects.row(place, object)
-    }
-
-    /// Why an object is refused: `NoSuchObject` where it is not there, and `Dying` where it is being
-    /// deleted.
-    pub fn object_refusal(&self, place: usize, object: u32) -> Option<Code>
-        requires { IsPlace self.now place }
-        ensures { result ≡ object_refusal (forest_at self.now place).rows object }
-    {
-        self.objects.object_refusal(place, object)
-    }
-
-    /// Why a parent is refused: as an object is. Nothing is refused where there is to be none.
-    pub fn parent_refusal(&self, place: usize, parent: Option<u32>) -> Option<Code>
-        requires { IsPlace self.now place }
-        ensures { result ≡ parent_refusal (forest_at self.now place).rows parent }
-    {
-        self.objects.parent_refusal(place, parent)
+        self.rows.clear(place);
+        *self.kinships.get_mut(place) = no_kinship(self.alloc);
     }
 
     /// How many objects there are.
@@ -206,7 +91,25 @@ impl Forests {
         requires { IsPlace self.now place }
         ensures { result ≡ length (forest_at self.now place).rows }
     {
-        self.objects.count(place)
+        self.rows.len(place)
+    }
+
+    /// The row of an object.
+    pub fn row(&self, place: usize, object: u32) -> Option<Row>
+        requires { IsPlace self.now place }
+        ensures { result ≡ row_of (forest_at self.now place).rows object }
+    {
+        let key = self.rows.find(place, object as u64)?;
+        Some(*self.rows.get(place, key))
+    }
+
+    /// What a place has beside its rows.
+    pub(crate) fn kinship(&self, place: usize) -> &Kinship
+        requires { IsPlace self.now place }
+        ensures number { result.now.last_number ≡ (forest_at self.now place).last_number }
+        ensures stamp { result.now.last_stamp ≡ (forest_at self.now place).last_stamp }
+    {
+        self.kinships.get(place)
     }
 
     /// What holds of every forest. There is nothing to run: the clause is for the proofs of callers.
@@ -215,6 +118,18 @@ impl Forests {
         ensures { IsSound (forest_at self.now place) }
     {
         // The loan is for the proof, which then knows what holds of every forest.
-        let _objects = &self.objects;
+        let _kinships = &self.kinships;
+    }
+}
+
+fn no_kinship(alloc: Global) -> Kinship
+    ensures number { result.last_number ≡ 0 }
+    ensures stamp { result.last_stamp ≡ 0 }
+    ensures children { result.children.links ≡ [] }
+{
+    Kinship {
+        last_number: 0,
+        last_stamp: 0,
+        children: Links::new(alloc),
     }
 }

@@ -2,13 +2,15 @@
 //! age, and the search for an object below another one.
 #![tactic(auto)]
 
+mod adding;
 mod child;
-mod children;
+mod finding;
 mod forests;
 mod laws;
 mod lines;
-mod objects;
+mod moving;
 mod refusing;
+mod removing;
 mod row;
 
 pub use forests::Forests;

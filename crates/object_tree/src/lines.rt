@@ -5,9 +5,9 @@ ghost use Rattle.object_tree.specs.Rows.{parent_of};
 ghost use Rattle.object_tree.specs.Lines.{depth, depth_at, is_below};
 ghost use Rattle.object_tree.specs.Table.{forest_at};
 
-use crate::objects::Objects;
+use crate::forests::Forests;
 
-impl Objects {
+impl Forests {
     /// The parent of an object, where it is there and has one.
     pub(crate) fn parent_of(&self, place: usize, number: u32) -> Option<u32>
         requires { IsPlace self.now place }

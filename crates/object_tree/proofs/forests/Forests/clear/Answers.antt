@@ -1,7 +1,14 @@
-use Rattle.object_tree.specs.Forest.{empty_forest}
-use Rattle.object_tree.proofs.ForestLemmas.{sound_empty}
-use Rattle.object_tree.proofs.PlaceLemmas.{sound_with}
+use Rattle.object_tree.proofs.KeptLemmas.{cleared, in_kinships, in_rows}
 use Rattle.object_tree.proofs.forests.Forests.clear.Goals as goal
 
+pub clear-requires : goal.clear-requires
+clear-requires c = in_rows c.self.invariant c.self.view_is c.args.place c.requires
+
+pub get_mut-requires : goal.get_mut-requires
+get_mut-requires c = in_kinships c.self.invariant c.self.view_is c.args.place c.requires
+
 pub invariant_of-self : goal.invariant_of-self
-invariant_of-self c = sound_with c.self.inside.objects c.clear.new.self c.args.place empty_forest c.self.invariant sound_empty c.clear.ensures
+invariant_of-self c = (cleared c.self.invariant c.self.view_is c.args.place c.requires c.no_kinship.result c.clear.ensures c.no_kinship.ensures.number c.no_kinship.ensures.stamp c.no_kinship.ensures.children).kept
+
+pub returns : goal.returns
+returns c = (cleared c.self.invariant c.self.view_is c.args.place c.requires c.no_kinship.result c.clear.ensures c.no_kinship.ensures.number c.no_kinship.ensures.stamp c.no_kinship.ensures.children).seen

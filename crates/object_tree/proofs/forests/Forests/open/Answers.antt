@@ -1,5 +1,12 @@
-use Rattle.object_tree.proofs.PlaceLemmas.{sound_opened}
+use Rattle.std.proofs.Common.{◌∙◌, sym}
+use Rattle.object_tree.proofs.KeptLemmas.{as_many, open_kept, open_seen}
 use Rattle.object_tree.proofs.forests.Forests.open.Goals as goal
 
 pub invariant_of-self : goal.invariant_of-self
-invariant_of-self c = sound_opened c.self.inside.objects c.open.new.self c.self.invariant c.open.ensures.opened
+invariant_of-self c = open_kept c.self.invariant c.self.view_is c.no_kinship.result c.open.ensures.opened c.open-2.ensures.opened c.no_kinship.ensures.number c.no_kinship.ensures.stamp c.no_kinship.ensures.children
+
+pub returns-clause-place : goal.returns-clause-place
+returns-clause-place c = c.open-2.ensures.place ∙ sym (as_many c.self.invariant c.self.view_is)
+
+pub returns-clause-opened : goal.returns-clause-opened
+returns-clause-opened c = open_seen c.self.invariant c.self.view_is c.no_kinship.result c.open.ensures.opened c.open-2.ensures.opened c.no_kinship.ensures.number c.no_kinship.ensures.stamp

@@ -1,8 +1,26 @@
-use Rattle.object_tree.specs.Table.{forest_at}
+use Rattle.std.proofs.Common.{false, sym, ap, refl}
+use Rattle.std.specs.Option.{option_map_or}
+use Rattle.object_tree.specs.declared.row.Row.{Row}
 use Rattle.object_tree.specs.Changes.{with_blocked}
-use Rattle.object_tree.proofs.ForestLemmas.{sound_blocked}
-use Rattle.object_tree.proofs.PlaceLemmas.{sound_here, sound_with}
+use Rattle.object_tree.proofs.KeptLemmas.{absent, absent_same, edited, in_rows, is_row, stands_under}
 use Rattle.object_tree.proofs.forests.Forests.set_blocked.Goals as goal
 
+pub find-requires : goal.find-requires
+find-requires c = in_rows c.self.invariant c.self.view_is c.args.place c.requires
+
 pub invariant_of-self : goal.invariant_of-self
-invariant_of-self c = sound_with c.self.inside.objects c.set_blocked.new.self c.args.place (with_blocked (forest_at c.self.inside.objects c.args.place) c.args.object c.args.on) c.self.invariant (sound_blocked (forest_at c.self.inside.objects c.args.place) c.args.object c.args.on (sound_here c.self.inside.objects c.args.self.now c.args.place c.self.invariant c.self.view_is c.requires)) c.set_blocked.ensures.after
+invariant_of-self c = (edited c.self.invariant c.self.view_is c.args.place c.requires (stands_under c.get-row.ensures.sound c.get-row.ensures.row c.in-Some.ensures.stands) (λ row. record row { blocked = c.args.on }) c.replace.ensures.new (λ _. refl) (λ _. refl) (λ _. refl)).kept
+
+pub returns-clause-after : goal.returns-clause-after
+unfolding with_blocked
+returns-clause-after c = (edited c.self.invariant c.self.view_is c.args.place c.requires (stands_under c.get-row.ensures.sound c.get-row.ensures.row c.in-Some.ensures.stands) (λ row. record row { blocked = c.args.on }) c.replace.ensures.new (λ _. refl) (λ _. refl) (λ _. refl)).seen
+
+pub returns-in_default-clause-after : goal.returns-in_default-clause-after
+unfolding with_blocked
+returns-in_default-clause-after c = absent_same c.self.invariant c.self.view_is c.args.place c.requires (λ row. record row { blocked = c.args.on }) c.args.object c.in_default.ensures.found
+
+pub returns-in_default-clause-before : goal.returns-in_default-clause-before
+returns-in_default-clause-before c = ap (λ found. option_map_or (λ (row : Row). row.blocked) found false) (sym (absent c.self.invariant c.self.view_is c.args.place c.requires c.args.object c.in_default.ensures.found))
+
+pub returns-clause-before : goal.returns-clause-before
+returns-clause-before c = ap (λ found. option_map_or (λ (row : Row). row.blocked) found false) (sym (is_row c.self.invariant c.self.view_is c.args.place c.requires (stands_under c.get-row.ensures.sound c.get-row.ensures.row c.in-Some.ensures.stands)))

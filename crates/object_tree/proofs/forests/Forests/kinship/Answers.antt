@@ -1,0 +1,13 @@
+use Rattle.std.proofs.Common.{sym, ap}
+use Rattle.object_tree.specs.Forest.{Forest}
+use Rattle.object_tree.proofs.KeptLemmas.{forest_is, in_kinships}
+use Rattle.object_tree.proofs.forests.Forests.kinship.Goals as goal
+
+pub get-requires : goal.get-requires
+get-requires c = in_kinships c.self.invariant c.self.view_is c.args.place c.requires
+
+pub returns-clause-number : goal.returns-clause-number
+returns-clause-number c = ap (λ (forest : Forest). forest.last_number) (sym (forest_is c.self.invariant c.self.view_is c.args.place c.requires c.get.result.now c.get.ensures))
+
+pub returns-clause-stamp : goal.returns-clause-stamp
+returns-clause-stamp c = ap (λ (forest : Forest). forest.last_stamp) (sym (forest_is c.self.invariant c.self.view_is c.args.place c.requires c.get.result.now c.get.ensures))

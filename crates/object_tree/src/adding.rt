@@ -1,0 +1,66 @@
+//! New objects.
+ghost use Rattle.std.specs.Prelude.{◌≡◌, ◌+◌, IfOk, OnOk, OnErr, Option};
+ghost use Rattle.places.specs.Table.{IsPlace};
+ghost use Rattle.refusals.specs.Answers.{RefusedBy};
+ghost use Rattle.object_tree.specs.Refusing.{add_refusal};
+ghost use Rattle.object_tree.specs.Changes.{added};
+ghost use Rattle.object_tree.specs.Table.{forest_at, with_forest};
+
+use crate::child::child_of;
+use crate::forests::Forests;
+use crate::row::{DEPTH, OBJECTS, Row};
+use refusals::{Code, Fault};
+
+impl Forests {
+    /// Adds an object, and returns its number.
+    ///
+    /// The first refusal of these counts: `NoSuchObject` for a parent that is not there, `Dying` for one
+    /// that is dying, `Limit` where the place holds 4,096 objects or the parent stands on level 64, and
+    /// `NumbersUsedUp` where the numbers or the stamps have run out.
+    pub fn add(&mut self, place: usize, parent: Option<u32>, class: u32) -> Result<u32, Fault>
+        requires { IsPlace self.old place }
+        ensures refusal { RefusedBy (add_refusal (forest_at self.old place) parent) result }
+        ensures number { IfOk result (λ number. number ≡ (forest_at self.old place).last_number + 1) }
+        ensures ok { OnOk result (self.new ≡ with_forest self.old place
+            (added (forest_at self.old place) parent class)) }
+        ensures err { OnErr result (self.new ≡ self.old) }
+    {
+        if let Some(code) = self.add_refusal(place, parent) {
+            return Err(Fault::Refused(code));
+        }
+        let kinship = self.kinships.get_mut(place);
+        let row = Row {
+            number: kinship.last_number + 1,
+            class,
+            parent,
+            stamp: kinship.last_stamp + 1,
+            dying: false,
+            blocked: false,
+        };
+        kinship.children.reserve()?;
+        self.rows.push(place, row)?;
+        kinship.last_number = row.number;
+        kinship.last_stamp = row.stamp;
+        kinship.children.insert_reserved(child_of(row));
+        Ok(row.number)
+    }
+
+    /// Why no object can be added below a parent.
+    #[tactic(auto, unfolding(crate::specs::Refusing::add_refusal))]
+    fn add_refusal(&self, place: usize, parent: Option<u32>) -> Option<Code>
+        requires { IsPlace self.now place }
+        ensures { result ≡ add_refusal (forest_at self.now place) parent }
+    {
+        if let Some(code) = self.parent_refusal(place, parent) {
+            return Some(code);
+        }
+        if self.count(place) >= OBJECTS || self.depth_at(place, parent) >= DEPTH {
+            return Some(Code::Limit);
+        }
+        let kinship = self.kinship(place);
+        if kinship.last_number == u32::MAX || kinship.last_stamp == u64::MAX {
+            return Some(Code::NumbersUsedUp);
+        }
+        None
+    }
+}

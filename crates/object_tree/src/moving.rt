@@ -1,0 +1,146 @@
+//! Objects that get another parent.
+ghost use Rattle.std.specs.Prelude.{◌≡◌, [], OnOk, OnErr, Option};
+ghost use Rattle.std.specs.Result.{result_err};
+ghost use Rattle.places.specs.Table.{ChangesAt, IsPlace};
+ghost use Rattle.shared_rows.specs.Links.{AreLinked};
+ghost use Rattle.shared_rows.specs.Rows.{IsSound, rows_at};
+ghost use Rattle.object_tree.specs.Rows.{is_same};
+ghost use Rattle.object_tree.specs.Refusing.{cycle_refusal, keeps_parent, move_refusal, set_parent_refusal};
+ghost use Rattle.object_tree.specs.Changes.{changed, reparented};
+ghost use Rattle.object_tree.specs.Children.{child_of, rows_of};
+ghost use Rattle.object_tree.specs.Table.{forest_at, with_forest};
+
+use crate::child::{Child, child_of};
+use crate::forests::Forests;
+use crate::row::{DEPTH, Row};
+use refusals::Code;
+use shared_rows::{Links, SharedRows};
+
+impl Forests {
+    /// Gives an object another parent, or makes it a root, behind all that are there; it takes no memory.
+    ///
+    /// The first refusal of these counts: `NoSuchObject` and `Dying` for the object, then both for the
+    /// parent. Of the parent that the object has nothing more is asked, and nothing changes. Else:
+    /// `Cycle` where the parent is the object or below it, `Limit` where something that hangs at the
+    /// object would stand below level 64, and `NumbersUsedUp` where the stamps have run out.
+    pub fn set_parent(&mut self, place: usize, object: u32, parent: Option<u32>) -> Result<(), Code>
+        requires { IsPlace self.old place }
+        ensures refusal { result_err result ≡ set_parent_refusal (forest_at self.old place) object parent }
+        ensures ok { OnOk result (self.new ≡ with_forest self.old place
+            (reparented (forest_at self.old place) object parent)) }
+        ensures err { OnErr result (self.new ≡ self.old) }
+    {
+        if let Some(code) = self.set_parent_refusal(place, object, parent) {
+            return Err(code);
+        }
+        if !self.keeps_parent(place, object, parent) {
+            let kinship = self.kinships.get_mut(place);
+            kinship.last_stamp += 1;
+            hang(
+                &mut self.rows,
+                &mut kinship.children,
+                place,
+                object,
+                parent,
+                kinship.last_stamp,
+            );
+        }
+        Ok(())
+    }
+
+    /// Why an object cannot have a parent.
+    #[tactic(auto, unfolding(crate::specs::Refusing::set_parent_refusal))]
+    fn set_parent_refusal(&self, place: usize, object: u32, parent: Option<u32>) -> Option<Code>
+        requires { IsPlace self.now place }
+        ensures { result ≡ set_parent_refusal (forest_at self.now place) object parent }
+    {
+        if let Some(code) = self.object_refusal(place, object) {
+            return Some(code);
+        }
+        if let Some(code) = self.parent_refusal(place, parent) {
+            return Some(code);
+        }
+        if self.keeps_parent(place, object, parent) {
+            return None;
+        }
+        self.move_refusal(place, object, parent)
+    }
+
+    /// Whether an object has a parent already.
+    fn keeps_parent(&self, place: usize, object: u32, parent: Option<u32>) -> bool
+        requires { IsPlace self.now place }
+        ensures { result ≡ keeps_parent (forest_at self.now place).rows object parent }
+    {
+        is_same(self.parent_of(place, object), parent)
+    }
+
+    #[tactic(auto, unfolding(crate::specs::Refusing::move_refusal))]
+    fn move_refusal(&self, place: usize, object: u32, parent: Option<u32>) -> Option<Code>
+        requires { IsPlace self.now place }
+        ensures { result ≡ move_refusal (forest_at self.now place) object parent }
+    {
+        if let Some(code) = self.cycle_refusal(place, object, parent) {
+            return Some(code);
+        }
+        self.sound(place);
+        if self.depth_at(place, parent) + self.height(place, object) > DEPTH {
+            return Some(Code::Limit);
+        }
+        if self.kinship(place).last_stamp == u64::MAX {
+            return Some(Code::NumbersUsedUp);
+        }
+        None
+    }
+
+    fn cycle_refusal(&self, place: usize, object: u32, parent: Option<u32>) -> Option<Code>
+        requires { IsPlace self.now place }
+        ensures { result ≡ cycle_refusal (forest_at self.now place).rows object parent }
+    {
+        match parent {
+            Some(number) => {
+                if self.is_below(place, object, number) {
+                    Some(Code::Cycle)
+                } else {
+                    None
+                }
+            }
+            None => None,
+        }
+    }
+}
+
+/// Gives an object a parent and a stamp, which takes no memory.
+pub(crate) fn hang(
+    rows: &mut SharedRows<Row>,
+    children: &mut Links<Child>,
+    place: usize,
+    object: u32,
+    parent: Option<u32>,
+    stamp: u64,
+)
+    requires place { IsPlace rows.old place }
+    requires linked { AreLinked child_of (rows_of (rows_at rows.old place)) children.old.links }
+    ensures elsewhere { ChangesAt [] place rows.old rows.new }
+    ensures rows { rows_of (rows_at rows.new place) ≡ changed (λ row. record row { parent = parent; stamp = stamp }) object (rows_of (rows_at rows.old place)) }
+    ensures linked { AreLinked child_of (rows_of (rows_at rows.new place)) children.new.links }
+    ensures sound { IsSound (λ row. row.number) (rows_at rows.old place) }
+{
+    let Some(key) = rows.find(place, object as u64) else {
+        return;
+    };
+    let row = *rows.get(place, key);
+    let hung = Row {
+        parent,
+        stamp,
+        ..row
+    };
+    rows.replace(place, key, hung);
+    children.replace(child_of(row), child_of(hung));
+}
+
+/// Whether two parents are the same, or none both.
+fn is_same(a: Option<u32>, b: Option<u32>) -> bool
+    ensures { result ≡ is_same a b }
+{
+    a == b
+}
