@@ -5,6 +5,7 @@ pub mod FoundLemmas
 pub mod StepLemmas
 pub mod ToldLemmas
 pub mod WovenLemmas
+pub mod RemovalLemmas
 pub mod TouchedLemmas
 pub mod RowLemmas
 pub mod DrainLemmas

@@ -78,8 +78,9 @@ at_places stores table each place =
     (subst (λ cache. IsInStep (store_at stores.shelves place) (marks_at stores.marks place) (woven_at table place).graph cache) (sym (cache_there table place)) (each place))
 
 -- another graph and another store at a place, and no other store and no other mark elsewhere
-pub with_in_step : (old new : Stock) (table : Table Woven) (place : ℕ) (woven : Woven) → IsPlace table place → IsDrained place old new → IsAt new place woven → InStep old (unwoven table) → InStep new (unwoven (with_place table place woven))
-with_in_step old new table place woven is_place drained here step = at_places new (with_place table place woven) (λ other. ⊎_elim (own other) (elsewhere other) (cases_Bool (other == place)))
+pub put_in_step : (old new : Stock) (table : Table Woven) (place : ℕ) (woven : Woven) → IsPlace table place → ((other : ℕ) → other ≢ place → store_at new.shelves other ≡ store_at old.shelves other) → ((other : ℕ) → other ≢ place → marks_at new.marks other ≡ marks_at old.marks other)
+    → IsAt new place woven → InStep old (unwoven table) → InStep new (unwoven (with_place table place woven))
+put_in_step old new table place woven is_place stores marks here step = at_places new (with_place table place woven) (λ other. ⊎_elim (own other) (elsewhere other) (cases_Bool (other == place)))
   where
     own : (other : ℕ) → (other == place) ≡ true → IsAt new other (woven_at (with_place table place woven) other)
     own other e =
@@ -90,7 +91,11 @@ with_in_step old new table place woven is_place drained here step = at_places ne
     elsewhere other e =
         let apart : other ≢ place = λ same. both_ways (other == place) e (eq-eqb other place same) in
         subst (IsAt new other) (sym (get_or-set_other table.places place other woven no_woven apart))
-        (same_in_step (store_at old.shelves other) (store_at new.shelves other) (marks_at old.marks other) (marks_at new.marks other) (woven_at table other).graph (woven_at table other).cache (ap (λ shelves. store_at shelves other) drained.shelves) (drained.others other apart) (at_place old table step other))
+        (same_in_step (store_at old.shelves other) (store_at new.shelves other) (marks_at old.marks other) (marks_at new.marks other) (woven_at table other).graph (woven_at table other).cache (stores other apart) (marks other apart) (at_place old table step other))
+
+-- the same stores
+pub with_in_step : (old new : Stock) (table : Table Woven) (place : ℕ) (woven : Woven) → IsPlace table place → IsDrained place old new → IsAt new place woven → InStep old (unwoven table) → InStep new (unwoven (with_place table place woven))
+with_in_step old new table place woven is_place drained = put_in_step old new table place woven is_place (λ other apart. ap (λ shelves. store_at shelves other) drained.shelves) drained.others
 
 pub nothing_drained : (place : ℕ) (stores : Stock) → IsDrained place stores stores
 nothing_drained place stores = record { shelves = refl; others = λ other apart. refl }

@@ -1,5 +1,5 @@
 -- What properties show, with a row more.
-use Rattle.std.proofs.Common.{◌≡◌, ◌∙◌, ℕ, Bool, true, false, cond, List, [], ◌∷◌, ◌++◌, Option, Some, None, filter, set, refl, sym, ap, ap₂}
+use Rattle.std.proofs.Common.{◌≡◌, ◌∙◌, ℕ, suc, Bool, true, false, cond, List, ◌∷◌, Option, Some, None, filter, set, refl, ap, ap₂, arith}
 use Rattle.std.specs.Prelude.{if◌then◌else◌}
 use Rattle.std.specs.List.{insert, slice_get}
 use Rattle.std.specs.Option.{option_map_or, option_or}
@@ -10,12 +10,13 @@ use Rattle.variant_value.specs.Values.{IsOfKind}
 use Rattle.property_store.specs.declared.property.Property.{Property}
 use Rattle.property_store.specs.Property.{is_property}
 use Rattle.binding_values.specs.Sorted.{IsCountBefore, IsRising, is_before}
+use Rattle.binding_values.proofs.FuelLemmas.{property_eq}
 use Rattle.binding_values.proofs.SortedLemmas.{inserted, is_behind, is_other, is_property_sym, replaced, stands_so, stands_within, with_rising}
 use Rattle.binding_graph.specs.declared.shown.Shown.{Shown}
 use Rattle.binding_graph.specs.Graph.{AreShown, shown_at}
 use Rattle.binding_graph.specs.Rows.{IsPut}
 use Rattle.binding_graph.specs.Rows.{with_shown}
-use Rattle.binding_graph.proofs.TouchedLemmas.{found_filter}
+use Rattle.binding_graph.proofs.TouchedLemmas.{behind_first, found_filter, none_behind, without_first}
 
 module _ (new : Shown) (rows : List Shown) where
   abbrev below : List Shown
@@ -62,12 +63,16 @@ module _ (new : Shown) (rows : List Shown) where
     insert_with is = inserted (λ (shown : Shown). shown.at) new rows place rising count (λ d within. stands_so (λ (shown : Shown). shown.at) rows place new.at stands asked d within ∙ is)
 
 -- a row more of those that are put in place of others
-pub merged_next : (front : List Shown) (row : Shown) (rows new : List Shown) → IsPut row rows new → (q : Property) → option_map_or Some (shown_at front q) (shown_at new q) ≡ option_map_or Some (shown_at (front ++ row ∷ []) q) (shown_at rows q)
-merged_next front row rows new put q =
-    ap (option_map_or Some (shown_at front q)) (put q)
-    ∙ (by (shown_at front q) (is_property q row.at) ∙ ap (λ found. option_map_or Some found (shown_at rows q)) (sym (find-append (λ (shown : Shown). is_property q shown.at) front (row ∷ []))))
+
+pub rest_shown : (row : Shown) (rest : List Shown) → AreShown (row ∷ rest) → AreShown rest
+rest_shown row rest are = record {
+  rising = without_first row rest are.rising;
+  fitting = λ k d lt. are.fitting (suc k) d (omega (arith, lt));
+}
+
+pub merged_next : (row : Shown) (rest rows new : List Shown) → AreShown (row ∷ rest) → IsPut row rows new → (q : Property) → option_map_or Some (shown_at rest q) (shown_at new q) ≡ option_map_or Some (shown_at (row ∷ rest) q) (shown_at rows q)
+merged_next row rest rows new are put q = by (is_property q row.at) refl (put q)
   where
-    by : (found : Option Shown) (same : Bool) → option_map_or Some found (cond same (Some row) (shown_at rows q)) ≡ option_map_or Some (option_or found (cond same (Some row) None)) (shown_at rows q)
-    by (Some shown) same = refl
-    by None true = refl
-    by None false = refl
+    by : (same : Bool) → is_property q row.at ≡ same → shown_at new q ≡ cond same (Some row) (shown_at rows q) → option_map_or Some (shown_at rest q) (shown_at new q) ≡ option_map_or Some (cond same (Some row) (shown_at rest q)) (shown_at rows q)
+    by true is found = ap (λ later. option_map_or Some later (shown_at new q)) (ap (shown_at rest) (property_eq q row.at is) ∙ none_behind row.at rest (behind_first row rest are.rising)) ∙ found
+    by false is found = ap (option_map_or Some (shown_at rest q)) found

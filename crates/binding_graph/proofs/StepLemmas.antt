@@ -24,7 +24,7 @@ use Rattle.binding_values.specs.Scene.{Cell, Outcome, Scene}
 use Rattle.binding_values.specs.Stored.{cell_in, outcome_in, scene_of}
 use Rattle.kept_values.specs.Right.{AreMore, DiffersAt, IsComplete, both}
 use Rattle.kept_values.proofs.KeptLemmas.{complete_is_known, complete_is_right, unmarked_is_complete}
-use Rattle.kept_values.proofs.StepLemmas.{stays_right, stays_whole}
+use Rattle.kept_values.proofs.StepLemmas.{AreAlikeBut, alike, stays_right, stays_whole}
 use Rattle.kept_values.proofs.StoreLemmas.{addition_is_marked, all_may_change, dynamic_is_nothing, no_dynamic_is_nothing, write_is_marked}
 use Rattle.binding_graph.specs.declared.shown.Shown.{Shown}
 use Rattle.binding_graph.specs.Cache.{Cache, IsInStep, cache_at, shown_by}
@@ -73,7 +73,7 @@ all_before marks more are_more off =
 
 -- in scenes that differ at marked properties alone, what is not marked shows the same by what is kept
 
-pub same_shown : (store other : Store) (bindings after : List Binding) (marks : Marks) (keeping : Keeping) → DiffersAt marks (scene_of store bindings) (scene_of other after) → (q : Property) → is_marked marks q ≡ false
+pub same_shown : (store other : Store) (bindings after : List Binding) (marks : Marks) (keeping : Keeping) → AreAlikeBut marks (scene_of store bindings) (scene_of other after) → (q : Property) → is_marked marks q ≡ false
     → shown_by store bindings keeping q ≡ shown_by other after keeping q
 same_shown store other bindings after marks keeping differs q off = ap₂ shows (differs.cells q off) (differs.terms q off)
   where
@@ -87,12 +87,15 @@ same_shown store other bindings after marks keeping differs q off = ap₂ shows 
 pub stays_where_marked : (store other : Store) (marks more pending : Marks) (graph : Graph) (after : List Binding) (cache : Cache) → AreMore (both marks cache.pending) (both more pending)
     → DiffersAt (both more pending) (scene_of store graph.bindings) (scene_of other after) → IsInStep store marks graph cache → IsInStep other more (record graph { bindings = after }) (record cache { pending = pending })
 stays_where_marked store other marks more pending graph after cache are_more differs step = record {
-  right = stays_right (scene_of store graph.bindings) (scene_of other after) (both marks cache.pending) (both more pending) (kept_of cache.kept) are_more differs step.right;
-  whole = stays_whole (scene_of store graph.bindings) (scene_of other after) (both marks cache.pending) (both more pending) (kept_of cache.kept) are_more differs step.whole;
-  last = λ q off. step.last q (was_clear q off) ∙ same_shown store other graph.bindings after (both more pending) (kept_of cache.kept) differs q off;
+  right = stays_right (scene_of store graph.bindings) (scene_of other after) (both marks cache.pending) (both more pending) (kept_of cache.kept) are_more same step.right;
+  whole = stays_whole (scene_of store graph.bindings) (scene_of other after) (both marks cache.pending) (both more pending) (kept_of cache.kept) are_more same step.whole;
+  last = λ q off. step.last q (was_clear q off) ∙ same_shown store other graph.bindings after (both more pending) (kept_of cache.kept) same q off;
   there = λ some q none. step.there (all_before (both marks cache.pending) (both more pending) are_more some) q (differs.there some q none);
 }
   where
+    same : AreAlikeBut (both more pending) (scene_of store graph.bindings) (scene_of other after)
+    same = alike (both more pending) (scene_of store graph.bindings) (scene_of other after) differs
+
     was_clear : (q : Property) → is_marked (both more pending) q ≡ false → is_marked (both marks cache.pending) q ≡ false
     was_clear q off = false_from_ne_true (is_marked (both marks cache.pending) q) (λ on. both_ways (is_marked (both more pending) q) off (are_more q on))
 
@@ -162,7 +165,7 @@ module _ (old new : Stock) (place : ℕ) (store : Store) (is_place : IsPlace old
   stands_there : store_at new.shelves place ≡ store
   stands_there = ap (λ shelves. store_at shelves place) has ∙ with_there [] old.shelves.table place store is_place
 
-  stands_elsewhere : (other : ℕ) → other ≢ place → store_at new.shelves other ≡ store_at old.shelves other
+  pub stands_elsewhere : (other : ℕ) → other ≢ place → store_at new.shelves other ≡ store_at old.shelves other
   stands_elsewhere other apart = ap (λ shelves. store_at shelves other) has ∙ get_or-set_other old.shelves.table.places place other store [] apart
 
   -- is in step there, and the marks of the other places are as before
@@ -228,21 +231,31 @@ no_dynamic_in_step old new place object name is_place has same = unmarked_there 
 nothing_without : (store : Store) (object : ℕ) → properties_of store object ≡ None → without object store ≡ store
 nothing_without store object none = filter_all (λ (of : Properties). not (of.object == object)) store (λ k d within. ap not (none_passes (λ (of : Properties). of.object == object) store none k d within))
 
+module _ (old new : Stock) (place object : ℕ) (marked : HasMarks place (cond (is_some (properties_of (store_at old.shelves place) object)) all_marks (marks_at old.marks place)) old.marks new.marks) where
+  removal_there : (graph : Graph) (cache : Cache) → IsInStep (store_at old.shelves place) (marks_at old.marks place) graph cache → IsInStep (without object (store_at old.shelves place)) (marks_at new.marks place) graph cache
+  removal_there graph cache step = by (properties_of before object) refl
+    where
+      before : Store
+      before = store_at old.shelves place
+
+      at : (found : Option Properties) → properties_of before object ≡ found → marks_at new.marks place ≡ cond (is_some found) all_marks (marks_at old.marks place)
+      at found e = marked.here ∙ ap (λ found. cond (is_some found) all_marks (marks_at old.marks place)) e
+
+      by : (found : Option Properties) → properties_of before object ≡ found → IsInStep (without object before) (marks_at new.marks place) graph cache
+      by (Some of) e =
+          let all : (marks_at new.marks place).all ≡ true = ap (λ (marks : Marks). marks.all) (at (Some of) e) in
+          stays_in_step before (without object before) (marks_at old.marks place) (marks_at new.marks place) graph cache (λ q on. or_left (marks_at new.marks place).all _ all)
+          (all_may_change before (without object before) graph.bindings graph.bindings (both (marks_at new.marks place) cache.pending) (or_left (marks_at new.marks place).all _ all)) step
+      by None e = same_in_step before (without object before) (marks_at old.marks place) (marks_at new.marks place) graph cache (nothing_without before object e) (at None e) step
+
+-- so in the store that there is then
+pub removal_at : (old new : Stock) (place object : ℕ) → HasMarks place (cond (is_some (properties_of (store_at old.shelves place) object)) all_marks (marks_at old.marks place)) old.marks new.marks → IsPlace old.shelves.table place → HasStore place (without object (store_at old.shelves place)) old new
+    → (graph : Graph) (cache : Cache) → IsInStep (store_at old.shelves place) (marks_at old.marks place) graph cache → IsInStep (store_at new.shelves place) (marks_at new.marks place) graph cache
+removal_at old new place object marked is_place has graph cache step =
+    subst (λ store. IsInStep store (marks_at new.marks place) graph cache) (sym (stands_there old new place (without object (store_at old.shelves place)) is_place has)) (removal_there old new place object marked graph cache step)
+
 pub removal_in_step : RemovalStaysInStep
-removal_in_step old new place object is_place has marked = by (properties_of (store_at old.shelves place) object) refl
-  where
-    before : Store
-    before = store_at old.shelves place
-
-    at : (found : Option Properties) → properties_of before object ≡ found → HasMarks place (cond (is_some found) all_marks (marks_at old.marks place)) old.marks new.marks
-    at found e = subst (λ (found : Option Properties). HasMarks place (cond (is_some found) all_marks (marks_at old.marks place)) old.marks new.marks) e marked
-
-    by : (found : Option Properties) → properties_of before object ≡ found → StaysInStep old new
-    by (Some of) e = all_marked_there old new place _ is_place has (at (Some of) e)
-    by None e =
-        let same = at None e in
-        changed_there old new place _ is_place has same.others
-        (λ graph cache step. same_in_step before (without object before) (marks_at old.marks place) (marks_at new.marks place) graph cache (nothing_without before object e) same.here step)
+removal_in_step old new place object is_place has marked = changed_there old new place _ is_place has marked.others (removal_there old new place object marked)
 
 pub clearing_in_step : ClearingStaysInStep
 clearing_in_step old new place is_place has marked = all_marked_there old new place [] is_place has marked

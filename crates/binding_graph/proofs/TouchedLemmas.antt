@@ -31,19 +31,19 @@ Rising rows = IsRising (λ (shown : Shown). shown.at) rows
 first_found : (row : Shown) (rows : List Shown) → shown_at (row ∷ rows) row.at ≡ Some row
 first_found row rows = rw (is_itself row.at) refl
 
-behind_first : (row : Shown) (rows : List Shown) → Rising (row ∷ rows) → All (λ (later : Shown). is_before row.at later.at ≡ true) rows
+pub behind_first : (row : Shown) (rows : List Shown) → Rising (row ∷ rows) → All (λ (later : Shown). is_before row.at later.at ≡ true) rows
 behind_first row rows rising k d lt = rising 0 (suc k) d (omega arith) (omega arith)
 
-without_first : (row : Shown) (rows : List Shown) → Rising (row ∷ rows) → Rising rows
+pub without_first : (row : Shown) (rows : List Shown) → Rising (row ∷ rows) → Rising rows
 without_first row rows rising i j d lt within = rising (suc i) (suc j) d (omega arith) (omega arith)
 
-none_behind : (q : Property) (rows : List Shown) → All (λ (later : Shown). is_before q later.at ≡ true) rows → shown_at rows q ≡ None
+pub none_behind : (q : Property) (rows : List Shown) → All (λ (later : Shown). is_before q later.at ≡ true) rows → shown_at rows q ≡ None
 none_behind q [] all = refl
 none_behind q (row ∷ rows) all =
     let other : is_property q row.at ≡ false = is_other q row.at (all 0 row (omega arith)) in
     rw other (none_behind q rows (λ k d lt. all (suc k) d (omega arith)))
 
-each_found : (rows : List Shown) → Rising rows → All (λ (shown : Shown). shown_at rows shown.at ≡ Some shown) rows
+pub each_found : (rows : List Shown) → Rising rows → All (λ (shown : Shown). shown_at rows shown.at ≡ Some shown) rows
 each_found [] rising k d lt = absurd (omega arith)
 each_found (row ∷ rows) rising zero d lt = first_found row rows
 each_found (row ∷ rows) rising (suc k) d lt =

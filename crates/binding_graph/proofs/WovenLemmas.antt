@@ -56,7 +56,7 @@ rest_within at rows q kept is = ⊎_elim same other (cases_Bool (is_property at 
     other e = sym (others_kept at q e rows) ∙ is
 
 -- less is kept, but of marked properties alone
-forgotten_in_step : (store : Store) (marks : Marks) (graph : Graph) (cache : Cache) (at : Property) → is_marked (both marks cache.pending) at ≡ true → IsInStep store marks graph cache → IsInStep store marks graph (record cache { kept = rest at cache.kept })
+pub forgotten_in_step : (store : Store) (marks : Marks) (graph : Graph) (cache : Cache) (at : Property) → is_marked (both marks cache.pending) at ≡ true → IsInStep store marks graph cache → IsInStep store marks graph (record cache { kept = rest at cache.kept })
 forgotten_in_step store marks graph cache at on step = record {
   right = λ part within. step.right part (λ q kept is. rest_within at cache.kept q kept (within q kept is));
   whole = λ q off. by q off (step.whole q off);

@@ -1,9 +1,10 @@
 -- The bindings of a place, and what is kept of them.
-use Rattle.std.specs.Prelude.{ℕ, map}
+use Rattle.std.specs.Prelude.{◌==◌, ℕ, List, filter, map, not}
 use Rattle.places.specs.Table.{Table}
 use Rattle.property_store.specs.Marks.{Marks, marks_at}
 use Rattle.property_store.specs.Store.{Store}
 use Rattle.property_store.specs.Table.{Stock, store_at}
+use Rattle.binding_values.specs.declared.kept.Done.{Done}
 use Rattle.binding_graph.specs.Cache.{Cache, IsInStep, no_cache}
 use Rattle.binding_graph.specs.Graph.{Graph, no_graph}
 use Rattle.binding_graph.specs.Table.{Graphs}
@@ -22,6 +23,14 @@ unwoven table = record { graphs = record { places = map (λ woven. woven.graph) 
 -- it is in step with the store of a place
 abbrev pub IsAt : Stock → ℕ → Woven → Type 0
 IsAt stores place woven = IsInStep (store_at stores.shelves place) (marks_at stores.marks place) woven.graph woven.cache
+
+-- with what the properties of an object showed let go of
+abbrev pub without_shown : ℕ → Graph → Graph
+without_shown object graph = record graph { last = filter (λ shown. not (shown.at.object == object)) graph.last }
+
+-- where more is marked and less is kept, a place stays in step, whatever its store and its graph are
+abbrev pub StaysKept : Marks → List Done → Marks → List Done → Type 0
+StaysKept pending kept more less = (store : Store) (marks : Marks) (graph : Graph) (evaluations : ℕ) → IsInStep store marks graph (record { kept = kept; pending = pending; evaluations = evaluations }) → IsInStep store marks graph (record { kept = less; pending = more; evaluations = evaluations })
 
 -- it stays in step with whatever store it was
 abbrev pub StaysAt : Woven → Woven → Type 0

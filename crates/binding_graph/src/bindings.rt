@@ -1,11 +1,12 @@
 //! The bindings of all places.
 #![tactic(auto, unfolding(crate::specs::Step::InStep))]
 
-ghost use Rattle.std.specs.Prelude.{◌≡◌, ◌+◌, ◌≤◌, [], IfOk, IsTrue, OnErr, OnOk, length};
+ghost use Rattle.std.specs.Prelude.{◌≡◌, ◌+◌, ◌≤◌, [], IfOk, IsTrue, None, OnErr, OnOk, length};
 ghost use Rattle.std.specs.Result.{result_err};
-ghost use Rattle.places.specs.Table.{IsPlace, opened};
+ghost use Rattle.places.specs.Table.{ChangesAt, IsPlace, opened};
 ghost use Rattle.refusals.specs.Answers.{RefusedBy};
 ghost use Rattle.term_core.specs.Forms.{is_within_limits};
+ghost use Rattle.property_store.specs.Store.{without};
 ghost use Rattle.property_store.specs.Table.{Stock, store_at};
 ghost use Rattle.variant_value.specs.Values.{IsShort};
 ghost use Rattle.binding_graph.specs.Cache.{cache_at, no_cache};
@@ -246,13 +247,23 @@ impl Bindings {
         self.graphs.get_mut(place).end()
     }
 
-    /// Takes away the bindings of an object. This takes no memory.
-    pub fn drop_object(&mut self, place: usize, object: u32)
-        requires { IsPlace self.old.graphs place }
-        ensures dropped { self.new.graphs ≡ with_graph self.old.graphs place (without_object object (graph_at self.old.graphs place)) }
-        ensures others { OthersKept place self.old self.new }
-        ensures step { (stores : Stock) → InStep stores self.old → InStep stores self.new }
+    /// Takes an object out of the stores with its bindings, and tells what has changed by it, as `settle` does. Outside
+    /// of groups only bindings that its properties reach are evaluated again.
+    pub fn remove(
+        &mut self,
+        place: usize,
+        stores: &mut Stores,
+        object: u32,
+    ) -> Result<Items<Change>, AllocError>
+        requires places { IsPlace self.old.graphs place × IsPlace stores.old.shelves.table place }
+        requires step { InStep stores.old self.old }
+        ensures told { IfOk result (λ told. told ≡ settled_changes (without object (store_at stores.old.shelves place)) (without_object object (graph_at self.old.graphs place)) None) }
+        ensures ok { OnOk result (self.new.graphs ≡ with_graph self.old.graphs place (settled_graph (without object (store_at stores.old.shelves place)) (without_object object (graph_at self.old.graphs place)))) }
+        ensures stores { IsStored place (without object (store_at stores.old.shelves place)) stores.old stores.new }
+        ensures only { ChangesAt no_graph place self.old.graphs self.new.graphs }
+        ensures step { LeavesInStep place stores.new self.old self.new }
     {
-        self.graphs.get_mut(place).drop_object(object);
+        let graph = self.graphs.get_mut(place);
+        graph.remove(self.alloc, stores, place, object)
     }
 }

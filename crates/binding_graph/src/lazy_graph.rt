@@ -1,13 +1,14 @@
 //! The graph of one place, made when it is needed.
-ghost use Rattle.std.specs.Prelude.{◌≡◌, ◌+◌, IfOk, IsSome, IsTrue, OnErr, OnOk, length};
+ghost use Rattle.std.specs.Prelude.{◌≡◌, ◌+◌, IfOk, IsSome, IsTrue, None, OnErr, OnOk, length};
 ghost use Rattle.std.specs.Result.{result_err};
 ghost use Rattle.places.specs.Table.{IsPlace};
 ghost use Rattle.refusals.specs.Answers.{RefusedBy};
 ghost use Rattle.term_core.specs.Forms.{is_within_limits};
+ghost use Rattle.property_store.specs.Store.{without};
 ghost use Rattle.property_store.specs.Table.{store_at};
 ghost use Rattle.binding_graph.specs.Graph.{IsSound, begin_refusal, begun, bind_refusal, bound, end_refusal, ended, is_bound, settled_changes, settled_graph, unbound, value_in, without_object};
 ghost use Rattle.binding_graph.specs.Inside.{woven_of};
-ghost use Rattle.binding_graph.specs.Drained.{IsDrained};
+ghost use Rattle.binding_graph.specs.Drained.{IsDrained, IsStored};
 ghost use Rattle.binding_graph.specs.Woven.{IsAt, StaysAt, no_woven};
 
 use crate::change::Change;
@@ -126,15 +127,26 @@ impl LazyGraph {
         web.unbind(at);
     }
 
-    /// Binds no property of an object any longer.
-    pub(crate) fn drop_object(&mut self, object: u32)
-        ensures graph { self.new.graph ≡ without_object object self.old.graph }
-        ensures step { StaysAt self.old self.new }
+    /// Takes an object out of the store with its bindings, and tells what has changed by it.
+    pub(crate) fn remove(
+        &mut self,
+        alloc: Global,
+        stores: &mut Stores,
+        place: usize,
+        object: u32,
+    ) -> Result<Items<Change>, AllocError>
+        requires ready { IsPlace stores.old.shelves.table place }
+        requires step { IsAt stores.old place self.old }
+        ensures told { IfOk result (λ told. told ≡ settled_changes (without object (store_at stores.old.shelves place)) (without_object object self.old.graph) None) }
+        ensures ok { OnOk result (self.new.graph ≡ settled_graph (without object (store_at stores.old.shelves place)) (without_object object self.old.graph)) }
+        ensures stores { IsStored place (without object (store_at stores.old.shelves place)) stores.old stores.new }
+        ensures step { IsAt stores.new place self.new }
     {
         let Some(web) = &mut self.made else {
-            return;
+            stores.drop_object(place, object);
+            return self.settle(alloc, stores, place, None);
         };
-        web.drop_object(object);
+        web.remove(alloc, stores, place, object)
     }
 
     pub(crate) fn value(

@@ -10,6 +10,7 @@ mod graph;
 mod laws;
 mod lazy_graph;
 mod pending;
+mod removal;
 mod settling;
 mod show;
 mod showing;

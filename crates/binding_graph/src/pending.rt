@@ -100,6 +100,17 @@ impl Pending {
         self.all = false;
         mem::replace(&mut self.each, Vec::new(alloc))
     }
+
+    /// Takes a list that is done with, so that the next marks need no memory. One that is long is let go of.
+    pub(crate) fn give_back(&mut self, done: Vec<Property>)
+        requires { self.old ≡ no_marks }
+        ensures { self.new ≡ no_marks }
+    {
+        if done.capacity() <= 16 {
+            self.each = done;
+            self.each.clear();
+        }
+    }
 }
 
 fn is_among(at: Property, each: &[Property]) -> bool

@@ -11,7 +11,7 @@ use crate::change::Change;
 use crate::changes::changes;
 use crate::graph::Web;
 use crate::pending::drain;
-use crate::show::{show_all, show_each};
+use crate::show::{show_all, show_touched};
 use crate::showing::Showing;
 use plain_types::Items;
 use property_store::{Property, Stores};
@@ -81,22 +81,23 @@ impl Web {
         let made = self
             .kept
             .settle(alloc, stores, place, &self.bindings, &mut touched)?;
-        let now = show_each(
+        let now = show_touched(
             alloc,
             stores,
             place,
             &self.bindings,
             &self.kept,
-            touched.as_slice(),
+            touched.as_mut_slice(),
         )?;
         let told = tell(alloc, tells, &self.last, &now, written)?;
         self.last.merge(now)?;
+        self.pending.give_back(touched);
         self.evaluations = self.evaluations.saturating_add(made);
         Ok(told)
     }
 
     /// Makes that all properties show what they show now. Where that fails, all is evaluated next time.
-    fn refresh(
+    pub(crate) fn refresh(
         &mut self,
         alloc: Global,
         stores: &mut Stores,

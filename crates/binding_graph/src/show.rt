@@ -163,8 +163,8 @@ pub(crate) fn show_all(
     Ok(Showing::from_rows(rows))
 }
 
-/// What touched properties show that are there.
-pub(crate) fn show_each(
+/// What properties show that are there.
+fn show_each(
     alloc: Global,
     stores: &Stores,
     place: usize,
@@ -184,4 +184,29 @@ pub(crate) fn show_each(
         }
     }
     Ok(now)
+}
+
+/// Puts properties in order, by rising object and number.
+fn put_in_order(properties: &mut [Property])
+    ensures { (q : Property) → among q properties.new ≡ among q properties.old }
+{
+    properties.sort_unstable_by_key(|at| (at.object, at.number));
+}
+
+/// What touched properties show that are there. They are put in order first, so that what each shows stands behind
+/// what those before it show.
+pub(crate) fn show_touched(
+    alloc: Global,
+    stores: &Stores,
+    place: usize,
+    bindings: &Bound,
+    kept: &KeptValues,
+    touched: &mut [Property],
+) -> Result<Showing, AllocError>
+    requires ready { IsPlace stores.now.shelves.table place }
+    requires complete { IsComplete (scene_of (store_at stores.now.shelves place) bindings.now) (kept_of kept.now) }
+    ensures { IfOk result (λ showing. (q : Property) → shown_at showing q ≡ (if among q touched.old then shown_now (store_at stores.now.shelves place) bindings.now q else None)) }
+{
+    put_in_order(touched);
+    show_each(alloc, stores, place, bindings, kept, touched)
 }

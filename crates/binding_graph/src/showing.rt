@@ -1,5 +1,5 @@
 //! What properties of a place show.
-ghost use Rattle.std.specs.Prelude.{◌≡◌, ◌<◌, ◌≤◌, ◌+◌, [], IsOk, OnErr, OnOk, vec_len};
+ghost use Rattle.std.specs.Prelude.{◌≡◌, ◌<◌, ◌≤◌, ◌==◌, ◌+◌, [], IsOk, OnErr, OnOk, filter, not, vec_len};
 ghost use Rattle.std.specs.Vec.{vec_capacity};
 ghost use Rattle.std.specs.Option.{option_map};
 ghost use Rattle.variant_value.specs.Values.{IsOfKind};
@@ -75,15 +75,22 @@ impl Showing {
         Ok(())
     }
 
+    /// Lets go of what the properties of an object show.
+    pub(crate) fn remove_object(&mut self, object: u32)
+        ensures { self.new ≡ filter (λ shown. not (shown.at.object == object)) self.old }
+    {
+        self.rows.retain(|shown| shown.at.object != object);
+    }
+
     /// Puts what other properties show in place of what these show.
     pub(crate) fn merge(&mut self, now: Showing) -> Result<(), AllocError>
         ensures merged { OnOk result (AreMerged now self.old self.new) }
         ensures sound { OnOk result (AreShown self.new) }
         ensures err { OnErr result (self.new ≡ self.old) }
     {
-        let Showing { rows: mut rest } = now;
+        let Showing { rows: rest } = now;
         self.rows.reserve(rest.len())?;
-        put_all(&mut self.rows, &mut rest);
+        put_all(&mut self.rows, rest);
         Ok(())
     }
 }
@@ -108,15 +115,16 @@ fn put_reserved(rows: &mut Vec<Shown>, row: Shown)
     }
 }
 
-/// Puts all rows where they belong; there is room.
-fn put_all(rows: &mut Vec<Shown>, rest: &mut Vec<Shown>)
+/// Puts all rows where they belong, the first ones first, so that those behind all others come to the end; there is
+/// room.
+fn put_all(rows: &mut Vec<Shown>, rest: Vec<Shown>)
     requires sound { AreShown rows.old.items }
-    requires fit { AreShown rest.old.items }
-    requires room { vec_len rows.old + vec_len rest.old ≤ vec_capacity rows.old }
-    ensures merged { AreMerged rest.old.items rows.old.items rows.new.items }
+    requires fit { AreShown rest.items }
+    requires room { vec_len rows.old + vec_len rest ≤ vec_capacity rows.old }
+    ensures merged { AreMerged rest.items rows.old.items rows.new.items }
     ensures sound { AreShown rows.new.items }
 {
-    while let Some(row) = rest.pop() {
+    for row in rest {
         put_reserved(rows, row);
     }
 }

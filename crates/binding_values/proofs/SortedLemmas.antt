@@ -198,6 +198,23 @@ module _ {X : Type 0} (f : X → Property) (rows : List X) (place : ℕ) (at : P
   pub stands_so : (t : Bool) → Asked t → (d : X) → place < length rows → is_property at (f (get_or rows place d)) ≡ t
   stands_so t asked d within = sym (asked ∙ ap (λ (found : Option X). option_map_or (λ row. is_property at (f row)) found false) (slice_get-get_or rows place d within))
 
+  -- where the row of the property stands, those before it are before the property
+  pub counted : IsRising f rows → (t : Bool) → Asked t → t ≡ true → IsCountBefore f rows at place
+  counted rising t asked e = record {
+    within = omega (arith, there);
+    before = λ k d low high. subst (λ p. is_before (f (get_or rows k d)) p ≡ true) (is d) (rising k place d high there);
+    behind = λ k d low high. ⊎_elim
+        (λ (later : place < k). not_behind at (f (get_or rows k d)) (subst (λ p. is_before p (f (get_or rows k d)) ≡ true) (is d) (rising place k d later high)))
+        (λ (level : k ≤ place). let same : k ≡ place = omega (arith, low, level) in ap (λ n. is_before (f (get_or rows n d)) at) same ∙ (ap (λ p. is_before p at) (is d) ∙ never_before at))
+        (cases_lt place k);
+  }
+    where
+      there : place < length rows
+      there = stands_within t asked e
+
+      is : (d : X) → f (get_or rows place d) ≡ at
+      is d = sym (property_eq at (f (get_or rows place d)) (stands_so t asked d there ∙ e))
+
 -- rows before, one, and rows behind
 
 pub with_rising : {X : Type 0} (f : X → Property) (new : X) (rows : List X) → IsRising f rows → IsRising f ((filter (λ row. is_before (f row) (f new)) rows ++ new ∷ filter (λ row. is_before (f new) (f row)) rows))

@@ -56,7 +56,7 @@ impl KeptIndex {
     pub fn forget(&mut self, at: Property)
         ensures { self.new ≡ filter (λ row. not (is_property at row.at)) self.old }
     {
-        let_go(&mut self.rows, &mut self.readers, at);
+        let_go(&mut self.rows, &mut self.readers, at, None);
         self.rows.remove(at);
     }
 
@@ -85,8 +85,9 @@ impl KeptIndex {
     }
 }
 
-/// Lets go of what is kept of a property. Its row stands, for what is kept of it next.
-fn let_go(rows: &mut KeptRows, readers: &mut Readers, at: Property)
+/// Lets go of what is kept of a property. Its row stands, for what is kept of it next. One that it has read may not
+/// know it any longer already.
+fn let_go(rows: &mut KeptRows, readers: &mut Readers, at: Property, but: Option<Property>)
     requires { HasReaders (without at rows.old) readers.old }
     ensures rows { rows.new ≡ without at rows.old }
     ensures readers { HasReaders rows.new readers.new }
@@ -94,7 +95,7 @@ fn let_go(rows: &mut KeptRows, readers: &mut Readers, at: Property)
     ensures few { length readers.new ≤ length readers.old }
 {
     if let Some(kept) = rows.take(at) {
-        readers.remove_all(kept.reads.as_slice(), at);
+        readers.remove_all(kept.reads.as_slice(), at, but);
     }
 }
 
@@ -104,7 +105,7 @@ fn let_go_all(rows: &mut KeptRows, readers: &mut Readers, touched: &[Property])
     ensures readers { HasReaders rows.new readers.new }
 {
     for at in touched {
-        let_go(rows, readers, *at);
+        let_go(rows, readers, *at, None);
     }
 }
 
@@ -127,7 +128,7 @@ fn touch_readers(
     'readers: while let Some(reader) = readers.first_of(read) {
         touched.push(reader)?;
         readers.remove(read, reader);
-        let_go(rows, readers, reader);
+        let_go(rows, readers, reader, Some(read));
     }
     Ok(())
 }

@@ -3,7 +3,7 @@ ghost use Rattle.std.specs.Prelude.{◌≡◌, [], All, Contains, IfNone, IfSome
 ghost use Rattle.shared_rows.specs.Links.{with_link, without_link};
 ghost use Rattle.binding_values.specs.Readers.{AreAmong, AreFewer, IsUnread, edge_cmp, edge_of};
 
-use property_store::Property;
+use property_store::{Property, is_property};
 use shared_rows::Links;
 use std::alloc::{AllocError, Global};
 use std::marker::Model;
@@ -25,6 +25,13 @@ fn edge_of(read: Property, reader: Property) -> Edge
         read_number: read.number,
         reader_object: reader.object,
         reader_number: reader.number,
+    }
+}
+
+fn is_this(this: Option<Property>, at: Property) -> bool {
+    match this {
+        Some(this) => is_property(this, at),
+        None => false,
     }
 }
 
@@ -95,12 +102,14 @@ impl Readers {
         Ok(())
     }
 
-    /// What the property has read knows it no longer.
-    pub(crate) fn remove_all(&mut self, reads: &[Property], reader: Property)
+    /// What the property has read knows it no longer, but for the one that does not already.
+    pub(crate) fn remove_all(&mut self, reads: &[Property], reader: Property, but: Option<Property>)
         ensures { AreFewer reader self.old self.new }
     {
         for read in reads {
-            self.remove(*read, reader);
+            if !is_this(but, *read) {
+                self.remove(*read, reader);
+            }
         }
     }
 

@@ -1,5 +1,5 @@
 //! Values of bound properties, found over a stack.
-ghost use Rattle.std.specs.Prelude.{◌≡◌, ◌++◌, ◌∷◌, [], All, Err, IfNone, IfOk, IfSome, IsSome, None, Ok, OnOk, length, reverse};
+ghost use Rattle.std.specs.Prelude.{◌≡◌, ◌++◌, ◌∷◌, [], All, Err, IfNone, IfOk, IfSome, IsSome, None, Ok, OnOk, Some, length, reverse};
 ghost use Rattle.std.specs.Option.{option_map_or};
 ghost use Rattle.places.specs.Table.{IsPlace};
 ghost use Rattle.property_store.specs.Table.{store_at};
@@ -20,7 +20,17 @@ use crate::memory::Memory;
 use crate::property::BindingError;
 use property_store::{Property, Stores, is_property};
 use std::alloc::{AllocError, Global};
+use term_core::Expr;
 use variant_value::Value;
+
+/// The expression of a property that is bound and there.
+fn expr_of<'a>(known: &Known<'a>, at: Property) -> &'a Expr
+    requires ready { IsReady known.now }
+    requires bound { IsSome (term_at (scene_in known.now).bindings at) }
+    ensures { term_at (scene_in known.now).bindings at ≡ Some result.now }
+{
+    known.bindings.expr_at(at).unwrap()
+}
 
 /// What an evaluation of a bound property gives to keep.
 fn tried(alloc: Global, known: &Known, at: Property) -> Result<Kept, AllocError>
@@ -30,7 +40,7 @@ fn tried(alloc: Global, known: &Known, at: Property) -> Result<Kept, AllocError>
     ensures tried { IfOk result (IsTried (scene_in known.now) (kept_of known.now.done.now) at) }
     ensures but_last { IfOk result (λ kept. EachButLast (IsSettled (scene_in known.now) (kept_of known.now.done.now)) kept.reads) }
 {
-    let expr = known.expr_at(at).unwrap();
+    let expr = expr_of(known, at);
     let (kind, _) = cell_at(known.stores, known.place, at).unwrap();
     attempt(alloc, known, at, kind, expr)
 }

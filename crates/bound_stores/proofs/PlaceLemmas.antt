@@ -83,6 +83,20 @@ module _ (store other : Store) (old noted changed new : Table Graph) (place : �
       ∙ (ap (with_graph changed place) (ap (settled_in other) at_changed ∙ settled_again store other (graph_at old place) change)
       ∙ column.with_after no_graph old changed place _ (column.changes_twice no_graph old noted changed place one two))
 
+-- a place that is noted, and then bound otherwise and settled at once
+module _ (store other : Store) (old noted : Table Graph) (place : ℕ) (change : List Binding → List Binding) (there : IsPlace old place) (is : noted ≡ with_graph old place (settled_graph store (graph_at old place))) where
+  pub at_noted : graph_at noted place ≡ settled_graph store (graph_at old place)
+  at_noted = ap (λ table. graph_at table place) is ∙ column.with_there no_graph old place _ there
+
+  pub place_noted : IsPlace noted place
+  place_noted = column.changes_open no_graph old noted place (column.changes_with no_graph old noted place _ there is) there
+
+  pub settled_at_once : (new : Table Graph) → new ≡ with_graph noted place (settled_in other (record (graph_at noted place) { bindings = change (graph_at noted place).bindings })) → new ≡ with_graph old place (settled_in other (record (graph_at old place) { bindings = change (graph_at old place).bindings }))
+  settled_at_once new e =
+      e
+      ∙ (ap (with_graph noted place) (ap (λ graph. settled_in other (record graph { bindings = change graph.bindings })) at_noted ∙ settled_again store other (graph_at old place) change)
+      ∙ column.with_after no_graph old noted place _ (column.changes_with no_graph old noted place _ there is))
+
 -- a change that may fail
 pub changes_either : {T E : Type 0} (result : Result T E) (old new : Table Graph) (place : ℕ) (graph : Graph) → IsPlace old place → OnOk result (new ≡ with_graph old place graph) → OnErr result (new ≡ old) → ChangesAt no_graph place old new
 changes_either (Ok value) old new place graph there ok err = column.changes_with no_graph old new place graph there ok
@@ -99,39 +113,42 @@ pub where_ok_too : {T E P Q : Type 0} (result : Result T E) → (P → Q) → On
 where_ok_too (Ok value) so holds = so holds
 where_ok_too (Err error) so holds = tt
 
--- a place after it was settled
-module _ (store : Store) (old now new : Table Graph) (place : ℕ) (there : IsPlace old place) (is : now ≡ with_graph old place (settled_graph store (graph_at old place))) where
-  at_place : graph_at now place ≡ settled_graph store (graph_at old place)
-  at_place = ap (λ table. graph_at table place) is ∙ column.with_there no_graph old place _ there
-
-  same_bindings : (graph_at now place).bindings ≡ (graph_at old place).bindings
-  same_bindings = ap (λ (graph : Graph). graph.bindings) at_place ∙ by (is_open (graph_at old place))
+-- a place that is settled
+module _ (store : Store) (graph : Graph) (now : Table Graph) (place : ℕ) (is : graph_at now place ≡ settled_graph store graph) where
+  same_bindings : (graph_at now place).bindings ≡ graph.bindings
+  same_bindings = ap (λ (graph : Graph). graph.bindings) is ∙ by (is_open graph)
     where
-      by : (deep : Bool) → (cond deep (graph_at old place) (record (graph_at old place) { last = all_shown store (graph_at old place).bindings })).bindings ≡ (graph_at old place).bindings
+      by : (deep : Bool) → (cond deep graph (record graph { last = all_shown store graph.bindings })).bindings ≡ graph.bindings
       by true = refl
       by false = refl
 
-  same_depth : (graph_at now place).depth ≡ (graph_at old place).depth
-  same_depth = ap (λ (graph : Graph). graph.depth) at_place ∙ by (is_open (graph_at old place))
+  same_depth : (graph_at now place).depth ≡ graph.depth
+  same_depth = ap (λ (graph : Graph). graph.depth) is ∙ by (is_open graph)
     where
-      by : (deep : Bool) → (cond deep (graph_at old place) (record (graph_at old place) { last = all_shown store (graph_at old place).bindings })).depth ≡ (graph_at old place).depth
+      by : (deep : Bool) → (cond deep graph (record graph { last = all_shown store graph.bindings })).depth ≡ graph.depth
       by true = refl
       by false = refl
 
-  pub left_idle : length (graph_at now place).bindings ≡ 0 → (graph_at now place).depth ≡ 0 → new ≡ with_graph now place no_graph → new ≡ with_graph old place (settled_in store (graph_at old place))
-  left_idle none shut e =
-      e ∙ (column.with_after no_graph old now place no_graph (column.changes_with no_graph old now place _ there is)
-      ∙ ap (with_graph old place) (sym (settled_idle store (graph_at old place) (ap length (sym same_bindings) ∙ none) (sym same_depth ∙ shut))))
+  stays_as : settled_in store graph ≡ settled_graph store graph → now ≡ with_graph now place (settled_in store graph)
+  stays_as same = sym (column.with_same no_graph now place) ∙ ap (with_graph now place) (is ∙ sym same)
 
-  pub left_bound : (length (graph_at now place).bindings ≡ 0 → ⊥) → now ≡ with_graph old place (settled_in store (graph_at old place))
-  left_bound some = is ∙ ap (with_graph old place) (sym (settled_bound store (graph_at old place) (λ none. some (ap length same_bindings ∙ none))))
+  pub left_idle : (new : Table Graph) → length (graph_at now place).bindings ≡ 0 → (graph_at now place).depth ≡ 0 → new ≡ with_graph now place no_graph → new ≡ with_graph now place (settled_in store graph)
+  left_idle new none shut e = e ∙ ap (with_graph now place) (sym (settled_idle store graph (ap length (sym same_bindings) ∙ none) (sym same_depth ∙ shut)))
 
-  pub left_deep : ((graph_at now place).depth ≡ 0 → ⊥) → now ≡ with_graph old place (settled_in store (graph_at old place))
-  left_deep deep = is ∙ ap (with_graph old place) (sym (settled_deep store (graph_at old place) (opened (graph_at old place).depth refl)))
+  pub left_bound : (length (graph_at now place).bindings ≡ 0 → ⊥) → now ≡ with_graph now place (settled_in store graph)
+  left_bound some = stays_as (settled_bound store graph (λ none. some (ap length same_bindings ∙ none)))
+
+  pub left_deep : ((graph_at now place).depth ≡ 0 → ⊥) → now ≡ with_graph now place (settled_in store graph)
+  left_deep deep = stays_as (settled_deep store graph (opened graph.depth refl))
     where
-      opened : (depth : ℕ) → (graph_at old place).depth ≡ depth → is_open (graph_at old place) ≡ true
+      opened : (depth : ℕ) → graph.depth ≡ depth → is_open graph ≡ true
       opened zero e = absurd (deep (same_depth ∙ e))
       opened (suc depth) e = let positive : nat_lt 0 (suc depth) ≡ true = grind (arith, nat_tests) in ap (λ depth. nat_lt 0 depth) e ∙ positive
+
+-- so after it was settled
+pub settled_then : (store : Store) (graph : Graph) (old now new : Table Graph) (place : ℕ) → IsPlace old place → now ≡ with_graph old place (settled_graph store graph) → (graph_at now place ≡ settled_graph store graph → new ≡ with_graph now place (settled_in store graph)) → new ≡ with_graph old place (settled_in store graph)
+settled_then store graph old now new place there is tidied =
+    tidied (ap (λ table. graph_at table place) is ∙ column.with_there no_graph old place _ there) ∙ column.with_after no_graph old now place _ (column.changes_with no_graph old now place _ there is)
 
 -- what is told after a place was noted and bound otherwise
 pub told_after : (store other : Store) (graph : Graph) (change : List Binding → List Binding) (written : Option Property) → settled_changes other (record (settled_graph store graph) { bindings = change (settled_graph store graph).bindings }) written

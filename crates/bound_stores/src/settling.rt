@@ -4,10 +4,10 @@ ghost use Rattle.std.specs.Result.{result_err};
 ghost use Rattle.places.specs.Table.{IsPlace};
 ghost use Rattle.refusals.specs.Answers.{RefusedBy};
 ghost use Rattle.term_core.specs.Forms.{is_within_limits};
-ghost use Rattle.property_store.specs.Store.{fitting, without, written};
+ghost use Rattle.property_store.specs.Store.{Store, fitting, without, written};
 ghost use Rattle.variant_value.specs.Values.{IsShort};
-ghost use Rattle.property_store.specs.Table.{store_at, with_store};
-ghost use Rattle.binding_graph.specs.Graph.{all_shown, bind_refusal, bound, changes, end_refusal, ended, is_open, no_graph, settled_changes, settled_graph, taken, unbound, without_object};
+ghost use Rattle.property_store.specs.Table.{Stock, store_at, with_store};
+ghost use Rattle.binding_graph.specs.Graph.{Graph, all_shown, bind_refusal, bound, changes, end_refusal, ended, is_open, no_graph, settled_changes, settled_graph, taken, unbound, without_object};
 ghost use Rattle.binding_graph.specs.Step.{InStep};
 ghost use Rattle.binding_values.specs.Stored.{is_bindable};
 ghost use Rattle.binding_graph.specs.Table.{graph_at, with_graph};
@@ -20,6 +20,17 @@ use refusals::{Code, Fault};
 use std::alloc::AllocError;
 use term_core::Expr;
 use variant_value::Value;
+
+/// Keeps nothing of a place that is settled, where nothing is bound and no group is open.
+fn tidy(bindings: &mut Bindings, place: usize)
+    requires { IsPlace bindings.old.graphs place }
+    ensures tidied { (store : Store) (graph : Graph) → graph_at bindings.old.graphs place ≡ settled_graph store graph → bindings.new.graphs ≡ with_graph bindings.old.graphs place (settled_in store graph) }
+    ensures step { (stores : Stock) → InStep stores bindings.old → InStep stores bindings.new }
+{
+    if bindings.count(place) == 0 && bindings.depth(place) == 0 {
+        bindings.clear(place);
+    }
+}
 
 /// Settles a place, and keeps nothing where nothing is bound and no group is open.
 pub(crate) fn settle(
@@ -36,9 +47,7 @@ pub(crate) fn settle(
     ensures step { InStep stores.new bindings.new }
 {
     let told = bindings.settle(place, stores, written)?;
-    if bindings.count(place) == 0 && bindings.depth(place) == 0 {
-        bindings.clear(place);
-    }
+    tidy(bindings, place);
     Ok(told)
 }
 
@@ -160,11 +169,10 @@ pub(crate) fn remove(
     ensures stores { OnOk result (stores.new.shelves ≡ with_store stores.old.shelves place (without object (store_at stores.old.shelves place))) }
     ensures stays { ChangesInStep place stores.old stores.new bindings.old bindings.new }
 {
-    steps();
     note(stores, bindings, place)?;
-    bindings.drop_object(place, object);
-    stores.drop_object(place, object);
-    settle(stores, bindings, place, None)
+    let told = bindings.remove(place, stores, object)?;
+    tidy(bindings, place);
+    Ok(told)
 }
 
 /// Ends the group that was opened last, and tells, where it was the outermost, what has changed since that

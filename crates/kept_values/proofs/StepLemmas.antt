@@ -1,7 +1,8 @@
 -- What is kept stays right where nothing changes that it has read, and as right as before where what changes is marked.
-use Rattle.std.proofs.Common.{◌≡◌, ◌∙◌, ◌⊎◌, false, [], Option, Some, None, Ok, Err, IfSome, All, option_map, refl, sym, ap, ap₂, subst, inl, inr}
+use Rattle.std.proofs.Common.{◌≡◌, ◌∙◌, ◌⊎◌, ℕ, List, false, [], Option, Some, None, Ok, Err, IfSome, All, option_map, refl, sym, ap, ap₂, subst, inl, inr}
 use Rattle.std.specs.Option.{option_map_or}
 use Rattle.std.proofs.lemmas.Bool.{both_ways, false_from_ne_true}
+use Rattle.term_core.specs.declared.target.Target.{Target}
 use Rattle.term_core.specs.Term.{Term}
 use Rattle.term_evaluation.specs.declared.reading.Read.{Read}
 use Rattle.term_evaluation.specs.Met.{met_by}
@@ -37,7 +38,17 @@ same_name : (marks : Marks) (o p : Option Property) → IfSome o (λ q. is_marke
 same_name marks None p clear names nameless = sym (nameless refl)
 same_name marks (Some q) p clear names nameless = sym (names q refl clear)
 
-module _ (a b : Scene) (marks more : Marks) (keeping : Keeping) (are_more : AreMore marks more) (differs : DiffersAt more a b) where
+-- two scenes are alike but for marked properties, of which some may go
+pub record AreAlikeBut (marks : Marks) (a b : Scene) : Type 0 where
+  pub cells : (q : Property) → is_marked marks q ≡ false → a.cell_at q ≡ b.cell_at q
+  pub terms : (q : Property) → is_marked marks q ≡ false → term_at a.bindings q ≡ term_at b.bindings q
+  pub names : (object : ℕ) (target : Target) (name : List ℕ) (q : Property) → a.named object target name ≡ Some q → is_marked marks q ≡ false → b.named object target name ≡ Some q
+  pub nameless : (object : ℕ) (target : Target) (name : List ℕ) → a.named object target name ≡ None → b.named object target name ≡ None
+
+pub alike : (marks : Marks) (a b : Scene) → DiffersAt marks a b → AreAlikeBut marks a b
+alike marks a b differs = record { cells = differs.cells; terms = differs.terms; names = differs.names; nameless = differs.nameless }
+
+module _ (a b : Scene) (marks more : Marks) (keeping : Keeping) (are_more : AreMore marks more) (differs : AreAlikeBut more a b) where
   was_clear : (r : Property) → is_marked more r ≡ false → is_marked marks r ≡ false
   was_clear r off = false_from_ne_true (is_marked marks r) (λ on. both_ways (is_marked more r) off (are_more r on))
 

@@ -1,8 +1,10 @@
 -- What each change of a store or of a binding changes for bindings is marked.
-use Rattle.std.proofs.Common.{◌≡◌, ◌∙◌, ℕ, zero, suc, ◌<◌, ◌≤◌, ◌==◌, Bool, true, false, cond, not, List, [], ◌∷◌, Option, Some, None, find, filter, is_some, length, nat_lt, set, slice_get, option_map, refl, sym, ap, ap₂, ⊎_elim, arith}
+use Rattle.std.proofs.Common.{◌≡◌, ◌∙◌, ℕ, zero, suc, ◌<◌, ◌≤◌, ◌==◌, ◌&&◌, Bool, true, false, cond, not, List, [], ◌∷◌, Option, Some, None, find, filter, is_some, length, nat_lt, set, slice_get, option_map, refl, sym, ap, ap₂, subst, ⊎_elim, arith}
+use Rattle.std.specs.Prelude.{bytes_eq}
 use Rattle.std.specs.Option.{option_map_or, option_or}
-use Rattle.std.proofs.lemmas.Bool.{and_from, both_ways, cases_Bool, eqb-true, eq-eqb, lt-ltb, or_left, ltb-false}
+use Rattle.std.proofs.lemmas.Bool.{and_from, both_ways, cases_Bool, cases_lt, eqb-true, eq-eqb, lt-ltb, or_left, ltb-false}
 use Rattle.std.proofs.lemmas.List.Folds.{find-append}
+use Rattle.std.proofs.lemmas.List.Sums.{prefix_len-le-length}
 use Rattle.std.proofs.lemmas.Option.{slice_get_past}
 use Rattle.variant_value.specs.declared.value.Value.{Value}
 use Rattle.term_core.specs.declared.target.Target.{Target}
@@ -10,7 +12,7 @@ use Rattle.property_store.specs.declared.field.Field.{Field}
 use Rattle.property_store.specs.declared.property.Property.{Property}
 use Rattle.property_store.specs.Marks.{Marks, is_marked, is_new, is_written}
 use Rattle.property_store.specs.Property.{among, is_property}
-use Rattle.property_store.specs.Store.{Properties, Store, added, changed, fitting, fresh, properties_of, with_dynamic, with_value, without_dynamic, written}
+use Rattle.property_store.specs.Store.{Properties, Store, added, changed, fitting, fresh, properties_of, with_dynamic, with_value, without, without_dynamic, written}
 use Rattle.property_store.proofs.SoundLemmas.{added_found, added_others}
 use Rattle.binding_values.specs.declared.binding.Binding.{Binding}
 use Rattle.binding_values.specs.Binds.{with_binding}
@@ -22,6 +24,7 @@ use Rattle.binding_values.proofs.MapLemmas.{some_kept}
 use Rattle.binding_values.proofs.SortedLemmas.{is_behind, is_property_sym, not_behind}
 use Rattle.binding_values.proofs.StoredLemmas.{term_there}
 use Rattle.kept_values.specs.Right.{DiffersAt}
+use Rattle.kept_values.proofs.StepLemmas.{AreAlikeBut}
 
 -- a property by its numbers, and a cell by its parts
 
@@ -37,6 +40,9 @@ cell_from field value = option_map_or (λ field. option_map (cell field) value) 
 nothing : {X : Type 0} (o : Option X) → is_some o ≡ false → o ≡ None
 nothing None e = refl
 nothing (Some x) e = absurd (cc)
+
+one_property : {p q : Property} → Some p ≡ Some q → p ≡ q
+one_property e = cc
 
 or_nothing : {X : Type 0} (o : Option X) → option_or o None ≡ o
 or_nothing None = refl
@@ -199,9 +205,6 @@ module _ (store : Store) (bindings : List Binding) (marks : Marks) (object : ℕ
   nothing_new [] on off = refl
   nothing_new (field ∷ fs) on off = absurd (both_ways _ off (on 0 (omega arith)))
 
-  one : {p q : Property} → Some p ≡ Some q → p ≡ q
-  one e = cc
-
   abbrev stands_for : List ℕ → List Field → ℕ → Option Property
   stands_for name fs number = Some (property number (bindable_number name fs))
 
@@ -215,7 +218,7 @@ module _ (store : Store) (bindings : List Binding) (marks : Marks) (object : ℕ
       own : (number == object) ≡ true → stands_for name (fields_at enlarged number) number ≡ Some q
       own same =
           let first : Some (property number 0) ≡ Some q = ap (λ fs. stands_for name fs number) (sym (fields_before number same)) ∙ e in
-          let none : fields ≡ [] = nothing_new fields on (ap (λ o. is_marked marks (property o 0)) (sym (eqb-true number object same)) ∙ (ap (is_marked marks) (one first) ∙ off)) in
+          let none : fields ≡ [] = nothing_new fields on (ap (λ o. is_marked marks (property o 0)) (sym (eqb-true number object same)) ∙ (ap (is_marked marks) (one_property first) ∙ off)) in
           ap (λ fs. stands_for name fs number) (fields_after number same ∙ none) ∙ first
 
   pub addition_is_marked : DiffersAt marks (scene_of store bindings) (scene_of (added store object fields) bindings)
@@ -302,3 +305,80 @@ binding_is_marked store bindings marks new on = differs_in_term store bindings (
 
 pub unbinding_is_marked : (store : Store) (bindings : List Binding) (marks : Marks) (at : Property) → is_marked marks at ≡ true → DiffersAt marks (scene_of store bindings) (scene_of store (filter (λ binding. not (is_property at binding.at)) bindings))
 unbinding_is_marked store bindings marks at on = differs_in_term store bindings (filter (λ binding. not (is_property at binding.at)) bindings) marks at on (λ q off. term_without q at bindings off)
+
+-- an object that goes, with its bindings
+
+abbrev pub kept_objects : ℕ → List Binding → List Binding
+kept_objects object bindings = filter (λ binding. not (binding.at.object == object)) bindings
+
+apart_from : (object : ℕ) (n m : ℕ) → (m == object) ≡ false → (n == m) ≡ true → not (n == object) ≡ true
+apart_from object n m apart same = ap (λ n. not (n == object)) (eqb-true n m same) ∙ ap not apart
+
+pub gone : (object : ℕ) (store : Store) → properties_of (without object store) object ≡ None
+gone object store = found_not (λ (of : Properties). of.object == object) (λ (of : Properties). not (of.object == object)) (λ of e. ap not e) store
+
+pub stays_there : (object : ℕ) (store : Store) (other : ℕ) → (other == object) ≡ false → properties_of (without object store) other ≡ properties_of store other
+stays_there object store other apart = found_kept (λ (of : Properties). of.object == other) (λ (of : Properties). not (of.object == object)) (λ of e. apart_from object of.object other apart e) store
+
+pub cell_gone : (object : ℕ) (store : Store) (q : Property) → (q.object == object) ≡ true → cell_in (without object store) q ≡ None
+cell_gone object store q same = ap (λ o. option_map_or (cell_of q.number) (properties_of (without object store) o) None) (eqb-true q.object object same) ∙ ap (λ found. option_map_or (cell_of q.number) found None) (gone object store)
+
+pub cell_stays : (object : ℕ) (store : Store) (q : Property) → (q.object == object) ≡ false → cell_in store q ≡ cell_in (without object store) q
+cell_stays object store q apart = ap (λ found. option_map_or (cell_of q.number) found None) (sym (stays_there object store q.object apart))
+
+module _ (store : Store) (bindings : List Binding) (marks : Marks) (object : ℕ) (marked : (number : ℕ) → number ≤ length (fields_at store object) → is_marked marks (property object number) ≡ true) where
+  own_marked : (q : Property) → (q.object == object) ≡ true → q.number ≤ length (fields_at store object) → is_marked marks q ≡ true
+  own_marked q same within = ap (λ o. is_marked marks (property o q.number)) (eqb-true q.object object same) ∙ marked q.number within
+
+  no_cell : (q : Property) → (q.object == object) ≡ true → is_marked marks q ≡ false → cell_in store q ≡ None
+  no_cell q same off = ap (λ o. option_map_or (cell_of q.number) (properties_of store o) None) (eqb-true q.object object same) ∙ by (properties_of store object) refl
+    where
+      past : length (fields_at store object) ≤ q.number
+      past = ⊎_elim (λ within. absurd (both_ways (is_marked marks q) off (own_marked q same (omega (arith, within))))) (λ past. past) (cases_lt q.number (length (fields_at store object)))
+
+      by : (found : Option Properties) → properties_of store object ≡ found → option_map_or (cell_of q.number) found None ≡ None
+      by None e = refl
+      by (Some of) e =
+          let fields : fields_at store object ≡ of.fields = ap (λ found. option_map_or (λ (of : Properties). of.fields) found []) e in
+          ap (λ field. cell_from field (slice_get of.values q.number)) (slice_get_past of.fields q.number (omega (arith, past, ap length fields)))
+
+  cells_without : (q : Property) → is_marked marks q ≡ false → cell_in store q ≡ cell_in (without object store) q
+  cells_without q off = ⊎_elim (λ same. no_cell q same off ∙ sym (cell_gone object store q same)) (cell_stays object store q) (cases_Bool (q.object == object))
+
+  terms_without : (q : Property) → is_marked marks q ≡ false → term_at (filter (is_there store) bindings) q ≡ term_at (filter (is_there (without object store)) (kept_objects object bindings)) q
+  terms_without q off =
+      term_there store q bindings
+      ∙ (⊎_elim own others (cases_Bool (q.object == object))
+      ∙ sym (term_there (without object store) q (kept_objects object bindings)))
+    where
+      own : (q.object == object) ≡ true → cond (is_some (cell_in store q)) (term_at bindings q) None ≡ cond (is_some (cell_in (without object store) q)) (term_at (kept_objects object bindings) q) None
+      own same = ap (λ found. cond (is_some found) (term_at bindings q) None) (no_cell q same off) ∙ sym (ap (λ found. cond (is_some found) (term_at (kept_objects object bindings) q) None) (cell_gone object store q same))
+
+      others : (q.object == object) ≡ false → cond (is_some (cell_in store q)) (term_at bindings q) None ≡ cond (is_some (cell_in (without object store) q)) (term_at (kept_objects object bindings) q) None
+      others apart =
+          ap₂ (λ found term. cond (is_some found) term None) (cell_stays object store q apart)
+          (sym (ap (option_map (λ (binding : Binding). binding.expr)) (found_kept (binds q) (λ binding. not (binding.at.object == object))
+          (λ binding same. ap (λ (p : Property). not (p.object == object)) (sym (property_eq q binding.at same)) ∙ ap not apart) bindings)))
+
+  names_without : (name : List ℕ) (o : Option ℕ) (q : Property) → option_map (λ number. property number (bindable_number name (fields_at store number))) o ≡ Some q → is_marked marks q ≡ false
+      → option_map (λ number. property number (bindable_number name (fields_at (without object store) number))) o ≡ Some q
+  names_without name None q e off = absurd (cc)
+  names_without name (Some number) q e off = ⊎_elim own other (cases_Bool (number == object))
+    where
+      other : (number == object) ≡ false → Some (property number (bindable_number name (fields_at (without object store) number))) ≡ Some q
+      other apart = ap (λ found. Some (property number (bindable_number name (option_map_or (λ (of : Properties). of.fields) found [])))) (stays_there object store number apart) ∙ e
+
+      own : (number == object) ≡ true → Some (property number (bindable_number name (fields_at (without object store) number))) ≡ Some q
+      own same = absurd (both_ways (is_marked marks q) off
+          (ap (is_marked marks) (sym (one_property e))
+          ∙ own_marked (property number (bindable_number name (fields_at store number))) same
+          (subst (λ n. bindable_number name (fields_at store n) ≤ length (fields_at store object)) (sym (eqb-true number object same)) (prefix_len-le-length (λ (field : Field). not (field.bindable && bytes_eq field.name name)) (fields_at store object)))))
+
+  -- its properties are marked, and that of a name that it does not declare
+  pub removal_is_alike : AreAlikeBut marks (scene_of store bindings) (scene_of (without object store) (kept_objects object bindings))
+  removal_is_alike = record {
+    cells = cells_without;
+    terms = terms_without;
+    names = λ number target name q e off. names_without name (meant number target) q e off;
+    nameless = λ number target name e. nameless_kept store (without object store) name (meant number target) e;
+  }

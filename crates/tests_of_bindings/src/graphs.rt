@@ -34,7 +34,8 @@ enum Asked {
     End,
     /// Adds an object.
     Add(u32),
-    DropObject(u32),
+    /// Takes an object out. What is answered is as for `Settle`.
+    Remove(u32),
     Clear,
     Count,
     Depth,
@@ -154,7 +155,7 @@ impl Bench {
             Begin => self.begin(place),
             End => Ok(self.end(place)),
             Add(object) => self.add(place, object),
-            DropObject(object) => Ok(self.drop_object(place, object)),
+            Remove(object) => self.remove(place, object),
             Clear => Ok(self.clear(place)),
             Count => Ok(self.bindings.count(place) as u64),
             Depth => Ok(self.bindings.depth(place) as u64),
@@ -216,11 +217,7 @@ impl Bench {
             _ => Some(written),
         };
         let changes = self.bindings.settle(place, &mut self.stores, written)?;
-        let mut digits = 0;
-        for change in changes.as_slice() {
-            digits = behind(digits, change);
-        }
-        Ok(digits)
+        Ok(told_of(changes.as_slice()))
     }
 
     fn begin(&mut self, place: usize) -> Result<u64, AllocError>
@@ -248,13 +245,11 @@ impl Bench {
         Ok(0)
     }
 
-    fn drop_object(&mut self, place: usize, object: u32) -> u64
+    fn remove(&mut self, place: usize, object: u32) -> Result<u64, AllocError>
         requires { place < 2 }
     {
-        steps();
-        self.stores.drop_object(place, object);
-        self.bindings.drop_object(place, object);
-        self.bindings.count(place) as u64
+        let changes = self.bindings.remove(place, &mut self.stores, object)?;
+        Ok(told_of(changes.as_slice()))
     }
 
     fn clear(&mut self, place: usize) -> u64
@@ -263,6 +258,14 @@ impl Bench {
         self.bindings.clear(place);
         self.bindings.count(place) as u64
     }
+}
+
+fn told_of(changes: &[Change]) -> u64 {
+    let mut digits = 0;
+    for change in changes {
+        digits = behind(digits, change);
+    }
+    digits
 }
 
 fn digit_behind(digits: u64, digit: u64) -> u64 {
@@ -368,9 +371,9 @@ const AS_BOUND: &[Case] = &[
     (0, Take(1, 1), 0),
     (0, Write(2, 1, 9), 1),
     (0, ValueOf(1, 1), 20),
-    (0, DropObject(1), 0),
+    (0, Remove(1), 2219),
     (0, ValueOf(1, 3), 0),
-    (0, Settle(0, 0), 2219),
+    (0, Settle(0, 0), 0),
     (0, Clear, 0),
 ];
 
@@ -503,10 +506,22 @@ const COMES_AND_GOES: &[Case] = &[
     (0, Write(9, 0, 6), 1),
     (0, Settle(9, 0), 2906_2106),
     (0, Evaluations, 4),
-    // Then all that is bound is evaluated again, at this place alone.
-    (0, DropObject(9), 2),
-    (0, Settle(0, 0), 1102_2100),
+    // Then what has read it is evaluated again, and nothing else.
+    (0, Remove(9), 1102_2100),
+    (0, Count, 2),
+    (0, Evaluations, 5),
+    (0, Settle(0, 0), 0),
+    // In a group all is, at its end, and nothing is told before.
+    (0, Add(9), 0),
+    (0, Settle(0, 0), 0),
     (0, Evaluations, 6),
+    (0, Write(9, 0, 4), 1),
+    (0, Begin, 1),
+    (0, Remove(9), 0),
+    (0, ValueOf(1, 0), 40),
+    (0, End, 0),
+    (0, Settle(0, 0), 1102_2100),
+    (0, Evaluations, 9),
     (1, Evaluations, 1),
 ];
 

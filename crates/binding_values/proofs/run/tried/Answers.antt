@@ -17,7 +17,7 @@ carried P reads (Ok kept) h e = subst (EachButLast P) (sym e) h
 carried P reads (Err error) h e = tt
 
 pub returns-clause-but_last : goal.returns-clause-but_last
-returns-clause-but_last c = carried (IsSettled (scene_in c.args.known.now) (kept_of c.args.known.now.done.now)) (met (scene_in c.args.known.now) (values_in c.args.known.now) c.args.at.object c.unwrap-expr.result.now) c.attempt.result (settled_but_last (scene_in c.args.known.now) (kept_of c.args.known.now.done.now) c.args.at.object c.unwrap-expr.result.now) c.attempt.ensures.reads
+returns-clause-but_last c = carried (IsSettled (scene_in c.args.known.now) (kept_of c.args.known.now.done.now)) (met (scene_in c.args.known.now) (values_in c.args.known.now) c.args.at.object c.expr_of-expr.result.now) c.attempt.result (settled_but_last (scene_in c.args.known.now) (kept_of c.args.known.now.done.now) c.args.at.object c.expr_of-expr.result.now) c.attempt.ensures.reads
 
 pub unwrap-kind-requires : goal.unwrap-kind-requires
 unwrap-kind-requires c =

@@ -1,7 +1,10 @@
 use Rattle.std.proofs.Common.{◌∙◌, ap, sym, arith}
 use Rattle.binding_values.specs.Sorted.{is_before}
-use Rattle.binding_values.proofs.SortedLemmas.{search_before, search_behind}
+use Rattle.binding_values.proofs.SortedLemmas.{counted, search_before, search_behind}
 use Rattle.binding_values.proofs.sorted.count_before.Goals as goal
+
+pub returns-then-is_at : goal.returns-then-is_at
+returns-then-is_at g c = counted g.T.Placed.at c.args.rows.now c.guess-guess.result c.args.at c.requires c.is_at.result c.is_at.ensures c.if-is_at.true
 
 pub loop-low-preserved-then-is_before : goal.loop-low-preserved-then-is_before
 loop-low-preserved-then-is_before g c =

@@ -1,5 +1,5 @@
 use Rattle.kept_values.proofs.KeptLemmas.{complete_is_known, complete_is_right, rest_is_right, unmarked_is_complete}
-use Rattle.kept_values.proofs.StepLemmas.{kept_stays_right, stays_right, stays_whole}
+use Rattle.kept_values.proofs.StepLemmas.{alike, kept_stays_right, stays_right, stays_whole}
 use Rattle.kept_values.proofs.laws.keepings.Goals as goal
 
 pub returns : goal.returns
@@ -8,7 +8,7 @@ returns c = record {
   known = complete_is_known;
   complete = unmarked_is_complete;
   right = complete_is_right;
-  step = λ a b marks more keeping right are_more differs. stays_right a b marks more keeping are_more differs right;
-  whole = λ a b marks more keeping whole are_more differs. stays_whole a b marks more keeping are_more differs whole;
+  step = λ a b marks more keeping right are_more differs. stays_right a b marks more keeping are_more (alike more a b differs) right;
+  whole = λ a b marks more keeping whole are_more differs. stays_whole a b marks more keeping are_more (alike more a b differs) whole;
   rest = rest_is_right;
 }

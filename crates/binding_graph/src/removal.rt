@@ -1,0 +1,101 @@
+//! Objects that go, with their bindings.
+ghost use Rattle.std.specs.Prelude.{◌≡◌, ◌≤◌, ◌==◌, ℕ, IfOk, None, OnErr, OnOk, filter, length, not, true};
+ghost use Rattle.places.specs.Table.{IsPlace};
+ghost use Rattle.property_store.specs.Marks.{Marks, is_marked};
+ghost use Rattle.property_store.specs.Store.{Store, without};
+ghost use Rattle.property_store.specs.Table.{store_at};
+ghost use Rattle.binding_values.specs.Stored.{fields_at};
+ghost use Rattle.kept_values.specs.Right.{AreMore};
+ghost use Rattle.binding_graph.specs.Cache.{IsInStep};
+ghost use Rattle.binding_graph.specs.Graph.{settled_changes, settled_graph, without_object};
+ghost use Rattle.binding_graph.specs.Drained.{IsStored};
+ghost use Rattle.binding_graph.specs.Woven.{IsAt, StaysKept, without_shown};
+
+use crate::change::Change;
+use crate::graph::Web;
+use crate::pending::{Pending, drain};
+use kept_values::KeptValues;
+use plain_types::Items;
+use property_store::{Property, Stores};
+use std::alloc::{AllocError, Global};
+
+/// Marks a property, and lets go of what is kept of it.
+fn forget(pending: &mut Pending, kept: &mut KeptValues, at: Property)
+    ensures marked { is_marked pending.new at ≡ true }
+    ensures more { AreMore pending.old pending.new }
+    ensures step { StaysKept pending.old kept.old pending.new kept.new }
+{
+    pending.mark(at);
+    if kept.at(at).is_none() {
+        return;
+    }
+    kept.forget(at);
+}
+
+/// So for the properties of an object, and for the one that stands for names that it does not declare.
+fn forget_object(pending: &mut Pending, kept: &mut KeptValues, object: u32, count: usize)
+    ensures marked { (number : ℕ) → number ≤ count → is_marked pending.new (record { object = object; number = number }) ≡ true }
+    ensures step { StaysKept pending.old kept.old pending.new kept.new }
+{
+    let last = Property {
+        object,
+        number: count,
+    };
+    forget(pending, kept, last);
+    for number in 0..count {
+        forget(pending, kept, Property { object, number });
+    }
+}
+
+/// How many properties an object declares; none where it is not there.
+fn declared(stores: &Stores, place: usize, object: u32) -> usize
+    requires { IsPlace stores.now.shelves.table place }
+    ensures { result ≡ length (fields_at (store_at stores.now.shelves place) object) }
+{
+    match stores.fields(place, object) {
+        Some(fields) => fields.len(),
+        None => 0,
+    }
+}
+
+impl Web {
+    /// Lets go of an object that goes from the store, of its bindings and of what it showed. What has read its
+    /// properties is marked.
+    fn let_go(&mut self, object: u32, count: usize)
+        ensures graph { self.new.graph ≡ without_shown object (without_object object self.old.graph) }
+        ensures step { (store : Store) (marks : Marks) → length (fields_at store object) ≤ count → IsInStep store marks self.old.graph self.old.cache → IsInStep (without object store) marks self.new.graph self.new.cache }
+    {
+        forget_object(&mut self.pending, &mut self.kept, object, count);
+        self.bindings.remove_object(object);
+        self.last.remove_object(object);
+    }
+
+    /// Takes an object out of the store with its bindings, and tells what has changed by it. Outside of groups only
+    /// what its properties reach is evaluated again.
+    pub(crate) fn remove(
+        &mut self,
+        alloc: Global,
+        stores: &mut Stores,
+        place: usize,
+        object: u32,
+    ) -> Result<Items<Change>, AllocError>
+        requires ready { IsPlace stores.old.shelves.table place }
+        requires step { IsAt stores.old place self.old }
+        ensures told { IfOk result (λ told. told ≡ settled_changes (without object (store_at stores.old.shelves place)) (without_object object self.old.graph) None) }
+        ensures ok { OnOk result (self.new.graph ≡ settled_graph (without object (store_at stores.old.shelves place)) (without_object object self.old.graph)) }
+        ensures stores { IsStored place (without object (store_at stores.old.shelves place)) stores.old stores.new }
+        ensures step { IsAt stores.new place self.new }
+    {
+        if self.is_open() {
+            self.drop_object(object);
+            stores.drop_object(place, object);
+            return Ok(Items::new(alloc));
+        }
+        drain(&mut self.pending, stores, place);
+        let count = declared(stores, place, object);
+        self.let_go(object, count);
+        stores.drop_object(place, object);
+        let _ = stores.take_written(place);
+        self.refresh(alloc, stores, place, true, None)
+    }
+}
