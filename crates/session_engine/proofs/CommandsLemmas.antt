@@ -1,5 +1,5 @@
 -- What a command makes of the session at its place, by the ways that it goes.
-use Rattle.std.proofs.Common.{◌≡◌, ◌∷◌, ℕ, Bool, true, false, true≢false, List, Option, Some, None, Result, Ok, Err, IfOk, not, IsErrAnd, OnErr, OnOk, slice_get, refl, sym, ap, subst, ◌∙◌, ◌⊎◌, ◌&&◌, inl, inr, eqb, IsFalse, []}
+use Rattle.std.proofs.Common.{◌≡◌, ◌∷◌, ℕ, Bool, true, false, true≢false, List, Option, Some, None, Result, Ok, Err, IfOk, not, IsErrAnd, OnErr, OnOk, slice_get, refl, sym, ap, subst, ◌∙◌, ◌&&◌, inl, inr, ◌||◌, eqb, IsFalse, IsSome, OnSome, []}
 use Rattle.std.specs.Option.{option_or}
 use Rattle.class_table.specs.declared.class.Class.{Class}
 use Rattle.isolation.specs.Machine.{Effect}
@@ -8,7 +8,7 @@ use Rattle.refusals.specs.declared.code.Code.{Code}
 use Rattle.refusals.specs.declared.code.Code.TheVariants.{SessionFailed}
 use Rattle.refusals.specs.declared.fault.Fault.{Fault}
 use Rattle.refusals.specs.declared.fault.Fault.TheVariants.{Refused, Memory}
-use Rattle.refusals.specs.Answers.{Answers, RefusedBy}
+use Rattle.refusals.specs.Answers.{Answers, OnMemory, RefusedBy}
 use Rattle.thread_model.specs.declared.line.Answer.{Answer}
 use Rattle.thread_model.specs.declared.line.Answer.TheVariants.{Truth}
 use Rattle.thread_model.specs.declared.line.Line.{Line}
@@ -39,17 +39,17 @@ use Rattle.session_tables.proofs.PostLemmas.{changes_session}
 use Rattle.session_tables.proofs.ReachingLemmas.{heard-none, placed_shaped, session_unchanged, shaped_changed, shaped_twice}
 use Rattle.session_effects.specs.declared.caller.Caller.{Caller}
 use Rattle.nested_calls.specs.declared.telling.Telling.{Telling}
-use Rattle.session_engine.specs.Commands.{Obeys, OthersHear, Performs, reply_after, reply_lines}
+use Rattle.session_engine.specs.Commands.{Obeys, OthersHear, Performs, Reads, its_effect, its_refusal, reply_after, reply_lines}
 use Rattle.nested_calls.specs.Front.{IsFront}
 use Rattle.nested_calls.specs.Telling.{doing_at, fresh_telling}
 use Rattle.nested_calls.proofs.FrontLemmas.{front_none, front_same}
 use Rattle.session_engine.specs.Core.{Contents, IsWhole, contents, place, seen, sessions, states}
-use Rattle.session_engine.specs.Returning.{Returns, told, wants_memory}
+use Rattle.session_engine.specs.Returning.{IsAnswered, Returns, told, wants_memory}
 use Rattle.session_engine.specs.Sessions.{IsStep, is_reset, is_shut, session_after, session_does, session_refusal}
 use Rattle.session_effects.specs.Setup.{settings_of}
 use Rattle.session_engine.proofs.EngineLemmas.{named_at, sessions-place}
 use Rattle.session_engine.proofs.SessionLemmas.{does_fine, not_shut, refused_after}
-use Rattle.session_engine.proofs.StepLemmas.{Ended, GaveUp, Loud, Marks, Quiet, Told, some_none_of, step_of, whole_after}
+use Rattle.session_engine.proofs.StepLemmas.{Ended, GaveUp, Loud, Marks, Own, Quiet, Told, some_none_of, step_of, whole_after}
 
 -- what changes one session alone is not heard by the others
 pub others_changed : (classes : List Class) (from : List ℕ) (old new : Tables) (place : ℕ) → ChangesOnly place old new → OthersHear classes from place [] old new false
@@ -79,14 +79,8 @@ pub or_second : (a b : Option Code) → None ≡ a → option_or a b ≡ b
 or_second a b e = sym (ap (λ a. option_or a b) e)
 
 module _ (caller : Caller) (asked : Asked) (old new : Tables) where
-  abbrev pub its_refusal : Option Code
-  its_refusal = refusal (settings_of caller.setup.now) caller.name.now (state_at old caller.place) asked
-
-  abbrev pub its_effect : Effect State Line Post
-  its_effect = performs (settings_of caller.setup.now) caller.name.now (state_at old caller.place) asked
-
   -- a command that is refused has changed nothing
-  pub stopped : {T : Type 0} (lines : T → List Line) (code : Code) (result : Result T Fault) → IsErrAnd result (λ fault. fault ≡ Refused code) → its_refusal ≡ Some code → new ≡ old → Performs caller asked old new false lines result
+  pub stopped : {T : Type 0} (lines : T → List Line) (code : Code) (result : Result T Fault) → IsErrAnd result (λ fault. fault ≡ Refused code) → its_refusal caller asked old ≡ Some code → new ≡ old → Performs caller asked old new false lines result
   stopped lines code (Ok value) h refused same = absurd h
   stopped lines code (Err fault) h refused same =
       subst (λ fault. Performs caller asked old new false lines (Err fault)) (sym h)
@@ -99,13 +93,13 @@ module _ (caller : Caller) (asked : Asked) (old new : Tables) where
       subst (λ fault. Performs caller asked old new false lines (Err fault)) (sym h) (record { returns = tt; posts = []; front = front_none _; posted = tt; done = tt; refused = tt; others = others_changed caller.setup.now.classes caller.name.now old new caller.place only })
 
   -- a command that is not refused does what it performs
-  passed_does : its_refusal ≡ None → thread.does (settings_of caller.setup.now) caller.name.now (state_at old caller.place) asked ≡ its_effect
+  passed_does : its_refusal caller asked old ≡ None → thread.does (settings_of caller.setup.now) caller.name.now (state_at old caller.place) asked ≡ its_effect caller asked old
   unfolding thread.does
-  passed_does passed = ap (λ refusal. unless refusal (state_at old caller.place) its_effect) passed
+  passed_does passed = ap (λ refusal. unless refusal (state_at old caller.place) (its_effect caller asked old)) passed
 
   -- where memory was wanted in what it sets off, other sessions have heard the first of its posts
-  pub starved_last : {T : Type 0} (telling : Telling) (posts : List Post) (done : doing.Doing) (last : Line) (lines : T → List Line) (result : Result T Fault) → IsErrAnd result (λ fault. fault ≡ Memory) → its_refusal ≡ None
-      → its_effect ≡ ended (doing.told done last) → IsFront posts done.posts → Reaches caller.setup.now.classes caller.name.now caller.place posts old new false telling.failing → Performs caller asked old new telling.failing lines result
+  pub starved_last : {T : Type 0} (telling : Telling) (posts : List Post) (done : doing.Doing) (last : Line) (lines : T → List Line) (result : Result T Fault) → IsErrAnd result (λ fault. fault ≡ Memory) → its_refusal caller asked old ≡ None
+      → its_effect caller asked old ≡ ended (doing.told done last) → IsFront posts done.posts → Reaches caller.setup.now.classes caller.name.now caller.place posts old new false telling.failing → Performs caller asked old new telling.failing lines result
   unfolding doing.told
   starved_last telling posts done last lines (Ok value) h passed effect front reaches = absurd h
   starved_last telling posts done last lines (Err fault) h passed effect front reaches =
@@ -120,34 +114,19 @@ module _ (caller : Caller) (asked : Asked) (old new : Tables) where
         others = others_reached caller.setup.now.classes caller.name.now old new caller.place posts telling.failing reaches;
       })
 
-  -- and where its reply finds none, all of them
-  pub starved_replying : {T U : Type 0} (failing : Bool) (lines : T → List Line) (value : T) (others : U → List Line) (result : Result U Fault) → IsErrAnd result (λ fault. fault ≡ Memory) → Performs caller asked old new failing lines (Ok value) → Performs caller asked old new failing others result
-  starved_replying failing lines value others (Ok other) h performed = absurd h
-  starved_replying failing lines value others (Err fault) h performed =
-      subst (λ fault. Performs caller asked old new failing others (Err fault)) (sym h)
-      (record {
-        returns = tt;
-        posts = performed.posts;
-        front = subst (IsFront performed.posts) (performed.posted ∙ sym (ap (λ effect. effect.posts) (passed_does performed.returns.0))) (front_same performed.posts);
-        posted = tt;
-        done = tt;
-        refused = tt;
-        others = performed.others;
-      })
-
   -- a fault of a call that is refused by the rest of its refusal
-  pub made_fault : {T : Type 0} (lines : T → List Line) (rest : Option Code) (fault : Fault) (result : Result T Fault) → IsErrAnd result (λ other. other ≡ fault) → its_refusal ≡ rest
+  pub made_fault : {T : Type 0} (lines : T → List Line) (rest : Option Code) (fault : Fault) (result : Result T Fault) → IsErrAnd result (λ other. other ≡ fault) → its_refusal caller asked old ≡ rest
       → RefusedBy {T = ℕ} rest (Err fault) → OnRefused {T = ℕ} (Err fault) (new ≡ old) → ChangesOnly caller.place old new → Performs caller asked old new false lines result
   made_fault lines rest (Refused code) result h is refused same only = stopped lines code result h (is ∙ refused) same
   made_fault lines rest Memory result h is refused same only = starved lines result h only
 
   -- the session is left so, and its mark stays
-  left_as : (state : State) → its_effect.state ≡ state → state_at new caller.place ≡ state → failed_at new caller.place ≡ failed_at old caller.place → session_at new caller.place ≡ record { state = its_effect.state; failed = failed_at old caller.place }
+  left_as : (state : State) → (its_effect caller asked old).state ≡ state → state_at new caller.place ≡ state → failed_at new caller.place ≡ failed_at old caller.place → session_at new caller.place ≡ record { state = (its_effect caller asked old).state; failed = failed_at old caller.place }
   left_as state effect is mark =
-      ap (λ state. record { state = state; failed = failed_at new caller.place }) (is ∙ sym effect) ∙ ap (λ failed. record { state = its_effect.state; failed = failed }) mark
+      ap (λ state. record { state = state; failed = failed_at new caller.place }) (is ∙ sym effect) ∙ ap (λ failed. record { state = (its_effect caller asked old).state; failed = failed }) mark
 
   -- and else it replies
-  pub replied : (state : State) (answer : Answer) → IsPlaced old caller.place → its_refusal ≡ None → its_effect ≡ replies state answer → new ≡ with_state old caller.place state → Performs caller asked old new false reply_lines (Ok answer)
+  pub replied : (state : State) (answer : Answer) → IsPlaced old caller.place → its_refusal caller asked old ≡ None → its_effect caller asked old ≡ replies state answer → new ≡ with_state old caller.place state → Performs caller asked old new false reply_lines (Ok answer)
   replied state answer placed passed effect e = record {
     returns = (passed, ap (λ effect. effect.lines) effect);
     posts = [];
@@ -159,7 +138,7 @@ module _ (caller : Caller) (asked : Asked) (old new : Tables) where
   }
 
   -- so it does behind what was told by what it set off
-  pub replied_last : (telling : Telling) (answer : Answer) (posts : List Post) → its_refusal ≡ None → its_effect ≡ ended (doing.told (doing_at caller.place new telling posts) (Reply answer)) → Reaches caller.setup.now.classes caller.name.now caller.place posts old new false telling.failing
+  pub replied_last : (telling : Telling) (answer : Answer) (posts : List Post) → its_refusal caller asked old ≡ None → its_effect caller asked old ≡ ended (doing.told (doing_at caller.place new telling posts) (Reply answer)) → Reaches caller.setup.now.classes caller.name.now caller.place posts old new false telling.failing
       → Performs caller asked old new telling.failing (reply_after telling.lines) (Ok answer)
   unfolding doing.told
   replied_last telling answer posts passed effect reaches = record {
@@ -179,7 +158,7 @@ at_first_reaches caller old new before after posts fresh reaches = subst (λ (te
 
 -- where what is looked for is not found
 pub found_fault : {T A : Type 0} (caller : Caller) (asked : Asked) (tables : Tables) (lines : T → List Line) (rest : Found A → Option Code) (found : Found A) (fault : Fault) (result : Result T Fault) → IsErrAnd result (λ other. other ≡ fault)
-    → its_refusal caller asked tables tables ≡ rest found → ((code : Code) → rest (Err code) ≡ Some code) → Answers {T = A} (Err fault) found → Performs caller asked tables tables false lines result
+    → its_refusal caller asked tables ≡ rest found → ((code : Code) → rest (Err code) ≡ Some code) → Answers {T = A} (Err fault) found → Performs caller asked tables tables false lines result
 found_fault caller asked tables lines rest found (Refused code) result h is law why = stopped caller asked tables tables lines code result h (is ∙ ap rest why ∙ law code) refl
 found_fault caller asked tables lines rest found Memory result h is law why = starved caller asked tables tables lines result h (changes_same tables tables caller.place refl)
 
@@ -188,18 +167,15 @@ pub on_refused : {P : Type 0} (fault : Fault) → P → OnRefused {T = ℕ} (Err
 on_refused (Refused code) h = h
 on_refused Memory h = tt
 
--- also where it only reads
-pub replied_by : (caller : Caller) (asked : Asked) (tables : Tables) (answer : Answer) → its_refusal caller asked tables tables ≡ None → its_effect caller asked tables tables ≡ replies (state_at tables caller.place) answer
-    → Performs caller asked tables tables false reply_lines (Ok answer)
-replied_by caller asked tables answer passed effect = record {
-  returns = (passed, ap (λ effect. effect.lines) effect);
-  posts = [];
-  front = tt;
-  posted = sym (ap (λ effect. effect.posts) effect);
-  done = left_as caller asked tables tables (state_at tables caller.place) (ap (λ effect. effect.state) effect) refl refl;
-  refused = tt;
-  others = others_changed caller.setup.now.classes caller.name.now tables tables caller.place (changes_same tables tables caller.place refl);
-}
+-- a command that changes nothing, where it is refused
+pub refused_reading : (caller : Caller) (asked : Asked) (tables : Tables) (code : Code) (result : Result Answer Fault) → IsErrAnd result (λ fault. fault ≡ Refused code) → its_refusal caller asked tables ≡ Some code → Reads caller asked tables result
+refused_reading caller asked tables code (Ok answer) h refused = absurd h
+refused_reading caller asked tables code (Err fault) h refused = subst (λ fault. Reads caller asked tables (Err fault)) (sym h) (record { returns = refused })
+
+-- and where memory was wanted
+pub starved_reading : (caller : Caller) (asked : Asked) (tables : Tables) (result : Result Answer Fault) → IsErrAnd result (λ fault. fault ≡ Memory) → Reads caller asked tables result
+starved_reading caller asked tables (Ok answer) h = absurd h
+starved_reading caller asked tables (Err fault) h = subst (λ fault. Reads caller asked tables (Err fault)) (sym h) (record { returns = tt })
 
 -- where a deed is looked for, the first of two refusals, or what stands behind it
 pub behind_first : {A : Type 0} (a : Option Code) (found : Found A) (code : Code) → Some code ≡ a → behind a found ≡ Err code
@@ -210,7 +186,7 @@ behind_second a found e = sym (ap (λ a. behind a found) e)
 
 -- a command does the deed that was found
 pub deed_performed : (caller : Caller) (asked : Asked) (found : Found Deed) (deed : Deed) (old new : Tables) (result : Result Answer Fault) → IsPlaced old caller.place
-    → its_refusal caller asked old new ≡ found_refusal (state_at old caller.place) found → its_effect caller asked old new ≡ does_found (state_at old caller.place) found → found ≡ Ok deed
+    → its_refusal caller asked old ≡ found_refusal (state_at old caller.place) found → its_effect caller asked old ≡ does_found (state_at old caller.place) found → found ≡ Ok deed
     → RefusedBy (deed_refusal (state_at old caller.place) deed) result → IfOk result (λ answer. answer ≡ deed_answer (state_at old caller.place) deed)
     → OnOk result (new ≡ with_state old caller.place (with_deed (state_at old caller.place) deed)) → OnErr result (new ≡ old) → Performs caller asked old new false reply_lines result
 deed_performed caller asked found deed old new (Ok answer) placed refusal effect is passed answers done same =
@@ -225,6 +201,23 @@ deed_performed caller asked found deed old new (Err Memory) placed refusal effec
 pub silently : (caller : Caller) (asked : Asked) (old new : Tables) (telling : Telling) (result : Result Answer Fault) → telling ≡ fresh_telling caller.setup.now.turns
     → Performs caller asked old new false reply_lines result → Performs caller asked old new telling.failing (reply_after telling.lines) result
 silently caller asked old new telling result fresh performed = subst (λ (telling : Telling). Performs caller asked old new telling.failing (reply_after telling.lines) result) (sym fresh) performed
+
+-- nor does one that changes nothing
+pub reads : (caller : Caller) (asked : Asked) (tables : Tables) (telling : Telling) (result : Result Answer Fault) → telling ≡ fresh_telling caller.setup.now.turns → Reads caller asked tables result → Performs caller asked tables tables telling.failing (reply_after telling.lines) result
+reads caller asked tables telling result fresh read = silently caller asked tables tables telling result fresh (by result read.returns)
+  where
+    by : (result : Result Answer Fault) → Returns (its_refusal caller asked tables) (λ answer. its_effect caller asked tables ≡ replies (state_at tables caller.place) answer) result → Performs caller asked tables tables false reply_lines result
+    by (Ok answer) (passed, effect) = record {
+      returns = (passed, ap (λ effect. effect.lines) effect);
+      posts = [];
+      front = tt;
+      posted = sym (ap (λ effect. effect.posts) effect);
+      done = left_as caller asked tables tables (state_at tables caller.place) (ap (λ effect. effect.state) effect) refl refl;
+      refused = tt;
+      others = others_changed caller.setup.now.classes caller.name.now tables tables caller.place (changes_same tables tables caller.place refl);
+    }
+    by (Err (Refused code)) refused = stopped caller asked tables tables reply_lines code (Err (Refused code)) refl refused refl
+    by (Err Memory) none = starved caller asked tables tables reply_lines (Err Memory) refl (changes_same tables tables caller.place refl)
 
 -- one that is refused before it posts anything
 pub quietly : (caller : Caller) (asked : Asked) (old new : Tables) (telling : Telling) (lines : Answer → List Line) (result : Result Answer Fault) → telling ≡ fresh_telling caller.setup.now.turns
@@ -281,8 +274,8 @@ module _ (caller : Caller) (old : Tables) (placed : IsPlaced old caller.place) w
       ap (λ refusal. unless refusal (state_at old caller.place) (performs (settings_of caller.setup.now) caller.name.now (state_at old caller.place) Reset)) anew_passed
       ∙ performs_reset (settings_of caller.setup.now) caller.name.now (state_at old caller.place)
 
-  pub obeys_anew : (new : Tables) (lines : List Line) → new ≡ with_session old caller.place fresh → lines ≡ Reply (Truth true) ∷ [] → Obeys caller Reset old new false (Ok lines)
-  obeys_anew new lines e told = record {
+  pub obeys_anew : (new : Tables) (was : Bool) (lines : List Line) → new ≡ with_session old caller.place fresh → lines ≡ Reply (Truth true) ∷ [] → Obeys caller Reset old new was was (Ok lines)
+  obeys_anew new was lines e told = record {
     returns = (anew_passed, told ∙ sym (ap (λ effect. effect.lines) (performs_reset (settings_of caller.setup.now) caller.name.now (state_at old caller.place))));
     posts = [];
     front = tt;
@@ -293,24 +286,35 @@ module _ (caller : Caller) (old : Tables) (placed : IsPlaced old caller.place) w
     );
     refused = tt;
     fails = tt;
+    failing = false;
     others = others_changed caller.setup.now.classes caller.name.now old new caller.place (changes_session old new caller.place fresh placed e);
+    mark = refl;
   }
 
   -- it fails where its reply finds no memory
-  pub obeys_anew_wanting : (middle new : Tables) (result : Result (List Line) Fault) → middle ≡ with_session old caller.place fresh → new ≡ with_session middle caller.place gone → IsErrAnd result (λ fault. fault ≡ Memory) → Obeys caller Reset old new false result
-  obeys_anew_wanting middle new (Ok lines) e f wanted = absurd wanted
-  obeys_anew_wanting middle new (Err fault) e f wanted =
+  pub obeys_anew_wanting : (middle new : Tables) (was : Bool) → middle ≡ with_session old caller.place fresh → new ≡ with_session middle caller.place gone → Obeys caller Reset old new was true (Err Memory)
+  obeys_anew_wanting middle new was e f =
       let first = changes_session old middle caller.place fresh placed e in
       let still = placed_shaped old middle caller.place (shaped_changed old middle caller.place first) placed in
-      subst (λ fault. Obeys caller Reset old new false (Err fault)) (sym wanted) (record {
+      record {
         returns = tt;
         posts = [];
         front = front_none _;
         done = tt;
         refused = tt;
         fails = (ap (λ tables. session_at tables caller.place) f ∙ session_there middle caller.place gone still, open_to_reset);
+        failing = false;
         others = others_changed caller.setup.now.classes caller.name.now old new caller.place (changes_twice old middle new caller.place first (changes_session middle new caller.place gone still f));
-      })
+        mark = refl;
+      }
+
+-- the mark that memory was refused, by what was noted
+marks_of : (was now failing : Bool) (result : Result (List Line) Fault) → now ≡ (wants_memory result || failing || was) → Marks was now failing (told result)
+marks_of was now true (Ok lines) mark = Loud (inr refl) mark
+marks_of was now false (Ok lines) mark = Quiet refl refl mark
+marks_of was now true (Err (Refused code)) mark = Loud (inr refl) mark
+marks_of was now false (Err (Refused code)) mark = Quiet refl refl mark
+marks_of was now failing (Err Memory) mark = Loud (inl refl) mark
 
 module _ (caller : Caller) (asked : Asked) (old new : Tables) where
   -- what the session does with it
@@ -327,46 +331,47 @@ module _ (caller : Caller) (asked : Asked) (old new : Tables) where
   own_effect = session_does (settings_of caller.setup.now) caller.name.now session asked
 
   unposted : (code : Code) → own_refusal ≡ Some code → own_effect.posts ≡ []
-  unposted code refused = ap (λ refusal. (unless refusal (state_at old caller.place) (performs (settings_of caller.setup.now) caller.name.now (state_at old caller.place) asked)).posts) refused
+  unposted code refused = ap (λ refusal. (unless refusal (state_at old caller.place) (its_effect caller asked old)).posts) refused
 
   stays : (code : Code) → own_refusal ≡ Some code → new ≡ old → session_at new caller.place ≡ its_end
   stays code refused same = ap (λ tables. session_at tables caller.place) same ∙ sym (refused_after (settings_of caller.setup.now) caller.name.now session asked code refused)
 
-  obeys_refused : (failing : Bool) (code : Code) (posts : List Post) → own_refusal ≡ Some code → new ≡ old → OthersHear caller.setup.now.classes caller.name.now caller.place posts old new failing → Obeys caller asked old new failing (Err (Refused code))
-  obeys_refused failing code posts refused same others = record {
+  obeys_refused : (was : Bool) (code : Code) → own_refusal ≡ Some code → new ≡ old → Obeys caller asked old new was was (Err (Refused code))
+  obeys_refused was code refused same = record {
     returns = refused;
     posts = [];
     front = tt;
     done = (stays code refused same, sym (unposted code refused));
     refused = same;
     fails = tt;
-    others = by failing refl;
+    failing = false;
+    others = others_changed caller.setup.now.classes caller.name.now old new caller.place (changes_same old new caller.place same);
+    mark = refl;
   }
-    where
-      by : (flag : Bool) → failing ≡ flag → OthersHear caller.setup.now.classes caller.name.now caller.place [] old new failing
-      by true some = let it = others.one some in absurd (true≢false (sym it.4 ∙ ap (λ tables. failed_at tables it.0) same ∙ it.3))
-      by false none = subst (OthersHear caller.setup.now.classes caller.name.now caller.place [] old new) (sym none) (others_changed caller.setup.now.classes caller.name.now old new caller.place (changes_same old new caller.place same))
 
   -- a session that has failed refuses, unless it begins anew
-  pub obeys_failed : (failing : Bool) → failing ≡ false → failed_at old caller.place ≡ true → is_reset asked ≡ false → new ≡ old → Obeys caller asked old new failing (Err (Refused SessionFailed))
-  obeys_failed failing quiet was other same =
-      let refused : own_refusal ≡ Some SessionFailed = ap (λ b. if b then Some SessionFailed else refusal (settings_of caller.setup.now) caller.name.now (state_at old caller.place) asked) (ap (λ failed. failed && not (is_reset asked)) was ∙ ap not other) in
-      obeys_refused failing SessionFailed [] refused same (subst (OthersHear caller.setup.now.classes caller.name.now caller.place [] old new) (sym quiet) (others_changed caller.setup.now.classes caller.name.now old new caller.place (changes_same old new caller.place same)))
+  pub obeys_failed : (was : Bool) → failed_at old caller.place ≡ true → is_reset asked ≡ false → new ≡ old → Obeys caller asked old new was was (Err (Refused SessionFailed))
+  obeys_failed was failed other same =
+      let refused : own_refusal ≡ Some SessionFailed = ap (λ b. if b then Some SessionFailed else its_refusal caller asked old) (ap (λ failed. failed && not (is_reset asked)) failed ∙ ap not other) in
+      obeys_refused was SessionFailed refused same
 
-  module _ (fine : failed_at old caller.place ≡ false) (failing : Bool) where
+  module _ {T : Type 0} (fine : failed_at old caller.place ≡ false) (failing was : Bool) (lines : T → List Line) where
     unshut : is_shut session asked ≡ false
     unshut = not_shut (settings_of caller.setup.now) caller.name.now session asked fine
 
-    by_command : own_refusal ≡ refusal (settings_of caller.setup.now) caller.name.now (state_at old caller.place) asked
-    by_command = ap (λ b. if b then Some SessionFailed else refusal (settings_of caller.setup.now) caller.name.now (state_at old caller.place) asked) unshut
+    by_command : own_refusal ≡ its_refusal caller asked old
+    by_command = ap (λ b. if b then Some SessionFailed else its_refusal caller asked old) unshut
 
-    -- another one is told what the command tells
-    pub obeys_found : (result : Result (List Line) Fault) → Performs caller asked old new failing (λ lines. lines) result → wants_memory result ≡ false → Obeys caller asked old new failing result
-    obeys_found (Ok lines) performed found =
+    does_passed : own_refusal ≡ None → own_effect ≡ its_effect caller asked old
+    does_passed passed = ap (λ refusal. unless refusal (state_at old caller.place) (its_effect caller asked old)) passed
+
+    -- another one is told what the command tells,
+    pub obeys_replied : (value : T) (told : List Line) → Performs caller asked old new failing lines (Ok value) → told ≡ lines value → Obeys caller asked old new was (failing || was) (Ok told)
+    obeys_replied value told performed is =
         let passed : own_refusal ≡ None = by_command ∙ performed.returns.0 in
-        let does = ap (λ refusal. unless refusal (state_at old caller.place) (performs (settings_of caller.setup.now) caller.name.now (state_at old caller.place) asked)) passed in
+        let does = does_passed passed in
         record {
-          returns = (passed, sym performed.returns.1);
+          returns = (passed, is ∙ sym performed.returns.1);
           posts = performed.posts;
           front = tt;
           done = (
@@ -375,56 +380,63 @@ module _ (caller : Caller) (asked : Asked) (old new : Tables) where
           );
           refused = tt;
           fails = tt;
+          failing = failing;
           others = performed.others;
+          mark = refl;
         }
-    obeys_found (Err (Refused code)) performed found = obeys_refused failing code performed.posts (by_command ∙ performed.returns) performed.refused performed.others
-    obeys_found (Err Memory) performed found = absurd (true≢false found)
 
-    -- and where memory was wanted it has failed
-    pub obeys_wanting : (result : Result (List Line) Fault) (end : Tables) → IsPlaced old caller.place → Performs caller asked old new failing (λ lines. lines) result → wants_memory result ≡ true → end ≡ with_session new caller.place gone → Obeys caller asked old end failing result
-    obeys_wanting (Ok lines) end placed performed wanted e = absurd (true≢false (sym wanted))
-    obeys_wanting (Err (Refused code)) end placed performed wanted e = absurd (true≢false (sym wanted))
-    obeys_wanting (Err Memory) end placed performed wanted e =
+    -- or why it is refused,
+    pub obeys_refusing : (code : Code) → Performs caller asked old new failing lines (Err (Refused code)) → Obeys caller asked old new was was (Err (Refused code))
+    obeys_refusing code performed = obeys_refused was code (by_command ∙ performed.returns) performed.refused
+
+    -- and where memory was wanted, for the command or for its reply, it has failed
+    pub obeys_wanting : (result : Result T Fault) (end : Tables) → IsPlaced old caller.place → Performs caller asked old new failing lines result → OnRefused result ⊥ → end ≡ with_session new caller.place gone → Obeys caller asked old end was true (Err Memory)
+    obeys_wanting result end placed performed unrefused e =
         let still = placed_shaped old new caller.place performed.others.shape placed in
         record {
           returns = tt;
           posts = performed.posts;
-          front = subst (λ (effect : Effect State Line Post). IsFront performed.posts effect.posts) (sym (does_fine (settings_of caller.setup.now) caller.name.now session asked fine)) performed.front;
+          front = posted result performed unrefused;
           done = tt;
           refused = tt;
           fails = (ap (λ tables. session_at tables caller.place) e ∙ session_there new caller.place gone still, unshut);
+          failing = failing;
           others = others_then caller.setup.now.classes caller.name.now old new end caller.place performed.posts failing performed.others (changes_session new end caller.place gone still e);
+          mark = refl;
         }
+      where
+        posted : (result : Result T Fault) → (performed : Performs caller asked old new failing lines result) → OnRefused result ⊥ → IsFront performed.posts own_effect.posts
+        posted (Ok value) performed unrefused = subst (IsFront performed.posts) (performed.posted ∙ sym (ap (λ effect. effect.posts) (does_passed (by_command ∙ performed.returns.0)))) (front_same performed.posts)
+        posted (Err (Refused code)) performed refused = absurd refused
+        posted (Err Memory) performed unrefused = subst (λ (effect : Effect State Line Post). IsFront performed.posts effect.posts) (sym (does_fine (settings_of caller.setup.now) caller.name.now session asked fine)) performed.front
 
   -- so it ends as a command does
-  module _ (failing : Bool) (names : List (List ℕ)) (was now : Bool) where
-    pub ends : (result : Result (List Line) Fault) → Obeys caller asked old new failing result → Marks was now failing (told result) → Ended (contents caller.setup.now names old was) (contents caller.setup.now names new now) caller.place caller.name.now asked (told result) failing
-    ends (Ok lines) obeyed mark =
-        let passed = ap (λ refusal. unless refusal session.state (performs (settings_of caller.setup.now) caller.name.now session.state asked)) obeyed.returns.0 in
-        record {
-          settings = refl;
-          names = refl;
-          posts = obeyed.posts;
-          others = obeyed.others;
-          mark = mark;
-          own = Told (ap Some (obeyed.returns.1 ∙ sym (ap (λ effect. effect.lines) passed))) obeyed.done.0 obeyed.done.1;
-          stays = λ refused. some_none_of (session_refusal (settings_of caller.setup.now) caller.name.now session asked) obeyed.returns.0 refused;
-        }
-    ends (Err (Refused code)) obeyed mark =
-        record {
-          settings = refl;
-          names = refl;
-          posts = obeyed.posts;
-          others = obeyed.others;
-          mark = mark;
-          own = Told (ap (λ refusal. Some (unless refusal session.state (performs (settings_of caller.setup.now) caller.name.now session.state asked)).lines) (sym obeyed.returns)) obeyed.done.0 obeyed.done.1;
-          stays = λ refused. obeyed.refused;
-        }
-    ends (Err Memory) obeyed mark = record { settings = refl; names = refl; posts = obeyed.posts; others = obeyed.others; mark = mark; own = GaveUp refl obeyed.fails.0 obeyed.front; stays = λ refused. tt }
+  module _ (names : List (List ℕ)) (was now : Bool) where
+    pub ends : (result : Result (List Line) Fault) → (obeyed : Obeys caller asked old new was now result) → Ended (contents caller.setup.now names old was) (contents caller.setup.now names new now) caller.place caller.name.now asked (told result) obeyed.failing
+    ends result obeyed = record {
+      settings = refl;
+      names = refl;
+      posts = obeyed.posts;
+      others = obeyed.others;
+      mark = marks_of was now obeyed.failing result obeyed.mark;
+      own = own result obeyed;
+      stays = stay result obeyed;
+    }
+      where
+        own : (result : Result (List Line) Fault) → (obeyed : Obeys caller asked old new was now result) → Own (settings_of caller.setup.now) caller.name.now asked (told result) obeyed.posts session (session_at new caller.place)
+        own (Ok lines) obeyed =
+            Told (ap Some (obeyed.returns.1 ∙ sym (ap (λ refusal. (unless refusal session.state (performs (settings_of caller.setup.now) caller.name.now session.state asked)).lines) obeyed.returns.0))) obeyed.done.0 obeyed.done.1
+        own (Err (Refused code)) obeyed = Told (ap (λ refusal. Some (unless refusal session.state (performs (settings_of caller.setup.now) caller.name.now session.state asked)).lines) (sym obeyed.returns)) obeyed.done.0 obeyed.done.1
+        own (Err Memory) obeyed = GaveUp refl obeyed.fails.0 obeyed.front
+
+        stay : (result : Result (List Line) Fault) → Obeys caller asked old new was now result → IsSome own_refusal → OnSome (told result) (new ≡ old)
+        stay (Ok lines) obeyed refused = some_none_of own_refusal obeyed.returns.0 refused
+        stay (Err (Refused code)) obeyed refused = obeyed.refused
+        stay (Err Memory) obeyed refused = tt
 
 -- an engine whose session at a place did a command
-module _ (caller : Caller) (asked : Asked) (old new : Tables) (result : Result (List Line) Fault) (failing : Bool) (obeyed : Obeys caller asked old new failing result)
-    (names : List (List ℕ)) (was now : Bool) (mark : Marks was now failing (told result)) (engine : Contents) (whole : IsWhole (contents caller.setup.now names old was)) (fits : (state : State) → IsFittingAsked (settings_of caller.setup.now) state asked) (is : contents caller.setup.now names old was ≡ engine) (given : Some caller.name.now ≡ slice_get names caller.place) where
+module _ (caller : Caller) (asked : Asked) (old new : Tables) (was now : Bool) (result : Result (List Line) Fault) (obeyed : Obeys caller asked old new was now result)
+    (names : List (List ℕ)) (engine : Contents) (whole : IsWhole (contents caller.setup.now names old was)) (fits : (state : State) → IsFittingAsked (settings_of caller.setup.now) state asked) (is : contents caller.setup.now names old was ≡ engine) (given : Some caller.name.now ≡ slice_get names caller.place) where
   module _ (name : List ℕ) (there : place engine name ≡ Some caller.place) where
     same : name ≡ caller.name.now
     same = named_at (contents caller.setup.now names old was) name caller.place caller.name.now (ap (λ engine. place engine name) is ∙ there) given
@@ -432,36 +444,44 @@ module _ (caller : Caller) (asked : Asked) (old new : Tables) (result : Result (
     here : place (contents caller.setup.now names old was) caller.name.now ≡ Some caller.place
     here = subst (λ name. place (contents caller.setup.now names old was) name ≡ Some caller.place) same (ap (λ engine. place engine name) is ∙ there)
 
-    its_ending : Ended (contents caller.setup.now names old was) (contents caller.setup.now names new now) caller.place caller.name.now asked (told result) failing
-    its_ending = ends caller asked old new failing names was now result obeyed mark
+    its_ending : Ended (contents caller.setup.now names old was) (contents caller.setup.now names new now) caller.place caller.name.now asked (told result) obeyed.failing
+    its_ending = ends caller asked old new names was now result obeyed
 
     pub done_whole : IsWhole (contents caller.setup.now names new now)
-    done_whole = whole_after _ _ caller.place caller.name.now asked (told result) failing whole fits here its_ending
+    done_whole = whole_after _ _ caller.place caller.name.now asked (told result) obeyed.failing whole fits here its_ending
 
     pub done_step : IsStep (seen engine) (seen (contents caller.setup.now names new now)) name asked (told result)
     done_step = subst (λ (engine : Contents). IsStep (seen engine) (seen (contents caller.setup.now names new now)) name asked (told result)) is
         (subst (λ name. IsStep (seen (contents caller.setup.now names old was)) (seen (contents caller.setup.now names new now)) name asked (told result)) (sym same)
-        (step_of _ _ caller.place caller.name.now asked (told result) failing whole fits here its_ending))
+        (step_of _ _ caller.place caller.name.now asked (told result) obeyed.failing whole fits here its_ending))
+
+    now_there : place (contents caller.setup.now names new now) name ≡ Some caller.place
+    now_there = ap (λ engine. place engine name) is ∙ there
+
+    own : session_at old caller.place ≡ sessions engine name
+    own = sym (sessions-place (contents caller.setup.now names old was) name caller.place now_there) ∙ ap (λ engine. sessions engine name) is
 
     -- what the call returns, by the name of its session
     ReturnsIn : Contents → List ℕ → Session → Type 0
     ReturnsIn engine name session = Returns (session_refusal engine.settings name session asked) (λ lines. lines ≡ (performs engine.settings name session.state asked).lines) result
 
-    pub returns_named : Returns (session_refusal engine.settings name (sessions engine name) asked) (λ lines. lines ≡ (performs engine.settings name (states engine name) asked).lines) result
+    returns_named : Returns (session_refusal engine.settings name (sessions engine name) asked) (λ lines. lines ≡ (performs engine.settings name (states engine name) asked).lines) result
     unfolding ReturnsIn
     returns_named =
-        subst (ReturnsIn engine name) (sym (sessions-place engine name caller.place there))
-        (subst (λ (engine : Contents). ReturnsIn engine name (session_at engine.tables caller.place)) is
+        subst (ReturnsIn engine name) own
+        (subst (λ (engine : Contents). ReturnsIn engine name (session_at old caller.place)) is
         (subst (λ name. ReturnsIn (contents caller.setup.now names old was) name (session_at old caller.place)) (sym same) obeyed.returns))
 
--- the mark that memory was refused, by what was looked at
-pub marks_loud : (was failing : Bool) (result : Result (List Line) Fault) → (wants_memory result ≡ true) ⊎ (failing ≡ true) → Marks was true failing (told result)
-marks_loud was failing (Ok lines) (inl wanted) = absurd (true≢false (sym wanted))
-marks_loud was failing (Err (Refused code)) (inl wanted) = absurd (true≢false (sym wanted))
-marks_loud was failing (Err Memory) (inl wanted) = Loud (inl refl) refl
-marks_loud was failing result (inr some) = Loud (inr some) refl
+    pub done_answered : IsAnswered engine (contents caller.setup.now names new now) name asked result
+    done_answered = record { returns = returns_named; refused = stays result obeyed.refused; fails = (ends_so result obeyed.fails).0; fine = (ends_so result obeyed.fails).1 }
+      where
+        stays : (result : Result (List Line) Fault) → OnRefused result (new ≡ old) → OnRefused result (sessions (contents caller.setup.now names new now) ≡ sessions engine)
+        stays (Ok lines) kept = tt
+        stays (Err (Refused code)) kept = ap (λ tables. sessions (contents caller.setup.now names tables now)) kept ∙ ap sessions is
+        stays (Err Memory) kept = tt
 
-pub marks_quiet : (was failing : Bool) (result : Result (List Line) Fault) → wants_memory result ≡ false → failing ≡ false → Marks was was failing (told result)
-marks_quiet was failing (Ok lines) found none = Quiet none refl refl
-marks_quiet was failing (Err (Refused code)) found none = Quiet none refl refl
-marks_quiet was failing (Err Memory) found none = absurd (true≢false found)
+        ends_so : (result : Result (List Line) Fault) → OnMemory result ((session_at new caller.place ≡ gone) × IsFalse (is_shut (session_at old caller.place) asked))
+            → OnMemory result (sessions (contents caller.setup.now names new now) name ≡ gone) × OnMemory result (IsFalse (is_shut (sessions engine name) asked))
+        ends_so (Ok lines) fails = (tt, tt)
+        ends_so (Err (Refused code)) fails = (tt, tt)
+        ends_so (Err Memory) fails = (sessions-place (contents caller.setup.now names new now) name caller.place now_there ∙ fails.0, subst (λ (session : Session). IsFalse (is_shut session asked)) own fails.1)

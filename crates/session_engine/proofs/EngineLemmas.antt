@@ -1,5 +1,5 @@
 -- What changes of an engine by places change of its sessions by names.
-use Rattle.std.proofs.Common.{◌≡◌, ℕ, ◌+◌, ◌<◌, ◌≤◌, Bool, true, false, not, cond, List, [], ◌∷◌, ◌++◌, Some, None, length, position, get_or, slice_get, eqb, ltb, refl, sym, ap, subst, ◌∙◌, ⊎_elim, arith}
+use Rattle.std.proofs.Common.{◌≡◌, ℕ, ◌+◌, ◌<◌, ◌≤◌, Bool, true, false, not, cond, List, [], ◌∷◌, ◌++◌, Some, None, length, position, get_or, slice_get, eqb, ltb, refl, sym, ap, ap₂, subst, ◌∙◌, ⊎_elim, arith}
 use Rattle.std.specs.Prelude.{bytes_eq}
 use Rattle.std.specs.List.{list_any, position_or_len}
 use Rattle.std.specs.Option.{option_map_or}
@@ -22,9 +22,10 @@ use Rattle.thread_model.specs.State.{fields_of}
 use Rattle.thread_model.specs.Thread.{Settings}
 use Rattle.session_tables.specs.declared.tables.Tables.{Tables}
 use Rattle.session_tables.specs.Session.{Session, fresh}
+use Rattle.session_tables.specs.Tables as tables
 use Rattle.session_tables.specs.Tables.{AreEven, AreSame, IsPlaced, session_at}
 use Rattle.session_tables.proofs.TablesLemmas.{even_opened, even_same, placed_by, session_opened, session_past, session_same}
-use Rattle.session_engine.specs.Core.{Contents, IsKept, IsWhole, opened, place, seen, sessions}
+use Rattle.session_engine.specs.Core.{Contents, IsKept, IsWhole, place, seen, sessions}
 use Rattle.session_engine.specs.Sessions.{AreSound, IsSoundSession}
 use Rattle.session_engine.proofs.SessionLemmas.{kept_fresh}
 
@@ -140,6 +141,10 @@ named_opened names name absent named at within = by (ltb at (length names)) refl
         ap (λ (it : List ℕ). position (bytes_eq it) (names ++ name ∷ [])) is
         ∙ found_at (bytes_eq name) (position_or_len_push (bytes_eq name) names name ∙ grind (arith, itself, end, last))
 
+-- with one more session
+abbrev opened : Contents → List ℕ → Contents
+opened engine name = record { settings = engine.settings; names = engine.names ++ name ∷ []; tables = tables.opened engine.tables; memory_refused = engine.memory_refused }
+
 module _ (engine : Contents) (whole : IsWhole engine) where
   -- a new place changes no session: the new one is fresh, and was so before
   pub whole_opened : (name : List ℕ) → place engine name ≡ None → IsWhole (opened engine name)
@@ -211,3 +216,24 @@ place-opened engine name absent =
     let found : position_or_len passes (opened engine name).names ≡ length engine.names = more ∙ grind (arith, itself, last) in
     let within : ltb (position_or_len passes (opened engine name).names) (length (opened engine name).names) ≡ true = grind (arith, common_steps, found) in
     cond-true _ _ _ within ∙ ap Some found
+
+-- a new name has gone behind the others, and its session behind theirs, over tables with room
+module _ (engine : Contents) (ready after : Tables) (name copy : List ℕ) (keys : List (List ℕ)) (same : AreSame engine.tables ready) (whole : IsWhole engine) (absent : place engine name ≡ None)
+    (equal : copy ≡ name) (inserted : keys ≡ insert_key bytes_eq engine.names copy) (one_more : after ≡ tables.opened ready) where
+  abbrev entered : Contents
+  entered = record { settings = engine.settings; names = keys; tables = after; memory_refused = engine.memory_refused }
+
+  is : entered ≡ opened (with_tables engine ready) name
+  is = ap₂ (λ keys tables. record { settings = engine.settings; names = keys; tables = tables; memory_refused = engine.memory_refused }) (inserted ∙ insert_key-new engine.names name copy equal absent) one_more
+
+  before : IsWhole (with_tables engine ready)
+  before = whole_same engine ready same whole
+
+  pub entered_whole : IsWhole entered
+  entered_whole = subst IsWhole (sym is) (whole_opened (with_tables engine ready) before name absent)
+
+  pub entered_place : position (bytes_eq name) keys ≡ Some (length ready.failed.places)
+  entered_place = ap (λ engine. place engine name) is ∙ place-opened (with_tables engine ready) name absent ∙ ap Some before.paired
+
+  pub entered_sessions : sessions entered ≡ sessions engine
+  entered_sessions = ap sessions is ∙ fun_ext (λ other. sessions-opened (with_tables engine ready) before name other absent) ∙ sessions-same engine ready same

@@ -34,11 +34,11 @@ use Rattle.session_tables.specs.Tables.{IsPlaced, state_at, with_state}
 use Rattle.session_tables.proofs.TablesLemmas.{state_with}
 use Rattle.session_effects.specs.declared.caller.Caller.{Caller}
 use Rattle.session_effects.specs.Setup.{settings_of}
-use Rattle.session_engine.specs.Commands.{Performs, reply_after}
+use Rattle.session_engine.specs.Commands.{Performs, its_effect, reply_after}
 use Rattle.nested_calls.specs.declared.telling.Telling.{Telling}
 use Rattle.nested_calls.specs.Telling.{doing_at, fresh_telling, spent}
 use Rattle.nested_calls.proofs.AgendaLemmas.{spent_is}
-use Rattle.session_engine.proofs.CommandsLemmas.{at_first_reaches, its_effect, replied_last}
+use Rattle.session_engine.proofs.CommandsLemmas.{at_first_reaches, replied_last}
 use Rattle.nested_calls.specs.Agenda.{Does}
 use Rattle.nested_calls.proofs.DoesLemmas.{SoFar, here, reaches_none}
 use Rattle.session_tables.specs.Reaching.{Reaches}
@@ -161,7 +161,7 @@ few_taken settings agenda place old new before after earlier posts does =
 
 -- what came of it is replied last
 pub spin_runs : (caller : Caller) (old new : Tables) (before : Telling) → before ≡ fresh_telling caller.setup.now.turns
-    → let done = run (settings_of caller.setup.now) (Spin ∷ []) (doing_at caller.place old before []) in its_effect caller asked.Spin old new ≡ ended (told done (line.Reply (a.Spun (spin_of done))))
+    → let done = run (settings_of caller.setup.now) (Spin ∷ []) (doing_at caller.place old before []) in its_effect caller asked.Spin old ≡ ended (told done (line.Reply (a.Spun (spin_of done))))
 spin_runs caller old new before fresh =
     let settings = settings_of caller.setup.now in
     let state = state_at old caller.place in

@@ -48,11 +48,11 @@ use Rattle.session_effects.specs.Methods.{number_named}
 use Rattle.session_effects.proofs.MethodLemmas.{methods_by_class}
 use Rattle.session_effects.specs.declared.caller.Caller.{Caller}
 use Rattle.nested_calls.specs.declared.telling.Telling.{Telling}
-use Rattle.session_engine.specs.Commands.{DoesAtFirst, Performs, reply_after}
+use Rattle.session_engine.specs.Commands.{DoesAtFirst, Performs, its_effect, its_refusal, reply_after}
 use Rattle.session_effects.specs.Setup.{settings_of}
 use Rattle.nested_calls.specs.Telling.{doing_at, fresh_telling, spent}
 use Rattle.nested_calls.proofs.AgendaLemmas.{spent_is}
-use Rattle.session_engine.proofs.CommandsLemmas.{at_first_reaches, its_effect, its_refusal, or_second, replied_last}
+use Rattle.session_engine.proofs.CommandsLemmas.{at_first_reaches, or_second, replied_last}
 use Rattle.nested_calls.specs.Agenda.{DoesNext}
 use Rattle.nested_calls.specs.Front.{IsFront}
 use Rattle.nested_calls.proofs.DoesLemmas.{OnErr-map, OnOk-map}
@@ -164,7 +164,7 @@ module _ (caller : Caller) (object : ℕ) (text : List ℕ) (args : List Data) (
   the_state = state_at old caller.place
 
   abbrev the_refusal : Option Code
-  the_refusal = its_refusal caller (Invoke object text args mode priority) old new
+  the_refusal = its_refusal caller (Invoke object text args mode priority) old
 
   -- then it goes by the method that is found
   pub refusal_found : (found : Option ℕ) → asked_method the_settings the_state object text ≡ found → the_refusal ≡ option_or (values_refusal the_settings the_state object args found) (later_refusal the_state mode found)
@@ -198,7 +198,7 @@ pub invoke_runs : (caller : Caller) (object : ℕ) (text : List ℕ) (args : Lis
     → is_queued mode ≡ false → asked_method (settings_of caller.setup.now) (state_at old caller.place) object text ≡ Some index
     → asked_values (settings_of caller.setup.now) (state_at old caller.place) object index args ≡ Ok values
     → let next = invoked (settings_of caller.setup.now) (state_at old caller.place) object index values in
-    its_effect caller (Invoke object text args mode priority) old new ≡ ended (told (run (settings_of caller.setup.now) next.items next.doing) (line.Reply (a.Truth true)))
+    its_effect caller (Invoke object text args mode priority) old ≡ ended (told (run (settings_of caller.setup.now) next.items next.doing) (line.Reply (a.Truth true)))
 invoke_runs caller object text args mode priority old new index values at_once found given =
     let settings = settings_of caller.setup.now in
     let state = state_at old caller.place in
@@ -210,7 +210,7 @@ invoke_runs caller object text args mode priority old new index values at_once f
 
 -- so it is performed
 pub performs_invoked : {T E : Type 0} (caller : Caller) (object : ℕ) (text : List ℕ) (args : List Data) (mode : ConnectionType) (priority : Priority) (old new : Tables) (before after : Telling) (value : T) (index : ℕ) (values : List Value) → before ≡ fresh_telling caller.setup.now.turns
-    → is_queued mode ≡ false → its_refusal caller (Invoke object text args mode priority) old new ≡ None
+    → is_queued mode ≡ false → its_refusal caller (Invoke object text args mode priority) old ≡ None
     → asked_method (settings_of caller.setup.now) (state_at old caller.place) object text ≡ Some index
     → asked_values (settings_of caller.setup.now) (state_at old caller.place) object index args ≡ Ok values
     → DoesAtFirst {E = E} caller (invoked (settings_of caller.setup.now) (state_at old caller.place) object index values) old new before after (Ok value)

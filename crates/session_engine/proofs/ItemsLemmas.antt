@@ -23,7 +23,6 @@ use Rattle.thread_model.proofs.Lawful.{lawful}
 use Rattle.session_tables.specs.Reaching.{Hears, heard}
 use Rattle.session_tables.specs.Session.{Session}
 use Rattle.session_engine.specs.declared.item.Item.{Item}
-use Rattle.session_engine.specs.Core.{Contents, seen}
 use Rattle.session_engine.specs.Items.{Coming, HasArrived, HasAdded, HasCome, HaveCome, RunsAlone, all_lines, item_of}
 use Rattle.session_engine.specs.Sessions.{AnotherFails, AreSound, IsStep, Sessions, given_by, states_of}
 
@@ -210,12 +209,6 @@ pub runs_alone : (old new : Sessions) (name : List ℕ) (items : List Coming) (t
 runs_alone old new name items told sound come =
     let it = follows old new name items told come in
     record { come = come; lines = it.lines; own = it.own; others = it.others; blame = it.blame; sound = come_sound old new name items told come sound }
-
--- a command of its own has come, and its lines are put behind others, unless memory is wanted for that
-pub own_added : {T E : Type 0} (old middle new : Contents) (name : List ℕ) (asked : Asked) (before after lines : List Line) (result : Result T E) → IsStep (seen old) (seen middle) name asked (Some lines)
-    → OnOk result (new ≡ middle) → OnOk result (after ≡ before ++ lines) → OnOk result (HasAdded (seen old) (seen new) name (theory.Own asked) before after)
-own_added old middle new name asked before after lines (Ok done) step same is = (lines, subst (λ (end : Contents). IsStep (seen old) (seen end) name asked (Some lines)) (sym same) step, is)
-own_added old middle new name asked before after lines (Err error) step same is = tt
 
 -- a post has come as an item, of which nothing is told
 pub arrival_comes : {T E : Type 0} (old new : Sessions) (name from : List ℕ) (post : Post) (before : List Line) (result : Result T E) → HasArrived old new name from post (result_ok result) → OnOk result (HasAdded old new name (theory.Arrival from post) before before)

@@ -35,9 +35,9 @@ use Rattle.session_effects.specs.declared.announcing.News.{News}
 use Rattle.session_effects.specs.Setup.{settings_of}
 use Rattle.session_effects.specs.Writing.{TriesToWrite, Writes, items_of}
 use Rattle.nested_calls.specs.declared.telling.Telling.{Telling}
-use Rattle.session_engine.specs.Commands.{Performs, reply_after}
+use Rattle.session_engine.specs.Commands.{Performs, its_effect, its_refusal, reply_after}
 use Rattle.nested_calls.specs.Telling.{doing_at, fresh_telling}
-use Rattle.session_engine.proofs.CommandsLemmas.{its_effect, its_refusal, or_second, starved, stopped}
+use Rattle.session_engine.proofs.CommandsLemmas.{or_second, starved, stopped}
 use Rattle.session_engine.proofs.ToldLemmas.{performs_told, starved_told}
 use Rattle.nested_calls.specs.Agenda.{Does}
 use Rattle.nested_calls.proofs.DoesLemmas.{does_none}
@@ -106,7 +106,7 @@ dynamic_undeclared state object name value writing e = by value e
 
 -- a property's writing that is refused, or for which memory was wanted
 pub written_fault : {T U : Type 0} (caller : Caller) (asked : Asked) (old new : Tables) (lines : T → List Line) (object : ℕ) (wanted : Found Writing) (tell : U → News) (fault : Fault) (result : Result T Fault) → IsErrAnd result (λ other. other ≡ fault)
-    → its_refusal caller asked old new ≡ result_err wanted → TriesToWrite caller object wanted old tell new (Err fault) → OnRefused {T = U} (Err fault) (new ≡ old) → ChangesOnly caller.place old new → Performs caller asked old new false lines result
+    → its_refusal caller asked old ≡ result_err wanted → TriesToWrite caller object wanted old tell new (Err fault) → OnRefused {T = U} (Err fault) (new ≡ old) → ChangesOnly caller.place old new → Performs caller asked old new false lines result
 written_fault caller asked old new lines object wanted tell (Refused code) result h is why same only = stopped caller asked old new lines code result h (is ∙ ap result_err why) same
 written_fault caller asked old new lines object wanted tell Memory result h is why same only = starved caller asked old new lines result h only
 
@@ -118,11 +118,11 @@ module _ (caller : Caller) (object : ℕ) (property : List ℕ) (json : Data) (o
   items = items_of (settings_of caller.setup.now) (state_at middle caller.place) 0 news
 
   -- what was found is not refused
-  set_passed : its_refusal caller (Set object property json) old new ≡ None
+  set_passed : its_refusal caller (Set object property json) old ≡ None
   set_passed = refusal_set (settings_of caller.setup.now) caller.name.now (state_at old caller.place) object property json ∙ or_second _ _ there ∙ ap result_err asked
 
   -- and comes to what was written
-  set_comes : its_effect caller (Set object property json) old new ≡ does_next (settings_of caller.setup.now) (written (settings_of caller.setup.now) (begun (settings_of caller.setup.now) (state_at old caller.place)) object 0 writing) (a.Truth replied)
+  set_comes : its_effect caller (Set object property json) old ≡ does_next (settings_of caller.setup.now) (written (settings_of caller.setup.now) (begun (settings_of caller.setup.now) (state_at old caller.place)) object 0 writing) (a.Truth replied)
   set_comes =
       set_written (settings_of caller.setup.now) caller.name.now (state_at old caller.place) object property json writing asked
       ∙ ap (λ truth. does_next (settings_of caller.setup.now) (written (settings_of caller.setup.now) (begun (settings_of caller.setup.now) (state_at old caller.place)) object 0 writing) (a.Truth truth)) is

@@ -1,8 +1,6 @@
 -- What a command of one session makes of an engine, by names.
-use Rattle.std.proofs.Common.{◌≡◌, ◌<◌, ◌≤◌, ◌⊎◌, inl, inr, ℕ, Bool, true, false, true≢false, eqb, ltb, List, [], ◌∷◌, length, position, get_or, All, Option, Some, None, is_some, Result, Ok, Err, IfOk, OnOk, OnErr, IfSome, IsSome, OnSome, IsFalse, IsTrue, refl, sym, ap, subst, ◌∙◌, ⊎_elim, arith}
+use Rattle.std.proofs.Common.{◌≡◌, ◌<◌, ◌≤◌, ◌⊎◌, inl, inr, ℕ, Bool, true, false, true≢false, eqb, ltb, List, [], length, position, get_or, All, Option, Some, None, is_some, IfSome, IsSome, OnSome, IsFalse, IsTrue, refl, sym, ap, subst, ◌∙◌, ⊎_elim, arith}
 use Rattle.std.specs.Prelude.{bytes_eq}
-use Rattle.std.specs.Result.{result_ok}
-use Rattle.std.specs.declared.alloc.AllocError.{AllocError}
 use Rattle.std.proofs.Math.Path.{fun_ext}
 use Rattle.std.specs.Option.{option_map_or}
 use Rattle.std.proofs.lemmas.Bool.{cases_Bool, both_ways}
@@ -12,9 +10,7 @@ use Rattle.property_store.specs.Store.{fields_in}
 use Rattle.std.proofs.lemmas.Slice.Eq.{bytes_eq-Decides}
 use Rattle.isolation.specs.World.{after, all_arrive}
 use Rattle.isolation.proofs.Worlds.{after-other, after-own}
-use Rattle.refusals.specs.declared.code.Code.{Code}
 use Rattle.thread_model.specs.declared.line.Line.{Line}
-use Rattle.thread_model.specs.declared.line.Line.TheVariants.{Error}
 use Rattle.thread_model.specs.Asked.{Asked}
 use Rattle.thread_model.specs.Fitting.{AreSettings, IsFittingAsked, IsRightPost}
 use Rattle.thread_model.specs.Machine.{machine}
@@ -326,10 +322,3 @@ step_fails old middle new name asked told step fails = record {
       (λ elsewhere. subst (λ (session : Session). AreNamed session.state) (sym (fails.others other elsewhere)) (step.named is all other))
       (cases_Bool (bytes_eq other name));
 }
-
--- a refusal is told by its line, unless memory was wanted for it
-pub step_told : (old middle new : Contents) (name : List ℕ) (asked : Asked) (code : Code) (result : Result (List Line) AllocError) → IsStep (seen old) (seen middle) name asked (Some (Error code ∷ []))
-    → IfOk result (λ lines. lines ≡ Error code ∷ []) → OnOk result (new ≡ middle) → OnErr result (Fails (seen middle) (seen new) name) → IsStep (seen old) (seen new) name asked (result_ok result)
-step_told old middle new name asked code (Ok lines) step is same fails =
-    subst (λ (end : Contents). IsStep (seen old) (seen end) name asked (Some lines)) (sym same) (subst (λ lines. IsStep (seen old) (seen middle) name asked (Some lines)) (sym is) step)
-step_told old middle new name asked code (Err error) step is same fails = step_fails (seen old) (seen middle) (seen new) name asked (Some (Error code ∷ [])) step fails

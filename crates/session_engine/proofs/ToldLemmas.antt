@@ -23,18 +23,18 @@ use Rattle.nested_calls.specs.declared.telling.Telling.{Telling}
 use Rattle.nested_calls.specs.Agenda.{Does}
 use Rattle.nested_calls.specs.Telling.{doing_at, fresh_telling}
 use Rattle.nested_calls.proofs.DoesLemmas.{reaches_none}
-use Rattle.session_engine.specs.Commands.{Performs, reply_after}
-use Rattle.session_engine.proofs.CommandsLemmas.{at_first_reaches, its_effect, its_refusal, replied_last, starved_last}
+use Rattle.session_engine.specs.Commands.{Performs, its_effect, its_refusal, reply_after}
+use Rattle.session_engine.proofs.CommandsLemmas.{at_first_reaches, replied_last, starved_last}
 
 -- what there is to do, where the session has come from one state to another
 abbrev pub comes : Caller → Tables → Tables → List Item → Next
 comes caller old middle items = puts items (in_state (begun (settings_of caller.setup.now) (state_at old caller.place)) (state_at middle caller.place))
 
 module _ (caller : Caller) (asked : Asked) (old middle new : Tables) (before after : Telling) (items : List Item) (next : Next) (answer : Answer)
-    (placed : IsPlaced old caller.place) (fresh : before ≡ fresh_telling caller.setup.now.turns) (passed : its_refusal caller asked old new ≡ None)
-    (effect : its_effect caller asked old new ≡ does_next (settings_of caller.setup.now) next answer) (is : next ≡ comes caller old middle items) (keeps : Keeps caller.place old middle) where
+    (placed : IsPlaced old caller.place) (fresh : before ≡ fresh_telling caller.setup.now.turns) (passed : its_refusal caller asked old ≡ None)
+    (effect : its_effect caller asked old ≡ does_next (settings_of caller.setup.now) next answer) (is : next ≡ comes caller old middle items) (keeps : Keeps caller.place old middle) where
   -- it is done, and then replied
-  told_runs : its_effect caller asked old new ≡ ended (told (run (settings_of caller.setup.now) items (doing_at caller.place middle before [])) (line.Reply answer))
+  told_runs : its_effect caller asked old ≡ ended (told (run (settings_of caller.setup.now) items (doing_at caller.place middle before [])) (line.Reply answer))
   told_runs =
       let settings = settings_of caller.setup.now in
       effect

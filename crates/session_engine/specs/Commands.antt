@@ -1,6 +1,8 @@
 -- What a command makes of the session at a place.
-use Rattle.std.specs.Prelude.{◌≡◌, ℕ, Bool, eqb, List, [], ◌∷◌, ◌++◌, Result, OnErr, OnOk, IsFalse, IsTrue}
+use Rattle.std.specs.Prelude.{◌≡◌, ℕ, Bool, eqb, List, [], ◌∷◌, Option, ◌++◌, ◌||◌, Result, OnErr, OnOk, IsFalse, IsTrue}
+use Rattle.isolation.specs.Machine.{Effect}
 use Rattle.class_table.specs.declared.class.Class.{Class}
+use Rattle.refusals.specs.declared.code.Code.{Code}
 use Rattle.refusals.specs.Answers.{OnDone, OnMemory}
 use Rattle.refusals.specs.declared.fault.Fault.{Fault}
 use Rattle.thread_model.specs.declared.line.Answer.{Answer}
@@ -9,7 +11,9 @@ use Rattle.thread_model.specs.declared.line.Line.TheVariants.{Reply}
 use Rattle.thread_model.specs.declared.command.Command.{Command}
 use Rattle.thread_model.specs.declared.command.Command.TheVariants as c
 use Rattle.thread_model.specs.Asked.{Asked}
+use Rattle.thread_model.specs.Effects.{replies}
 use Rattle.thread_model.specs.Refusing.{refusal}
+use Rattle.thread_model.specs.State.{State}
 use Rattle.thread_model.specs.Thread.{does, performs}
 use Rattle.session_tables.specs.declared.tables.Tables.{Tables}
 use Rattle.session_tables.specs.Refused.{OnRefused}
@@ -23,7 +27,7 @@ use Rattle.thread_model.specs.Run.{run}
 use Rattle.nested_calls.specs.declared.telling.Telling.{Telling}
 use Rattle.nested_calls.specs.Front.{IsFront}
 use Rattle.nested_calls.specs.Telling.{doing_at}
-use Rattle.session_engine.specs.Returning.{Returns}
+use Rattle.session_engine.specs.Returning.{Returns, wants_memory}
 use Rattle.session_engine.specs.Sessions.{is_shut, session_after, session_does, session_refusal}
 use Rattle.session_effects.specs.Setup.{settings_of}
 
@@ -35,18 +39,16 @@ reply_lines answer = Reply answer ∷ []
 abbrev pub reply_after : List Line → Answer → List Line
 reply_after lines answer = lines ++ Reply answer ∷ []
 
+-- why a command is refused that a session gives which has not failed, and else what it does
+abbrev pub its_refusal : Caller → Asked → Tables → Option Code
+its_refusal caller asked old = refusal (settings_of caller.setup.now) caller.name.now (state_at old caller.place) asked
+
+abbrev pub its_effect : Caller → Asked → Tables → Effect State Line Post
+its_effect caller asked old = performs (settings_of caller.setup.now) caller.name.now (state_at old caller.place) asked
+
 -- the families of commands, in the order in which they are asked for: 0 for objects, their classes and properties;
 -- 1 for bindings, calls and events; 2 for connections; 3 for publications and joins
 abbrev pub family : Command → ℕ
-family (c.New class parent) = 0
-family (c.Delete target) = 0
-family (c.SetParent target parent) = 0
-family (c.Children target) = 0
-family (c.Find target title class) = 0
-family (c.Meta class) = 0
-family (c.Set target property value) = 0
-family (c.Get target property) = 0
-family (c.DynamicNames target) = 0
 family (c.Bind target property to) = 1
 family (c.Unbind target property) = 1
 family (c.BindingError target property) = 1
@@ -66,6 +68,7 @@ family (c.Unpublish name) = 3
 family (c.Join from name types target method) = 3
 family (c.Leave from name target method) = 3
 family c.Reset = 3
+family _ = 0
 
 -- the tables know the properties that each class declares, and those of each object of the caller's session
 pub record KnowsProperties (caller : Caller) (tables : Tables) : Type 0 where
@@ -87,26 +90,29 @@ pub record DoesAtFirst {T E : Type 0} (caller : Caller) (next : Next) (old new :
   pub front : OnErr result (IsFront posts (run (settings_of caller.setup.now) next.items next.doing).posts)
   pub reaches : Reaches caller.setup.now.classes caller.name.now caller.place posts old new before.failing after.failing
 
+-- a command that changes nothing: it is refused exactly by its refusal, and else answered as it replies, unless memory was wanted
+pub record Reads (caller : Caller) (asked : Asked) (tables : Tables) (result : Result Answer Fault) : Type 0 where
+  pub returns : Returns (its_refusal caller asked tables) (λ answer. its_effect caller asked tables ≡ replies (state_at tables caller.place) answer) result
+
 -- a command of a session that has not failed; `failing` says whether another session has failed by its posts,
 -- and `lines` what is told by what the call returns
 pub record Performs {T : Type 0} (caller : Caller) (asked : Asked) (old new : Tables) (failing : Bool) (lines : T → List Line) (result : Result T Fault) : Type 0 where
   -- it is refused exactly by its refusal, and else tells its lines, unless memory was wanted
-  pub returns : Returns (refusal (settings_of caller.setup.now) caller.name.now (state_at old caller.place) asked)
-      (λ value. (performs (settings_of caller.setup.now) caller.name.now (state_at old caller.place) asked).lines ≡ lines value) result
+  pub returns : Returns (its_refusal caller asked old) (λ value. (its_effect caller asked old).lines ≡ lines value) result
   -- its posts; where memory was wanted, the first of them
   pub posts : List Post
   pub front : OnMemory result (IsFront posts (does (settings_of caller.setup.now) caller.name.now (state_at old caller.place) asked).posts)
   -- it has posted what it says, and changed the state of its session as it says
-  pub posted : OnOk result (posts ≡ (performs (settings_of caller.setup.now) caller.name.now (state_at old caller.place) asked).posts)
-  pub done : OnOk result (session_at new caller.place ≡ record { state = (performs (settings_of caller.setup.now) caller.name.now (state_at old caller.place) asked).state; failed = failed_at old caller.place })
+  pub posted : OnOk result (posts ≡ (its_effect caller asked old).posts)
+  pub done : OnOk result (session_at new caller.place ≡ record { state = (its_effect caller asked old).state; failed = failed_at old caller.place })
   pub refused : OnRefused result (new ≡ old)
   -- and all other sessions have heard the posts
   pub others : OthersHear caller.setup.now.classes caller.name.now caller.place posts old new failing
 
--- a command of any session
-pub record Obeys (caller : Caller) (asked : Asked) (old new : Tables) (failing : Bool) (result : Result (List Line) Fault) : Type 0 where
+-- a command of any session, and whether memory has been wanted in vain before it and after it
+pub record Obeys (caller : Caller) (asked : Asked) (old new : Tables) (was now : Bool) (result : Result (List Line) Fault) : Type 0 where
   pub returns : Returns (session_refusal (settings_of caller.setup.now) caller.name.now (session_at old caller.place) asked)
-      (λ lines. lines ≡ (performs (settings_of caller.setup.now) caller.name.now (state_at old caller.place) asked).lines) result
+      (λ lines. lines ≡ (its_effect caller asked old).lines) result
   pub posts : List Post
   pub done : OnDone result ((session_at new caller.place ≡ session_after (settings_of caller.setup.now) caller.name.now (session_at old caller.place) asked)
       × (posts ≡ (session_does (settings_of caller.setup.now) caller.name.now (session_at old caller.place) asked).posts))
@@ -114,4 +120,7 @@ pub record Obeys (caller : Caller) (asked : Asked) (old new : Tables) (failing :
   pub refused : OnRefused result (new ≡ old)
   -- where memory was wanted, its session has failed, and was not shut for the command
   pub fails : OnMemory result ((session_at new caller.place ≡ gone) × IsFalse (is_shut (session_at old caller.place) asked))
+  -- whether another session has failed by its posts
+  pub failing : Bool
   pub others : OthersHear caller.setup.now.classes caller.name.now caller.place posts old new failing
+  pub mark : now ≡ (wants_memory result || failing || was)

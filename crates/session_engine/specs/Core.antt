@@ -1,5 +1,5 @@
--- What contracts see of the core of an engine.
-use Rattle.std.specs.Prelude.{◌≡◌, ℕ, Bool, List, ◌∷◌, ◌++◌, [], Option, Some, IsFalse, All, bytes_eq, length, map, position, ◌<◌, slice_index_or as get_or}
+-- What contracts see of an engine.
+use Rattle.std.specs.Prelude.{◌≡◌, ℕ, Bool, List, [], Option, Some, IsFalse, All, bytes_eq, length, map, position, ◌<◌, slice_index_or as get_or}
 use Rattle.std.specs.List.{list_any}
 use Rattle.std.specs.Option.{option_map_or}
 use Rattle.thread_model.specs.Fitting.{AreSettings}
@@ -8,7 +8,6 @@ use Rattle.thread_model.specs.Thread.{Settings, joins_name}
 use Rattle.session_tables.specs.declared.tables.Tables.{Tables}
 use Rattle.session_tables.specs.Joining.{AreJoiners}
 use Rattle.session_tables.specs.Session.{Session, fresh}
-use Rattle.session_tables.specs.Tables as tables
 use Rattle.session_tables.specs.Tables.{AreEven, AreLaid, session_at}
 use Rattle.session_effects.specs.declared.setup.Setup.{Setup}
 use Rattle.session_engine.specs.Sessions.{IsSoundSession, Sessions}
@@ -75,19 +74,14 @@ seen engine = record { settings = settings engine; session = sessions engine; me
 abbrev pub IsPlace : Contents → ℕ → Type 0
 IsPlace engine at = (name : List ℕ) × (place engine name ≡ Some at)
 
--- each name has its place still, this place has a name, and what is fixed has stayed
+-- each name has its place still, and this place has a name
 pub record KeepsPlaces (old new : Contents) (at : ℕ) : Type 0 where
   pub names : names new ≡ names old
-  pub settings : settings new ≡ settings old
   pub there : IsPlace new at
 
 -- a fact of the session at a place, by its name
 abbrev pub OfSession : Contents → ℕ → (List ℕ → Type 0) → Type 0
 OfSession engine at P = (name : List ℕ) → place engine name ≡ Some at → P name
-
--- with one more session
-abbrev pub opened : Contents → List ℕ → Contents
-opened engine name = record { settings = engine.settings; names = engine.names ++ name ∷ []; tables = tables.opened engine.tables; memory_refused = engine.memory_refused }
 
 -- what holds of every session: it has failed only where memory was refused, and it is sound
 pub record IsKept (settings : Settings) (memory_refused : Bool) (session : Session) : Type 0 where

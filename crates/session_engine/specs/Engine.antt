@@ -1,5 +1,4 @@
--- What contracts see of an engine: its core. What answers the calls of its functors cannot be seen, and need
--- not be: the core knows what they do.
+-- What contracts see of an engine: all but what answers the calls of its functors, of which the rest knows what it does.
 use Rattle.session_engine.specs.declared.engine.Engine.{Engine}
 use Rattle.session_engine.specs.Core.{Contents}
 

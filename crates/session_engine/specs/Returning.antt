@@ -1,5 +1,6 @@
 -- What a call returns that does a command.
-use Rattle.std.specs.Prelude.{◌≡◌, ℕ, Bool, true, false, List, [], ◌∷◌, Option, Some, None, Result, Ok, Err}
+use Rattle.std.specs.Prelude.{◌≡◌, ℕ, Bool, true, false, List, [], ◌∷◌, Option, Some, None, Result, Ok, Err, IsFalse}
+use Rattle.refusals.specs.Answers.{OnMemory}
 use Rattle.refusals.specs.declared.code.Code.{Code}
 use Rattle.refusals.specs.declared.fault.Fault.{Fault}
 use Rattle.refusals.specs.declared.fault.Fault.TheVariants.{Refused, Memory}
@@ -7,8 +8,10 @@ use Rattle.thread_model.specs.Asked.{Asked}
 use Rattle.thread_model.specs.Thread.{performs}
 use Rattle.thread_model.specs.declared.line.Line.{Line}
 use Rattle.thread_model.specs.declared.line.Line.TheVariants.{Error}
+use Rattle.session_tables.specs.Refused.{OnRefused}
+use Rattle.session_tables.specs.Session.{gone}
 use Rattle.session_engine.specs.Core.{Contents, sessions, settings, states}
-use Rattle.session_engine.specs.Sessions.{session_refusal}
+use Rattle.session_engine.specs.Sessions.{is_shut, session_refusal}
 
 -- the call is refused exactly by this code, and else returns a value of which this holds, unless memory was wanted
 abbrev pub Returns : {T : Type 0} → Option Code → (T → Type 0) → Result T Fault → Type 0
@@ -16,11 +19,15 @@ Returns refusal Holds (Ok value) = (refusal ≡ None) × Holds value
 Returns refusal Holds (Err (Refused code)) = refusal ≡ Some code
 Returns refusal Holds (Err Memory) = Unit {0}
 
--- what a call returns that does a command of the session of this name
-abbrev pub ReturnsFor : Contents → List ℕ → Asked → Result (List Line) Fault → Type 0
-ReturnsFor engine name asked result =
-    Returns (session_refusal (settings engine) name (sessions engine name) asked)
-    (λ lines. lines ≡ (performs (settings engine) name (states engine name) asked).lines) result
+-- what a command of the session of this name returns, and what that leaves
+pub record IsAnswered (old new : Contents) (name : List ℕ) (asked : Asked) (result : Result (List Line) Fault) : Type 0 where
+  -- it is refused exactly by its refusal, and else returns what it tells,
+  pub returns : Returns (session_refusal (settings old) name (sessions old name) asked) (λ lines. lines ≡ (performs (settings old) name (states old name) asked).lines) result
+  -- and a refused command changes nothing
+  pub refused : OnRefused result (sessions new ≡ sessions old)
+  pub fails : OnMemory result (sessions new name ≡ gone)
+  -- a session that has failed wants no memory but to begin anew
+  pub fine : OnMemory result (IsFalse (is_shut (sessions old name) asked))
 
 -- what is told of a command: its lines, or its refusal by one line; nothing where memory was wanted
 abbrev pub told : Result (List Line) Fault → Option (List Line)

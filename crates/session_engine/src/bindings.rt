@@ -9,7 +9,7 @@ ghost use Rattle.thread_model.specs.Asked.{Begin, Bind, End, Unbind};
 ghost use Rattle.thread_model.specs.Binding.{reads_refusal};
 ghost use Rattle.thread_model.specs.Deeds.{behind};
 ghost use Rattle.session_tables.specs.Tables.{IsPlaced, state_at};
-ghost use Rattle.session_engine.specs.Commands.{Performs, reply_after, reply_lines};
+ghost use Rattle.session_engine.specs.Commands.{Performs, Reads, reply_after, reply_lines};
 ghost use Rattle.nested_calls.specs.Telling.{fresh_telling};
 
 use nested_calls::{Actor, Answering, Telling, tell};
@@ -97,6 +97,7 @@ pub fn unbind<F: Answering>(
 }
 
 /// The error that a bound property stands for, where it does.
+#[tactic(auto, using(crate::proofs::CommandsLemmas::starved_reading))]
 pub fn binding_error(
     caller: &Caller,
     tables: &Tables,
@@ -104,7 +105,7 @@ pub fn binding_error(
     property: &Text,
 ) -> Result<Answer, Fault>
     requires { IsPlaced tables.now caller.now.place }
-    ensures { Performs caller.now (model.BindingError object property.now) tables.now tables.now false reply_lines result }
+    ensures { Reads caller.now (model.BindingError object property.now) tables.now result }
 {
     let at = tables.asked_property(caller.place, object, property.as_str())?;
     let (_, error) = tables.shown(caller.place, at.object, at.number)?;

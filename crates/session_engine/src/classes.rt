@@ -1,9 +1,9 @@
 //! The command that describes a class.
-ghost use Rattle.std.specs.Prelude.{◌≡◌, IfOk, option_and_then, false};
+ghost use Rattle.std.specs.Prelude.{◌≡◌, IfOk, option_and_then};
 ghost use Rattle.thread_model.specs.Asked.{Meta};
 ghost use Rattle.thread_model.specs.Classes.{class_name};
 ghost use Rattle.session_tables.specs.Tables.{IsPlaced};
-ghost use Rattle.session_engine.specs.Commands.{Performs, reply_lines};
+ghost use Rattle.session_engine.specs.Commands.{Reads};
 
 use class_table::Class;
 use plain_types::Text;
@@ -14,9 +14,10 @@ use std::alloc::AllocError;
 use thread_model::{Answer, Boxed, MetaObject};
 
 /// What there is in the class of this name.
+#[tactic(auto, using(crate::proofs::CommandsLemmas::starved_reading))]
 pub fn describe(caller: &Caller, tables: &Tables, class: &Text) -> Result<Answer, Fault>
     requires { IsPlaced tables.now caller.now.place }
-    ensures { Performs caller.now (Meta class.now) tables.now tables.now false reply_lines result }
+    ensures { Reads caller.now (Meta class.now) tables.now result }
 {
     let (alloc, classes) = (caller.setup.alloc, &caller.setup.classes);
     let index = caller.setup.class_index(class)?;

@@ -1,10 +1,11 @@
 //! What a command does to the session that gives it.
-ghost use Rattle.std.specs.Prelude.{◌≡◌, ◌≤◌, ◌∷◌, [], IfOk, IsFalse, false};
+ghost use Rattle.std.specs.Prelude.{◌≡◌, ◌≤◌, ◌∷◌, ◌++◌, [], IfOk, OnOk, false, true};
 ghost use Rattle.thread_model.specs.Asked.{asked};
-ghost use Rattle.session_tables.specs.Tables.{IsPlaced};
+ghost use Rattle.refusals.specs.declared.fault.Fault.TheVariants.{Memory};
+ghost use Rattle.session_tables.specs.Session.{gone};
+ghost use Rattle.session_tables.specs.Tables.{IsPlaced, with_session};
 ghost use Rattle.session_engine.specs.Commands.{KnowsProperties, Obeys, Performs, family, reply_after, reply_lines};
 ghost use Rattle.nested_calls.specs.Telling.{fresh_telling};
-ghost use Rattle.session_engine.specs.Returning.{wants_memory};
 
 use crate::bindings::{begin, bind, binding_error, end, unbind};
 use crate::classes::describe;
@@ -25,52 +26,56 @@ use std::alloc::{AllocError, Global};
 use thread_model::{Answer, Command, Line};
 
 /// Lets a session do a command; one that has failed can only begin anew. Where memory is wanted and not
-/// found, it has failed.
+/// found, it has failed. That is noted, as it is where another session has failed by what it posts.
 pub fn obey<F: Answering>(
-    actor: &Actor<F>,
+    caller: &Caller,
+    answering: &F,
     tables: &mut Tables,
-    failing: &mut bool,
+    memory_refused: &mut bool,
     command: &Command,
 ) -> Result<Items<Line>, Fault>
-    requires placed { IsPlaced tables.old actor.now.caller.place }
-    requires known { KnowsProperties actor.now.caller tables.old }
-    requires quiet { IsFalse failing.old }
-    ensures { Obeys actor.now.caller (asked command.now) tables.old tables.new failing.new result }
+    requires answers { F.functors answering.now ≡ caller.now.setup.now.functors }
+    requires placed { IsPlaced tables.old caller.now.place }
+    requires known { KnowsProperties caller.now tables.old }
+    ensures { Obeys caller.now (asked command.now) tables.old tables.new memory_refused.old memory_refused.new result }
 {
-    if tables.failed(actor.caller.place) {
+    let place = caller.place;
+    if tables.failed(place) {
         return match command {
-            Command::Reset => renew(&actor.caller, tables),
+            Command::Reset => renew(caller, tables, memory_refused),
             _ => Err(Fault::Refused(Code::SessionFailed)),
         };
     }
-    let replied = reply(actor, tables, failing, command);
-    if wants_memory(&replied) {
-        tables.give_up(actor.caller.place);
+    let actor = Actor::new(*caller, answering);
+    let mut telling = Telling::new(caller.setup);
+    match perform(&actor, tables, &mut telling, command) {
+        Ok(answer) => {
+            *memory_refused = telling.failing | *memory_refused;
+            let Ok(()) = telling.tell(Line::Reply(answer)) else {
+                return Err(give_up(tables, place, memory_refused));
+            };
+            Ok(telling.lines)
+        }
+        Err(Fault::Refused(code)) => Err(Fault::Refused(code)),
+        Err(Fault::Memory) => Err(give_up(tables, place, memory_refused)),
     }
-    replied
 }
 
-/// Does a command, and returns what is told.
-fn reply<F: Answering>(
-    actor: &Actor<F>,
-    tables: &mut Tables,
-    failing: &mut bool,
-    command: &Command,
-) -> Result<Items<Line>, Fault>
-    requires placed { IsPlaced tables.old actor.now.caller.place }
-    requires known { KnowsProperties actor.now.caller tables.old }
-    ensures { Performs actor.now.caller (asked command.now) tables.old tables.new failing.new (λ lines. lines) result }
+/// Lets a session fail for want of memory, which is noted.
+pub fn give_up(tables: &mut Tables, place: usize, memory_refused: &mut bool) -> Fault
+    requires { IsPlaced tables.old place }
+    ensures tables { tables.new ≡ with_session tables.old place gone }
+    ensures noted { memory_refused.new ≡ true }
+    ensures wanted { result ≡ Memory }
 {
-    let mut telling = Telling::new(actor.caller.setup);
-    let answer = perform(actor, tables, &mut telling, command);
-    *failing = telling.failing;
-    telling.tell(Line::Reply(answer?))?;
-    Ok(telling.lines)
+    tables.give_up(place);
+    *memory_refused = true;
+    Fault::Memory
 }
 
 /// Does a command, tells what it tells before its reply, and returns what is replied: one for objects, their
 /// classes and properties.
-#[tactic(auto, using(crate::proofs::CommandsLemmas::silently))]
+#[tactic(auto, using(crate::proofs::CommandsLemmas::silently, crate::proofs::CommandsLemmas::reads))]
 fn perform<F: Answering>(
     actor: &Actor<F>,
     tables: &mut Tables,
@@ -107,7 +112,7 @@ fn perform<F: Answering>(
 }
 
 /// The same of a command for bindings, calls and events, or for what other sessions may see.
-#[tactic(auto, using(crate::proofs::CommandsLemmas::silently))]
+#[tactic(auto, using(crate::proofs::CommandsLemmas::silently, crate::proofs::CommandsLemmas::reads))]
 fn perform_bound<F: Answering>(
     actor: &Actor<F>,
     tables: &mut Tables,
@@ -115,7 +120,6 @@ fn perform_bound<F: Answering>(
     command: &Command,
 ) -> Result<Answer, Fault>
     requires placed { IsPlaced tables.old actor.now.caller.place }
-    requires known { KnowsProperties actor.now.caller tables.old }
     requires fresh { telling.old ≡ fresh_telling actor.now.caller.setup.now.turns }
     requires family { 1 ≤ family command.now }
     ensures { Performs actor.now.caller (asked command.now) tables.old tables.new telling.new.failing (reply_after telling.new.lines) result }
@@ -252,9 +256,12 @@ pub fn one_line(alloc: Global, line: Line) -> Result<Items<Line>, AllocError>
     Ok(lines)
 }
 
-/// Whether a call wanted memory and did not find it.
-pub fn wants_memory<T>(returned: &Result<T, Fault>) -> bool
-    ensures { result ≡ wants_memory returned.now }
+/// Puts lines behind others.
+pub fn append(told: &mut Items<Line>, lines: Items<Line>) -> Result<(), AllocError>
+    ensures { OnOk result (told.new ≡ told.old ++ lines) }
 {
-    matches!(returned, Err(Fault::Memory))
+    for line in lines.into_vec() {
+        told.push(line)?;
+    }
+    Ok(())
 }

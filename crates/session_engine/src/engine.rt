@@ -6,15 +6,46 @@ ghost use Rattle.stored_slots.specs.contracts.functor.Functor as functor;
 ghost use Rattle.stored_slots.specs.Table.{functors_of};
 ghost use Rattle.session_engine.specs.Core.{settings};
 
-use crate::engine_core::Core;
+use crate::commands::{append, obey, one_line};
 use crate::item::Item;
 use class_table::ClassTable;
+use indexmap::IndexSet;
 use plain_types::{Items, Text};
 use refusals::Fault;
+use session_effects::{Caller, Setup};
+use session_inputs::layouts;
+use session_tables::Tables;
 use std::alloc::{AllocError, Global};
 use std::hash::RandomState;
+use std::marker::Model;
 use stored_slots::{Functor, Functors};
 use thread_model::{Command, Line, Post};
+
+/// All of an engine but what answers the calls of its functors: a type that holds closures has no view of
+/// its own.
+#[derive(Drop)]
+struct Core {
+    setup: Setup,
+    names: IndexSet<Text, RandomState>,
+    tables: Tables,
+    memory_refused: bool,
+}
+
+impl Model for Core {
+    ghost use Rattle.std.specs.Coded.{codes};
+    ghost use Rattle.class_table.specs.contracts.class.Class as class;
+    ghost use Rattle.stored_slots.specs.contracts.functor.Functor as functor;
+    ghost use Rattle.session_tables.specs.contracts.tables.Tables as held;
+    ghost use Rattle.session_engine.specs.Core.{Contents, IsWhole, contents};
+
+    ghost Value = { Contents };
+
+    ghost coded = { Prim.hlevel (codes, class.the_row.coded, functor.the_row.coded, held.the_row.coded) };
+
+    ghost view = { λ e. contents e.setup e.names.keys e.tables e.memory_refused };
+
+    ghost invariant = { λ e. IsWhole (contents e.setup e.names.keys e.tables e.memory_refused) };
+}
 
 /// The sessions of a server. Each is named by a text, and has a place that calls use; none is ever
 /// closed.
@@ -36,17 +67,15 @@ impl Drop for Engine {
 impl Engine {
     ghost use Rattle.std.specs.Prelude.{◌<◌, ◌≤◌, length, All, List, ℕ, ◌++◌, ◌∷◌, [], Some, None, IsTrue, IsFalse, IfOk, OnOk, OnErr, map};
     ghost use Rattle.std.specs.Result.{result_ok};
-    ghost use Rattle.refusals.specs.Answers.{OnMemory};
     ghost use Rattle.stored_slots.specs.declared.limit.TheConstants.{FUNCTORS};
     ghost use Rattle.stored_slots.specs.Functors.{IsFunctor};
     ghost use Rattle.thread_model.specs.Asked.{asked};
     ghost use Rattle.thread_model.specs.Fitting.{IsRightPost};
-    ghost use Rattle.session_tables.specs.Refused.{OnRefused};
     ghost use Rattle.session_tables.specs.Session.{fresh, gone};
-    ghost use Rattle.session_engine.specs.Items.{BeginsAnew, HasArrived, IsRightItem, RunsAlone, item_of};
-    ghost use Rattle.session_engine.specs.Returning.{ReturnsFor, told};
-    ghost use Rattle.session_engine.specs.Sessions.{AreSound, AreWell, Fails, IsStep, is_shut};
-    ghost use Rattle.session_engine.specs.Core.{AreJoinersOf, IsPlace, name_at, OfSession, failed, names, place, seen, sessions, states, was_refused};
+    ghost use Rattle.session_engine.specs.Items.{BeginsAnew, HasAdded, HasArrived, HasCome, IsRightItem, RunsAlone, item_of};
+    ghost use Rattle.session_engine.specs.Returning.{IsAnswered, told};
+    ghost use Rattle.session_engine.specs.Sessions.{AreSound, AreWell, Fails, IsStep};
+    ghost use Rattle.session_engine.specs.Core.{AreJoinersOf, IsPlace, KeepsPlaces, name_at, OfSession, failed, names, place, seen, sessions, was_refused};
     ghost use Rattle.session_engine.specs.Engine.{held};
 
     /// An engine with no session. Its objects may have these classes, its signals may be connected to
@@ -68,17 +97,28 @@ impl Engine {
         ensures settings { IfOk result (λ engine. settings (held engine) ≡ record { turns = turns; classes = classes; functors = functors_of functors }) }
         ensures refused { IfOk result (λ engine. IsFalse (was_refused (held engine))) }
     {
-        Ok(Engine {
-            core: Core::new(alloc, classes, rows, turns, hashing)?,
-            functors,
-        })
+        // The look-up is for the proof, which then knows what holds of the table.
+        let _base = classes.class_row(0);
+        let layouts = layouts(alloc, &classes)?;
+        let core = Core {
+            names: IndexSet::with_hasher(alloc, hashing),
+            tables: Tables::new(alloc, layouts, hashing),
+            memory_refused: false,
+            setup: Setup {
+                alloc,
+                classes,
+                functors: rows,
+                turns,
+            },
+        };
+        Ok(Engine { core, functors })
     }
 
     /// The place of a session.
     pub fn find(&self, name: &Text) -> Option<usize>
         ensures { result ≡ place (held self.now) name.now }
     {
-        self.core.find(name)
+        self.core.names.get_index_of(name)
     }
 
     /// How many sessions there are.
@@ -87,7 +127,7 @@ impl Engine {
         // No two of them have one name.
         ensures named { (at : ℕ) → at < length (names (held self.now)) → place (held self.now) (name_at (held self.now) at) ≡ Some at }
     {
-        self.core.len()
+        self.core.names.len()
     }
 
     /// The places of the sessions with a join that names this session, by rising number. No other is
@@ -95,7 +135,7 @@ impl Engine {
     pub fn joiners(&self, from: &Text) -> Result<Vec<usize>, AllocError>
         ensures { IfOk result (λ places. AreJoinersOf (held self.now) from.now places.items) }
     {
-        self.core.joiners(from)
+        self.core.tables.joiners(self.core.setup.alloc, from)
     }
 
     /// What holds of every session. There is nothing to run: the clauses are for the proofs of
@@ -104,7 +144,8 @@ impl Engine {
         ensures well { AreWell (seen (held self.now)) }
         ensures sound { AreSound (seen (held self.now)) }
     {
-        self.core.sound();
+        // The loan is for the proof, which then knows what holds of the engine.
+        let _names = &self.core.names;
     }
 
     /// Opens a session for a name that has none, and returns its place.
@@ -118,7 +159,27 @@ impl Engine {
         ensures err { OnErr result (IsTrue (was_refused (held self.new)) × (names (held self.new) ≡ names (held self.old))) }
         ensures sound { AreSound (seen (held self.new)) }
     {
-        self.core.open(name)
+        self.sound();
+        let entered = self.enter(name);
+        if entered.is_err() {
+            self.core.memory_refused = true;
+        }
+        entered
+    }
+
+    fn enter(&mut self, name: &Text) -> Result<usize, AllocError>
+        requires { place (held self.old) name.now ≡ None }
+        ensures place { IfOk result (λ at. place (held self.new) name.now ≡ Some at) }
+        ensures sessions { sessions (held self.new) ≡ sessions (held self.old) }
+        ensures names { OnOk result (names (held self.new) ≡ names (held self.old) ++ name.now ∷ []) }
+        ensures settings { settings (held self.new) ≡ settings (held self.old) }
+        ensures refused { was_refused (held self.new) ≡ was_refused (held self.old) }
+        ensures err { OnErr result (names (held self.new) ≡ names (held self.old)) }
+    {
+        self.core.tables.ready()?;
+        let name = name.copy(self.core.setup.alloc)?;
+        self.core.names.insert(name)?;
+        Ok(self.core.tables.open())
     }
 
     /// Does a command of a session. A session that has failed for want of memory refuses every
@@ -126,17 +187,24 @@ impl Engine {
     pub fn command(&mut self, at: usize, command: &Command) -> Result<Items<Line>, Fault>
         requires { IsPlace (held self.old) at }
         ensures step { OfSession (held self.old) at (λ name. IsStep (seen (held self.old)) (seen (held self.new)) name (asked command.now) (told result)) }
-        // It is refused exactly by its refusal, and else returns what it tells,
-        ensures returns { OfSession (held self.old) at (λ name. ReturnsFor (held self.old) name (asked command.now) result) }
-        // and a refused command changes nothing.
-        ensures refused { OnRefused result (sessions (held self.new) ≡ sessions (held self.old)) }
-        ensures fails { OfSession (held self.old) at (λ name. OnMemory result (sessions (held self.new) name ≡ gone)) }
-        // A session that has failed wants no memory but to begin anew.
-        ensures fine { OfSession (held self.old) at (λ name. OnMemory result (IsFalse (is_shut (sessions (held self.old) name) (asked command.now)))) }
-        ensures names { names (held self.new) ≡ names (held self.old) }
-        ensures there { IsPlace (held self.new) at }
+        ensures answered { OfSession (held self.old) at (λ name. IsAnswered (held self.old) (held self.new) name (asked command.now) result) }
+        ensures places { KeepsPlaces (held self.old) (held self.new) at }
     {
-        self.core.command(&self.functors, at, command)
+        let Some(name) = self.core.names.get_index(at) else {
+            unreachable!()
+        };
+        let caller = Caller {
+            setup: &self.core.setup,
+            name,
+            place: at,
+        };
+        obey(
+            &caller,
+            &self.functors,
+            &mut self.core.tables,
+            &mut self.core.memory_refused,
+            command,
+        )
     }
 
     /// Does a command of a session, and tells a refusal by its line. Where that line finds no
@@ -145,10 +213,19 @@ impl Engine {
         requires { IsPlace (held self.old) at }
         ensures step { OfSession (held self.old) at (λ name. IsStep (seen (held self.old)) (seen (held self.new)) name (asked command.now) (result_ok result)) }
         ensures fails { OfSession (held self.old) at (λ name. OnErr result (sessions (held self.new) name ≡ gone)) }
-        ensures names { names (held self.new) ≡ names (held self.old) }
-        ensures there { IsPlace (held self.new) at }
+        ensures places { KeepsPlaces (held self.old) (held self.new) at }
     {
-        self.core.told(&self.functors, at, command)
+        match self.command(at, command) {
+            Ok(lines) => Ok(lines),
+            Err(Fault::Refused(code)) => {
+                let Ok(line) = one_line(self.core.setup.alloc, Line::Error(code)) else {
+                    self.give_up(at);
+                    return Err(AllocError);
+                };
+                Ok(line)
+            }
+            Err(Fault::Memory) => Err(AllocError),
+        }
     }
 
     /// Lets a post of the session `from` come to a session; it has as many arguments as kinds, each of its
@@ -158,10 +235,15 @@ impl Engine {
         requires there { IsPlace (held self.old) at }
         requires right { IsRightPost post.now }
         ensures arrives { OfSession (held self.old) at (λ name. HasArrived (seen (held self.old)) (seen (held self.new)) name from.now post.now (result_ok result)) }
-        ensures names { names (held self.new) ≡ names (held self.old) }
-        ensures there { IsPlace (held self.new) at }
+        ensures places { KeepsPlaces (held self.old) (held self.new) at }
     {
-        self.core.arrive(at, from, post)
+        let setup = &self.core.setup;
+        let tables = &mut self.core.tables;
+        let arrived = tables.arrive(setup.alloc, &setup.classes, at, from, post);
+        if arrived.is_err() {
+            self.core.memory_refused = true;
+        }
+        arrived
     }
 
     /// Lets items come to a session, in order, and returns what its commands are told; a refusal is told by
@@ -171,10 +253,37 @@ impl Engine {
         requires right { All IsRightItem items.now }
         ensures alone { OfSession (held self.old) at (λ name. RunsAlone (seen (held self.old)) (seen (held self.new)) name (map item_of items.now) (result_ok result)) }
         ensures fails { OfSession (held self.old) at (λ name. OnErr result (sessions (held self.new) name ≡ gone)) }
-        ensures names { names (held self.new) ≡ names (held self.old) }
-        ensures there { IsPlace (held self.new) at }
+        ensures places { KeepsPlaces (held self.old) (held self.new) at }
     {
-        self.core.alone(&self.functors, at, items)
+        let mut told = Items::new(self.core.setup.alloc);
+        'items: for item in items {
+            self.come(at, item, &mut told)?;
+        }
+        Ok(told)
+    }
+
+    /// Lets one item come to a session, and puts what it is told of that behind what it was told before.
+    fn come(&mut self, at: usize, item: &Item, told: &mut Items<Line>) -> Result<(), AllocError>
+        requires there { IsPlace (held self.old) at }
+        requires right { IsRightItem item.now }
+        ensures ok { OfSession (held self.old) at (λ name.
+            OnOk result (HasAdded (seen (held self.old)) (seen (held self.new)) name (item_of item.now) told.old told.new)) }
+        ensures err { OfSession (held self.old) at (λ name.
+            OnErr result (HasCome (seen (held self.old)) (seen (held self.new)) name (item_of item.now) None)) }
+        ensures fails { OfSession (held self.old) at (λ name. OnErr result (sessions (held self.new) name ≡ gone)) }
+        ensures places { KeepsPlaces (held self.old) (held self.new) at }
+    {
+        match item {
+            Item::Own(command) => {
+                let lines = self.told(at, command)?;
+                let Ok(()) = append(told, lines) else {
+                    self.give_up(at);
+                    return Err(AllocError);
+                };
+                Ok(())
+            }
+            Item::Arrival(from, post) => self.arrive(at, from, post),
+        }
     }
 
     /// Puts a session back to where it was before its first command, also one that has failed. What other
@@ -182,20 +291,19 @@ impl Engine {
     pub fn reset(&mut self, at: usize)
         requires { IsPlace (held self.old) at }
         ensures anew { OfSession (held self.old) at (λ name. BeginsAnew (seen (held self.old)) (seen (held self.new)) name) }
-        ensures names { names (held self.new) ≡ names (held self.old) }
-        ensures there { IsPlace (held self.new) at }
+        ensures places { KeepsPlaces (held self.old) (held self.new) at }
     {
-        self.core.reset(at);
+        self.core.tables.renew(at);
     }
 
     /// Lets a session fail, as where memory is wanted for it elsewhere and not found.
     pub fn give_up(&mut self, at: usize)
         requires { IsPlace (held self.old) at }
         ensures fails { OfSession (held self.old) at (λ name. Fails (seen (held self.old)) (seen (held self.new)) name) }
-        ensures names { names (held self.new) ≡ names (held self.old) }
-        ensures there { IsPlace (held self.new) at }
+        ensures places { KeepsPlaces (held self.old) (held self.new) at }
     {
-        self.core.give_up(at);
+        self.core.tables.give_up(at);
+        self.core.memory_refused = true;
     }
 
     /// Whether a session has failed for want of memory.
@@ -203,13 +311,13 @@ impl Engine {
         requires { IsPlace (held self.now) at }
         ensures { OfSession (held self.now) at (λ name. result ≡ failed (held self.now) name) }
     {
-        self.core.failed(at)
+        self.core.tables.failed(at)
     }
 
     /// Whether memory was wanted and not found in any call of the engine so far.
     pub fn memory_refused(&self) -> bool
         ensures { result ≡ was_refused (held self.now) }
     {
-        self.core.memory_refused()
+        self.core.memory_refused
     }
 }

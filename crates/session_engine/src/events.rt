@@ -1,5 +1,5 @@
 //! The commands that take what waits in the session, and tell how much there is.
-ghost use Rattle.std.specs.Prelude.{◌≡◌, ◌∷◌, [], OnOk, false};
+ghost use Rattle.std.specs.Prelude.{◌≡◌, ◌∷◌, [], OnOk};
 ghost use Rattle.connection_types.specs.declared.callee.Callee.TheVariants.{Functor};
 ghost use Rattle.thread_model.specs.Agenda.{call_items, event_items};
 ghost use Rattle.thread_model.specs.Asked.{Spin, Status};
@@ -7,7 +7,7 @@ ghost use Rattle.thread_model.specs.Items as item;
 ghost use Rattle.session_tables.specs.Tables.{IsPlaced, state_at};
 ghost use Rattle.session_effects.specs.Setup.{settings_of};
 ghost use Rattle.nested_calls.specs.Agenda.{Does};
-ghost use Rattle.session_engine.specs.Commands.{Performs, reply_after, reply_lines};
+ghost use Rattle.session_engine.specs.Commands.{Performs, Reads, reply_after};
 ghost use Rattle.nested_calls.specs.Telling.{doing_at, fresh_telling};
 
 use connection_types::Callee;
@@ -150,7 +150,7 @@ fn deliver_to_functor<F: Answering>(
 /// Replies how much there is in the session.
 pub fn status(caller: &Caller, tables: &Tables) -> Result<Answer, Fault>
     requires { IsPlaced tables.now caller.now.place }
-    ensures { Performs caller.now Status tables.now tables.now false reply_lines result }
+    ensures { Reads caller.now Status tables.now result }
 {
     Ok(Answer::Status(tables.status(caller.place)))
 }

@@ -7,7 +7,6 @@ mod commands;
 mod connections;
 mod deeds;
 mod engine;
-mod engine_core;
 mod events;
 mod invocation;
 mod item;

@@ -1,9 +1,9 @@
 //! The commands that write and read what an object holds under a name.
-ghost use Rattle.std.specs.Prelude.{◌≡◌, false};
+ghost use Rattle.std.specs.Prelude.{◌≡◌};
 ghost use Rattle.serde_json.specs.View.{view};
 ghost use Rattle.thread_model.specs.Asked.{DynamicNames, Get, Set};
 ghost use Rattle.session_tables.specs.Tables.{IsPlaced};
-ghost use Rattle.session_engine.specs.Commands.{Performs, reply_after, reply_lines};
+ghost use Rattle.session_engine.specs.Commands.{Performs, Reads, reply_after};
 ghost use Rattle.nested_calls.specs.Telling.{fresh_telling};
 
 use nested_calls::{Actor, Answering, Telling, notify};
@@ -44,9 +44,10 @@ pub fn set<F: Answering>(
 }
 
 /// Reads a property of an object, which is invalid where there is none of this name.
+#[tactic(auto, using(crate::proofs::CommandsLemmas::starved_reading))]
 pub fn get(caller: &Caller, tables: &Tables, object: u32, property: &Text) -> Result<Answer, Fault>
     requires { IsPlaced tables.now caller.now.place }
-    ensures { Performs caller.now (Get object property.now) tables.now tables.now false reply_lines result }
+    ensures { Reads caller.now (Get object property.now) tables.now result }
 {
     tables.check_object(caller.place, object)?;
     let value = tables.property(caller.place, object, property.as_str())?;
@@ -54,9 +55,10 @@ pub fn get(caller: &Caller, tables: &Tables, object: u32, property: &Text) -> Re
 }
 
 /// The names of an object's dynamic properties, that first set first.
+#[tactic(auto, using(crate::proofs::CommandsLemmas::starved_reading))]
 pub fn dynamic_names(caller: &Caller, tables: &Tables, object: u32) -> Result<Answer, Fault>
     requires { IsPlaced tables.now caller.now.place }
-    ensures { Performs caller.now (DynamicNames object) tables.now tables.now false reply_lines result }
+    ensures { Reads caller.now (DynamicNames object) tables.now result }
 {
     tables.check_object(caller.place, object)?;
     let names = tables.dynamic_names(caller.place, object)?;

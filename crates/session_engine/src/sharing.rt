@@ -1,20 +1,20 @@
 //! The commands by which sessions hear of each other, and the one that begins anew.
-ghost use Rattle.std.specs.Prelude.{◌≡◌, IsTrue, false};
+ghost use Rattle.std.specs.Prelude.{◌≡◌, false};
 ghost use Rattle.refusals.specs.Answers.{Answers};
 ghost use Rattle.thread_model.specs.Asked as model;
 ghost use Rattle.thread_model.specs.Asked.{Leave, Publish, Reset, Unpublish};
 ghost use Rattle.thread_model.specs.Sharing.{asked_kinds, kinds_named};
-ghost use Rattle.session_tables.specs.Tables.{IsPlaced, failed_at};
+ghost use Rattle.session_tables.specs.Tables.{IsPlaced};
 ghost use Rattle.session_engine.specs.Commands.{Obeys, Performs, reply_lines};
 
-use crate::commands::one_line;
+use crate::commands::{give_up, one_line};
 use plain_types::{Items, Text};
 use publish_board::{Join, Publication};
 use refusals::{Code, Fault};
 use session_effects::{Caller, kinds_at, method_named, signal_named};
 use session_tables::Tables;
 use signature_core::{Kind, PARAMS};
-use std::alloc::Global;
+use std::alloc::{AllocError, Global};
 use thread_model::{Answer, Line};
 
 /// Publishes a signal of an object under a name.
@@ -122,15 +122,17 @@ pub fn reset(caller: &Caller, tables: &mut Tables) -> Result<Answer, Fault>
 }
 
 /// The same of a session that has failed.
-pub fn renew(caller: &Caller, tables: &mut Tables) -> Result<Items<Line>, Fault>
-    requires placed { IsPlaced tables.old caller.now.place }
-    requires failed { IsTrue (failed_at tables.old caller.now.place) }
-    ensures { Obeys caller.now Reset tables.old tables.new false result }
+pub fn renew(
+    caller: &Caller,
+    tables: &mut Tables,
+    memory_refused: &mut bool,
+) -> Result<Items<Line>, Fault>
+    requires { IsPlaced tables.old caller.now.place }
+    ensures { Obeys caller.now Reset tables.old tables.new memory_refused.old memory_refused.new result }
 {
     tables.renew(caller.place);
-    let told = one_line(caller.setup.alloc, Line::Reply(Answer::Truth(true)));
-    if told.is_err() {
-        tables.give_up(caller.place);
+    match one_line(caller.setup.alloc, Line::Reply(Answer::Truth(true))) {
+        Ok(lines) => Ok(lines),
+        Err(AllocError) => Err(give_up(tables, caller.place, memory_refused)),
     }
-    Ok(told?)
 }

@@ -2,7 +2,7 @@
 ghost use Rattle.std.specs.Prelude.{◌≡◌, false};
 ghost use Rattle.thread_model.specs.Asked.{Children, Delete, Find, New};
 ghost use Rattle.session_tables.specs.Tables.{IsPlaced};
-ghost use Rattle.session_engine.specs.Commands.{KnowsProperties, Performs, reply_after, reply_lines};
+ghost use Rattle.session_engine.specs.Commands.{KnowsProperties, Performs, Reads, reply_after, reply_lines};
 ghost use Rattle.nested_calls.specs.Telling.{fresh_telling};
 
 use nested_calls::{Actor, Answering, Telling, delete};
@@ -45,9 +45,10 @@ pub fn delete_object<F: Answering>(
 }
 
 /// The children of an object, or the roots.
+#[tactic(auto, using(crate::proofs::CommandsLemmas::starved_reading))]
 pub fn children(caller: &Caller, tables: &Tables, object: Option<u32>) -> Result<Answer, Fault>
     requires { IsPlaced tables.now caller.now.place }
-    ensures { Performs caller.now (Children object) tables.now tables.now false reply_lines result }
+    ensures { Reads caller.now (Children object) tables.now result }
 {
     tables.check_named(caller.place, object)?;
     let found = tables.children(caller.place, object)?;
@@ -55,6 +56,7 @@ pub fn children(caller: &Caller, tables: &Tables, object: Option<u32>) -> Result
 }
 
 /// The nearest object below another one, of a title and of a class where they are given.
+#[tactic(auto, using(crate::proofs::CommandsLemmas::starved_reading))]
 pub fn find(
     caller: &Caller,
     tables: &Tables,
@@ -63,7 +65,7 @@ pub fn find(
     class: &Option<Text>,
 ) -> Result<Answer, Fault>
     requires { IsPlaced tables.now caller.now.place }
-    ensures { Performs caller.now (Find object title.now class.now) tables.now tables.now false reply_lines result }
+    ensures { Reads caller.now (Find object title.now class.now) tables.now result }
 {
     tables.check_object(caller.place, object)?;
     let base = caller.setup.named_index(class)?;

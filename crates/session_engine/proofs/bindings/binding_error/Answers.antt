@@ -1,4 +1,4 @@
-use Rattle.std.proofs.Common.{Option, refl, ap, sym, ◌∙◌}
+use Rattle.std.proofs.Common.{Option, ap, sym, ◌∙◌}
 use Rattle.std.specs.Result.{result_err}
 use Rattle.thread_model.proofs.BindLemmas.{binding_error_done, refusal_binding_error}
 use Rattle.variant_value.specs.declared.value.Value.{Value}
@@ -6,20 +6,20 @@ use Rattle.binding_values.specs.declared.property.BindingError.{BindingError}
 use Rattle.thread_model.specs.declared.line.Answer.TheVariants as a
 use Rattle.thread_model.specs.Effects.{replies}
 use Rattle.session_tables.specs.Tables.{state_at}
-use Rattle.session_tables.proofs.TablesLemmas.{changes_same}
-use Rattle.session_engine.proofs.CommandsLemmas.{replied_by, starved, stopped}
+use Rattle.session_engine.proofs.CommandsLemmas.{refused_reading}
 use Rattle.session_engine.proofs.bindings.binding_error.Goals as goal
 
 pub returns-in_err-at : goal.returns-in_err-at
-returns-in_err-at c = stopped _ _ _ _ _ c.in_err-at.field-0.0 _ c.from_residual.ensures.1
-    (refusal_binding_error _ _ _ _ _ ∙ ap result_err (sym (rw c.as_str.ensures at c.in_err-at.ensures))) refl
-
-pub returns-in_err-error : goal.returns-in_err-error
-returns-in_err-error c = starved _ _ _ _ _ _ c.from_residual-in_err-error.ensures.1 (changes_same _ _ _ refl)
+returns-in_err-at c = refused_reading _ _ _ c.in_err-at.field-0.0 _ c.from_residual.ensures.1
+    (refusal_binding_error _ _ _ _ _ ∙ ap result_err (sym (rw c.as_str.ensures at c.in_err-at.ensures)))
 
 pub returns : goal.returns
 returns c =
     let state = state_at c.args.tables.now c.args.caller.now.place in
     let found = sym (rw c.as_str.ensures at c.in_ok-at.ensures) in
-    replied_by _ _ _ _ (refusal_binding_error _ _ _ _ _ ∙ ap result_err found)
-    (binding_error_done _ _ _ _ _ _ found ∙ ap (λ (shown : Value × Option BindingError). replies state (a.BindingError shown.1)) (sym c.in_ok-error.ensures.shown))
+    record {
+      returns = (
+        refusal_binding_error _ _ _ _ _ ∙ ap result_err found,
+        binding_error_done _ _ _ _ _ _ found ∙ ap (λ (shown : Value × Option BindingError). replies state (a.BindingError shown.1)) (sym c.in_ok-error.ensures.shown),
+      );
+    }

@@ -1,5 +1,4 @@
-use Rattle.session_tables.proofs.TablesLemmas.{changes_same}
-use Rattle.std.proofs.Common.{sym, ap, refl, slice_get, ◌∙◌}
+use Rattle.std.proofs.Common.{sym, ap, slice_get, ◌∙◌}
 use Rattle.std.specs.Option.{option_copied}
 use Rattle.thread_model.specs.declared.line.Answer.TheVariants as a
 use Rattle.thread_model.specs.Classes.{described}
@@ -7,12 +6,12 @@ use Rattle.thread_model.specs.Effects.{replies}
 use Rattle.thread_model.proofs.ClassLemmas.{described_at, performs_meta, refusal_meta}
 use Rattle.session_tables.specs.Tables.{state_at}
 use Rattle.session_engine.proofs.ClassesLemmas.{class_index_there, described_is}
-use Rattle.session_engine.proofs.CommandsLemmas.{replied_by, stopped, starved}
+use Rattle.session_engine.proofs.CommandsLemmas.{refused_reading}
 use Rattle.session_engine.proofs.StepLemmas.{some_none}
 use Rattle.session_engine.proofs.classes.describe.Goals as goal
 
 pub returns-in_err-index : goal.returns-in_err-index
-returns-in_err-index c = stopped _ _ _ _ _ c.in_err-index.field-0.0 _ c.from_residual.ensures.1 (refusal_meta _ _ _ _ ∙ sym c.in_err-index.ensures.refusal) refl
+returns-in_err-index c = refused_reading _ _ _ c.in_err-index.field-0.0 _ c.from_residual.ensures.1 (refusal_meta _ _ _ _ ∙ sym c.in_err-index.ensures.refusal)
 
 pub unreachable-requires : goal.unreachable-requires
 unreachable-requires c =
@@ -24,24 +23,13 @@ pub returns : goal.returns
 returns c =
     let classes = c.args.caller.now.setup.now.classes in
     let state = state_at c.args.tables.now c.args.caller.now.place in
-    replied_by _ _ _ _ (refusal_meta _ _ _ _ ∙ sym c.in_ok-index.ensures.refusal)
-    (performs_meta _ _ _ _
-    ∙ ap (λ index. replies state (a.Meta (described classes index))) (sym c.in_ok-index.ensures.index)
-    ∙ ap (λ meta. replies state (a.Meta meta)) (described_at classes c.in_ok-index.index c.in-Some.row.now (sym c.in-Some.ensures.value)
-    ∙ sym (described_is classes c.in_ok-index.index c.in-Some.row.now _ _ _ _ _ _ c.in_ok-copy.ensures c.in-Some.ensures.has.method_offset c.in_ok-method_texts.ensures
-    c.in_ok-property_names.ensures c.in-Some.ensures.has.property_offset c.in_ok-superclass_name.ensures) ∙ sym c.in_ok-new.ensures))
-
-pub returns-in_err-copy : goal.returns-in_err-copy
-returns-in_err-copy c = starved _ _ _ _ _ _ c.from_residual-in_err-copy.ensures.1 (changes_same _ _ _ refl)
-
-pub returns-in_err-method_texts : goal.returns-in_err-method_texts
-returns-in_err-method_texts c = starved _ _ _ _ _ _ c.from_residual-in_err-method_texts.ensures.1 (changes_same _ _ _ refl)
-
-pub returns-in_err-property_names : goal.returns-in_err-property_names
-returns-in_err-property_names c = starved _ _ _ _ _ _ c.from_residual-in_err-property_names.ensures.1 (changes_same _ _ _ refl)
-
-pub returns-in_err-superclass_name : goal.returns-in_err-superclass_name
-returns-in_err-superclass_name c = starved _ _ _ _ _ _ c.from_residual-in_err-superclass_name.ensures.1 (changes_same _ _ _ refl)
-
-pub returns-in_err-new : goal.returns-in_err-new
-returns-in_err-new c = starved _ _ _ _ _ _ c.from_residual-in_err-new.ensures.1 (changes_same _ _ _ refl)
+    record {
+      returns = (
+        refusal_meta _ _ _ _ ∙ sym c.in_ok-index.ensures.refusal,
+        performs_meta _ _ _ _
+            ∙ ap (λ index. replies state (a.Meta (described classes index))) (sym c.in_ok-index.ensures.index)
+            ∙ ap (λ meta. replies state (a.Meta meta)) (described_at classes c.in_ok-index.index c.in-Some.row.now (sym c.in-Some.ensures.value)
+            ∙ sym (described_is classes c.in_ok-index.index c.in-Some.row.now _ _ _ _ _ _ c.in_ok-copy.ensures c.in-Some.ensures.has.method_offset c.in_ok-method_texts.ensures
+            c.in_ok-property_names.ensures c.in-Some.ensures.has.property_offset c.in_ok-superclass_name.ensures) ∙ sym c.in_ok-new.ensures),
+      );
+    }

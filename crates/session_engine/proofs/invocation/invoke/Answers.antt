@@ -8,7 +8,7 @@ use Rattle.thread_model.proofs.SignalLemmas.{invoke_none, refusal_invoke}
 use Rattle.session_tables.specs.Tables.{state_at}
 use Rattle.session_tables.proofs.TablesLemmas.{changes_same}
 use Rattle.session_effects.specs.Setup.{settings_of}
-use Rattle.session_engine.proofs.CommandsLemmas.{at_first_reaches, found_fault, made_fault, quietly, starved_last, on_refused, or_first, or_second, replied, replied_by, silently, stopped}
+use Rattle.session_engine.proofs.CommandsLemmas.{at_first_reaches, found_fault, made_fault, quietly, starved_last, on_refused, or_first, or_second, replied, reads, silently, stopped}
 use Rattle.session_engine.proofs.InvocationLemmas.{invoke_runs, kinds_are, method_is, method_there, named_in, performs_invoked, posts_invoked, refusal_absent, refusal_found, refusal_later, refusal_now, unread}
 use Rattle.session_engine.proofs.invocation.invoke.Goals as goal
 
@@ -28,9 +28,13 @@ returns-in_default g c =
     let settings = settings_of c.args.actor.now.caller.setup.now in
     let state = state_at c.args.tables.now c.args.actor.now.caller.place in
     let named = named_in settings state c.args.object c.in_ok-class.class c.args.method.now None c.in_ok-class.ensures.class (c.in_ok-index.ensures ∙ ap Ok c.in_default.is) in
-    silently _ _ _ _ _ _ c.requires.fresh
-    (replied_by _ _ _ _ (refusal_absent c.args.actor.now.caller c.args.object c.args.method.now (map view c.args.args.now) c.args.mode c.args.priority c.args.tables.now c.args.tables.now named.signature c.in_ok-class.ensures.refusal named.spelled named.asked)
-    (invoke_none _ _ _ _ _ _ _ _ named.asked))
+    reads _ _ _ _ _ c.requires.fresh
+    (record {
+      returns = (
+        refusal_absent c.args.actor.now.caller c.args.object c.args.method.now (map view c.args.args.now) c.args.mode c.args.priority c.args.tables.now c.args.tables.now named.signature c.in_ok-class.ensures.refusal named.spelled named.asked,
+        invoke_none _ _ _ _ _ _ _ _ named.asked,
+      );
+    })
 
 pub returns-in_err-values : goal.returns-in_err-values
 returns-in_err-values g c =

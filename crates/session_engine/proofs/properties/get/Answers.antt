@@ -1,18 +1,18 @@
-use Rattle.session_tables.proofs.TablesLemmas.{changes_same}
-use Rattle.std.proofs.Common.{sym, ap, refl, ◌∙◌}
+use Rattle.std.proofs.Common.{sym, ap, ◌∙◌}
 use Rattle.thread_model.specs.declared.line.Answer.TheVariants as a
 use Rattle.thread_model.specs.Effects.{replies}
 use Rattle.thread_model.proofs.PropertyLemmas.{performs_get, refusal_get}
 use Rattle.session_tables.specs.Tables.{state_at}
-use Rattle.session_engine.proofs.CommandsLemmas.{replied_by, stopped, starved}
+use Rattle.session_engine.proofs.CommandsLemmas.{refused_reading}
 use Rattle.session_engine.proofs.properties.get.Goals as goal
 
 pub returns-in_err-check_object : goal.returns-in_err-check_object
-returns-in_err-check_object c = stopped _ _ _ _ _ c.in_err-check_object.field-0.0 _ c.from_residual.ensures.1 (refusal_get _ _ _ _ _ ∙ sym c.in_err-check_object.ensures) refl
+returns-in_err-check_object c = refused_reading _ _ _ c.in_err-check_object.field-0.0 _ c.from_residual.ensures.1 (refusal_get _ _ _ _ _ ∙ sym c.in_err-check_object.ensures)
 
 pub returns : goal.returns
-returns c = replied_by _ _ _ _ (refusal_get _ _ _ _ _ ∙ sym c.in_ok-check_object.ensures)
-    (performs_get _ _ _ _ _ ∙ ap (λ value. replies (state_at c.args.tables.now c.args.caller.now.place) (a.Value value)) (sym (rw c.as_str.ensures at c.in_ok-value.ensures)))
-
-pub returns-in_err-value : goal.returns-in_err-value
-returns-in_err-value c = starved _ _ _ _ _ _ c.from_residual-in_err-value.ensures.1 (changes_same _ _ _ refl)
+returns c = record {
+  returns = (
+    refusal_get _ _ _ _ _ ∙ sym c.in_ok-check_object.ensures,
+    performs_get _ _ _ _ _ ∙ ap (λ value. replies (state_at c.args.tables.now c.args.caller.now.place) (a.Value value)) (sym (rw c.as_str.ensures at c.in_ok-value.ensures)),
+  );
+}

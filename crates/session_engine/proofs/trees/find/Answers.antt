@@ -1,28 +1,28 @@
-use Rattle.session_tables.proofs.TablesLemmas.{changes_same}
-use Rattle.std.proofs.Common.{sym, ap, refl, ◌∙◌, ◌&&◌}
+use Rattle.std.proofs.Common.{sym, ap, ◌∙◌, ◌&&◌}
 use Rattle.thread_model.specs.declared.line.Answer.TheVariants as a
 use Rattle.object_tree.specs.Finding.{found_below}
 use Rattle.thread_model.specs.Effects.{replies}
 use Rattle.thread_model.specs.Trees.{has_title, is_of_class}
 use Rattle.thread_model.proofs.TreeLemmas.{performs_find, refusal_find}
 use Rattle.session_tables.specs.Tables.{state_at}
-use Rattle.session_engine.proofs.CommandsLemmas.{or_first, or_second, replied_by, stopped, starved}
+use Rattle.session_engine.proofs.CommandsLemmas.{or_first, or_second, refused_reading}
 use Rattle.session_engine.proofs.trees.find.Goals as goal
 
 pub returns-in_err-check_object : goal.returns-in_err-check_object
-returns-in_err-check_object c = stopped _ _ _ _ _ c.in_err-check_object.field-0.0 _ c.from_residual.ensures.1 (refusal_find _ _ _ _ _ _ ∙ or_first _ _ _ c.in_err-check_object.ensures) refl
+returns-in_err-check_object c = refused_reading _ _ _ c.in_err-check_object.field-0.0 _ c.from_residual.ensures.1 (refusal_find _ _ _ _ _ _ ∙ or_first _ _ _ c.in_err-check_object.ensures)
 
 pub returns-in_err-base : goal.returns-in_err-base
-returns-in_err-base c = stopped _ _ _ _ _ c.in_err-base.field-0.0 _ c.from_residual-in_err-base.ensures.1
-    (refusal_find _ _ _ _ _ _ ∙ or_second _ _ c.in_ok-check_object.ensures ∙ sym c.in_err-base.ensures.refusal) refl
+returns-in_err-base c = refused_reading _ _ _ c.in_err-base.field-0.0 _ c.from_residual-in_err-base.ensures.1
+    (refusal_find _ _ _ _ _ _ ∙ or_second _ _ c.in_ok-check_object.ensures ∙ sym c.in_err-base.ensures.refusal)
 
 pub returns : goal.returns
 returns c =
     let state = state_at c.args.tables.now c.args.caller.now.place in
-    replied_by _ _ _ _ (refusal_find _ _ _ _ _ _ ∙ or_second _ _ c.in_ok-check_object.ensures ∙ sym c.in_ok-base.ensures.refusal)
-    (performs_find _ _ _ _ _ _
-    ∙ ap (λ base. replies state (a.Found (found_below state.forest.rows c.args.object (λ number. has_title state c.args.title.now number && is_of_class c.args.caller.now.setup.now.classes state base number)))) (sym c.in_ok-base.ensures.index)
-    ∙ ap (λ found. replies state (a.Found found)) (sym c.in_ok-found.ensures))
-
-pub returns-in_err-found : goal.returns-in_err-found
-returns-in_err-found c = starved _ _ _ _ _ _ c.from_residual-in_err-found.ensures.1 (changes_same _ _ _ refl)
+    record {
+      returns = (
+        refusal_find _ _ _ _ _ _ ∙ or_second _ _ c.in_ok-check_object.ensures ∙ sym c.in_ok-base.ensures.refusal,
+        performs_find _ _ _ _ _ _
+            ∙ ap (λ base. replies state (a.Found (found_below state.forest.rows c.args.object (λ number. has_title state c.args.title.now number && is_of_class c.args.caller.now.setup.now.classes state base number)))) (sym c.in_ok-base.ensures.index)
+            ∙ ap (λ found. replies state (a.Found found)) (sym c.in_ok-found.ensures),
+      );
+    }

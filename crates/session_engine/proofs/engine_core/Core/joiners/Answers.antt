@@ -1,9 +1,0 @@
-use Rattle.std.proofs.Common.{subst}
-use Rattle.std.specs.Prelude.{IfOk}
-use Rattle.session_engine.specs.Core.{AreJoinersOf, Contents}
-use Rattle.session_engine.proofs.JoiningLemmas.{if_joiners}
-use Rattle.session_engine.proofs.engine_core.Core.joiners.Goals as goal
-
-pub returns : goal.returns
-returns c = subst (λ (engine : Contents). IfOk c.joiners.result (λ places. AreJoinersOf engine c.args.from.now places.items)) c.self.view_is
-    (if_joiners _ c.args.from.now (λ places. places.items) c.joiners.result c.self.invariant c.joiners.ensures)
