@@ -1,5 +1,5 @@
 -- The texts of lines, part by part.
-use Rattle.std.proofs.Common.{◌≡◌, ℕ, true, List, [], ◌∷◌, ◌++◌, Option, Some, None, IsTrue, codes, sym, ap, ap₂, ◌∙◌, append_assoc}
+use Rattle.std.proofs.Common.{◌≡◌, ℕ, true, List, [], ◌∷◌, ◌++◌, Option, Some, None, IsTrue, codes, sym, ap, ap₂, ◌∙◌, append_assoc, decimal}
 use Rattle.std.specs.List.{list_all}
 use Rattle.refusals.specs.declared.code.Code.{Code}
 use Rattle.refusals.specs.Codes.{code_text}
@@ -114,3 +114,23 @@ text_of_text answer told session named plain shown =
     sym (reply_line answer session
     ∙ ap₂ (around (codes "{\"reply\":")) (sym shown ∙ text_of_plain told plain) (text_of_plain session (session_is_plain session named))
     ∙ around_text (codes "{\"reply\":") told session)
+
+-- a call's line around the texts of its parts
+abbrev call_around : List ℕ → List ℕ → List ℕ → List ℕ → List ℕ → List ℕ
+call_around args method object sender session = codes "{\"args\":" ++ (args ++ (codes ",\"call\":" ++ (method ++ (codes ",\"object\":" ++ (object ++ (codes ",\"sender\":" ++ (sender ++ (codes ",\"session\":" ++ (session ++ codes "}\n")))))))))
+
+around_call : (word method object sender session : List ℕ) → call_around (91 ∷ (word ++ 93 ∷ [])) (34 ∷ (method ++ 34 ∷ [])) object sender (34 ∷ (session ++ 34 ∷ []))
+    ≡ (codes "{\"args\":[" ++ (word ++ (codes "],\"call\":\"" ++ (method ++ codes "\",\"object\":")))) ++ (object ++ (codes ",\"sender\":" ++ (sender ++ (codes ",\"session\":\"" ++ (session ++ codes "\"}\n")))))
+around_call word method object sender session = simp append_assoc
+
+-- the line where its values are written as one word or as nothing
+pub text_of_call : (call : Call) (word method session : List ℕ) → IsTrue (is_session_text session) → list_all is_plain_byte method ≡ true → method ≡ call.method → 91 ∷ (word ++ 93 ∷ []) ≡ compact_text (array_of json_of call.args)
+    → (codes "{\"args\":[" ++ (word ++ (codes "],\"call\":\"" ++ (method ++ codes "\",\"object\":")))) ++ (decimal call.object ++ (codes ",\"sender\":" ++ (decimal call.sender ++ (codes ",\"session\":\"" ++ (session ++ codes "\"}\n")))))
+    ≡ text_of_line session (a_line.Call call)
+text_of_call call word method session named plain same values =
+    let args = sym values in
+    let quoted = ap (λ text. compact_text (string text)) (sym same) ∙ text_of_plain method plain in
+    let told = text_of_plain session (session_is_plain session named) in
+    sym (call_line call session
+    ∙ (λ i. call_around (args i) (quoted i) (decimal call.object) (decimal call.sender) (told i))
+    ∙ around_call word method (decimal call.object) (decimal call.sender) session)

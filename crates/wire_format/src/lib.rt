@@ -3,6 +3,7 @@
 
 ghost use Rattle.wire_format.specs.Output.{LeavingOutLines, LeavingOutStrangers};
 
+mod calls;
 mod fault;
 mod line;
 mod parts;
@@ -10,6 +11,7 @@ mod reading;
 mod shown;
 mod writing;
 
+pub use calls::{CALL_BYTES, call_text};
 pub use fault::{LineFault, ReadError};
 pub use itoa::Buffer as Digits;
 pub use json::Scratch;

@@ -23,7 +23,8 @@ use std::alloc::{AllocError, Global};
 use thread_model::{Line, Tagged};
 use wire_devices::{Failed, Sink};
 use wire_format::{
-    Digits, Parts, ReadError, Scratch, error_parts, line_parts, read_line, write_line,
+    CALL_BYTES, Digits, Parts, ReadError, Scratch, call_text, error_parts, line_parts, read_line,
+    write_line,
 };
 
 /// The text that is gathered for a sink.
@@ -132,7 +133,8 @@ impl Output {
         Ok(())
     }
 
-    /// Says one line: in parts where it has them, and else as a text that is made first.
+    /// Says one line: in parts where it has them, in memory of its own where it is a short call, and
+    /// else as a text that is made first.
     fn say_line<W: Sink>(
         &mut self,
         session: &str,
@@ -147,6 +149,11 @@ impl Output {
         let mut digits = Digits::new();
         if let Some(parts) = line_parts(session, line, &mut digits) {
             return self.say_parts(&parts, writer);
+        }
+        let mut memory = [0; CALL_BYTES];
+        if let Some(text) = call_text(session, line, &mut memory) {
+            self.gathered.send(writer, text)?;
+            return Ok(());
         }
         write_line(self.alloc, &mut self.text, session, line)?;
         self.gathered.send(writer, self.text.as_bytes())?;
