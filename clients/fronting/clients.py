@@ -5,10 +5,14 @@ from __future__ import annotations
 import socket
 from collections import deque
 from dataclasses import dataclass, field
-from typing import Deque, List
+from typing import TYPE_CHECKING, Deque, Iterable, List, Optional, Tuple
 
-from .lines import CHUNK, WHITE, Lines
+from .lines import CHUNK, WHITE, Lines, with_session
 from .watch import READ, WRITE
+
+if TYPE_CHECKING:
+    from .groups import Group
+    from .replaying import Silence
 
 PIECE = 65_536  # bytes that a piece of what is unread has, or more, before the next one begins
 UNREAD_SLOW = 65_536  # bytes that a client has not read, above which its commands wait
@@ -100,6 +104,10 @@ class Connection:
         """Whether it is still to be told something that it has asked for."""
         return False
 
+    def speakers(self) -> Iterable[Speaker]:
+        """Those in whose name its commands wait for turns."""
+        return ()
+
     def is_done(self) -> bool:
         """Whether it is to be let go."""
         has_all = self.has_ended and not (self.unread or self.awaits())
@@ -124,15 +132,15 @@ class Session:
 
     name: str
     is_shared: bool
-    members: List[Client] = field(default_factory=list)
+    members: List[Connection] = field(default_factory=list)
     is_begun: bool = False  # the server was given a command of it
+    group: Optional[Group] = None  # of the sessions that can join it, where there are several servers
 
 
 @dataclass(eq=False)
-class Client(Connection):
-    """Somebody who speaks for a session."""
+class Speaker:
+    """Somebody whose commands take turns."""
 
-    session: Session = field(default_factory=lambda: Session("", False))
     waiting: Deque[bytes] = field(default_factory=deque)  # lines that the server has not been given
     under_way: int = 0  # commands that the server has been given and has not answered
     served: int = 0  # what it has had of the server, in bytes
@@ -140,10 +148,73 @@ class Client(Connection):
     has_turn: bool = False  # it waits for its turn
     turn: int = -1  # how many turns it had when it began to wait for this one
     place: int = 0  # among those that had as many
+    silence: Optional[Silence] = None  # what hears the answers, where clients are not told of them
 
     def may_give(self) -> bool:
         """Whether the server may be given its next line."""
-        return bool(self.waiting) and len(self.unread) <= UNREAD_SLOW
+        return bool(self.waiting)
+
+    def take(self) -> Tuple[Session, bytes]:
+        """Its next line as the server is given it, with the session that it is for."""
+        raise NotImplementedError
+
+    def listener(self) -> Optional[Connection]:
+        """Who is told the answers."""
+        return None
+
+    def sessions(self) -> Iterable[Session]:
+        """The sessions that it speaks for."""
+        return ()
+
+    def place_in(self) -> Optional[Group]:
+        """The group of these sessions, where there are groups."""
+        return None
+
+    def lose(self, answer: bytes, fault: str) -> None:
+        """Has lost the group that it speaks for: tells that, and closes."""
+        self.waiting.clear()
+        self.under_way = 0
+
+
+@dataclass(eq=False)
+class Client(Speaker, Connection):
+    """Somebody who speaks for a session."""
+
+    session: Session = field(default_factory=lambda: Session("", False))
+
+    def may_give(self) -> bool:
+        group = self.session.group
+        return bool(self.waiting) and len(self.unread) <= UNREAD_SLOW and not (group and group.is_held)
+
+    def take(self) -> Tuple[Session, bytes]:
+        session, line = self.session, self.waiting.popleft()
+        if session.group:
+            line = session.group.kept_apart(line)
+        return session, with_session(line, session.name)
+
+    def listener(self) -> Optional[Connection]:
+        return self
+
+    def speakers(self) -> Iterable[Speaker]:
+        return (self,)
+
+    def sessions(self) -> Iterable[Session]:
+        return (self.session,)
+
+    def place_in(self) -> Optional[Group]:
+        return self.session.group
+
+    def lose(self, answer: bytes, fault: str) -> None:
+        super().lose(answer, fault)
+        self.leave()
+        if not self.is_gone:
+            self.unread += answer
+            self.refuse(fault)
+
+    def leave(self) -> None:
+        """Is told nothing more of its session."""
+        if self in self.session.members:
+            self.session.members.remove(self)
 
     def awaits(self) -> bool:
         return bool(self.waiting or self.under_way)

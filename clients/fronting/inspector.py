@@ -20,7 +20,7 @@ from dataclasses import dataclass, field
 from pathlib import Path
 from typing import Any, Callable, Deque, Dict, Iterable, Iterator, Optional, Sequence, Set
 
-from .clients import Client, Session, Unread
+from .clients import Client, Session, Speaker, Unread
 from .lines import CHUNK, Lines, line_of
 from .log import Ended, Log
 from .turns import Turns
@@ -53,6 +53,10 @@ class Asker(Client):
     """The inspector, where it speaks for a session. It is told nothing by itself, since it hears all lines."""
 
     numbers: Deque[int] = field(default_factory=deque)  # of those commands that wait
+
+    def lose(self, answer: bytes, fault: str) -> None:
+        super().lose(answer, fault)
+        self.numbers.clear()
 
 
 @dataclass
@@ -91,13 +95,13 @@ class Inspector:
 
     # ---- what it is told ----
 
-    def given(self, client: Client, line: bytes) -> None:
+    def given(self, client: Speaker, session: Session, line: bytes) -> None:
         """Tells it a line that the server is given."""
         mark = b">"
         if isinstance(client, Asker):
             mark = b"?%d " % client.numbers.popleft()
         if self.left_out is not None:
-            self.leave_out(1, (client.session.name,))
+            self.leave_out(1, (session.name,))
         elif not self.is_gone:
             if not self.is_timed:
                 self.tell_time()
@@ -106,7 +110,7 @@ class Inspector:
     def told(self, lines: bytes) -> None:
         """Tells it lines that the server has written."""
         if self.left_out is not None and self.turns:
-            self.leave_out(lines.count(b"\n"), [it.client.session.name for it in self.turns.under_way])
+            self.leave_out(lines.count(b"\n"), [it.session.name for it in self.turns.under_way])
         elif not self.is_gone:
             self.tell_time()
             self.fresh += lines
@@ -139,7 +143,7 @@ class Inspector:
             self.left_out = LeftOut()
         elif self.left_out is not None and len(self.unread) <= ROOM and self.turns:
             left, self.left_out = self.left_out, None
-            under_way = [[it.client.session.name, isinstance(it.client, Asker)] for it in self.turns.under_way]
+            under_way = [[it.session.name, isinstance(it.client, Asker)] for it in self.turns.under_way]
             self.note(left=left.lines, sessions=sorted(left.sessions), under_way=under_way)
 
     def push(self) -> None:
@@ -187,6 +191,8 @@ class Inspector:
             return self.note(refused=[int(number)])
         asker.waiting.append(command)
         asker.numbers.append(int(number))
+        if asker.session.group:
+            asker.session.group.enter(asker)
         self.turns.await_turn(asker)
 
     def asker_of(self, session: Session) -> Asker:

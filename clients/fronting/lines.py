@@ -4,6 +4,7 @@ from __future__ import annotations
 
 import json
 import re
+from functools import lru_cache
 from typing import Any, Dict, List, Optional
 
 from .log import Ended
@@ -12,6 +13,7 @@ LINE_MOST = 65_536  # bytes of a line of input, without its end
 CHUNK = 16_384  # bytes that are read of a client at once, not more than a line may have
 WHITE = b" \t\r"  # white space of JSON, but for the end of a line
 TOO_LONG = b"too long"  # stands for a line that is too long, and is answered by the same code
+NAMES_KEPT = 4_096  # names of sessions whose keys are not made again
 NOBODY = "-"  # the session of errors of lines that are no command of a session
 
 NAME = re.compile(r"[A-Za-z_][A-Za-z0-9_]{0,63}")
@@ -50,19 +52,26 @@ class Lines:
 
 def with_session(line: bytes, name: str) -> bytes:
     """A client's line as the server is given it: an object names this session, all else stays as it is."""
+    return with_member(line, key_of(name))
+
+
+def with_member(line: bytes, member: bytes) -> bytes:
+    """A line with a member more where it is an object. Of a key that stands twice the last one counts."""
     text = line.strip(WHITE)
     if len(text) < 2 or not (text.startswith(b"{") and text.endswith(b"}")):
         return line
     members = text[1:-1]
     comma = b"," if members.strip(WHITE) else b""
-    return b"{" + members + comma + key_of(name) + b"}"
+    return b"{" + members + comma + member + b"}"
 
 
+@lru_cache(maxsize=NAMES_KEPT)
 def key_of(name: str) -> bytes:
     """How a line names this session."""
     return b'"session":"' + name.encode() + b'"'
 
 
+@lru_cache(maxsize=NAMES_KEPT)
 def end_of(name: str) -> bytes:
     """How a line of the server ends that names this session by its last key, as all do but warnings."""
     return key_of(name) + b"}\n"
@@ -85,13 +94,22 @@ def shown(lines: bytes) -> str:
 
 def asked_of_front(line: bytes) -> Optional[Dict[str, Any]]:
     """What a line asks of the front itself, if it does: an object with `front` and without the `do` of a command."""
-    if b"front" not in line:
-        return None
+    asked = object_of(line) if b"front" in line else None
+    return asked if asked and "front" in asked and "do" not in asked else None
+
+
+def object_of(line: bytes) -> Optional[Dict[str, Any]]:
+    """The object that a line is, if it is one. Of a key that stands twice the last one counts, as the server has it."""
     try:
-        asked = json.loads(line.decode())
+        value = json.loads(line.decode())
     except (ValueError, RecursionError):
         return None
-    return asked if isinstance(asked, dict) and "front" in asked and "do" not in asked else None
+    return value if isinstance(value, dict) else None
+
+
+def may_have(line: bytes, word: bytes) -> bool:
+    """Whether a word of letters may stand in a text of this line, as it is or by escapes."""
+    return word in line or b"\\u" in line
 
 
 def is_name(text: object) -> bool:

@@ -5,7 +5,7 @@ from __future__ import annotations
 import socket
 from dataclasses import dataclass
 from functools import partial
-from typing import Optional, Set
+from typing import Generic, List, Optional, Set, TypeVar
 
 from .clients import Connection
 from .lines import NOBODY, asked_of_front, is_name, line_of, refusal
@@ -38,24 +38,64 @@ def may_be_named(session: object) -> bool:
     return session == NOBODY or is_name(session)
 
 
-class Monitors:
-    """All monitors of a front."""
+Guest = TypeVar("Guest", bound=Connection)
+
+
+class Guests(Generic[Guest]):
+    """Those who are connected and speak for no session."""
 
     def __init__(self, watch: Watch, doors: Doors, log: Log) -> None:
         self.watch = watch
         self.doors = doors
         self.log = log
-        self.all: Set[Monitor] = set()
-        self.touched: Set[Monitor] = set()
+        self.all: Set[Guest] = set()
+        self.touched: Set[Guest] = set()
         self.count = 0
+
+    def add(self, guest: Guest) -> None:
+        """Takes a new one."""
+        self.all.add(guest)
+        self.touched.add(guest)
+        self.log.note(f"{guest.name} has come")
+
+    def stir(self, guest: Guest, events: int) -> None:
+        """Does what a connection is ready for."""
+        self.touched.add(guest)
+        lines = guest.read() if events & READ else []
+        if lines and not guest.fault:
+            self.hear(guest, lines)
+
+    def hear(self, guest: Guest, lines: List[bytes]) -> None:
+        """Does what lines ask for."""
+        raise NotImplementedError
+
+    def settle(self) -> None:
+        """Lets all take what they are told, and lets those go that are done."""
+        for guest in self.touched:
+            guest.write()
+            if guest.is_done():
+                self.close(guest)
+            else:
+                self.watch.follow(guest.link, guest.events(), partial(self.stir, guest))
+        self.touched.clear()
+
+    def close(self, guest: Guest) -> None:
+        """Lets one go."""
+        self.watch.follow(guest.link, 0, partial(self.stir, guest))
+        guest.link.close()
+        guest.is_gone = True
+        self.all.discard(guest)
+        self.doors.reopen()
+        self.log.note(f"{guest.name} {guest.how_done()}")
+
+
+class Monitors(Guests[Monitor]):
+    """All monitors of a front."""
 
     def enter(self, link: socket.socket) -> None:
         """Takes a new monitor."""
         self.count += 1
-        monitor = Monitor(f"monitor {self.count}", link)
-        self.all.add(monitor)
-        self.touched.add(monitor)
-        self.log.note(f"{monitor.name} has come")
+        self.add(Monitor(f"monitor {self.count}", link))
 
     def tell(self, session: str, line: bytes) -> None:
         """Tells a line of the server to those whom it concerns."""
@@ -64,28 +104,7 @@ class Monitors:
                 monitor.unread += line
                 self.touched.add(monitor)
 
-    def stir(self, monitor: Monitor, events: int) -> None:
-        """Does what a monitor's connection is ready for."""
-        self.touched.add(monitor)
-        lines = monitor.read() if events & READ else []
-        if lines and not monitor.has_spoken:
-            monitor.has_spoken = True
-            monitor.choose(lines[0])
-
-    def settle(self) -> None:
-        """Lets monitors take what they are told, and lets those go that are done."""
-        for monitor in self.touched:
-            monitor.write()
-            if monitor.is_done():
-                self.close(monitor)
-            else:
-                self.watch.follow(monitor.link, monitor.events(), partial(self.stir, monitor))
-        self.touched.clear()
-
-    def close(self, monitor: Monitor) -> None:
-        """Lets a monitor go."""
-        self.watch.follow(monitor.link, 0, partial(self.stir, monitor))
-        monitor.link.close()
-        self.all.discard(monitor)
-        self.doors.reopen()
-        self.log.note(f"{monitor.name} {monitor.how_done()}")
+    def hear(self, guest: Monitor, lines: List[bytes]) -> None:
+        if not guest.has_spoken:
+            guest.has_spoken = True
+            guest.choose(lines[0])

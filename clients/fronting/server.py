@@ -6,8 +6,8 @@ import fcntl
 import os
 import signal
 import subprocess
-from contextlib import contextmanager, suppress
-from typing import IO, Iterator, Optional, Sequence
+from contextlib import suppress
+from typing import IO, Optional, Sequence
 
 from .log import Ended, Log
 
@@ -103,18 +103,21 @@ class Server:
         return f"the server has ended with status {status}"
 
 
-@contextmanager
-def started(program: str, args: Sequence[str]) -> Iterator[subprocess.Popen[bytes]]:
-    """A server, which is ended at the end. What it writes on standard error goes to that of the front; signals that a
-    terminal sends come to the front alone, which ends it then."""
+def start(program: str, args: Sequence[str]) -> subprocess.Popen[bytes]:
+    """Starts a server. What it writes on standard error goes to that of the front; signals that a terminal sends come to
+    the front alone, which ends it then."""
     try:
         pipe = subprocess.PIPE
-        process = subprocess.Popen([program, *args], stdin=pipe, stdout=pipe, bufsize=0, start_new_session=True)
+        return subprocess.Popen([program, *args], stdin=pipe, stdout=pipe, bufsize=0, start_new_session=True)
     except (OSError, ValueError) as error:
         raise Ended(f"{program} cannot be started: {getattr(error, 'strerror', None) or error}") from None
-    try:
-        yield process
-    finally:
+
+
+def end_all(processes: Sequence[subprocess.Popen[bytes]]) -> None:
+    """Ends servers, and asks all of them first."""
+    for process in processes:
+        signal_all(process, signal.SIGTERM)
+    for process in processes:
         end(process)
 
 
@@ -124,8 +127,14 @@ def end(process: subprocess.Popen[bytes]) -> None:
     try:
         process.wait(SECONDS_TO_END)
     except subprocess.TimeoutExpired:
-        signal_all(process, signal.SIGKILL)
-        process.wait()
+        pass
+    kill(process)
+
+
+def kill(process: subprocess.Popen[bytes]) -> None:
+    """Ends a server and what it has started at once."""
+    signal_all(process, signal.SIGKILL)
+    process.wait()
     for stream in (process.stdin, process.stdout):
         if stream:
             with suppress(OSError):

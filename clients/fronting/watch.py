@@ -4,7 +4,7 @@ from __future__ import annotations
 
 import selectors
 import socket
-from typing import IO, Callable, Dict, List, Tuple, Union
+from typing import IO, Callable, Dict, List, Optional, Tuple, Union
 
 READ, WRITE = selectors.EVENT_READ, selectors.EVENT_WRITE
 
@@ -33,9 +33,9 @@ class Watch:
         change(source, events, handler)
         self.watched[source] = events
 
-    def wait(self) -> None:
-        """Waits until something comes, and does what is to be done then."""
-        for key, events in self.selector.select():
+    def wait(self, seconds: Optional[float] = None) -> None:
+        """Waits until something comes, or for so many seconds, and does what is to be done then."""
+        for key, events in self.selector.select(seconds):
             key.data(events)
 
 
@@ -47,6 +47,7 @@ class Doors:
         self.watch = watch
         self.doors: List[Tuple[socket.socket, Handler]] = []
         self.are_open = True
+        self.files_most: Optional[int] = None  # numbers of files from here on are kept for others
 
     def add(self, listener: socket.socket, enter: Enter) -> None:
         """Lets in those who connect at a socket."""
@@ -59,6 +60,8 @@ class Doors:
             except OSError:
                 self.shut()
                 return
+            if self.files_most is not None and link.fileno() >= self.files_most:
+                self.shut()
             link.setblocking(False)
             enter(link)
 

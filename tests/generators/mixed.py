@@ -184,10 +184,10 @@ def group_of(chance, number):
     return {name: chance.sample(of, min(len(of), chance.randint(1, SOURCES))) for name, of in others.items()}
 
 
-def run_of(chance, server, number=RUNS_AT_ONCE):
-    """So many runs, which take turns on a server."""
+def run_of(chance, server, number=RUNS_AT_ONCE, commands=COMMANDS):
+    """So many runs, which take turns on a server, with so many commands for each session."""
     run = Run(server, [group_of(chance, at) for at in range(number)])
-    for _ in range(COMMANDS * sum(map(len, run.groups))):
+    for _ in range(commands * sum(map(len, run.groups))):
         name, sources = chance.choice(list(chance.choice(run.groups).items()))
         run.do({**chance.command_among(server, name, sources), "session": name})
     return run

@@ -77,6 +77,10 @@ class Client:
         except ConnectionError:
             return b""
 
+    def told(self):
+        """The lines that come until the other side closes."""
+        return self.until_closed().decode().splitlines()
+
     def leave(self):
         self.reader.close()
         self.link.close()

@@ -1,6 +1,7 @@
 """Fronts that the client in Python starts, and its monitors."""
 
 import os
+import signal
 import subprocess
 import sys
 import tempfile
@@ -13,6 +14,7 @@ from tests.support.program import SECONDS
 
 from . import PYTHON
 from .fronts import PATIENCE, FrontCases, listens
+from .grouped import servers_of
 
 LAMP = {"classes": [{"name": "Lamp", "super": "QObject", "slots": [{"sig": "press()", "body": []}]}]}
 WRONG = {"classes": [{"name": "Lamp", "super": "Light"}]}
@@ -90,6 +92,33 @@ class StartedFronts(FrontCases):
                 self.assertEqual({it.session("mine").known_as for it in (one, other)}, {"team"}, "its name")
             refused = self.raised("another name", metad.Refused, front.connect, share="crew")
             self.assertEqual((refused.do, refused.code, refused.keys), ("share", "F02", {"session": "crew"}), "the refusal")
+
+    def test_groups(self):
+        """Clients of one group can join each other, and are told where what they hold is lost."""
+        with metad.start_front(self.program, options=["--workers", "2"], timeout=PATIENCE) as front:
+            with front.connect(group="desk") as one, metad.connect(front.path, group="desk") as other:
+                told = []
+                host, guest = one.session("host"), other.session("guest", on_call=told.append)
+                host.publish(host.new("Cell"), "xChanged(int)", "level")
+                guest.join(host.known_as, "level", ["int"], guest.new("Cell"), "seen(int)")
+                host.set(1, "x", 7)
+                guest.spin()
+                self.assertEqual(told, [metad.Call(1, "seen(int)", [7], 0)], "what is heard")
+                self.assertEqual({it.known_as for it in (host, guest)}, {"desk__c1", "desk__c2"}, "their names")
+                for server in servers_of(front._process):
+                    os.kill(server, signal.SIGKILL)
+                for session in (host, guest):
+                    lost = self.raised("a later command", metad.SessionLost, self.give_until_lost, session)
+                    self.assertEqual(str(lost), "what the session held is lost, and the connection was closed", "what it says")
+            refused = self.raised("no group", metad.Refused, front.connect, group="a__b")
+            self.assertEqual((refused.do, refused.code, refused.keys), ("hello", "F03", {"group": "a__b"}), "the refusal")
+            self.raised("both", ValueError, front.connect, share="team", group="desk")
+
+    def give_until_lost(self, session):
+        """Gives commands until one is not answered."""
+        until = time.monotonic() + PATIENCE
+        while time.monotonic() < until:
+            session.status()
 
     def test_tied(self):
         """The front and its server end with whoever has started them, though that is killed."""

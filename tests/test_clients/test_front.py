@@ -23,7 +23,7 @@ from tests.support.lines import text_of
 from tests.support.pages import check_page
 from tests.support.program import lay_out
 
-from .fronts import FRONT, NEW, PATIENCE, STATUS, Client, FrontCases, classes_in, error, reply
+from .fronts import FRONT, NEW, PATIENCE, STATUS, Client, FrontCases, classes_in, error, front_of, reply
 
 PAGE = FRONT.parent / "fronting" / "README.md"
 QUIET = 0.4
@@ -128,10 +128,16 @@ class Page(FrontCases):
 
     def test_page(self):
         """The programs of the page print what it says, where a front was started as it says."""
-        monitor = Path(self.room, "metad.monitor")
+        monitor, control, desks = (Path(self.room, name) for name in ("metad.monitor", "metad.control", "desks.sock"))
+        workers = ["--quiet", "--workers", "2", "--record", Path(self.room, "records"), "--control", control, desks, self.program]
         with self.front(options=("--quiet", "--share", "team", "--monitor", monitor)) as (path, _):
-            lay_out(self.room, {"metad.sock": path})
-            self.assertEqual(check_page(self, PAGE, self.room), 4, "programs of the page")
+            lay_out(self.room, {"metad.sock": path, "bin/metad": self.program, "clients/front": FRONT})
+            with front_of(*workers) as process:
+                try:
+                    self.assertIn("listening", next(line for line in process.stderr if "control" not in line), "what it says")
+                    self.assertEqual(check_page(self, PAGE, self.room), 5, "programs of the page")
+                finally:
+                    process.terminate()
 
     def test_words(self):
         """The page tells of each option that there is, and its line of usage is that of the help."""

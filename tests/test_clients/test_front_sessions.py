@@ -63,7 +63,9 @@ class Departed(FrontCases):
                 Client(path).leave()
             with Client(path) as last:
                 self.assertEqual(last.ask(NEW), reply(1, "c4"), "an object")
-                self.assertEqual(given.read_text(), '{"class":"Probe","do":"new","session":"c4"}\n', "what the server is given")
+                wanted = '{"class":"Probe","do":"new","session":"c4"}'
+                self.wait_until_given(given, [wanted])
+                self.assertEqual(given.read_text(), f"{wanted}\n", "what the server is given")
 
     def test_who_listens(self):
         """Who has joined a client that has gone hears nothing more, and its join stays; who it had joined goes on."""

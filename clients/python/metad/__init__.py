@@ -38,6 +38,7 @@ from .errors import (
     OtherSession,
     Refused,
     ServerGone,
+    SessionLost,
     StrangeLine,
 )
 from .fronts import Front, Monitor, monitor, start_front
@@ -78,6 +79,7 @@ __all__ = [
     "Server",
     "ServerGone",
     "Session",
+    "SessionLost",
     "SignalSpy",
     "Spun",
     "Status",

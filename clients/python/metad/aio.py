@@ -249,9 +249,9 @@ async def start(
     return Server(connection)
 
 
-async def connect(path: Word, share: Optional[str] = None) -> Server:
+async def connect(path: Word, share: Optional[str] = None, group: Optional[str] = None) -> Server:
     """Connects with the Unix-domain socket of a front, as `metad.connect` does."""
-    connection = SocketConnection(path, share)
+    connection = SocketConnection(path, share, group)
     connection.open()
     return Server(connection)
 

@@ -290,13 +290,14 @@ def start(
     return Server.of(connection)
 
 
-def connect(path: Word, share: Optional[str] = None) -> Server:
+def connect(path: Word, share: Optional[str] = None, group: Optional[str] = None) -> Server:
     """Connects with the Unix-domain socket of a front. `OSError` where nobody listens there.
 
     A front gives each connection one session, whatever names are asked for: take one `Session` of it. Its `known_as` is
     the name by which other clients join it. With `share` that is the session of this name, which the front lets several
-    clients speak for; `Refused` where it does not. What others cause there is told at the next wait.
+    clients speak for; `Refused` where it does not. What others cause there is told at the next wait. With `group`, which a
+    front with workers asks for, that is a session of its own which those of the same group can join.
     """
-    connection = SocketConnection(path, share)
+    connection = SocketConnection(path, share, group)
     connection.open()
     return Server.of(connection)

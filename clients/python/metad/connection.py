@@ -28,6 +28,7 @@ from .errors import (
     NotStarted,
     Refused,
     ServerGone,
+    SessionLost,
     StrangeLine,
 )
 from .hearing import Hearing, Listening
@@ -35,6 +36,8 @@ from .lines import NO_COMMAND, NOBODY, Told, Value, is_answer, line_of, line_wit
 
 Word = Union[str, "PathLike[str]"]
 """A word of a command line, or a path."""
+
+LOST = "F04"  # a line of a front by itself, behind which it closes the connection
 
 Bell = Callable[[], object]
 """Is called once something has come, by the thread that brings it."""
@@ -262,6 +265,8 @@ class Connection:
             self._take_lines()
         except StrangeLine as error:
             strange = partial(StrangeLine, error.line)
+        except SessionLost:
+            strange = SessionLost
         except (OSError, ValueError):
             pass  # the stream was closed, or the other side has gone
         finally:
@@ -295,6 +300,8 @@ class Connection:
 
     def _take_answer(self, line: Dict[str, Value], text: bytes) -> None:
         """Pairs an answer with the oldest command, and what came before it with the session that gave that."""
+        if line.get("error") == LOST:
+            raise SessionLost
         if not self._under_way:
             raise StrangeLine(text)
         answer = self._under_way.popleft()
@@ -379,30 +386,35 @@ def not_started(status: Optional[int], stderr: str) -> NotStarted:
 
 
 class SocketConnection(Connection):
-    """A connection through the Unix-domain socket of a front, which may speak for a session that is shared."""
+    """A connection through the Unix-domain socket of a front, which may speak for a session that is shared, or for one of a
+    group."""
 
     _ends_when_hung_up = True
 
-    def __init__(self, path: Word, share: Optional[str]) -> None:
+    def __init__(self, path: Word, share: Optional[str], group: Optional[str]) -> None:
+        if share is not None and group is not None:
+            raise ValueError("a shared session has a group by its name")
         self._socket = socket.socket(socket.AF_UNIX)
         try:
             self._socket.connect(fspath(path))
             super().__init__(self._socket.makefile("rb"), self._socket.makefile("wb"))
             if share is not None:
-                self._share(share)
+                self._ask("share", session=share)
+            if group is not None:
+                self._ask("hello", group=group)
         except BaseException:
             self._socket.close()
             raise
 
-    def _share(self, session: str) -> None:
-        """Asks the front to speak for a session that is shared, before any command is given."""
-        self._socket.sendall(line_with({"front": "share", "session": session}))
+    def _ask(self, word: str, **keys: str) -> None:
+        """Asks the front for a session, before any command is given."""
+        self._socket.sendall(line_with({"front": word, **keys}))
         text = self._reader.readline()
         if not text.endswith(b"\n"):
             raise ConnectionClosed
         line = line_of(text)
         if "error" in line:
-            raise Refused("share", line["error"], {"session": session})
+            raise Refused(word, line["error"], keys)
 
     def _shut(self) -> None:
         try:

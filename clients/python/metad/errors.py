@@ -75,6 +75,16 @@ class ConnectionClosed(ServerGone):
         return "the connection was closed"
 
 
+class SessionLost(ConnectionClosed):
+    """A front has closed the connection by `F04`: what the session held went with the process that it was in.
+
+    A new connection is a new session, which holds nothing.
+    """
+
+    def _ended(self) -> str:
+        return "what the session held is lost, and the connection was closed"
+
+
 class NotStarted(ServerGone):
     """The server has ended before it answered anything: the words of its command line mean nothing, for one."""
 

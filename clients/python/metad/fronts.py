@@ -117,9 +117,10 @@ class Front:
     ) -> None:
         self.close()
 
-    def connect(self, share: Optional[str] = None) -> Server:
-        """A new client, which has a session of its own, or speaks for one that is shared."""
-        return connect(self.path, share)
+    def connect(self, share: Optional[str] = None, group: Optional[str] = None) -> Server:
+        """A new client, which has a session of its own, one of a group where that is named, or speaks for one that is
+        shared."""
+        return connect(self.path, share, group)
 
     def monitor(self, session: Optional[str] = None) -> Monitor:
         """A new monitor, of all sessions or of one."""
