@@ -1,0 +1,269 @@
+"""What starts fronts on hosts: the units for systemd (examples/systemd), and the stateful set for Kubernetes
+(examples/kubernetes). They are looked at for their form, and what they start is started."""
+
+import json
+import os
+import re
+import shutil
+import signal
+import subprocess
+import sys
+from configparser import ConfigParser
+from contextlib import contextmanager
+from pathlib import Path
+
+from tests.test_clients import PYTHON
+from tests.test_clients.fronts import FRONT, NEW, PATIENCE, Client, FrontCases, Log, classes_in, reply
+
+from fronting.program import parser  # isort: skip
+from fronting.server import SECONDS_TO_END  # isort: skip
+
+from .support.documents import version
+from .support.program import ROOT, SECONDS
+
+SYSTEMD, KUBERNETES, MACHINES = (ROOT / "examples" / name for name in ("systemd", "kubernetes", "machines"))
+INSTALLED, PROGRAM = "/usr/local/bin/metad-front", "/usr/local/bin/metad"
+NAME = "desk"
+HAS_WORKERS = "--workers" in parser().format_help()
+HELD = re.compile(r"^```\n((?:(?!```).*\n)*)```$", re.MULTILINE)  # blocks of a page that are not run
+
+
+def sections_of(path):
+    """A unit as systemd reads it, for the instance NAME."""
+    unit = ConfigParser(interpolation=None, comment_prefixes=("#", ";"), delimiters=("=",), strict=True)
+    unit.optionxform = str
+    unit.read_string(path.read_text().replace("%i", NAME))
+    return unit
+
+
+def words_of(line, variables):
+    """A command as systemd makes it: `$NAME` that stands alone is as many words as its value has."""
+    words = line.split()
+    return [it for word in words for it in (variables[word[1:]].split() if word.startswith("$") else [word])]
+
+
+def variables_of(text):
+    """What a file of the environment says."""
+    return dict(line.split("=", 1) for line in text.splitlines() if line)
+
+
+class Units(FrontCases):
+    """The units for systemd."""
+
+    def setUp(self):
+        super().setUp()
+        self.service = sections_of(SYSTEMD / "metad-front@.service")
+        self.socket = sections_of(SYSTEMD / "metad-front@.socket")
+        self.target = sections_of(SYSTEMD / "metad-fronts.target")
+        blocks = HELD.findall((SYSTEMD / "README.md").read_text())
+        self.examples = [variables_of(it) for it in blocks if it.startswith("OPTIONS=")]
+
+    def given(self, variables):
+        """The words of the front, where the environment says this."""
+        own = dict(word.partition("=")[::2] for word in self.service["Service"]["Environment"].split())
+        return words_of(self.service["Service"]["ExecStart"], {**own, **variables})
+
+    def test_form(self):
+        """The service has its socket, and both belong to the target; rights and limits are those of the single front."""
+        single = sections_of(SYSTEMD / "metad-front.service")["Service"]
+        unit, service = self.service["Unit"], self.service["Service"]
+        own = f"metad-front@{NAME}.socket"
+        self.assertEqual((unit["Requires"], unit["After"]), (own, own))
+        self.assertEqual({self.service["Unit"]["PartOf"], self.socket["Unit"]["PartOf"]}, {"metad-fronts.target"})
+        self.assertEqual(self.socket["Install"]["WantedBy"], "metad-fronts.target")
+        self.assertEqual(self.target["Install"]["WantedBy"], "multi-user.target")
+        same = ("KillMode", "Restart", "DynamicUser", "NoNewPrivileges", "LimitNOFILE", "LimitAS")
+        self.assertEqual({it: service[it] for it in same}, {it: single[it] for it in same})
+        self.assertEqual(self.socket["Socket"]["ListenStream"], f"/run/metad-{NAME}.sock")
+        self.assertEqual((service["StateDirectory"], service["RuntimeDirectory"]), (f"metad/{NAME}",) * 2)
+        self.assertEqual(service["WorkingDirectory"], f"%S/metad/{NAME}")
+        self.assertEqual(service["EnvironmentFile"], f"-/etc/metad/{NAME}.env", "a file that may be missing")
+
+    def test_words(self):
+        """The front takes the words that it is given, without a file of the environment and with those of the page."""
+        self.assertEqual(self.given({}), [INSTALLED, "--share", "health", "-", PROGRAM])
+        self.assertEqual(len(self.examples), 1, "the files of the page")
+        taken = parser().parse_args(self.given(self.examples[0])[1:])
+        self.assertEqual((taken.socket, taken.program, taken.args), ("-", PROGRAM, ["/etc/metad/classes.json"]))
+        self.assertEqual((taken.record, taken.monitor), ("record", f"/run/metad/{NAME}/monitor"))
+
+    def test_workers(self):
+        """The front takes the options for workers that the page has."""
+        options = re.search(r"`OPTIONS=(--workers [^`]*)`", (SYSTEMD / "README.md").read_text())[1]
+        if not HAS_WORKERS:
+            self.skipTest("this front has no workers")
+        taken = parser().parse_args(self.given({"OPTIONS": options})[1:])
+        self.assertEqual((taken.workers, taken.record, taken.control), (4, "records", f"/run/metad/{NAME}/control"))
+
+    def test_started(self):
+        """What the service starts serves the clients of the socket that it is passed, and answers the checks of an edge;
+        with the page's file of the environment it records, and has the classes. So it does with workers, where there are any."""
+        if shutil.which("systemd-socket-activate") is None:
+            self.skipTest("systemd-socket-activate is not on the path")
+        classes = classes_in(self.room, [{"name": "Lamp", "super": "QObject"}])
+        own = {"OPTIONS": self.examples[0]["OPTIONS"].replace(f"/run/metad/{NAME}", self.room), "CLASSES": classes}
+        more = [({"OPTIONS": "--workers 2"}, NEW)] if HAS_WORKERS else []
+        for variables, wanted in (({}, NEW), (own, '{"class":"Lamp","do":"new"}'), *more):
+            with self.activated(variables) as path, Client(path) as client, Client(path) as check:
+                self.assertEqual(json.loads(client.ask(wanted))["reply"], 1, "a client")
+                self.assertEqual(check.ask('{"front":"share","session":"health"}'), reply(True, "health"), "a check")
+        self.assertIn('"class":"Lamp","do":"new"', Path(self.room, "record").read_text(), "the record")
+
+    @contextmanager
+    def activated(self, variables):
+        """The path of a socket that is passed to what the service starts."""
+        path, log = Path(self.room, "socket"), Log(Path(self.room, "log"))
+        _, *words = self.given(variables)
+        words = [sys.executable, str(FRONT), *(self.program if it == PROGRAM else it for it in words)]
+        path.unlink(missing_ok=True)
+        with log.path.open("wb") as stderr:
+            given = ["systemd-socket-activate", "--listen", str(path), *words]
+            with subprocess.Popen(given, stderr=stderr, cwd=self.room) as process:
+                try:
+                    self.wait_for(path, process)
+                    yield path
+                finally:
+                    process.terminate()
+
+    def test_verified(self):
+        """systemd-analyze finds no fault in the units, where what they start is there."""
+        if shutil.which("systemd-analyze") is None:
+            self.skipTest("systemd-analyze is not on the path")
+        units = [it for it in SYSTEMD.iterdir() if it.suffix in (".service", ".socket", ".target")]
+        names = [it.name.replace("@", f"@{NAME}") for it in units]
+        for unit in units:
+            text = unit.read_text().replace(INSTALLED, str(FRONT)).replace(f"{PROGRAM} ", f"{self.program} ")
+            Path(self.room, unit.name.replace("@", f"@{NAME}")).write_text(text)
+        ran = subprocess.run(
+            ["systemd-analyze", "verify", *(f"./{it}" for it in names)],
+            cwd=self.room,
+            capture_output=True,
+            text=True,
+            timeout=SECONDS,
+            env={**os.environ, "SYSTEMD_UNIT_PATH": f"{self.room}:"},
+        )
+        self.assertEqual((ran.returncode, ran.stdout, ran.stderr), (0, "", ""), names)
+
+
+class Cluster(FrontCases):
+    """The stateful set for Kubernetes."""
+
+    def setUp(self):
+        super().setUp()
+        text = (KUBERNETES / "statefulset.yaml").read_text()
+        self.service, self.set = json.loads(text)["items"]
+        self.pod = self.set["spec"]["template"]["spec"]
+        self.front, self.door = self.pod["containers"]
+
+    def test_form(self):
+        """The set finds its pods, and the service finds them; ports, volumes and names are those that are there."""
+        self.assertEqual((self.service["kind"], self.set["kind"]), ("Service", "StatefulSet"))
+        self.assertEqual((self.service["apiVersion"], self.set["apiVersion"]), ("v1", "apps/v1"))
+        labels = self.set["spec"]["template"]["metadata"]["labels"]
+        self.assertEqual(self.set["spec"]["selector"]["matchLabels"], labels)
+        self.assertEqual(self.service["spec"]["selector"], labels)
+        self.assertEqual(self.set["spec"]["serviceName"], self.service["metadata"]["name"])
+        self.assertEqual(self.service["spec"]["clusterIP"], "None", "a headless service")
+        (port,), (inner,) = self.service["spec"]["ports"], self.door["ports"]
+        self.assertEqual((port["targetPort"], port["port"]), (inner["name"], inner["containerPort"]))
+        claimed = {it["metadata"]["name"] for it in self.set["spec"]["volumeClaimTemplates"]}
+        volumes = {it["name"] for it in self.pod["volumes"]} | claimed
+        mounted = {it["name"] for container in self.pod["containers"] for it in container["volumeMounts"]}
+        self.assertEqual(mounted, volumes)
+        self.assertEqual(self.front["image"], f"metad:{version()[0]}", "the version of the program")
+        self.assertGreater(self.pod["terminationGracePeriodSeconds"], SECONDS_TO_END, "what the front needs at its end")
+        for container in self.pod["containers"]:
+            self.assertLessEqual({"requests", "limits"}, container["resources"].keys(), container["name"])
+
+    def test_page(self):
+        """The page says what the file has."""
+        page = (KUBERNETES / "README.md").read_text()
+        grace, held = self.pod["terminationGracePeriodSeconds"], self.pod["volumes"][1]["configMap"]["name"]
+        self.assertIn(f"the front has {grace} seconds, and needs at most {SECONDS_TO_END} ", page)
+        self.assertIn(f"configmap {held} --from-file=examples/machines/machine.cfg", page)
+        self.assertIn(f"The image `{self.front['image']}`", page)
+        self.assertIn("It was never run in a cluster", page)
+
+    def test_door(self):
+        """The door reads what the machine's file has, by the names that it has, and finds the front's socket."""
+        given = {it["name"]: it["value"] for it in self.door["env"]}
+        set_there = dict(re.findall(r"^    presetenv (METAD_\w+) (\S+)", (MACHINES / "machine.cfg").read_text(), re.MULTILINE))
+        self.assertEqual(given.keys(), set_there.keys())
+        self.assertIn(given["METAD_SOCKET"], self.front["command"])
+        self.assertTrue(given["METAD_AT"].endswith(f":{self.door['ports'][0]['containerPort']}"))
+        mounts = {it["name"]: it["mountPath"] for it in self.door["volumeMounts"]}
+        self.assertEqual(self.door["command"], ["haproxy", "-db", "-f", f"{mounts['machine']}/machine.cfg"])
+
+    def test_probes(self):
+        """The commands of the probes pass where front and server answer, fail where there is none, and do not end where the
+        server does not answer. The front is started by its container's words."""
+        path = Path(self.room, "metad.sock")
+        here = {"/run/metad": self.room, "/var/lib/metad": self.room}
+        words = [self.here(it, here) for it in self.front["command"]]
+        taken = parser().parse_args(words[1:])
+        self.assertEqual((taken.socket, taken.args[0]), (str(path), "--turns"))
+        commands = [self.front[it]["exec"]["command"] for it in ("readinessProbe", "livenessProbe")]
+        for command in commands:
+            self.assertNotEqual(self.probe(command, here), 0, "where there is no front")
+        given = [sys.executable, FRONT, *(self.program if it == "/usr/local/bin/metad" else it for it in words[1:])]
+        with subprocess.Popen(given, stderr=subprocess.DEVNULL) as process:
+            try:
+                self.wait_for(path, process)
+                self.assertEqual([self.probe(it, here) for it in commands], [0, 0], "where there is one")
+                server = int(Path(f"/proc/{process.pid}/task/{process.pid}/children").read_text())
+                os.kill(server, signal.SIGSTOP)
+                for command in commands:
+                    with self.assertRaises(subprocess.TimeoutExpired, msg="where its server does not answer"):
+                        self.probe(command, here, seconds=1)
+                os.kill(server, signal.SIGCONT)
+            finally:
+                process.terminate()
+        record = [json.loads(it) for it in Path(self.room, "record").read_text().splitlines()]
+        self.assertEqual(record, 4 * [{"do": "status", "session": "health"}], "what the server was given")
+
+    def here(self, word, paths):
+        for path, own in paths.items():
+            word = word.replace(path, own)
+        return word
+
+    def probe(self, command, paths, seconds=PATIENCE):
+        """The status of a probe's command."""
+        words = [sys.executable if it == "python3" else self.here(it, paths) for it in command]
+        own = {**os.environ, "PYTHONPATH": str(PYTHON)}
+        return subprocess.run(words, env=own, capture_output=True, timeout=seconds).returncode
+
+    def test_client(self):
+        """The client is where the container's Python looks for it, as packages have it."""
+        (path,) = (it["value"] for it in self.front["env"] if it["name"] == "PYTHONPATH")
+        self.assertEqual(path, "/usr/local/share/metad/python")
+        self.assertEqual(Path(self.front["command"][0]).parents[1], Path(path).parents[2])
+
+    def test_read(self):
+        """kubectl reads the file as two objects, and makes the page's map of the machine's file."""
+        if shutil.which("kubectl") is None:
+            self.skipTest("kubectl is not on the path")
+        shutil.copy(KUBERNETES / "statefulset.yaml", self.room)
+        Path(self.room, "kustomization.yaml").write_text("resources: [statefulset.yaml]\n")
+        ran = subprocess.run(["kubectl", "kustomize", self.room], capture_output=True, text=True, timeout=SECONDS)
+        self.assertEqual(ran.returncode, 0, ran.stderr)
+        self.assertEqual(re.findall(r"^kind: (\w+)$", ran.stdout, re.MULTILINE), ["Service", "StatefulSet"])
+        (words,) = re.findall(r"^kubectl create .*$", (KUBERNETES / "README.md").read_text(), re.MULTILINE)
+        words = [*words.split(), "--dry-run=client", "--output=json"]
+        ran = subprocess.run(words, cwd=ROOT, capture_output=True, text=True, timeout=SECONDS)
+        self.assertEqual(ran.returncode, 0, ran.stderr)
+        self.assertEqual(json.loads(ran.stdout)["data"], {"machine.cfg": (MACHINES / "machine.cfg").read_text()})
+
+    def test_edge(self):
+        """haproxy takes an edge that asks the cluster for addresses, as the page has it."""
+        if shutil.which("haproxy", path=f"{os.environ['PATH']}:/usr/sbin") is None:
+            self.skipTest("haproxy is not on the path: apt-get install haproxy (Debian)")
+        page = (KUBERNETES / "README.md").read_text()
+        (block,) = [it for it in HELD.findall(page) if it.startswith("resolvers")]
+        resolvers, server = block.split("\n\n")
+        lines = (MACHINES / "edge_by_address.cfg").read_text().splitlines()
+        kept = [line for line in lines if not line.startswith("    server ")]
+        Path(self.room, "edge.cfg").write_text("\n".join([resolvers, *kept, server]))
+        path = f"{os.environ['PATH']}:/usr/sbin"
+        words = ["haproxy", "-c", "-f", "edge.cfg"]
+        ran = subprocess.run(words, cwd=self.room, capture_output=True, text=True, env={"PATH": path})
+        self.assertEqual(ran.returncode, 0, ran.stderr)
