@@ -1,8 +1,8 @@
 # make        builds the program, proved, as bin/metad
 # make run    answers the sample session
 # make test   proves everything from nothing, and runs every test
-# make tests  runs every test on bin/metad as it is; make rows, random, program, slice, memory, classes, clients and
-#             test_install run those of tests/test_rows and so on
+# make tests  runs every test on bin/metad as it is; make rows, random, program, slice, memory, classes, clients, documents,
+#             machines, machines_files, hosting, scaling and test_install run those of tests/test_rows and so on
 # make bench  counts the program's instructions; with LAST=PROGRAM also beside an earlier one; STANDS=1 writes down the counts
 # make install, make uninstall   bin/metad, its manual page, the documents, the client, the examples and the tools, below PREFIX;
 #             with SITE=FOLDER also a link to the client in a folder where Python looks
@@ -14,7 +14,7 @@ CC ?= cc
 PREFIX ?= /usr/local
 
 # each takes bin/metad as it is
-TESTS = rows random program slice memory classes clients
+TESTS = rows random program slice memory classes clients documents machines machines_files hosting scaling
 
 .PHONY: all run test budget tests $(TESTS) test_install test_package libraries bench install uninstall dist deb clean
 
@@ -63,7 +63,7 @@ MAN = $(DESTDIR)$(PREFIX)/share/man/man1
 DOC = $(DESTDIR)$(PREFIX)/share/doc/metad
 SHARE = $(DESTDIR)$(PREFIX)/share/metad
 # the documents and what they lead to, which stands below DOC as it stands here
-DOCUMENTS = README.md CHANGELOG.md $(wildcard docs/*.md docs/*.json docs/*.png clients/*/*.md examples/*/*)
+DOCUMENTS = README.md CHANGELOG.md $(filter-out %/__pycache__,$(wildcard docs/*.md docs/*.json docs/*.png clients/*/*.md examples/*/*))
 FOLDERS = $(filter-out ./,$(sort $(dir $(DOCUMENTS)))) clients examples
 # the client, which the tools find below SHARE as they find it here
 CLIENT = python/metad

@@ -11,6 +11,7 @@ from .support import protocol
 from .support.cases import Cases, ProgramCases
 from .support.differences import difference
 from .support.documents import version
+from .support.markdown import links_in
 from .support.program import ROOT, SECONDS, lay_out, make, run_shell
 
 SHARED = {"bin", "share", "share/man", "share/man/man1", "share/doc"}  # folders that are not the program's own
@@ -26,7 +27,6 @@ ALWAYS = PROGRAMS | {"share/man/man1/metad.1", f"{CLIENT}/metad/__init__.py", *(
 OF_DOCUMENTS = ("README.md", "CHANGELOG.md", "docs/*.md", "docs/*.json", "docs/*.png", "clients/*/*.md", "examples/*/*")
 OF_PAGE = ("inspecting/page/*", "inspecting/*.json")
 OF_CLIENT = ("metad/*.py", "metad/py.typed")
-RELATIVE = re.compile(r"\]\((?!#|\w+:)([^)#]+)[^)]*\)")  # a link of a document to another file or folder
 LINE = b'{"error":"E12","session":"a"}\n'
 SAID = b"    session a: E12: the parent would be the object itself or below it\n"
 CHECKED = b"<standard input>: no fault, no warning; metad takes it\n"
@@ -81,7 +81,7 @@ class Install(Cases):
         """The links of the installed documents lead to what is installed."""
         found = {path.resolve() for path in files_in(top).values()}
         there = found | {folder for path in found for folder in path.parents}
-        links = [(it, target) for it in (top / DOC).rglob("*.md") for target in RELATIVE.findall(it.read_text())]
+        links = [(it, target) for it in (top / DOC).rglob("*.md") for target, _ in links_in(it.read_text()) if target]
         self.assertTrue(links, "the installed documents have no links")
         for document, target in links:
             end = (document.parent / target).resolve()

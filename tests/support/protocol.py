@@ -2,6 +2,7 @@
 
 import re
 
+from .markdown import section, table_in
 from .program import ROOT
 
 PROTOCOL = ROOT / "docs" / "PROTOCOL.md"
@@ -13,11 +14,8 @@ def text():
 
 
 def table(heading, columns):
-    """The rows of the first table below a heading that has so many columns, without its head."""
-    below = text().split(f"\n## {heading}\n", 1)[1].split("\n## ", 1)[0]
-    rows = [line.strip("|").split("|") for line in below.splitlines() if line.startswith("|")]
-    fitting = [row for row in rows if len(row) == columns]
-    return [[cell.strip() for cell in row] for row in fitting[2:]]
+    """The rows of the tables below a heading that have so many columns, without the first two, which are the head."""
+    return list(table_in(section(text(), heading), columns))
 
 
 def plain(cell):

@@ -1,0 +1,129 @@
+"""What the documents lead to: links between the Markdown files, and files, definitions, calls and words of the sources."""
+
+import re
+from collections import Counter
+from pathlib import Path
+from typing import Iterator, List, Tuple
+
+from .support.cases import Cases
+from .support.markdown import all_pages, anchors_in, links_in, table_in
+from .support.program import ROOT
+from .support.sources import CRATES, GLOSSARY, OF_CODE, OF_SPECS, Entry
+from .support.sources import all_declared, all_functions, definitions_in, glossary, names_of
+
+CHANGING = ROOT / "docs" / "CHANGING.md"
+DEFINITIONS = ROOT / "docs" / "DEFINITIONS.md"
+DEFINITION = re.compile(r"`([A-Z]\w+)\.(\w+)`")
+CALL = re.compile(r"`(?:\w+::)?([a-z]\w*)`")
+NAMED = re.compile(r"`([^`\n]+)`")
+OF_CRATE = re.compile(r"(?:src|specs|proofs|must-fail)(?:/[\w.]+)*/?")
+LEMMAS = re.compile(r"(\w+Lemmas)(?:\.antt)?")
+LAYOUT = "\n## How a crate is laid out\n"  # which names files that stand for others
+
+
+def dead_links(page: Path) -> List[str]:
+    """The links of a page that lead to no file and no folder, or to no heading of a page."""
+    dead = []
+    for target, anchor in links_in(page.read_text()):
+        end = (page.parent / target).resolve() if target else page
+        is_there = end.is_file() and anchor in anchors_in(end.read_text()) if anchor else end.exists()
+        if not is_there:
+            dead.append(f"{target}#{anchor}" if anchor else target)
+    return dead
+
+
+class Links(Cases):
+    """The links of all pages."""
+
+    def test_links(self) -> None:
+        """Each link to a file, a folder or a heading leads to one that is there."""
+        pages = all_pages()
+        self.assertGreater(sum(len(links_in(page.read_text())) for page in pages), 0, "the pages have no links")
+        cases = [(str(page.relative_to(ROOT)), page) for page in pages]
+        self.check_each(cases, lambda page: "\n".join(dead_links(page)) or None)
+
+    def test_reading(self) -> None:
+        """Links in code are none, and headings have the anchors that pages are shown with."""
+        text = "# A B's `c()`\n[x](y.md#z) `[x](code)` [w](https://w)\n```\n# no heading\n[x](block)\n```\n## A B's c\n[v](#a)\n"
+        self.assertEqual(links_in(text), [("y.md", "z"), ("", "a")])
+        self.assertEqual(anchors_in(text), ["a-bs-c", "a-bs-c-1"])
+
+
+def files_of_crates(text: str) -> Iterator[Tuple[str, Path]]:
+    """The files that a text names as those of the crate that it has named last, each as it is written."""
+    crates, crate = {path.name for path in CRATES.iterdir()}, ""
+    for name in NAMED.findall(text):
+        first, _, rest = name.partition("/")
+        if first in crates:
+            crate, name = first, rest
+        lemmas = LEMMAS.fullmatch(name)
+        if OF_CRATE.fullmatch(name) or lemmas:
+            yield f"{crate}/{name}", CRATES / crate / (f"proofs/{lemmas[1]}.antt" if lemmas else name)
+
+
+class Changing(Cases):
+    """The files that docs/CHANGING.md says a change touches."""
+
+    def test_files(self) -> None:
+        """Each stands in the crate that is named before it."""
+        named = list(files_of_crates(CHANGING.read_text().partition(LAYOUT)[0]))
+        self.assertGreater(len(named), 0, "it names no file of a crate")
+        self.assertEqual([name for name, path in named if not path.exists()], [], "files that are not there")
+
+
+class Definitions(Cases):
+    """What docs/DEFINITIONS.md names for each rule: the definition that states it, and the call that keeps it."""
+
+    def setUp(self) -> None:
+        self.rules = list(table_in(DEFINITIONS.read_text(), 4))
+        self.assertGreater(len(self.rules), 0, "it has no rules")
+
+    def test_definitions(self) -> None:
+        """Each definition stands in a file of `specs` that is called as is said."""
+        named = {it for _, _, definitions, _ in self.rules for it in DEFINITION.findall(definitions)}
+        gone = sorted(".".join(it) for it in named if it[1] not in definitions_in(it[0]))
+        self.assertEqual(gone, [], "definitions that are not there")
+
+    def test_calls(self) -> None:
+        """Each call is one of a function that is there."""
+        called = {it for _, _, _, calls in self.rules for it in CALL.findall(calls)}
+        self.assertEqual(sorted(called - all_functions()), [], "functions that are not there")
+
+
+class Words(Cases):
+    """The glossary of docs/ARCHITECTURE.md beside what the crates declare."""
+
+    def setUp(self) -> None:
+        self.declared = all_declared()
+        self.entries = glossary()
+
+    def fault_of(self, entry: Entry) -> str:
+        """What is wrong with a row of the glossary, or nothing."""
+        named = {f"{crate}::{name}" for word in entry.words for name in names_of(word) for crate in self.declared.get(name, ())}
+        gone = sorted(it for it in entry.listed if it.partition("::")[0] not in self.declared.get(it.partition("::")[2], ()))
+        unlisted = sorted(named - entry.listed)
+        both = sorted(entry.carried & entry.other)
+        return "".join((
+            f"no crate declares {', '.join(gone)}\n" if gone else "",
+            f"{', '.join(unlisted)} are called so, and the row does not say in which sense\n" if unlisted else "",
+            f"{', '.join(both)} are said to carry the word and not to\n" if both else "",
+        ))  # fmt: skip
+
+    def test_words(self) -> None:
+        """What the glossary names is declared, and nothing else has the name of one of its words."""
+        self.assertTrue(any(entry.carried for entry in self.entries), f"no word of {GLOSSARY.name} names what carries it")
+        self.check_each([(", ".join(entry.words), entry) for entry in self.entries], self.fault_of)
+
+    def test_once(self) -> None:
+        """Each word stands in one row."""
+        counts = Counter(word for entry in self.entries for word in entry.words)
+        self.assertEqual([word for word, count in counts.items() if count > 1], [], "words that stand twice")
+
+    def test_reading(self) -> None:
+        """What others may name is found, methods, fields and what is private aside."""
+        code = "pub struct One {\n    pub field: u8,\n}\nimpl One {\n    pub fn method(&self) {}\n}\n"
+        code += "pub(crate) fn two() {}\nfn own() {}\n"
+        self.assertEqual(OF_CODE.findall(code), ["One", "two"])
+        specs = "pub record Three (a : A) : B where\n  pub field : A\nabbrev pub four : A\nabbrev own : A\n"
+        specs += "module _ (a : A) where\n  unfoldable pub five : A\n"
+        self.assertEqual(OF_SPECS.findall(specs), ["Three", "four", "five"])
