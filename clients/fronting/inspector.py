@@ -145,6 +145,7 @@ class Inspector:
             left, self.left_out = self.left_out, None
             under_way = [[it.session.name, isinstance(it.client, Asker)] for it in self.turns.under_way]
             self.note(left=left.lines, sessions=sorted(left.sessions), under_way=under_way)
+            self.push()  # where it has taken all, nothing else may come for long
 
     def push(self) -> None:
         """Lets it take as much as it does at once."""
