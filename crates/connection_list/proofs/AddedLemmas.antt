@@ -6,7 +6,7 @@ use Rattle.std.proofs.lemmas.List.{length_push, map-append}
 use Rattle.std.proofs.lemmas.List.Elements.{All-push, Contains-get_or}
 use Rattle.std.proofs.lemmas.List.Quantifiers.{all_pairs_push}
 use Rattle.places.specs.Joined.{joined_tables}
-use Rattle.places.specs.Table.{IsPlace, Table, with_place}
+use Rattle.places.specs.Table.{Table, with_place}
 use Rattle.places.proofs.TableLemmas.{with_same}
 use Rattle.refusals.specs.declared.code.Code.TheVariants.{ConnectedAlready, Limit, NumbersUsedUp}
 use Rattle.shared_rows.specs.Rows.{Keyed, added, row_under}
@@ -21,7 +21,7 @@ use Rattle.connection_list.specs.Table.{rows_at, with_rows}
 use Rattle.connection_list.specs.Routes.{AreKept, AreSame, IsPlaceKept, IsRouted, place_of}
 use Rattle.connection_list.proofs.GoneLemmas.{all_keyed}
 use Rattle.connection_list.proofs.KeyedLemmas.{IsApart, under_key}
-use Rattle.connection_list.proofs.SeenLemmas.{kept_changed, seen, view_changed}
+use Rattle.connection_list.proofs.SeenLemmas.{IsSeen, kept_changed, view_changed}
 
 -- what is not refused has room and a number
 record HasPlace (place : Rows) : Type 0 where
@@ -77,22 +77,21 @@ module _ (rows : List (Keyed Connection)) (old new : Routes) (key : ℕ) (row : 
         routed = routed;
       }
 
-module _ (rows : Table (List (Keyed Connection))) (routes : Table Routes) (table : Table Rows) (kept : AreKept rows.places routes.places) (view_is : joined_tables place_of rows routes ≡ table) (place : ℕ) (is_place : IsPlace table place) (at reserved : Routes) (is : (default : Routes) → at ≡ get_or routes.places place default) (same : AreSame at reserved) where
+module _ {rows : Table (List (Keyed Connection))} {routes : Table Routes} {table : Table Rows} {place : ℕ} {at reserved : Routes} (seen : IsSeen rows routes table place at) (same : AreSame at reserved) where
   -- room was made
   reserved_at : IsPlaceKept (shared.rows_at rows place) reserved
-  reserved_at = same_kept (shared.rows_at rows place) at reserved same (seen rows routes table kept view_is place is_place at is).kept
+  reserved_at = same_kept (shared.rows_at rows place) at reserved same seen.kept
 
   shows : place_of (shared.rows_at rows place) reserved ≡ rows_at table place
-  shows = ap (λ n. record { rows = map (λ keyed. keyed.row) (shared.rows_at rows place); last_number = n }) same.last_number ∙ sym (seen rows routes table kept view_is place is_place at is).shows
+  shows = ap (λ n. record { rows = map (λ keyed. keyed.row) (shared.rows_at rows place); last_number = n }) same.last_number ∙ sym seen.shows
 
   pub reserved_kept : AreKept rows.places (set routes.places place reserved)
-  reserved_kept = subst (λ (t : Table (List (Keyed Connection))). AreKept t.places (set routes.places place reserved)) (with_same [] rows place) (kept_changed rows routes table kept view_is place is_place (shared.rows_at rows place) reserved reserved_at)
+  reserved_kept = subst (λ (t : Table (List (Keyed Connection))). AreKept t.places (set routes.places place reserved)) (with_same [] rows place) (kept_changed seen reserved_at)
 
   pub reserved_view : joined_tables place_of rows (with_place routes place reserved) ≡ table
   reserved_view =
       ap (λ (t : Table (List (Keyed Connection))). joined_tables place_of t (with_place routes place reserved)) (sym (with_same [] rows place))
-      ∙ (view_changed rows routes table kept view_is place is_place (shared.rows_at rows place) reserved reserved_at
-      ∙ (ap (with_rows table place) shows ∙ with_same no_rows table place))
+      ∙ (view_changed seen reserved_at ∙ (ap (with_rows table place) shows ∙ with_same no_rows table place))
 
   module _ (new : NewConnection) (unique : Bool) (none : None ≡ connect_refusal (rows_at table place) new unique) where
     has : HasPlace (place_of (shared.rows_at rows place) reserved)
@@ -101,7 +100,7 @@ module _ (rows : Table (List (Keyed Connection))) (routes : Table Routes) (table
     pub number_fits : reserved.last_number + 1 < 2 ^ 32
     number_fits = has.fits
 
-    module _ (row : Connection) (row_is : row ≡ numbered (reserved.last_number + 1) new) where
+    module _ {row : Connection} (row_is : row ≡ numbered (reserved.last_number + 1) new) where
       number_is : row.number ≡ reserved.last_number + 1
       number_is = ap (λ (r : Connection). r.number) row_is
 
@@ -111,21 +110,19 @@ module _ (rows : Table (List (Keyed Connection))) (routes : Table Routes) (table
       pub number_above : All (λ keyed. keyed.row.number < row.number) (shared.rows_at rows place)
       number_above = above_all (shared.rows_at rows place) reserved reserved 0 row reserved_at has number_is
 
-      module _ (next : Table (List (Keyed Connection))) (after : Routes) (key : ℕ) (changed : next ≡ with_place rows place (added (shared.rows_at rows place) key row)) (vacant : row_under (shared.rows_at rows place) key ≡ None) (short : key < 2 ^ 32) (last : after.last_number ≡ row.number) (routed : (list : List (Keyed Connection)) → IsRouted list reserved → IsRouted (added list key row) after) where
+      module _ {next : Table (List (Keyed Connection))} {after : Routes} (key : ℕ) (changed : next ≡ with_place rows place (added (shared.rows_at rows place) key row)) (vacant : row_under (shared.rows_at rows place) key ≡ None) (short : key < 2 ^ 32)
+          (last : after.last_number ≡ row.number) (routed : (list : List (Keyed Connection)) → IsRouted list reserved → IsRouted (added list key row) after) where
         place_kept : IsPlaceKept (added (shared.rows_at rows place) key row) after
         place_kept = added_kept (shared.rows_at rows place) reserved after key row reserved_at has number_is vacant short last (routed (shared.rows_at rows place) reserved_at.routed)
 
         pub connected_kept : AreKept next.places (set routes.places place after)
-        connected_kept = subst (λ (t : Table (List (Keyed Connection))). AreKept t.places (set routes.places place after)) (sym changed) (kept_changed rows routes table kept view_is place is_place (added (shared.rows_at rows place) key row) after place_kept)
-
-        connected_shows : place_of (added (shared.rows_at rows place) key row) after ≡ connected (rows_at table place) new
-        connected_shows =
-            ap (λ list. record { rows = list; last_number = after.last_number }) (mapped (shared.rows_at rows place) reserved reserved key row reserved_at has number_is)
-            ∙ (ap (λ n. record { rows = map (λ keyed. keyed.row) (shared.rows_at rows place) ++ row ∷ []; last_number = n }) (last ∙ number_is)
-            ∙ (ap (λ r. record { rows = map (λ keyed. keyed.row) (shared.rows_at rows place) ++ r ∷ []; last_number = reserved.last_number + 1 }) row_is
-            ∙ ap (λ p. connected p new) shows))
+        connected_kept = subst (λ (t : Table (List (Keyed Connection))). AreKept t.places (set routes.places place after)) (sym changed) (kept_changed seen place_kept)
 
         pub connected_view : joined_tables place_of next (with_place routes place after) ≡ with_rows table place (connected (rows_at table place) new)
         connected_view =
             ap (λ (t : Table (List (Keyed Connection))). joined_tables place_of t (with_place routes place after)) changed
-            ∙ (view_changed rows routes table kept view_is place is_place (added (shared.rows_at rows place) key row) after place_kept ∙ ap (with_rows table place) connected_shows)
+            ∙ (view_changed seen place_kept
+            ∙ ap (with_rows table place) (ap (λ list. record { rows = list; last_number = after.last_number }) (mapped (shared.rows_at rows place) reserved reserved key row reserved_at has number_is)
+            ∙ (ap (λ n. record { rows = map (λ keyed. keyed.row) (shared.rows_at rows place) ++ row ∷ []; last_number = n }) (last ∙ number_is)
+            ∙ (ap (λ r. record { rows = map (λ keyed. keyed.row) (shared.rows_at rows place) ++ r ∷ []; last_number = reserved.last_number + 1 }) row_is
+            ∙ ap (λ p. connected p new) shows))))

@@ -1,8 +1,8 @@
 -- Rows with their keys, and the same rows without.
-use Rattle.std.proofs.Common.{◌≡◌, ◌≢◌, ◌∙◌, ℕ, suc, ◌==◌, Bool, true, false, not, ◌||◌, cond, List, [], ◌∷◌, Option, Some, None, map, filter, find, refl, sym, ap, arith, ⊎_elim}
+use Rattle.std.proofs.Common.{◌≡◌, ◌≢◌, ◌∙◌, ℕ, suc, Bool, true, false, not, ◌||◌, List, [], ◌∷◌, Option, Some, None, map, filter, find, refl, sym, ap, arith, ⊎_elim}
 use Rattle.std.specs.List.{All, AllPairs, Contains, list_any}
 use Rattle.std.specs.Option.{option_map}
-use Rattle.std.proofs.lemmas.Bool.{eq-eqb}
+use Rattle.std.proofs.lemmas.Bool.{cases_Bool, cases_eq, eq-eqb, ne_eqb}
 use Rattle.std.proofs.lemmas.List.Elements.{All-contains}
 use Rattle.shared_rows.specs.Rows.{Keyed, row_under, without}
 use Rattle.shared_rows.proofs.LinkedLemmas.{contains_cases, contains_later}
@@ -13,12 +13,7 @@ module _ {R : Type 0} where
 
   pub find_map : (test : R → Bool) (rows : List (Keyed R)) → find test (map (λ keyed. keyed.row) rows) ≡ option_map (λ keyed. keyed.row) (find (λ keyed. test keyed.row) rows)
   find_map test [] = refl
-  find_map test (first ∷ rows) = by (test first.row) (find_map test rows)
-    where
-      by : (here : Bool) → find test (map (λ keyed. keyed.row) rows) ≡ option_map (λ keyed. keyed.row) (find (λ keyed. test keyed.row) rows)
-          → cond here (Some first.row) (find test (map (λ keyed. keyed.row) rows)) ≡ option_map (λ (keyed : Keyed R). keyed.row) (cond here (Some first) (find (λ keyed. test keyed.row) rows))
-      by true later = refl
-      by false later = later
+  find_map test (first ∷ rows) = ⊎_elim (λ (yes : test first.row ≡ true). rw yes refl) (λ (no : test first.row ≡ false). rw no (find_map test rows)) (cases_Bool (test first.row))
 
   pub any_map : (test : R → Bool) (rows : List (Keyed R)) → list_any test (map (λ keyed. keyed.row) rows) ≡ list_any (λ keyed. test keyed.row) rows
   any_map test [] = refl
@@ -26,55 +21,39 @@ module _ {R : Type 0} where
 
   pub filter_map : (test : R → Bool) (rows : List (Keyed R)) → filter test (map (λ keyed. keyed.row) rows) ≡ map (λ keyed. keyed.row) (filter (λ keyed. test keyed.row) rows)
   filter_map test [] = refl
-  filter_map test (first ∷ rows) = by (test first.row) (filter_map test rows)
-    where
-      by : (here : Bool) → filter test (map (λ keyed. keyed.row) rows) ≡ map (λ keyed. keyed.row) (filter (λ keyed. test keyed.row) rows)
-          → cond here (first.row ∷ filter test (map (λ keyed. keyed.row) rows)) (filter test (map (λ keyed. keyed.row) rows)) ≡ map (λ (keyed : Keyed R). keyed.row) (cond here (first ∷ filter (λ keyed. test keyed.row) rows) (filter (λ keyed. test keyed.row) rows))
-      by true later = ap (λ rest. first.row ∷ rest) later
-      by false later = later
-
-  -- without the first row keys are apart too, and its key is none of theirs
-  apart_tail : (first : Keyed R) (rows : List (Keyed R)) → IsApart (first ∷ rows) → IsApart rows
-  apart_tail first rows apart i j default below within = apart (suc i) (suc j) default (omega arith) (omega arith)
-
-  apart_head : (first : Keyed R) (rows : List (Keyed R)) → IsApart (first ∷ rows) → All (λ later. first.key ≢ later.key) rows
-  apart_head first rows apart k default within = apart 0 (suc k) default (omega arith) (omega arith)
+  filter_map test (first ∷ rows) = ⊎_elim (λ (yes : test first.row ≡ true). rw yes (ap (λ rest. first.row ∷ rest) (filter_map test rows))) (λ (no : test first.row ≡ false). rw no (filter_map test rows)) (cases_Bool (test first.row))
 
   -- what is found stands there, and passes
   pub find_stands : (test : Keyed R → Bool) (rows : List (Keyed R)) (keyed : Keyed R) → find test rows ≡ Some keyed → Contains rows keyed × (test keyed ≡ true)
   find_stands test [] keyed found = absurd (cc)
-  find_stands test (first ∷ rows) keyed found = by (test first) refl (find_stands test rows keyed) found
-    where
-      by : (here : Bool) → here ≡ test first → (find test rows ≡ Some keyed → Contains rows keyed × (test keyed ≡ true)) → cond here (Some first) (find test rows) ≡ Some keyed → Contains (first ∷ rows) keyed × (test keyed ≡ true)
-      by true is later found = let same : first ≡ keyed = cc in ((0, omega arith, same), ap test (sym same) ∙ sym is)
-      by false is later found = let rest = later found in (contains_later first keyed rows rest.0, rest.1)
+  find_stands test (first ∷ rows) keyed found = ⊎_elim
+      (λ (yes : test first ≡ true).
+      let is : Some first ≡ Some keyed = rw yes at found in
+      let same : first ≡ keyed = cc in
+      ((0, omega arith, same), ap test (sym same) ∙ yes))
+      (λ (no : test first ≡ false). let rest = find_stands test rows keyed (rw no at found) in (contains_later first keyed rows rest.0, rest.1))
+      (cases_Bool (test first))
 
   -- a row stands under its key
   pub under_key : (rows : List (Keyed R)) (keyed : Keyed R) → IsApart rows → Contains rows keyed → row_under rows keyed.key ≡ Some keyed.row
   under_key [] keyed apart there = absurd (omega (arith, there.1))
   under_key (first ∷ rows) keyed apart there = ⊎_elim
-      (λ (here : first ≡ keyed).
-      let same : (first.key == keyed.key) ≡ true = eq-eqb first.key keyed.key (ap (λ (k : Keyed R). k.key) here) in
-      rw same (ap (λ (k : Keyed R). Some k.row) here))
-      (λ (later : Contains rows keyed). by (first.key == keyed.key) refl (under_key rows keyed (apart_tail first rows apart) later) (All-contains (λ k. first.key ≢ k.key) rows keyed (apart_head first rows apart) later))
+      (λ (here : first ≡ keyed). rw (eq-eqb first.key keyed.key (ap (λ (k : Keyed R). k.key) here)) (ap (λ (k : Keyed R). Some k.row) here))
+      (λ (later : Contains rows keyed).
+      let differ = All-contains (λ (k : Keyed R). first.key ≢ k.key) rows keyed (λ k d within. apart 0 (suc k) d (omega arith) (omega arith)) later in
+      rw (ne_eqb first.key keyed.key differ) (under_key rows keyed (λ i j d below within. apart (suc i) (suc j) d (omega arith) (omega arith)) later))
       (contains_cases first keyed rows there)
-    where
-      by : (here : Bool) → here ≡ (first.key == keyed.key) → row_under rows keyed.key ≡ Some keyed.row → first.key ≢ keyed.key
-          → option_map (λ (k : Keyed R). k.row) (cond here (Some first) (find (λ k. k.key == keyed.key) rows)) ≡ Some keyed.row
-      by true is later differ = absurd (differ (grind (arith, sym is)))
-      by false is later differ = later
 
   -- and what stands under a key is there
   pub stands_under : (rows : List (Keyed R)) (key : ℕ) (row : R) → row_under rows key ≡ Some row → Contains rows (record { key = key; row = row })
   stands_under [] key row stands = absurd (cc)
-  stands_under (first ∷ rows) key row stands = by (first.key == key) refl (stands_under rows key row) stands
-    where
-      by : (here : Bool) → here ≡ (first.key == key) → (row_under rows key ≡ Some row → Contains rows (record { key = key; row = row })) → option_map (λ (k : Keyed R). k.row) (cond here (Some first) (find (λ k. k.key == key) rows)) ≡ Some row → Contains (first ∷ rows) (record { key = key; row = row })
-      by true is later stands =
-          let same_key : first.key ≡ key = grind (arith, sym is) in
-          let same_row : first.row ≡ row = cc in
-          (0, omega arith, ap (λ k. record { key = k; row = first.row }) same_key ∙ ap (λ r. record { key = key; row = r }) same_row)
-      by false is later stands = contains_later first (record { key = key; row = row }) rows (later stands)
+  stands_under (first ∷ rows) key row stands = ⊎_elim
+      (λ (same : first.key ≡ key).
+      let is : Some first.row ≡ Some row = rw (eq-eqb first.key key same) at stands in
+      let same_row : first.row ≡ row = cc in
+      (0, omega arith, ap (λ k. record { key = k; row = first.row }) same ∙ ap (λ r. record { key = key; row = r }) same_row))
+      (λ (differ : first.key ≢ key). contains_later first (record { key = key; row = row }) rows (stands_under rows key row (rw (ne_eqb first.key key differ) at stands)))
+      (cases_eq first.key key)
 
   -- no other row has its key
   pub only_under : (rows : List (Keyed R)) (key : ℕ) (row : R) → IsApart rows → row_under rows key ≡ Some row → (keyed : Keyed R) → Contains rows keyed → keyed.key ≡ key → keyed.row ≡ row
@@ -88,17 +67,11 @@ module _ {R : Type 0} where
   filter_without keep [] key goes = refl
   filter_without keep (first ∷ rows) key goes =
       let rest = filter_without keep rows key (λ k d within. goes (suc k) d (omega arith)) in
-      by (first.key == key) refl (keep first) refl rest
-    where
-      by : (here : Bool) → here ≡ (first.key == key) → (kept : Bool) → kept ≡ keep first → filter keep (without rows key) ≡ filter keep rows
-          → filter keep (cond (not here) (first ∷ without rows key) (without rows key)) ≡ cond kept (first ∷ filter keep rows) (filter keep rows)
-      by true is true keeps rest =
-          let same : first.key ≡ key = grind (arith, sym is) in
-          let drops : keep first ≡ false = goes 0 first (omega arith) same in
-          absurd (cc (drops, keeps))
-      by true is false keeps rest = rest
-      by false is true keeps rest = rw (← keeps) (ap (λ list. first ∷ list) rest)
-      by false is false keeps rest = rw (← keeps) rest
+      ⊎_elim
+      (λ (same : first.key ≡ key). let drops : keep first ≡ false = goes 0 first (omega arith) same in rw (eq-eqb first.key key same, drops) rest)
+      (λ (differ : first.key ≢ key).
+      rw (ne_eqb first.key key differ) (⊎_elim (λ (yes : keep first ≡ true). rw yes (ap (λ list. first ∷ list) rest)) (λ (no : keep first ≡ false). rw no rest) (cases_Bool (keep first))))
+      (cases_eq first.key key)
 
   -- where none goes, all stay
   pub filter_all : (gone : Keyed R → Bool) (rows : List (Keyed R)) → All (λ keyed. gone keyed ≡ false) rows → filter (λ keyed. not (gone keyed)) rows ≡ rows

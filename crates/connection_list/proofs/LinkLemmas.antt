@@ -18,28 +18,22 @@ use Rattle.connection_list.specs.Routes.{is_before, is_past, link_cmp}
 pub link_total : IsTotalOrder link_cmp
 link_total = then_total (on_total (λ (link : Link). link.object) nat_cmp_total) (then_total (on_total (λ (link : Link). link.signal) nat_cmp_total) (then_total (on_total (λ (link : Link). link.number) nat_cmp_total) (on_total (λ (link : Link). link.key) nat_cmp_total)))
 
+then_equal : (a b : Ordering) → ordering_then a b ≡ Equal → (a ≡ Equal) × (b ≡ Equal)
+then_equal Less b e = absurd (cc)
+then_equal Equal b e = (refl, e)
+then_equal Greater b e = absurd (cc)
+
 -- links that stand in one place are one
 pub link_same : (x y : Link) → link_cmp x y ≡ Equal → x ≡ y
-link_same x y e = by (nat_cmp x.object y.object) (nat_cmp x.signal y.signal) (nat_cmp x.number y.number) (nat_cmp x.key y.key) refl refl refl refl e
-  where
-    by : (o s n k : Ordering) → o ≡ nat_cmp x.object y.object → s ≡ nat_cmp x.signal y.signal → n ≡ nat_cmp x.number y.number → k ≡ nat_cmp x.key y.key → ordering_then o (ordering_then s (ordering_then n k)) ≡ Equal → x ≡ y
-    by Equal Equal Equal Equal object signal number key e =
-        let same_object : x.object ≡ y.object = ranked x.object y.object Equal object in
-        let same_signal : x.signal ≡ y.signal = ranked x.signal y.signal Equal signal in
-        let same_number : x.number ≡ y.number = ranked x.number y.number Equal number in
-        let same_key : x.key ≡ y.key = ranked x.key y.key Equal key in
-        ap (λ i. record { object = i; signal = x.signal; number = x.number; key = x.key }) same_object
-        ∙ (ap (λ i. record { object = y.object; signal = i; number = x.number; key = x.key }) same_signal
-        ∙ (ap (λ i. record { object = y.object; signal = y.signal; number = i; key = x.key }) same_number
-        ∙ ap (λ i. record { object = y.object; signal = y.signal; number = y.number; key = i }) same_key))
-    by Less s n k object signal number key e = absurd (cc)
-    by Greater s n k object signal number key e = absurd (cc)
-    by Equal Less n k object signal number key e = absurd (cc)
-    by Equal Greater n k object signal number key e = absurd (cc)
-    by Equal Equal Less k object signal number key e = absurd (cc)
-    by Equal Equal Greater k object signal number key e = absurd (cc)
-    by Equal Equal Equal Less object signal number key e = absurd (cc)
-    by Equal Equal Equal Greater object signal number key e = absurd (cc)
+link_same x y e =
+    let object = then_equal (nat_cmp x.object y.object) _ e in
+    let signal = then_equal (nat_cmp x.signal y.signal) _ object.1 in
+    let number = then_equal (nat_cmp x.number y.number) _ signal.1 in
+    let same_object : x.object ≡ y.object = ranked x.object y.object Equal (sym object.0) in
+    let same_signal : x.signal ≡ y.signal = ranked x.signal y.signal Equal (sym signal.0) in
+    let same_number : x.number ≡ y.number = ranked x.number y.number Equal (sym number.0) in
+    let same_key : x.key ≡ y.key = ranked x.key y.key Equal (sym number.1) in
+    λ i. record { object = same_object i; signal = same_signal i; number = same_number i; key = same_key i }
 
 -- where a search begins
 abbrev pub from : ℕ → ℕ → ℕ → Link

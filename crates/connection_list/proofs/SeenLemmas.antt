@@ -11,7 +11,7 @@ use Rattle.places.specs.Table.{IsPlace, Table, with_place, opened}
 use Rattle.places.proofs.TableLemmas.{changes_open}
 use Rattle.shared_rows.proofs.LinkedLemmas.{all_from}
 use Rattle.places.proofs.JoinedLemmas.{joined_at, joined_push, joined_set, length-joined}
-use Rattle.shared_rows.specs.Rows.{IsAtPosition, Keyed, row_under}
+use Rattle.shared_rows.specs.Rows.{Keyed, row_under}
 use Rattle.shared_rows.specs.Rows as shared
 use Rattle.connection_list.specs.declared.connection.Connection.{Connection}
 use Rattle.connection_list.specs.declared.routes.Routes.{Routes}
@@ -24,7 +24,11 @@ use Rattle.connection_list.proofs.WithoutLemmas.{length-without}
 
 -- a place, seen from its rows and routes
 pub record IsSeen (rows : Table (List (Keyed Connection))) (routes : Table Routes) (table : Table Rows) (place : ℕ) (at : Routes) : Type 0 where
-  pub is_place : IsPlace rows place
+  pub tables : AreKept rows.places routes.places
+  pub view : joined_tables place_of rows routes ≡ table
+  pub rows_place : IsPlace rows place
+  pub routes_place : IsPlace routes place
+  pub is : (default : Routes) → at ≡ get_or routes.places place default
   pub kept : IsPlaceKept (shared.rows_at rows place) at
   pub shows : rows_at table place ≡ place_of (shared.rows_at rows place) at
 
@@ -32,85 +36,85 @@ pub record IsSeen (rows : Table (List (Keyed Connection))) (routes : Table Route
 abbrev pub blank : Routes
 blank = record { last_number = 0; sent = record { links = []; capacity = 0 }; received = record { links = []; capacity = 0 } }
 
-module _ (rows : Table (List (Keyed Connection))) (routes : Table Routes) (table : Table Rows) (kept : AreKept rows.places routes.places) (view_is : joined_tables place_of rows routes ≡ table) (place : ℕ) (is_place : IsPlace table place) where
-  pub rows_place : IsPlace rows place
-  rows_place = omega (arith, is_place, ap (λ (t : Table Rows). length t.places) view_is, length-joined place_of rows.places routes.places kept.same)
+places_there : (rows : Table (List (Keyed Connection))) (routes : Table Routes) (table : Table Rows) (place : ℕ) → AreKept rows.places routes.places → joined_tables place_of rows routes ≡ table → IsPlace table place → IsPlace rows place × IsPlace routes place
+places_there rows routes table place kept view_is is_place =
+    let within : IsPlace rows place = omega (arith, is_place, ap (λ (t : Table Rows). length t.places) view_is, length-joined place_of rows.places routes.places kept.same) in
+    (within, omega (arith, within, kept.same))
 
-  pub routes_place : IsPlace routes place
-  routes_place = omega (arith, rows_place, kept.same)
-
-  pub seen : (at : Routes) → ((default : Routes) → at ≡ get_or routes.places place default) → IsSeen rows routes table place at
-  seen at is = record {
-    is_place = rows_place;
-    kept = subst (IsPlaceKept (shared.rows_at rows place)) (sym (is at)) (kept.each place at rows_place);
-    shows =
-        ap (λ (t : Table Rows). rows_at t place) (sym view_is)
-        ∙ (joined_at place_of rows.places routes.places place [] at no_rows kept.same rows_place ∙ ap (place_of (shared.rows_at rows place)) (sym (is at)));
-  }
+module _ {rows : Table (List (Keyed Connection))} {routes : Table Routes} {table : Table Rows} {place : ℕ} (kept : AreKept rows.places routes.places) (view_is : joined_tables place_of rows routes ≡ table) (is_place : IsPlace table place) where
+  pub seen : {at : Routes} → ((default : Routes) → at ≡ get_or routes.places place default) → IsSeen rows routes table place at
+  seen {at} is =
+      let there = places_there rows routes table place kept view_is is_place in
+      record {
+        tables = kept;
+        view = view_is;
+        rows_place = there.0;
+        routes_place = there.1;
+        is = is;
+        kept = subst (IsPlaceKept (shared.rows_at rows place)) (sym (is at)) (kept.each place at there.0);
+        shows = ap (λ (t : Table Rows). rows_at t place) (sym view_is) ∙ (joined_at place_of rows.places routes.places place [] at no_rows kept.same there.0 ∙ ap (place_of (shared.rows_at rows place)) (sym (is at)));
+      }
 
   -- also where nothing was read there
   pub seen_anyhow : IsSeen rows routes table place (get_or routes.places place blank)
-  seen_anyhow = seen (get_or routes.places place blank) (λ default. get_or_default routes.places place blank default routes_place)
+  seen_anyhow = seen (λ default. get_or_default routes.places place blank default (places_there rows routes table place kept view_is is_place).1)
 
+module _ {rows : Table (List (Keyed Connection))} {routes : Table Routes} {table : Table Rows} {place : ℕ} {at : Routes} (seen : IsSeen rows routes table place at) where
   -- as many rows are seen as stand there
   pub shown_count : length (rows_at table place).rows ≡ length (shared.rows_at rows place)
-  shown_count = ap (λ (p : Rows). length p.rows) seen_anyhow.shows ∙ length-map (shared.rows_at rows place) (λ keyed. keyed.row)
+  shown_count = ap (λ (p : Rows). length p.rows) seen.shows ∙ length-map (shared.rows_at rows place) (λ keyed. keyed.row)
 
   -- both changed at the place
-  module _ (list : List (Keyed Connection)) (at : Routes) (place_kept : IsPlaceKept list at) where
-    pub kept_changed : AreKept (with_place rows place list).places (with_place routes place at).places
+  module _ {list : List (Keyed Connection)} {new : Routes} (place_kept : IsPlaceKept list new) where
+    pub kept_changed : AreKept (with_place rows place list).places (with_place routes place new).places
     kept_changed = record {
-      same = omega (arith, kept.same, length-set rows.places place list, length-set routes.places place at);
+      same = omega (arith, seen.tables.same, length-set rows.places place list, length-set routes.places place new);
       each = λ other default within. ⊎_elim
           (λ (here : other ≡ place).
-          let there : IsPlaceKept (get_or (set rows.places place list) place []) (get_or (set routes.places place at) place default) =
-          rw (get_or-set_same rows.places place list [] rows_place, get_or-set_same routes.places place at default routes_place) place_kept in
-          subst (λ p. IsPlaceKept (get_or (set rows.places place list) p []) (get_or (set routes.places place at) p default)) (sym here) there)
+          let there : IsPlaceKept (get_or (set rows.places place list) place []) (get_or (set routes.places place new) place default) =
+          rw (get_or-set_same rows.places place list [] seen.rows_place, get_or-set_same routes.places place new default seen.routes_place) place_kept in
+          subst (λ p. IsPlaceKept (get_or (set rows.places place list) p []) (get_or (set routes.places place new) p default)) (sym here) there)
           (λ (elsewhere : other ≢ place).
           let inside : other < length rows.places = omega (arith, within, length-set rows.places place list) in
-          rw (get_or-set_other rows.places place other list [] elsewhere, get_or-set_other routes.places place other at default elsewhere) (kept.each other default inside))
+          rw (get_or-set_other rows.places place other list [] elsewhere, get_or-set_other routes.places place other new default elsewhere) (seen.tables.each other default inside))
           (cases_eq other place);
     }
 
-    pub view_changed : joined_tables place_of (with_place rows place list) (with_place routes place at) ≡ with_rows table place (place_of list at)
+    pub view_changed : joined_tables place_of (with_place rows place list) (with_place routes place new) ≡ with_rows table place (place_of list new)
     view_changed =
-        ap (λ places. record { places = places; room = min rows.room routes.room }) (joined_set place_of rows.places routes.places place list at kept.same)
-        ∙ ap (λ t. with_place t place (place_of list at)) view_is
+        ap (λ places. record { places = places; room = min rows.room routes.room }) (joined_set place_of rows.places routes.places place list new seen.tables.same)
+        ∙ ap (λ t. with_place t place (place_of list new)) seen.view
 
--- a place where rows are gone
-module _ (rows new : Table (List (Keyed Connection))) (routes : Table Routes) (table : Table Rows) (kept : AreKept rows.places routes.places) (view_is : joined_tables place_of rows routes ≡ table) (place : ℕ) (is_place : IsPlace table place) (at after : Routes) (is : (default : Routes) → at ≡ get_or routes.places place default) (gone : Keyed Connection → Bool) (out : AreGone gone place rows new at after) where
-  pub gone_kept : AreKept new.places (set routes.places place after)
-  gone_kept = subst (λ (t : Table (List (Keyed Connection))). AreKept t.places (set routes.places place after)) (sym out.elsewhere) (kept_changed rows routes table kept view_is place is_place (shared.rows_at new place) after out.kept)
+  -- rows are gone
+  module _ {new : Table (List (Keyed Connection))} {after : Routes} {gone : Keyed Connection → Bool} (out : AreGone gone place rows new at after) where
+    pub gone_kept : AreKept new.places (set routes.places place after)
+    gone_kept = subst (λ (t : Table (List (Keyed Connection))). AreKept t.places (set routes.places place after)) (sym out.elsewhere) (kept_changed out.kept)
 
-  pub gone_place : IsPlace new place
-  gone_place = changes_open [] rows new place out.elsewhere (rows_place rows routes table kept view_is place is_place)
+    pub gone_place : IsPlace new place
+    gone_place = changes_open [] rows new place out.elsewhere seen.rows_place
 
-  module _ (test : Connection → Bool) (alike : All (λ keyed. gone keyed ≡ test keyed.row) (shared.rows_at rows place)) where
-    gone_rows : map (λ keyed. keyed.row) (shared.rows_at new place) ≡ filter (λ row. not (test row)) (rows_at table place).rows
-    gone_rows =
-        ap (map (λ (keyed : Keyed Connection). keyed.row)) (out.rows ∙ filter_alike gone (λ keyed. test keyed.row) (shared.rows_at rows place) alike)
-        ∙ (sym (filter_map (λ row. not (test row)) (shared.rows_at rows place))
-        ∙ ap (λ (p : Rows). filter (λ row. not (test row)) p.rows) (sym (seen rows routes table kept view_is place is_place at is).shows))
+    module _ (test : Connection → Bool) (alike : All (λ keyed. gone keyed ≡ test keyed.row) (shared.rows_at rows place)) where
+      gone_rows : map (λ keyed. keyed.row) (shared.rows_at new place) ≡ filter (λ row. not (test row)) (rows_at table place).rows
+      gone_rows =
+          ap (map (λ (keyed : Keyed Connection). keyed.row)) (out.rows ∙ filter_alike gone (λ keyed. test keyed.row) (shared.rows_at rows place) alike)
+          ∙ (sym (filter_map (λ row. not (test row)) (shared.rows_at rows place)) ∙ ap (λ (p : Rows). filter (λ row. not (test row)) p.rows) (sym seen.shows))
 
-    pub gone_view : joined_tables place_of new (with_place routes place after) ≡ with_rows table place (without test (rows_at table place))
-    gone_view =
-        let numbers : after.last_number ≡ (rows_at table place).last_number = out.last_number ∙ ap (λ (p : Rows). p.last_number) (sym (seen rows routes table kept view_is place is_place at is).shows) in
-        ap (λ (t : Table (List (Keyed Connection))). joined_tables place_of t (with_place routes place after)) out.elsewhere
-        ∙ (view_changed rows routes table kept view_is place is_place (shared.rows_at new place) after out.kept
-        ∙ (ap (λ list. with_rows table place (record { rows = list; last_number = after.last_number })) gone_rows
-        ∙ ap (λ n. with_rows table place (record { rows = filter (λ row. not (test row)) (rows_at table place).rows; last_number = n })) numbers))
+      pub gone_view : joined_tables place_of new (with_place routes place after) ≡ with_rows table place (without test (rows_at table place))
+      gone_view =
+          ap (λ (t : Table (List (Keyed Connection))). joined_tables place_of t (with_place routes place after)) out.elsewhere
+          ∙ (view_changed out.kept
+          ∙ (ap (λ list. with_rows table place (record { rows = list; last_number = after.last_number })) gone_rows
+          ∙ ap (λ n. with_rows table place (record { rows = filter (λ row. not (test row)) (rows_at table place).rows; last_number = n })) (out.last_number ∙ ap (λ (p : Rows). p.last_number) (sym seen.shows))))
 
-    -- as many went as passed
-    pub gone_count : (before left : ℕ) → before ≡ length (shared.rows_at rows place) → left ≡ length (shared.rows_at new place) → (left ≤ before) × (before < 2 ^ 32) × (before - left ≡ count_by test (rows_at table place).rows)
-    gone_count before left before_is left_is =
-        let at_place = seen rows routes table kept view_is place is_place at is in
-        let first : length (rows_at table place).rows ≡ before = ap (λ (p : Rows). length p.rows) at_place.shows ∙ (length-map (shared.rows_at rows place) (λ keyed. keyed.row) ∙ sym before_is) in
-        let last : left ≡ length (filter (λ row. not (test row)) (rows_at table place).rows) = left_is ∙ (sym (length-map (shared.rows_at new place) (λ keyed. keyed.row)) ∙ ap length gone_rows) in
-        let few = at_place.kept.sound.few in (
-          omega (arith, first, last, length-filter (λ row. not (test row)) (rows_at table place).rows, count_by-le-length (λ row. not (test row)) (rows_at table place).rows),
-          omega (arith, few, before_is, length-map (shared.rows_at rows place) (λ (keyed : Keyed Connection). keyed.row)),
-          omega (arith, first, last, length-without test (rows_at table place).rows),
-        )
+      -- as many went as passed
+      pub gone_count : {before left : ℕ} → before ≡ length (shared.rows_at rows place) → left ≡ length (shared.rows_at new place) → (left ≤ before) × (before < 2 ^ 32) × (before - left ≡ count_by test (rows_at table place).rows)
+      gone_count {before} {left} before_is left_is =
+          let first : length (rows_at table place).rows ≡ before = shown_count ∙ sym before_is in
+          let last : left ≡ length (filter (λ row. not (test row)) (rows_at table place).rows) = left_is ∙ (sym (length-map (shared.rows_at new place) (λ keyed. keyed.row)) ∙ ap length gone_rows) in (
+            omega (arith, first, last, length-filter (λ row. not (test row)) (rows_at table place).rows, count_by-le-length (λ row. not (test row)) (rows_at table place).rows),
+            omega (arith, seen.kept.sound.few, before_is, length-map (shared.rows_at rows place) (λ (keyed : Keyed Connection). keyed.row)),
+            omega (arith, first, last, length-without test (rows_at table place).rows),
+          )
 
 -- rows of one number are one
 only_numbered : (rows : List (Keyed Connection)) (routes : Routes) → IsSound (place_of rows routes) → (x y : Keyed Connection) → Contains rows x → Contains rows y → x.row.number ≡ y.row.number → x ≡ y
@@ -157,7 +161,7 @@ pub empty_shows : (routes : Routes) → routes.last_number ≡ 0 → place_of []
 empty_shows routes none = ap (λ n. record { rows = []; last_number = n }) none
 
 -- one more place
-module _ (rows : Table (List (Keyed Connection))) (routes : Table Routes) (table : Table Rows) (kept : AreKept rows.places routes.places) (view_is : joined_tables place_of rows routes ≡ table) (at : Routes) (none : at.last_number ≡ 0) (routed : IsRouted [] at) where
+module _ (rows : Table (List (Keyed Connection))) (routes : Table Routes) {table : Table Rows} (kept : AreKept rows.places routes.places) (view_is : joined_tables place_of rows routes ≡ table) {at : Routes} (none : at.last_number ≡ 0) (routed : IsRouted [] at) where
   pub kept_opened : AreKept (rows.places ++ [] ∷ []) (routes.places ++ at ∷ [])
   kept_opened = record {
     same = omega (arith, kept.same, length_push rows.places [], length_push routes.places at);

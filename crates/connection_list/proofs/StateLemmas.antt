@@ -1,7 +1,8 @@
 -- Connections that are changed in what tests do not ask for, as in the state of a functor.
-use Rattle.std.proofs.Common.{◌≡◌, ◌<◌, ◌≤◌, ℕ, Bool, true, false, cond, List, [], ◌∷◌, Some, filter, find, get_or, length, map, refl, sym, ap, subst, arith}
+use Rattle.std.proofs.Common.{◌≡◌, ◌<◌, ◌≤◌, ℕ, Bool, true, false, cond, List, [], ◌∷◌, filter, find, get_or, length, map, refl, sym, ap, subst, arith, ⊎_elim}
 use Rattle.std.specs.List.{All}
 use Rattle.std.specs.Option.{option_map}
+use Rattle.std.proofs.lemmas.Bool.{cases_Bool}
 use Rattle.std.proofs.lemmas.List.{get_or-map, length-map}
 use Rattle.connection_list.specs.declared.connection.Connection.{Connection}
 use Rattle.connection_list.specs.Rows.{IsSound, Rows, is_of_functor, with_state}
@@ -13,19 +14,12 @@ module _ (change : Connection → Connection) where
 
   pub find-changed : (test : Connection → Bool) → Keeps test → (rows : List Connection) → find test (map change rows) ≡ option_map change (find test rows)
   find-changed test keeps [] = refl
-  find-changed test keeps (row ∷ rows) = rw (keeps row) (by (test row) (find-changed test keeps rows))
-    where
-      by : (here : Bool) → find test (map change rows) ≡ option_map change (find test rows) → cond here (Some (change row)) (find test (map change rows)) ≡ option_map change (cond here (Some row) (find test rows))
-      by true rest = refl
-      by false rest = rest
+  find-changed test keeps (row ∷ rows) = rw (keeps row) (⊎_elim (λ (yes : test row ≡ true). rw yes refl) (λ (no : test row ≡ false). rw no (find-changed test keeps rows)) (cases_Bool (test row)))
 
   pub filter-changed : (test : Connection → Bool) → Keeps test → (rows : List Connection) → filter test (map change rows) ≡ map change (filter test rows)
   filter-changed test keeps [] = refl
-  filter-changed test keeps (row ∷ rows) = rw (keeps row) (by (test row) (filter-changed test keeps rows))
-    where
-      by : (here : Bool) → filter test (map change rows) ≡ map change (filter test rows) → cond here (change row ∷ filter test (map change rows)) (filter test (map change rows)) ≡ map change (cond here (row ∷ filter test rows) (filter test rows))
-      by true rest = ap (λ rest. change row ∷ rest) rest
-      by false rest = rest
+  filter-changed test keeps (row ∷ rows) =
+      rw (keeps row) (⊎_elim (λ (yes : test row ≡ true). rw yes (ap (λ rest. change row ∷ rest) (filter-changed test keeps rows))) (λ (no : test row ≡ false). rw no (filter-changed test keeps rows)) (cases_Bool (test row)))
 
   pub all_changed : (P Q : Connection → Type 0) → ((row : Connection) → P row → Q (change row)) → (rows : List Connection) → All P rows → All Q (map change rows)
   all_changed P Q each rows all = λ i d within.

@@ -7,7 +7,7 @@ use Rattle.std.proofs.lemmas.Bool.{eqb-true}
 use Rattle.std.proofs.lemmas.List.{get_or-map, length-map}
 use Rattle.std.proofs.lemmas.List.Elements.{All-cons, All-map, Contains-get_or}
 use Rattle.places.specs.Joined.{joined_tables}
-use Rattle.places.specs.Table.{IsPlace, Table, with_place}
+use Rattle.places.specs.Table.{Table, with_place}
 use Rattle.places.proofs.TableLemmas.{with_same}
 use Rattle.shared_rows.specs.Rows.{Keyed, row_under, with_row}
 use Rattle.shared_rows.specs.Rows as shared
@@ -19,7 +19,7 @@ use Rattle.connection_list.specs.Rows.{IsSound, Rows, has_number, is_of_functor,
 use Rattle.connection_list.specs.Table.{rows_at, with_rows}
 use Rattle.connection_list.specs.Routes.{AreKept, IsPlaceKept, place_of, received_of, sent_of}
 use Rattle.connection_list.proofs.KeyedLemmas.{IsApart, found_none, found_under, only_under}
-use Rattle.connection_list.proofs.SeenLemmas.{IsSeen, blank, kept_changed, numbered_alike, seen_anyhow, view_changed}
+use Rattle.connection_list.proofs.SeenLemmas.{IsSeen, blank, kept_changed, numbered_alike, view_changed}
 use Rattle.connection_list.proofs.StateLemmas.{sound_stepped, stepped-same, stepped_row}
 
 map_alike : {X Y : Type 0} (f g : X → Y) (xs : List X) → All (λ x. f x ≡ g x) xs → map f xs ≡ map g xs
@@ -93,20 +93,11 @@ none_numbered number (row ∷ rows) none = by (has_number number row) refl none 
     by true is none rest = absurd (cc)
     by false is none rest = All-cons (λ row. is_of_functor number row ≡ false) row rows (ap (λ b. b && calls_functor row.callee) is) (rest none)
 
-module _ (rows : Table (List (Keyed Connection))) (routes : Table Routes) (table : Table Rows) (kept : AreKept rows.places routes.places) (view_is : joined_tables place_of rows routes ≡ table) (place : ℕ) (is_place : IsPlace table place) (number state : ℕ) where
-  abbrev list : List (Keyed Connection)
-  list = shared.rows_at rows place
-
-  abbrev its : Routes
-  its = get_or routes.places place blank
-
-  at : IsSeen rows routes table place its
-  at = seen_anyhow rows routes table kept view_is place is_place
-
+module _ {rows : Table (List (Keyed Connection))} {routes : Table Routes} {table : Table Rows} {place : ℕ} {at : Routes} (seen : IsSeen rows routes table place at) (number state : ℕ) where
   -- where no connection has the number
-  module _ (none : None ≡ option_map (λ keyed. keyed.key) (find (λ keyed. has_number number keyed.row) list)) where
+  module _ (none : None ≡ option_map (λ keyed. keyed.key) (find (λ keyed. has_number number keyed.row) (shared.rows_at rows place))) where
     not_found : None ≡ find (has_number number) (rows_at table place).rows
-    not_found = found_none (has_number number) list none ∙ ap (λ (p : Rows). find (has_number number) p.rows) (sym at.shows)
+    not_found = found_none (has_number number) (shared.rows_at rows place) none ∙ ap (λ (p : Rows). find (has_number number) p.rows) (sym seen.shows)
 
     pub absent_state : state_of number (rows_at table place) ≡ None
     absent_state = ap (λ (found : Option Connection). option_and_then (λ row. if calls_functor row.callee then Some row.state else None) found) (sym not_found)
@@ -115,61 +106,61 @@ module _ (rows : Table (List (Keyed Connection))) (routes : Table Routes) (table
     absent_same = sym (ap (λ list. with_rows table place (record { rows = list; last_number = (rows_at table place).last_number })) (same_stepped number state (rows_at table place).rows (none_numbered number (rows_at table place).rows not_found)) ∙ with_same no_rows table place)
 
   -- where one has it
-  module _ (key : ℕ) (row : Connection) (found : Some key ≡ option_map (λ keyed. keyed.key) (find (λ keyed. has_number number keyed.row) list)) (under : row_under list key ≡ Some row) (stands : option_map (λ row. row.number) (row_under list key) ≡ Some number) where
-    alike : All (λ keyed. (keyed.key == key) ≡ has_number number keyed.row) list
-    alike = numbered_alike list its number key at.kept stands
+  module _ (key : ℕ) {row : Connection} (found : Some key ≡ option_map (λ keyed. keyed.key) (find (λ keyed. has_number number keyed.row) (shared.rows_at rows place))) (under : row_under (shared.rows_at rows place) key ≡ Some row) (stands : option_map (λ row. row.number) (row_under (shared.rows_at rows place) key) ≡ Some number) where
+    alike : All (λ keyed. (keyed.key == key) ≡ has_number number keyed.row) (shared.rows_at rows place)
+    alike = numbered_alike (shared.rows_at rows place) at number key seen.kept stands
 
     is_found : find (has_number number) (rows_at table place).rows ≡ Some row
     is_found =
-        let it = found_under (has_number number) list key at.kept.apart found in
-        ap (λ (p : Rows). find (has_number number) p.rows) at.shows ∙ (it.is ∙ (sym it.stands ∙ under))
+        let it = found_under (has_number number) (shared.rows_at rows place) key seen.kept.apart found in
+        ap (λ (p : Rows). find (has_number number) p.rows) seen.shows ∙ (it.is ∙ (sym it.stands ∙ under))
 
     stood_state : state_of number (rows_at table place) ≡ (if calls_functor row.callee then Some row.state else None)
     stood_state = ap (λ (found : Option Connection). option_and_then (λ row. if calls_functor row.callee then Some row.state else None) found) is_found
 
-    module _ (calls : calls_functor row.callee ≡ true) (new : Table (List (Keyed Connection))) (changed : new ≡ with_place rows place (with_row list key (record row { state = state }))) where
+    module _ (calls : calls_functor row.callee ≡ true) {new : Table (List (Keyed Connection))} (changed : new ≡ with_place rows place (with_row (shared.rows_at rows place) key (record row { state = state }))) where
       pub functor_state : state_of number (rows_at table place) ≡ Some row.state
       functor_state = stood_state ∙ ap (λ b. if b then Some row.state else None) calls
 
-      new_is : new ≡ with_place rows place (map (stepped_keyed number state) list)
-      new_is = changed ∙ ap (with_place rows place) (with_row_stepped number state list key row at.kept.apart under calls alike)
+      new_is : new ≡ with_place rows place (map (stepped_keyed number state) (shared.rows_at rows place))
+      new_is = changed ∙ ap (with_place rows place) (with_row_stepped number state (shared.rows_at rows place) key row seen.kept.apart under calls alike)
 
-      place_kept : IsPlaceKept (map (stepped_keyed number state) list) its
-      place_kept = kept_stepped number state list its at.kept
+      place_kept : IsPlaceKept (map (stepped_keyed number state) (shared.rows_at rows place)) at
+      place_kept = kept_stepped number state (shared.rows_at rows place) at seen.kept
 
-      routes_same : with_place routes place its ≡ routes
-      routes_same = with_same blank routes place
+      routes_same : with_place routes place at ≡ routes
+      routes_same = ap (with_place routes place) (seen.is blank) ∙ with_same blank routes place
 
       pub stepped_kept : AreKept new.places routes.places
       stepped_kept =
           subst (λ (t : Table (List (Keyed Connection))). AreKept t.places routes.places) (sym new_is)
-          (subst (λ (t : Table Routes). AreKept (with_place rows place (map (stepped_keyed number state) list)).places t.places) routes_same
-          (kept_changed rows routes table kept view_is place is_place (map (stepped_keyed number state) list) its place_kept))
+          (subst (λ (t : Table Routes). AreKept (with_place rows place (map (stepped_keyed number state) (shared.rows_at rows place))).places t.places) routes_same
+          (kept_changed seen place_kept))
 
       pub stepped_view : joined_tables place_of new routes ≡ with_rows table place (with_state number state (rows_at table place))
       stepped_view =
           ap (λ (t : Table (List (Keyed Connection))). joined_tables place_of t routes) new_is
-          ∙ (ap (λ (t : Table Routes). joined_tables place_of (with_place rows place (map (stepped_keyed number state) list)) t) (sym routes_same)
-          ∙ (view_changed rows routes table kept view_is place is_place (map (stepped_keyed number state) list) its place_kept
-          ∙ (ap (with_rows table place) (place_stepped number state list its)
-          ∙ ap (λ p. with_rows table place (with_state number state p)) (sym at.shows))))
+          ∙ (ap (λ (t : Table Routes). joined_tables place_of (with_place rows place (map (stepped_keyed number state) (shared.rows_at rows place))) t) (sym routes_same)
+          ∙ (view_changed seen place_kept
+          ∙ (ap (with_rows table place) (place_stepped number state (shared.rows_at rows place) at)
+          ∙ ap (λ p. with_rows table place (with_state number state p)) (sym seen.shows))))
 
     module _ (calls : calls_functor row.callee ≡ false) where
       pub method_state : state_of number (rows_at table place) ≡ None
       method_state = stood_state ∙ ap (λ b. if b then Some row.state else None) calls
 
-      none_is : All (λ keyed. is_of_functor number keyed.row ≡ false) list
-      none_is = λ k d within. one (get_or list k d) (Contains-get_or list k d within) (alike k d within)
+      none_is : All (λ keyed. is_of_functor number keyed.row ≡ false) (shared.rows_at rows place)
+      none_is = λ k d within. one (get_or (shared.rows_at rows place) k d) (Contains-get_or (shared.rows_at rows place) k d within) (alike k d within)
         where
-          one : (keyed : Keyed Connection) → Contains list keyed → (keyed.key == key) ≡ has_number number keyed.row → is_of_functor number keyed.row ≡ false
+          one : (keyed : Keyed Connection) → Contains (shared.rows_at rows place) keyed → (keyed.key == key) ≡ has_number number keyed.row → is_of_functor number keyed.row ≡ false
           one keyed there same = by (has_number number keyed.row) refl
             where
               by : (here : Bool) → has_number number keyed.row ≡ here → (here && calls_functor keyed.row.callee) ≡ false
-              by true is = ap (λ (r : Connection). calls_functor r.callee) (only_under list key row at.kept.apart under keyed there (eqb-true keyed.key key (same ∙ is))) ∙ calls
+              by true is = ap (λ (r : Connection). calls_functor r.callee) (only_under (shared.rows_at rows place) key row seen.kept.apart under keyed there (eqb-true keyed.key key (same ∙ is))) ∙ calls
               by false is = refl
 
       pub method_same : table ≡ with_rows table place (with_state number state (rows_at table place))
       method_same =
-          sym (ap (λ (p : Rows). with_rows table place (with_state number state p)) at.shows
-          ∙ (ap (λ list. with_rows table place (record { rows = list; last_number = its.last_number })) (same_stepped number state (map (λ keyed. keyed.row) list) (All-map (λ row. is_of_functor number row ≡ false) (λ keyed. keyed.row) list none_is))
-          ∙ (ap (with_rows table place) (sym at.shows) ∙ with_same no_rows table place)))
+          sym (ap (λ (p : Rows). with_rows table place (with_state number state p)) seen.shows
+          ∙ (ap (λ list. with_rows table place (record { rows = list; last_number = at.last_number })) (same_stepped number state (map (λ keyed. keyed.row) (shared.rows_at rows place)) (All-map (λ row. is_of_functor number row ≡ false) (λ keyed. keyed.row) (shared.rows_at rows place) none_is))
+          ∙ (ap (with_rows table place) (sym seen.shows) ∙ with_same no_rows table place)))

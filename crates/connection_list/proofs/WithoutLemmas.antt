@@ -1,5 +1,5 @@
 -- What is left of a place without the connections that pass a test.
-use Rattle.std.proofs.Common.{◌≡◌, ◌-◌, ◌<◌, ◌≤◌, Bool, true, false, not, ◌||◌, cond, is_some, List, [], ◌∷◌, Some, length, filter, find, refl, arith, ⊎_elim}
+use Rattle.std.proofs.Common.{◌≡◌, ◌-◌, ◌<◌, ◌≤◌, Bool, true, false, not, is_some, List, [], ◌∷◌, length, filter, find, refl, arith, ⊎_elim}
 use Rattle.std.specs.List.{list_any, count_by}
 use Rattle.std.proofs.lemmas.Bool.{cases_Bool}
 use Rattle.std.proofs.lemmas.Grind.{common_steps}
@@ -36,8 +36,4 @@ filter_all test (row ∷ rows) none =
 -- one is found where any passes
 pub any_found : (test : Connection → Bool) (rows : List Connection) → is_some (find test rows) ≡ list_any test rows
 any_found test [] = refl
-any_found test (row ∷ rows) = by (test row) (any_found test rows)
-  where
-    by : (here : Bool) → is_some (find test rows) ≡ list_any test rows → is_some (cond here (Some row) (find test rows)) ≡ (here || list_any test rows)
-    by true later = refl
-    by false later = later
+any_found test (row ∷ rows) = ⊎_elim (λ (yes : test row ≡ true). rw yes refl) (λ (no : test row ≡ false). rw no (any_found test rows)) (cases_Bool (test row))

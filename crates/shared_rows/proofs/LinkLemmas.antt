@@ -2,7 +2,7 @@
 use Rattle.std.proofs.Common.{◌≡◌, ◌∙◌, ℕ, zero, suc, ◌+◌, ◌-◌, ◌<◌, ◌≤◌, Bool, true, false, not, List, [], ◌∷◌, ◌++◌, Some, Ok, Err, length, filter, find, get_or, take, drop, set, slice_get, refl, subst, sym, ap, arith, ⊎_elim}
 use Rattle.gap_buffer.specs.Gapped.{Gapped}
 use Rattle.std.specs.Cmp.{IsTotalOrder, alike_right}
-use Rattle.std.specs.List.{AllWithin, HoldsAt, insert, remove}
+use Rattle.std.specs.List.{All, AllPairs, AllWithin, HoldsAt, insert, remove}
 use Rattle.std.specs.List.Sorted.{IsPartitionPoint, IsPartitionedBy}
 use Rattle.std.specs.Ordering.{is_eq, is_ge, is_lt, ordering_reverse}
 use Rattle.std.specs.declared.cmp.Ordering.{Ordering}
@@ -10,8 +10,19 @@ use Rattle.std.specs.declared.cmp.Ordering.TheVariants.{Less, Equal, Greater}
 use Rattle.std.proofs.lemmas.Bool.{cases_lt}
 use Rattle.std.proofs.lemmas.List.{get_or_default, set_split, take_all}
 use Rattle.std.proofs.lemmas.List.Edits.{length-remove}
+use Rattle.std.proofs.lemmas.List.Elements.{All-append, All-cons, filter_passes}
+use Rattle.std.proofs.lemmas.List.Kept.{AllPairs-cons, AllPairs-filter}
 use Rattle.std.proofs.lemmas.List.Quantifiers.{all_pairs_remove}
-use Rattle.shared_rows.specs.Links.{HasMemory, HasRoom, IsBetween, Linked, IsInOrder, IsSeat, first_from, with_link, without_link}
+use Rattle.shared_rows.specs.Links.{HasMemory, IsBetween, Linked, IsInOrder, IsSeat, first_from, with_link, without_link}
+
+-- a list in order with one more element between its two parts
+pub all_pairs_between : {X : Type 0} (R : X → X → Type 0) → ((x y z : X) → R x y → R y z → R x z) → (xs ys : List X) (y : X) → AllPairs R xs → AllPairs R ys → All (λ x. R x y) xs → All (R y) ys → AllPairs R (xs ++ y ∷ ys)
+all_pairs_between R trans [] ys y front back below above = AllPairs-cons R y ys above back
+all_pairs_between R trans (x ∷ xs) ys y front back below above =
+    let low = below 0 x (omega arith) in
+    AllPairs-cons R x (xs ++ y ∷ ys)
+    (All-append (R x) xs (y ∷ ys) (λ k d within. front 0 (suc k) d (omega arith) (omega arith)) (All-cons (R x) y ys low (λ k d within. trans x y (get_or ys k d) low (above k d within))))
+    (all_pairs_between R trans xs ys y (λ i j d lt within. front (suc i) (suc j) d (omega arith) (omega arith)) back (λ k d within. below (suc k) d (omega arith)) above)
 
 -- a filter whose test the front passes and the rest fails
 pub filter_front : {X : Type 0} (p : X → Bool) (xs : List X) (n : ℕ) → AllWithin (λ x. p x ≡ true) xs 0 n → AllWithin (λ x. p x ≡ false) xs n (length xs) → filter p xs ≡ take n xs
@@ -104,73 +115,48 @@ module _ {K : Type 0} {cmp : K → K → Ordering} (total : IsTotalOrder cmp) wh
         (λ (at : j ≤ i). let same : i ≡ j = omega arith in ap (λ n. is_lt (cmp (get_or links n d) link)) same ∙ low)
         (cases_lt i j)
 
-    -- and where they end, the link would stand, if it does not stand there
-    pub seat_between : (at : ℕ) → at ≤ length links → IsPartitionPoint (λ other. is_lt (cmp other link) ≡ true) (λ other. is_lt (cmp other link) ≡ false) links at
-        → ((d : K) → at < length links → is_eq (cmp (get_or links at d) link) ≡ false) → IsSeat cmp links link (Err at)
-    seat_between at within point differs = (
+    -- a link would stand between one below it and one above it
+    seat_between : (at : ℕ) → at ≤ length links → (0 < at → HoldsAt (λ other. cmp other link ≡ Less) links (at - 1)) → (at < length links → HoldsAt (λ other. cmp link other ≡ Less) links at) → IsSeat cmp links link (Err at)
+    seat_between at within low high = (
       within,
       record {
-        below = λ k d low high. less_from (cmp (get_or links k d) link) (point.0 k d low high);
-        above = λ k d low high.
-            let there : at < length links = omega (arith, low, high) in
-            let above : cmp link (get_or links at d) ≡ Less = above_back (get_or links at d) link (greater_from (cmp (get_or links at d) link) (point.1 at d (omega arith) there) (differs d there)) in
-            ⊎_elim
-            (λ (behind : at < k). total.trans link (get_or links at d) (get_or links k d) above (order at k d behind high))
-            (λ (here : k ≤ at). let same : k ≡ at = omega arith in ap (λ n. cmp link (get_or links n d)) same ∙ above)
+        below = λ k d from upto. ⊎_elim
+            (λ (before : k < at - 1). total.trans (get_or links k d) (get_or links (at - 1) d) link (order k (at - 1) d before (omega arith)) (low (omega arith) d))
+            (λ (here : at - 1 ≤ k). let same : k ≡ at - 1 = omega arith in ap (λ n. cmp (get_or links n d) link) same ∙ low (omega arith) d)
+            (cases_lt k (at - 1));
+        above = λ k d from upto. ⊎_elim
+            (λ (behind : at < k). total.trans link (get_or links at d) (get_or links k d) (high (omega arith) d) (order at k d behind upto))
+            (λ (here : k ≤ at). let same : k ≡ at = omega arith in ap (λ n. cmp link (get_or links n d)) same ∙ high (omega arith) d)
             (cases_lt at k);
       },
     )
+
+    -- where those below end, if it does not stand there
+    pub seat_parted : (at : ℕ) → at ≤ length links → IsPartitionPoint (λ other. is_lt (cmp other link) ≡ true) (λ other. is_lt (cmp other link) ≡ false) links at
+        → ((d : K) → at < length links → is_eq (cmp (get_or links at d) link) ≡ false) → IsSeat cmp links link (Err at)
+    seat_parted at within point differs = seat_between at within
+        (λ some d. less_from (cmp (get_or links (at - 1) d) link) (point.0 (at - 1) d (omega arith) (omega arith)))
+        (λ there d. above_back (get_or links at d) link (greater_from (cmp (get_or links at d) link) (point.1 at d (omega arith) there) (differs d there)))
 
     -- behind all others where the last one is below
-    pub seat_behind : (count : ℕ) (last : K) → count ≡ length links → 0 < count → last ≡ get_or links (count - 1) last → is_lt (cmp last link) ≡ true → IsSeat cmp links link (Err count)
-    seat_behind count last all some is low =
-        let below_last : cmp last link ≡ Less = less_from (cmp last link) low in (
-          omega (arith, all),
-          record {
-            below = λ k d from upto.
-                let same : last ≡ get_or links (count - 1) d = is ∙ get_or_default links (count - 1) last d (omega (arith, all)) in
-                ⊎_elim
-                (λ (before : k < count - 1). total.trans (get_or links k d) last link (subst (λ (l : K). cmp (get_or links k d) l ≡ Less) (sym same) (order k (count - 1) d before (omega (arith, all)))) below_last)
-                (λ (at : count - 1 ≤ k). let here : k ≡ count - 1 = omega arith in ap (λ i. cmp (get_or links i d) link) here ∙ (ap (λ l. cmp l link) (sym same) ∙ below_last))
-                (cases_lt k (count - 1));
-            above = λ k d from upto. absurd (omega (arith, all));
-          },
-        )
+    pub seat_behind : {last : K} → 0 < length links → last ≡ get_or links (length links - 1) last → is_lt (cmp last link) ≡ true → IsSeat cmp links link (Err (length links))
+    seat_behind {last} some is low = seat_between (length links) (omega arith)
+        (λ some d. ap (λ l. cmp l link) (sym (is ∙ get_or_default links (length links - 1) last d (omega arith))) ∙ less_from (cmp last link) low)
+        (λ there d. absurd (omega arith))
 
     -- and before them where the first one is above
-    pub seat_before : (first : K) → first ≡ get_or links 0 first → is_lt (cmp link first) ≡ true → IsSeat cmp links link (Err 0)
-    seat_before first is low =
-        let above_first : cmp link first ≡ Less = less_from (cmp link first) low in (
-          omega arith,
-          record {
-            below = λ k d from upto. absurd (omega arith);
-            above = λ k d from upto.
-                let same : first ≡ get_or links 0 d = is ∙ get_or_default links 0 first d (omega (arith, upto)) in
-                ⊎_elim
-                (λ (behind : 0 < k). total.trans link first (get_or links k d) above_first (subst (λ (l : K). cmp l (get_or links k d) ≡ Less) (sym same) (order 0 k d behind upto)))
-                (λ (at : k ≤ 0). let here : k ≡ 0 = omega arith in ap (λ i. cmp link (get_or links i d)) here ∙ (ap (λ l. cmp link l) (sym same) ∙ above_first))
-                (cases_lt 0 k);
-          },
-        )
+    pub seat_before : {first : K} → first ≡ get_or links 0 first → is_lt (cmp link first) ≡ true → IsSeat cmp links link (Err 0)
+    seat_before {first} is low = seat_between 0 (omega arith) (λ some d. absurd (omega arith)) (λ there d. ap (cmp link) (sym (is ∙ get_or_default links 0 first d there)) ∙ less_from (cmp link first) low)
 
     -- and between two that stand beside each other
-    pub seat_amid : (at : ℕ) → 0 < at → at < length links → HoldsAt (λ other. cmp other link ≡ Less) links (at - 1) → HoldsAt (λ other. cmp other link ≡ Greater) links at → IsSeat cmp links link (Err at)
-    seat_amid at some within low high = (
-      omega arith,
-      record {
-        below = λ k d from upto.
-            ⊎_elim
-            (λ (before : k < at - 1). total.trans (get_or links k d) (get_or links (at - 1) d) link (order k (at - 1) d before (omega arith)) (low d))
-            (λ (here : at - 1 ≤ k). let same : k ≡ at - 1 = omega arith in ap (λ n. cmp (get_or links n d) link) same ∙ low d)
-            (cases_lt k (at - 1));
-        above = λ k d from upto.
-            let over : cmp link (get_or links at d) ≡ Less = above_back (get_or links at d) link (high d) in
-            ⊎_elim
-            (λ (behind : at < k). total.trans link (get_or links at d) (get_or links k d) over (order at k d behind upto))
-            (λ (here : k ≤ at). let same : k ≡ at = omega arith in ap (λ n. cmp link (get_or links n d)) same ∙ over)
-            (cases_lt at k);
-      },
-    )
+    pub seat_amid : (at : ℕ) → at < length links → HoldsAt (λ other. cmp other link ≡ Less) links (at - 1) → HoldsAt (λ other. cmp other link ≡ Greater) links at → IsSeat cmp links link (Err at)
+    seat_amid at within low high = seat_between at (omega arith) (λ some d. low d) (λ there d. above_back (get_or links at d) link (high d))
+
+    -- with a link in its place they stay in order
+    pub with_order : IsInOrder cmp (with_link cmp links link)
+    with_order = all_pairs_between (λ x y. cmp x y ≡ Less) total.trans (filter (λ other. is_lt (cmp other link)) links) (filter (λ other. is_lt (cmp link other)) links) link
+        (AllPairs-filter (λ x y. cmp x y ≡ Less) (λ other. is_lt (cmp other link)) links order) (AllPairs-filter (λ x y. cmp x y ≡ Less) (λ other. is_lt (cmp link other)) links order)
+        (λ k d within. less_from _ (filter_passes (λ other. is_lt (cmp other link)) links k d within)) (λ k d within. less_from _ (filter_passes (λ other. is_lt (cmp link other)) links k d within))
 
     module _ (before from : ℕ) (upto : before ≤ from) (within : from ≤ length links) (between : IsBetween cmp links link before from) (middle : AllWithin (λ other. cmp other link ≡ Equal) links before from) where
       not_below : AllWithin (λ other. is_lt (cmp other link) ≡ false) links before (length links)
@@ -187,9 +173,10 @@ module _ {K : Type 0} {cmp : K → K → Ordering} (total : IsTotalOrder cmp) wh
 
       with_between : with_link cmp links link ≡ take before links ++ link ∷ drop from links
       with_between =
-          let front : filter (λ other. is_lt (cmp other link)) links ≡ take before links = filter_front (λ other. is_lt (cmp other link)) links before (λ k d low high. ap is_lt (between.below k d low high)) not_below in
-          let back : filter (λ other. is_lt (cmp link other)) links ≡ drop from links = filter_back (λ other. is_lt (cmp link other)) links from not_above (λ k d low high. ap is_lt (between.above k d low high)) in
-          rw (front, back) refl
+          rw (
+            filter_front (λ other. is_lt (cmp other link)) links before (λ k d low high. ap is_lt (between.below k d low high)) not_below,
+            filter_back (λ other. is_lt (cmp link other)) links from not_above (λ k d low high. ap is_lt (between.above k d low high)),
+          ) refl
 
     pub set_link : (at : ℕ) → IsSeat cmp links link (Ok at) → set links at link ≡ with_link cmp links link
     set_link at seat =
@@ -227,22 +214,17 @@ module _ {K : Type 0} {cmp : K → K → Ordering} (total : IsTotalOrder cmp) wh
         (λ k e low high. ap (λ o. not (is_lt o)) (below_back link (get_or links k e) (seat.1.above k e low high))))
 
 -- a change of what contracts see
-abbrev pub linked : {K : Type 0} → List K → ℕ → Linked K
+abbrev linked : {K : Type 0} → List K → ℕ → Linked K
 linked links capacity = record { links = links; capacity = capacity }
 
-pub relinked : {K : Type 0} (change : List K → List K) (old : Linked K) (links new : List K) (capacity size : ℕ) → linked links capacity ≡ old → new ≡ change links → size ≡ capacity → linked new size ≡ linked (change old.links) old.capacity
-relinked {K} change old links new capacity size view_is new_is same =
-    ap (λ (list : List K). linked list size) new_is
-    ∙ (ap (λ (c : ℕ). linked (change links) c) same ∙ ap (λ (l : Linked K). linked (change l.links) l.capacity) view_is)
+pub relinked : {K : Type 0} (change : List K → List K) {old : Linked K} {links new : List K} {capacity size : ℕ} → linked links capacity ≡ old → new ≡ change links → size ≡ capacity → linked new size ≡ linked (change old.links) old.capacity
+relinked {K} change {links = links} {new = new} {capacity = capacity} view_is new_is same =
+    ap (linked new) same ∙ (ap (λ (list : List K). linked list capacity) new_is ∙ ap (λ (l : Linked K). linked (change l.links) l.capacity) view_is)
 
--- links with memory for so many have room for one more than they are, if those are more
-pub has_room : {K : Type 0} (items : Gapped K) (capacity : ℕ) (old : Linked K) → linked items.items capacity ≡ old → HasMemory capacity items → HasRoom old → length items.items < items.capacity
-has_room {K} items capacity old view_is memory room = omega (arith, memory.1, ap (λ (l : Linked K). length l.links) view_is, ap (λ (l : Linked K). l.capacity) view_is, room)
-
--- and the others stay in order
+-- what stays in order where a link goes
 pub order_kept : {K : Type 0} (cmp : K → K → Ordering) (links : List K) (at : ℕ) → at < length links → IsInOrder cmp links → (left : List K) → left ≡ remove links at → IsInOrder cmp left
 order_kept {K} cmp links at within ordered left same = subst (λ (list : List K). IsInOrder cmp list) (sym same) (all_pairs_remove (λ (x y : K). cmp x y ≡ Less) links at within ordered)
 
--- and so does what memory there is
+-- and what memory there is
 pub memory_kept : {K : Type 0} (capacity : ℕ) (items : Gapped K) (at : ℕ) → at < length items.items → HasMemory capacity items → (left : Gapped K) → left ≡ record items { items = remove items.items at } → HasMemory capacity left
 memory_kept {K} capacity items at within memory left same = (omega (arith, memory.0, ap (λ (list : Gapped K). length list.items) same, length-remove items.items at within), omega (arith, memory.1, ap (λ (list : Gapped K). list.capacity) same))

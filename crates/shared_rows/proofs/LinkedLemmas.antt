@@ -6,8 +6,7 @@ use Rattle.std.specs.Ordering.{is_eq, is_lt, ordering_reverse}
 use Rattle.std.specs.declared.cmp.Ordering.{Ordering}
 use Rattle.std.specs.declared.cmp.Ordering.TheVariants.{Less, Equal, Greater}
 use Rattle.std.proofs.lemmas.Bool.{cases_Bool}
-use Rattle.std.proofs.lemmas.List.Elements.{All-contains, All-contains_itself, All-filter, All-map, All-push, Contains-append_cases, Contains-append_left, Contains-append_right, Contains-get_or, filter_passes}
-use Rattle.std.proofs.lemmas.List.Quantifiers.{Any-push}
+use Rattle.std.proofs.lemmas.List.Elements.{All-contains, All-contains_itself, All-filter, All-map, Contains-append_cases, Contains-append_left, Contains-append_right, Contains-get_or, Contains-push, Contains-push_cases, filter_passes}
 use Rattle.std.proofs.lemmas.List.Sums.{length-filter, count_by-le-length}
 use Rattle.shared_rows.specs.Links.{AreLinked, IsInOrder, first_from, with_link, without_link}
 
@@ -51,9 +50,6 @@ module _ {X : Type 0} where
   pub any_of : (P : X → Type 0) (xs : List X) (x : X) → Contains xs x → P x → Any P xs
   any_of P xs x there holds = (there.0, x, there.1, there.2, holds)
 
-  pub any_more : (P : X → Type 0) (xs : List X) (y : X) → Any P xs → Any P (xs ++ y ∷ [])
-  any_more P xs y any = any_of P (xs ++ y ∷ []) any.1 (Contains-append_left xs (y ∷ []) any.1 (any.0, any.2, any.3)) any.4
-
 pub contains_map : {X Y : Type 0} (f : X → Y) (xs : List X) (x : X) → Contains xs x → Contains (map f xs) (f x)
 contains_map f [] x there = absurd (omega (arith, there.1))
 contains_map f (first ∷ xs) x there = ⊎_elim
@@ -66,14 +62,25 @@ contains_mapped {X} {Y} f xs y there =
     let any : Any (λ x. f x ≡ y) xs = All-contains (λ z. Any (λ x. f x ≡ z) xs) (map f xs) y (All-map (λ z. Any (λ x. f x ≡ z) xs) f xs (all_from (λ x. Any (λ w. f w ≡ f x) xs) xs (λ x stood. any_of (λ w. f w ≡ f x) xs x stood refl))) there in
     (any.1, (any.0, any.2, any.3), any.4)
 
+-- rows and links, each with one of the others
+are_linked : {R K : Type 0} (link_of : R → K) (rows : List R) (links : List K) → ((row : R) → Contains rows row → Contains links (link_of row)) → ((link : K) → Contains links link → (row : R) × Contains rows row × (link_of row ≡ link)) → AreLinked link_of rows links
+are_linked link_of rows links each all = record {
+  each = all_from (λ row. Contains links (link_of row)) rows each;
+  all = all_from (λ link. Any (λ row. link_of row ≡ link) rows) links (λ link there. let row = all link there in any_of (λ r. link_of r ≡ link) rows row.0 row.1 row.2);
+}
+
+module _ {R K : Type 0} {link_of : R → K} (rows : List R) (links : List K) (linked : AreLinked link_of rows links) where
+  link_there : (row : R) → Contains rows row → Contains links (link_of row)
+  link_there row = All-contains (λ r. Contains links (link_of r)) rows row linked.each
+
+  row_there : (link : K) → Contains links link → (row : R) × Contains rows row × (link_of row ≡ link)
+  row_there link there = let any = All-contains (λ link. Any (λ r. link_of r ≡ link) rows) links link linked.all there in (any.1, (any.0, any.2, any.3), any.4)
+
 -- a change that keeps each link
 pub linked_same : {R K : Type 0} (link_of : R → K) (change : R → R) → ((row : R) → link_of (change row) ≡ link_of row) → (rows : List R) (links : List K) → AreLinked link_of rows links → AreLinked link_of (map change rows) links
-linked_same {R} {K} link_of change keeps rows links linked = record {
-  each = All-map (λ row. Contains links (link_of row)) change rows (all_from (λ row. Contains links (link_of (change row))) rows (λ row there. subst (Contains links) (sym (keeps row)) (All-contains (λ r. Contains links (link_of r)) rows row linked.each there)));
-  all = all_from (λ link. Any (λ row. link_of row ≡ link) (map change rows)) links (λ link there.
-      let any : Any (λ r. link_of r ≡ link) rows = All-contains (λ link. Any (λ r. link_of r ≡ link) rows) links link linked.all there in
-      any_of (λ r. link_of r ≡ link) (map change rows) (change any.1) (contains_map change rows any.1 (any.0, any.2, any.3)) (keeps any.1 ∙ any.4));
-}
+linked_same link_of change keeps rows links linked = are_linked link_of (map change rows) links
+    (λ row there. let from = contains_mapped change rows row there in subst (Contains links) (sym (keeps from.0) ∙ ap link_of from.2) (link_there rows links linked from.0 from.1))
+    (λ link there. let row = row_there rows links linked link there in (change row.0, contains_map change rows row.0 row.1, keeps row.0 ∙ row.2))
 
 module _ {K : Type 0} {cmp : K → K → Ordering} (total : IsTotalOrder cmp) where
   -- a link that is there, gone
@@ -90,75 +97,55 @@ module _ {K : Type 0} {cmp : K → K → Ordering} (total : IsTotalOrder cmp) wh
       by false less = omega (arith, less)
 
 module _ {K : Type 0} {cmp : K → K → Ordering} (total : IsTotalOrder cmp) (same : (x y : K) → cmp x y ≡ Equal → x ≡ y) where
+  above : (x : K) (xs : List K) → IsInOrder cmp (x ∷ xs) → (z : K) → Contains xs z → cmp x z ≡ Less
+  above x xs order z there = ap (cmp x) (sym there.2) ∙ order 0 (suc there.0) z (omega arith) (omega (arith, there.1))
+
+  in_rest : (x y : K) (xs ys : List K) → x ≡ y → IsInOrder cmp (x ∷ xs) → ((z : K) → Contains (x ∷ xs) z → Contains (y ∷ ys) z) → (z : K) → Contains xs z → Contains ys z
+  in_rest x y xs ys heads order to z there = ⊎_elim
+      (λ (here : y ≡ z). let tied : cmp x z ≡ Equal = ap (cmp x) (sym (heads ∙ here)) ∙ tied_itself total x in absurd (cc (tied, above x xs order z there)))
+      (λ (later : Contains ys z). later)
+      (contains_cases y z ys (to z (contains_later x z xs there)))
+
   -- links in order are known by what they contain
   pub same_links : (xs ys : List K) → IsInOrder cmp xs → IsInOrder cmp ys → ((x : K) → Contains xs x → Contains ys x) → ((x : K) → Contains ys x → Contains xs x) → xs ≡ ys
   same_links [] [] in_xs in_ys to from = refl
   same_links [] (y ∷ ys) in_xs in_ys to from = absurd (omega (arith, (from y (contains_first y ys)).1))
   same_links (x ∷ xs) [] in_xs in_ys to from = absurd (omega (arith, (to x (contains_first x xs)).1))
-  same_links (x ∷ xs) (y ∷ ys) in_xs in_ys to from = λ i. heads i ∷ same_links xs ys (tail x xs in_xs) (tail y ys in_ys) to_tail from_tail i
+  same_links (x ∷ xs) (y ∷ ys) in_xs in_ys to from = λ i. heads i ∷ same_links xs ys
+      (λ i j d lt within. in_xs (suc i) (suc j) d (omega arith) (omega arith)) (λ i j d lt within. in_ys (suc i) (suc j) d (omega arith) (omega arith))
+      (in_rest x y xs ys heads in_xs to) (in_rest y x ys xs (sym heads) in_ys from) i
     where
-      tail : (z : K) (zs : List K) → IsInOrder cmp (z ∷ zs) → IsInOrder cmp zs
-      tail z zs order = λ i j d lt within. order (suc i) (suc j) d (omega arith) (omega arith)
-
-      above : (z : K) (zs : List K) → IsInOrder cmp (z ∷ zs) → (w : K) → Contains zs w → cmp z w ≡ Less
-      above z zs order w there = ap (cmp z) (sym there.2) ∙ order 0 (suc there.0) w (omega arith) (omega (arith, there.1))
-
-      not_both : (z w : K) → cmp z w ≡ Less → cmp w z ≡ Less → ⊥
-      not_both z w less back = let turned : cmp w z ≡ Greater = total.antisymm w z ∙ ap ordering_reverse less in absurd (cc (turned, back))
-
-      not_itself : (z w : K) → z ≡ w → cmp z w ≡ Less → ⊥
-      not_itself z w e less = let tied : cmp z w ≡ Equal = ap (cmp z) (sym e) ∙ tied_itself total z in absurd (cc (tied, less))
-
       heads : x ≡ y
       heads = ⊎_elim
           (λ (here : y ≡ x). sym here)
           (λ (later : Contains ys x). ⊎_elim
           (λ (here : x ≡ y). here)
-          (λ (back : Contains xs y). absurd (not_both x y (above x xs in_xs y back) (above y ys in_ys x later)))
+          (λ (back : Contains xs y).
+          let turned : cmp y x ≡ Greater = total.antisymm y x ∙ ap ordering_reverse (above x xs in_xs y back) in
+          absurd (cc (turned, above y ys in_ys x later)))
           (contains_cases x y xs (from y (contains_first y ys))))
           (contains_cases y x ys (to x (contains_first x xs)))
 
-      to_tail : (z : K) → Contains xs z → Contains ys z
-      to_tail z there = ⊎_elim
-          (λ (here : y ≡ z). absurd (not_itself x z (heads ∙ here) (above x xs in_xs z there)))
-          (λ (later : Contains ys z). later)
-          (contains_cases y z ys (to z (contains_later x z xs there)))
-
-      from_tail : (z : K) → Contains ys z → Contains xs z
-      from_tail z there = ⊎_elim
-          (λ (here : x ≡ z). absurd (not_itself y z (sym heads ∙ here) (above y ys in_ys z there)))
-          (λ (later : Contains xs z). later)
-          (contains_cases x z xs (from z (contains_later y z ys there)))
-
   -- the links with one more
   pub with_itself : (links : List K) (link : K) → Contains (with_link cmp links link) link
-  with_itself links link = Contains-append_right (filter (λ other. is_lt (cmp other link)) links) (link ∷ filter (λ other. is_lt (cmp link other)) links) link (contains_first link (filter (λ other. is_lt (cmp link other)) links))
+  with_itself links link = Contains-append_right (filter (λ other. is_lt (cmp other link)) links) _ link (contains_first link _)
 
   pub with_others : (links : List K) (link x : K) → Contains links x → Contains (with_link cmp links link) x
   with_others links link x there = by (cmp x link) refl
     where
-      front : List K
-      front = filter (λ other. is_lt (cmp other link)) links
-
-      back : List K
-      back = filter (λ other. is_lt (cmp link other)) links
-
       by : (o : Ordering) → cmp x link ≡ o → Contains (with_link cmp links link) x
-      by Less e = Contains-append_left (filter (λ other. is_lt (cmp other link)) links) (link ∷ filter (λ other. is_lt (cmp link other)) links) x (contains_kept (λ other. is_lt (cmp other link)) links x there (ap is_lt e))
+      by Less e = Contains-append_left _ _ x (contains_kept (λ other. is_lt (cmp other link)) links x there (ap is_lt e))
       by Equal e = subst (Contains (with_link cmp links link)) (sym (same x link e)) (with_itself links link)
-      by Greater e =
-          Contains-append_right (filter (λ other. is_lt (cmp other link)) links) (link ∷ filter (λ other. is_lt (cmp link other)) links) x
-          (contains_later link x (filter (λ other. is_lt (cmp link other)) links) (contains_kept (λ other. is_lt (cmp link other)) links x there (ap is_lt (total.antisymm link x ∙ ap ordering_reverse e))))
+      by Greater e = Contains-append_right (filter (λ other. is_lt (cmp other link)) links) _ x (contains_later link x _ (contains_kept (λ other. is_lt (cmp link other)) links x there (ap is_lt (total.antisymm link x ∙ ap ordering_reverse e))))
 
-  pub with_cases : (links : List K) (link x : K) → Contains (with_link cmp links link) x → Contains links x ⊎ (link ≡ x)
-  with_cases links link x there =
-      ⊎_elim
+  with_cases : (links : List K) (link x : K) → Contains (with_link cmp links link) x → Contains links x ⊎ (link ≡ x)
+  with_cases links link x there = ⊎_elim
       (λ (front : Contains (filter (λ other. is_lt (cmp other link)) links) x). inl (contains_from (λ other. is_lt (cmp other link)) links x front).0)
       (λ (back : Contains (link ∷ filter (λ other. is_lt (cmp link other)) links) x). ⊎_elim
       (λ (here : link ≡ x). inr here)
       (λ (later : Contains (filter (λ other. is_lt (cmp link other)) links) x). inl (contains_from (λ other. is_lt (cmp link other)) links x later).0)
-      (contains_cases link x (filter (λ other. is_lt (cmp link other)) links) back))
-      (Contains-append_cases (filter (λ other. is_lt (cmp other link)) links) (link ∷ filter (λ other. is_lt (cmp link other)) links) x there)
+      (contains_cases link x _ back))
+      (Contains-append_cases _ _ x there)
 
   -- and with one fewer
   pub without_others : (links : List K) (link x : K) → Contains links x → x ≢ link → Contains (without_link cmp links link) x
@@ -176,34 +163,30 @@ module _ {K : Type 0} {cmp : K → K → Ordering} (total : IsTotalOrder cmp) (s
 
   module _ {R : Type 0} (link_of : R → K) where
     pub linked_push : (rows : List R) (links : List K) (row : R) → AreLinked link_of rows links → AreLinked link_of (rows ++ row ∷ []) (with_link cmp links (link_of row))
-    linked_push rows links row linked =
-        let new : List K = with_link cmp links (link_of row) in
-        record {
-          each = All-push (λ r. Contains new (link_of r)) rows row (λ k d within. with_others links (link_of row) (link_of (get_or rows k d)) (linked.each k d within)) (with_itself links (link_of row));
-          all = all_from (λ link. Any (λ r. link_of r ≡ link) (rows ++ row ∷ [])) new (λ link there. ⊎_elim
-              (λ (old : Contains links link). any_more (λ r. link_of r ≡ link) rows row (All-contains (λ link. Any (λ r. link_of r ≡ link) rows) links link linked.all old))
-              (λ (here : link_of row ≡ link). Any-push (λ r. link_of r ≡ link) rows row here)
-              (with_cases links (link_of row) link there));
-        }
+    linked_push rows links row linked = are_linked link_of (rows ++ row ∷ []) (with_link cmp links (link_of row))
+        (λ r there. ⊎_elim
+        (λ (old : Contains rows r). with_others links (link_of row) (link_of r) (link_there rows links linked r old))
+        (λ (here : row ≡ r). subst (λ r. Contains (with_link cmp links (link_of row)) (link_of r)) here (with_itself links (link_of row)))
+        (Contains-push_cases rows row r there))
+        (λ link there. ⊎_elim
+        (λ (old : Contains links link). let r = row_there rows links linked link old in (r.0, Contains-append_left rows (row ∷ []) r.0 r.1, r.2))
+        (λ (here : link_of row ≡ link). (row, Contains-push rows row, here))
+        (with_cases links (link_of row) link there))
 
     -- rows go that have one link
     pub linked_filter : (keep : R → Bool) (rows : List R) (links : List K) (gone : K) → AreLinked link_of rows links → All (λ row. keep row ≡ true → link_of row ≢ gone) rows → All (λ row. keep row ≡ false → link_of row ≡ gone) rows
         → AreLinked link_of (filter keep rows) (without_link cmp links gone)
-    linked_filter keep rows links gone linked stay go =
-        let new : List K = without_link cmp links gone in
-        record {
-          each = all_from (λ row. Contains new (link_of row)) (filter keep rows) (λ row there.
-              let kept = contains_from keep rows row there in
-              without_others links gone (link_of row) (All-contains (λ r. Contains links (link_of r)) rows row linked.each kept.0) (All-contains (λ r. keep r ≡ true → link_of r ≢ gone) rows row stay kept.0 kept.1));
-          all = all_from (λ link. Any (λ r. link_of r ≡ link) (filter keep rows)) new (λ link there.
-              let kept = without_from links gone link there in
-              let any : Any (λ r. link_of r ≡ link) rows = All-contains (λ link. Any (λ r. link_of r ≡ link) rows) links link linked.all kept.0 in
-              let stood : Contains rows any.1 = (any.0, any.2, any.3) in
-              ⊎_elim
-              (λ (keeps : keep any.1 ≡ true). any_of (λ r. link_of r ≡ link) (filter keep rows) any.1 (contains_kept keep rows any.1 stood keeps) any.4)
-              (λ (goes : keep any.1 ≡ false). absurd (kept.1 (sym any.4 ∙ All-contains (λ r. keep r ≡ false → link_of r ≡ gone) rows any.1 go stood goes)))
-              (cases_Bool (keep any.1)));
-        }
+    linked_filter keep rows links gone linked stay go = are_linked link_of (filter keep rows) (without_link cmp links gone)
+        (λ row there.
+        let kept = contains_from keep rows row there in
+        without_others links gone (link_of row) (link_there rows links linked row kept.0) (All-contains (λ r. keep r ≡ true → link_of r ≢ gone) rows row stay kept.0 kept.1))
+        (λ link there.
+        let kept = without_from links gone link there in
+        let row = row_there rows links linked link kept.0 in
+        ⊎_elim
+        (λ (keeps : keep row.0 ≡ true). (row.0, contains_kept keep rows row.0 row.1 keeps, row.2))
+        (λ (goes : keep row.0 ≡ false). absurd (kept.1 (sym row.2 ∙ All-contains (λ r. keep r ≡ false → link_of r ≡ gone) rows row.0 go row.1 goes)))
+        (cases_Bool (keep row.0)))
 
     -- rows that change keep their links, but for those of one link, which get another one
     pub linked_map : (change : R → R) (rows : List R) (links : List K) (gone come : K) → AreLinked link_of rows links
@@ -212,29 +195,29 @@ module _ {K : Type 0} {cmp : K → K → Ordering} (total : IsTotalOrder cmp) (s
     linked_map change rows links gone come linked cases some =
         let rest : List K = without_link cmp links gone in
         let new : List K = with_link cmp rest come in
-        let Each : R → Type 0 = λ row. ((link_of row ≡ gone) × (link_of (change row) ≡ come)) ⊎ ((link_of row ≢ gone) × (link_of (change row) ≡ link_of row)) in
-        record {
-          each = All-map (λ row. Contains new (link_of row)) change rows (all_from (λ row. Contains new (link_of (change row))) rows (λ row there. ⊎_elim
-              (λ moves. subst (Contains new) (sym moves.1) (with_itself rest come))
-              (λ stays. subst (Contains new) (sym stays.1) (with_others rest come (link_of row) (without_others links gone (link_of row) (All-contains (λ r. Contains links (link_of r)) rows row linked.each there) stays.0)))
-              (All-contains Each rows row cases there)));
-          all = all_from (λ link. Any (λ r. link_of r ≡ link) (map change rows)) new (λ link there. ⊎_elim
-              (λ (old : Contains rest link).
-              let kept = without_from links gone link old in
-              let any : Any (λ r. link_of r ≡ link) rows = All-contains (λ link. Any (λ r. link_of r ≡ link) rows) links link linked.all kept.0 in
-              let stood : Contains rows any.1 = (any.0, any.2, any.3) in
-              ⊎_elim
-              (λ moves. absurd (kept.1 (sym any.4 ∙ moves.0)))
-              (λ stays. any_of (λ r. link_of r ≡ link) (map change rows) (change any.1) (contains_map change rows any.1 stood) (stays.1 ∙ any.4))
-              (All-contains Each rows any.1 cases stood))
-              (λ (here : come ≡ link).
-              let stood : Contains rows some.1 = (some.0, some.2, some.3) in
-              ⊎_elim
-              (λ moves. any_of (λ r. link_of r ≡ link) (map change rows) (change some.1) (contains_map change rows some.1 stood) (moves.1 ∙ here))
-              (λ stays. absurd (stays.0 some.4))
-              (All-contains Each rows some.1 cases stood))
-              (with_cases rest come link there));
-        }
+        let case = All-contains (λ row. ((link_of row ≡ gone) × (link_of (change row) ≡ come)) ⊎ ((link_of row ≢ gone) × (link_of (change row) ≡ link_of row))) rows in
+        are_linked link_of (map change rows) new
+        (λ row there.
+        let from = contains_mapped change rows row there in
+        subst (λ r. Contains new (link_of r)) from.2 (⊎_elim
+        (λ moves. subst (Contains new) (sym moves.1) (with_itself rest come))
+        (λ stays. subst (Contains new) (sym stays.1) (with_others rest come (link_of from.0) (without_others links gone (link_of from.0) (link_there rows links linked from.0 from.1) stays.0)))
+        (case from.0 cases from.1)))
+        (λ link there. ⊎_elim
+        (λ (old : Contains rest link).
+        let kept = without_from links gone link old in
+        let row = row_there rows links linked link kept.0 in
+        ⊎_elim
+        (λ moves. absurd (kept.1 (sym row.2 ∙ moves.0)))
+        (λ stays. (change row.0, contains_map change rows row.0 row.1, stays.1 ∙ row.2))
+        (case row.0 cases row.1))
+        (λ (here : come ≡ link).
+        let stood : Contains rows some.1 = (some.0, some.2, some.3) in
+        ⊎_elim
+        (λ moves. (change some.1, contains_map change rows some.1 stood, moves.1 ∙ here))
+        (λ stays. absurd (stays.0 some.4))
+        (case some.1 cases stood))
+        (with_cases rest come link there))
 
   -- the least link from one on: it is there, not below that one, and no other that is not below that one is below it
   pub first_some : (links : List K) → IsInOrder cmp links → (from link : K) → first_from cmp links from ≡ Some link

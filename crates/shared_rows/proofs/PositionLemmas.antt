@@ -1,14 +1,16 @@
 -- What a search by number finds.
-use Rattle.std.proofs.Common.{◌≡◌, ◌∙◌, ◌⊎◌, ℕ, zero, suc, ◌+◌, ◌<◌, ◌≤◌, true, false, nat_lt, List, length, slice_index_or, ◌-◌, min, arith, sym, ap, subst, ⊎_elim}
-use Rattle.std.specs.List.{AllWithin, insert}
+use Rattle.std.proofs.Common.{◌≡◌, ◌∙◌, ◌⊎◌, ℕ, zero, suc, ◌+◌, ◌<◌, ◌≤◌, true, false, nat_lt, List, ◌∷◌, ◌++◌, filter, length, slice_index_or, take, drop, ◌-◌, min, arith, sym, ap, subst, ⊎_elim}
+use Rattle.std.specs.List.{AllPairs, AllWithin, insert}
 use Rattle.std.specs.List.Sorted.{IsNonDecreasingBy, IsPartitionPoint, IsPartitionedBy}
-use Rattle.std.proofs.lemmas.Bool.{cases_lt, ltb-false, ltb-true}
+use Rattle.std.proofs.lemmas.Bool.{cases_lt, le-ltb, lt-ltb, ltb-false, ltb-true}
 use Rattle.std.proofs.lemmas.List.{get_or_default}
-use Rattle.std.proofs.lemmas.List.Edits.{get_or-insert_above, get_or-insert_at, get_or-insert_below, length-insert}
+use Rattle.std.proofs.lemmas.List.Elements.{filter_passes}
+use Rattle.std.proofs.lemmas.List.Kept.{AllPairs-filter}
 use Rattle.std.proofs.lemmas.List.Sorted.{IsPartitionedBy-ltb}
 use Rattle.shared_rows.specs.declared.index.Entry.{Entry}
 use Rattle.shared_rows.specs.declared.index.Window.{Window}
 use Rattle.shared_rows.specs.Index.{HasNot, IsCountBelow, IsRisingIndex, IsWindow}
+use Rattle.shared_rows.proofs.LinkLemmas.{all_pairs_between, filter_back, filter_front}
 
 pub least_below : (guess ahead count : ℕ) → guess ≡ min ahead (count - 1) → 0 < count → guess < count
 least_below guess ahead count least some = grind (arith, least)
@@ -33,6 +35,16 @@ module _ {N : Type 0} (value : N → ℕ) (entries : List (Entry N)) (rising : I
       (λ (below : i < suc j). let step : number_at j d < number_at (suc j) d = rising j (suc j) d (omega arith) within in omega (arith, below, step, spread j i d (omega (arith, below)) (omega (arith, within))))
       (λ (here : suc j ≤ i). let same : i ≡ suc j = omega (arith, le, here) in omega (arith, same, ap (λ k. number_at k d) same))
       (cases_lt i (suc j))
+
+  -- no two entries have one number
+  pub only_one : (i j : ℕ) (d : Entry N) → i < length entries → j < length entries → number_at j d ≡ number_at i d → i ≡ j
+  only_one i j d within_i within_j equal = ⊎_elim
+      (λ (below : i < j). absurd (omega (arith, rising i j d below within_j, equal)))
+      (λ (above : j ≤ i). ⊎_elim
+      (λ (less : j < i). absurd (omega (arith, rising j i d less within_i, equal)))
+      (λ (least : i ≤ j). omega (arith, above, least))
+      (cases_lt j i))
+      (cases_lt i j)
 
   -- what a look at a position sees
   pub there_at : (at there : ℕ) (entry : Entry N) → entry ≡ slice_index_or entries at entry → at < length entries → there ≡ value entry.number → (d : Entry N) → number_at at d ≡ there
@@ -127,35 +139,21 @@ module _ {N : Type 0} (value : N → ℕ) (entries : List (Entry N)) (rising : I
         (λ (below : number_at k default ≤ number). absurd (absent k default high (omega (arith, below, count.above k default low high))))
         (cases_lt number (number_at k default))
 
-    -- with an entry of the number behind those that are below it
-    module _ (entry : Entry N) (is : value entry.number ≡ number) where
-      abbrev number_then : ℕ → Entry N → ℕ
-      number_then k default = value (slice_index_or (insert entries at entry) k default).number
+    -- the entries below and above the number
+    pub front_is : filter (λ entry. nat_lt (value entry.number) number) entries ≡ take at entries
+    front_is = filter_front (λ entry. nat_lt (value entry.number) number) entries at (λ k d low high. lt-ltb _ _ (count.below k d low high)) (λ k d low high. le-ltb _ _ (count.above k d low high))
 
-      then_below : (k : ℕ) (default : Entry N) → k < at → number_then k default ≡ number_at k default
-      then_below k default low = ap (λ (e : Entry N). value e.number) (get_or-insert_below entries at entry default k low count.in_range)
+    pub back_is : filter (λ entry. nat_lt number (value entry.number)) entries ≡ drop at entries
+    back_is = filter_back (λ entry. nat_lt number (value entry.number)) entries at (λ k d low high. le-ltb _ _ (let below = count.below k d low high in omega (arith, below))) (λ k d low high. lt-ltb _ _ (strictly_above k d low high))
 
-      then_at : (k : ℕ) (default : Entry N) → k ≡ at → number_then k default ≡ number
-      then_at k default here = ap (λ i. number_then i default) here ∙ (ap (λ (e : Entry N). value e.number) (get_or-insert_at entries at entry default count.in_range) ∙ is)
-
-      then_above : (k : ℕ) (default : Entry N) → at < k → number_then k default ≡ number_at (k - 1) default
-      then_above k default high =
-          let back : k ≡ k - 1 + 1 = omega arith in
-          ap (λ i. number_then i default) back ∙ ap (λ (e : Entry N). value e.number) (get_or-insert_above entries at entry default (k - 1) (omega arith) count.in_range)
-
-      pub inserted_rises : IsRisingIndex value (insert entries at entry)
-      inserted_rises i j default before within =
-          let long = length-insert entries at entry count.in_range in
-          ⊎_elim
-          (λ (low : i < at). let first = then_below i default low in ⊎_elim
-          (λ (both : j < at). omega (arith, first, then_below j default both, rising i j default before (omega (arith, count.in_range))))
-          (λ (upto : at ≤ j). ⊎_elim
-          (λ (high : at < j). omega (arith, first, then_above j default high, rising i (j - 1) default (omega arith) (omega (arith, long))))
-          (λ (here : j ≤ at). omega (arith, first, then_at j default (omega arith), count.below i default (omega arith) low))
-          (cases_lt at j))
-          (cases_lt j at))
-          (λ (from : at ≤ i). let last = then_above j default (omega arith) in ⊎_elim
-          (λ (high : at < i). omega (arith, then_above i default high, last, rising (i - 1) (j - 1) default (omega arith) (omega (arith, long))))
-          (λ (here : i ≤ at). omega (arith, then_at i default (omega arith), last, strictly_above (j - 1) default (omega arith) (omega (arith, long))))
-          (cases_lt at i))
-          (cases_lt i at)
+    -- with an entry of the number between them
+    pub inserted_rises : (entry : Entry N) → value entry.number ≡ number → IsRisingIndex value (insert entries at entry)
+    inserted_rises entry is =
+        let Rises : Entry N → Entry N → Type 0 = λ earlier later. value earlier.number < value later.number in
+        let front = filter (λ entry. nat_lt (value entry.number) number) entries in
+        let back = filter (λ entry. nat_lt number (value entry.number)) entries in
+        subst (λ xs. AllPairs Rises (xs ++ entry ∷ drop at entries)) front_is (subst (λ ys. AllPairs Rises (front ++ entry ∷ ys)) back_is
+        (all_pairs_between Rises (λ x y z low high. omega (arith, low, high)) front back entry
+        (AllPairs-filter Rises (λ entry. nat_lt (value entry.number) number) entries rising) (AllPairs-filter Rises (λ entry. nat_lt number (value entry.number)) entries rising)
+        (λ k d within. let low = ltb-true _ _ (filter_passes (λ entry. nat_lt (value entry.number) number) entries k d within) in omega (arith, low, is))
+        (λ k d within. let high = ltb-true _ _ (filter_passes (λ entry. nat_lt number (value entry.number)) entries k d within) in omega (arith, high, is))))

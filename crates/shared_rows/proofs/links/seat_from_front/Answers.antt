@@ -6,4 +6,4 @@ use Rattle.shared_rows.proofs.links.seat_from_front.Goals as goal
 pub returns-in-Some : goal.returns-in-Some
 returns-in-Some g c =
     let low : is_lt (g.K.Ord.cmp c.args.link c.in-Some.first) ≡ true = search rules in
-    seat_before g.met.K.Ord.total c.args.links.now.items c.requires c.args.link c.in-Some.first c.in-Some.ensures.lookup low
+    seat_before g.met.K.Ord.total _ c.requires _ c.in-Some.ensures.lookup low

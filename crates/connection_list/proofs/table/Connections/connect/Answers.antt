@@ -1,57 +1,51 @@
-use Rattle.std.proofs.Common.{arith, ◌≡◌, ◌∙◌, ◌+◌, ◌<◌, None, ap, rules}
+use Rattle.std.proofs.Common.{arith, ◌∙◌, ◌+◌, ◌<◌, ap, rules}
 use Rattle.places.specs.Joined.{joined_tables}
 use Rattle.places.specs.Table.{with_place}
-use Rattle.connection_list.specs.Rows.{connect_refusal, numbered}
+use Rattle.connection_list.specs.Rows.{numbered}
 use Rattle.connection_list.specs.Routes.{place_of}
-use Rattle.connection_list.specs.Table.{rows_at}
 use Rattle.connection_list.proofs.AddedLemmas.{connected_kept, connected_view, number_above, number_fits, number_next, reserved_kept, reserved_view}
-use Rattle.connection_list.proofs.SeenLemmas.{routes_place, rows_place}
+use Rattle.connection_list.proofs.SeenLemmas.{seen, seen_anyhow}
 use Rattle.connection_list.proofs.table.Connections.connect.Goals as goal
 
 pub get_mut-routes-requires : goal.get_mut-routes-requires
-get_mut-routes-requires c = routes_place c.self.inside.rows c.self.inside.routes c.args.self.now c.self.invariant c.self.view_is c.args.place c.requires
+get_mut-routes-requires c = (seen_anyhow c.self.invariant c.self.view_is c.requires).routes_place
 
 pub invariant_of-self : goal.invariant_of-self
-invariant_of-self c = reserved_kept c.self.inside.rows c.self.inside.routes c.args.self.now c.self.invariant c.self.view_is c.args.place c.requires c.get_mut-routes.result.now c.reserve.new.self c.get_mut-routes.ensures.value c.reserve.ensures.same
+invariant_of-self c = reserved_kept (seen c.self.invariant c.self.view_is c.requires c.get_mut-routes.ensures.value) c.reserve.ensures.same
 
 pub returns-in_err-reserve-clause-err : goal.returns-in_err-reserve-clause-err
 returns-in_err-reserve-clause-err c =
-    let same = reserved_view c.self.inside.rows c.self.inside.routes c.args.self.now c.self.invariant c.self.view_is c.args.place c.requires c.get_mut-routes.result.now c.reserve.new.self c.get_mut-routes.ensures.value c.reserve.ensures.same in
+    let same = reserved_view (seen c.self.invariant c.self.view_is c.requires c.get_mut-routes.ensures.value) c.reserve.ensures.same in
     search rules
 
 pub overflow_add-last_number : goal.overflow_add-last_number
 overflow_add-last_number c =
-    let none : None ≡ connect_refusal (rows_at c.args.self.now c.args.place) c.args.new c.args.unique = c.in_default.ensures.refusal in
-    let short : c.last_number.result + 1 < 4294967296 = omega (arith, c.last_number.ensures, number_fits c.self.inside.rows c.self.inside.routes c.args.self.now c.self.invariant c.self.view_is c.args.place c.requires c.get_mut-routes.result.now c.reserve.new.self c.get_mut-routes.ensures.value c.reserve.ensures.same c.args.new c.args.unique none) in
+    let short : c.last_number.result + 1 < 4294967296 = omega (arith, c.last_number.ensures, number_fits (seen c.self.invariant c.self.view_is c.requires c.get_mut-routes.ensures.value) c.reserve.ensures.same c.args.new c.args.unique c.in_default.ensures.refusal) in
     search rules
 
 pub push-requires-clause-place : goal.push-requires-clause-place
-push-requires-clause-place c = rows_place c.self.inside.rows c.self.inside.routes c.args.self.now c.self.invariant c.self.view_is c.args.place c.requires
+push-requires-clause-place c = (seen_anyhow c.self.invariant c.self.view_is c.requires).rows_place
 
 pub push-requires-clause-number : goal.push-requires-clause-number
 push-requires-clause-number c =
-    let none : None ≡ connect_refusal (rows_at c.args.self.now c.args.place) c.args.new c.args.unique = c.in_default.ensures.refusal in
-    number_above c.self.inside.rows c.self.inside.routes c.args.self.now c.self.invariant c.self.view_is c.args.place c.requires c.get_mut-routes.result.now c.reserve.new.self c.get_mut-routes.ensures.value c.reserve.ensures.same c.args.new c.args.unique none c.numbered-row.result (c.numbered-row.ensures ∙ ap (λ n. numbered (n + 1) c.args.new) c.last_number.ensures)
+    number_above (seen c.self.invariant c.self.view_is c.requires c.get_mut-routes.ensures.value) c.reserve.ensures.same c.args.new c.args.unique c.in_default.ensures.refusal (c.numbered-row.ensures ∙ ap (λ n. numbered (n + 1) c.args.new) c.last_number.ensures)
 
 pub invariant_of-self-in_err-key : goal.invariant_of-self-in_err-key
-invariant_of-self-in_err-key c = rw c.in_err-key.ensures.err (reserved_kept c.self.inside.rows c.self.inside.routes c.args.self.now c.self.invariant c.self.view_is c.args.place c.requires c.get_mut-routes.result.now c.reserve.new.self c.get_mut-routes.ensures.value c.reserve.ensures.same)
+invariant_of-self-in_err-key c = rw c.in_err-key.ensures.err (reserved_kept (seen c.self.invariant c.self.view_is c.requires c.get_mut-routes.ensures.value) c.reserve.ensures.same)
 
 pub returns-in_err-key-clause-err : goal.returns-in_err-key-clause-err
 returns-in_err-key-clause-err c =
-    let same = ap (λ rows. joined_tables place_of rows (with_place c.self.inside.routes c.args.place c.reserve.new.self)) c.in_err-key.ensures.err ∙ reserved_view c.self.inside.rows c.self.inside.routes c.args.self.now c.self.invariant c.self.view_is c.args.place c.requires c.get_mut-routes.result.now c.reserve.new.self c.get_mut-routes.ensures.value c.reserve.ensures.same in
+    let same = ap (λ rows. joined_tables place_of rows (with_place c.self.inside.routes c.args.place c.reserve.new.self)) c.in_err-key.ensures.err ∙ reserved_view (seen c.self.invariant c.self.view_is c.requires c.get_mut-routes.ensures.value) c.reserve.ensures.same in
     search rules
 
 pub invariant_of-self-2 : goal.invariant_of-self-2
 invariant_of-self-2 c =
-    let none : None ≡ connect_refusal (rows_at c.args.self.now c.args.place) c.args.new c.args.unique = c.in_default.ensures.refusal in
-    connected_kept c.self.inside.rows c.self.inside.routes c.args.self.now c.self.invariant c.self.view_is c.args.place c.requires c.get_mut-routes.result.now c.reserve.new.self c.get_mut-routes.ensures.value c.reserve.ensures.same c.args.new c.args.unique none c.numbered-row.result (c.numbered-row.ensures ∙ ap (λ n. numbered (n + 1) c.args.new) c.last_number.ensures) c.push.new.self c.add.new.self c.in_ok-key.key c.in_ok-key.ensures.added c.in_ok-key.ensures.vacant c.in_ok-key.ensures.short c.add.ensures.number c.add.ensures.routed
+    connected_kept (seen c.self.invariant c.self.view_is c.requires c.get_mut-routes.ensures.value) c.reserve.ensures.same c.args.new c.args.unique c.in_default.ensures.refusal (c.numbered-row.ensures ∙ ap (λ n. numbered (n + 1) c.args.new) c.last_number.ensures) c.in_ok-key.key c.in_ok-key.ensures.added c.in_ok-key.ensures.vacant c.in_ok-key.ensures.short c.add.ensures.number c.add.ensures.routed
 
 pub returns-clause-number : goal.returns-clause-number
 returns-clause-number c =
-    let none : None ≡ connect_refusal (rows_at c.args.self.now c.args.place) c.args.new c.args.unique = c.in_default.ensures.refusal in
-    number_next c.self.inside.rows c.self.inside.routes c.args.self.now c.self.invariant c.self.view_is c.args.place c.requires c.get_mut-routes.result.now c.reserve.new.self c.get_mut-routes.ensures.value c.reserve.ensures.same c.args.new c.args.unique none c.numbered-row.result (c.numbered-row.ensures ∙ ap (λ n. numbered (n + 1) c.args.new) c.last_number.ensures)
+    number_next (seen c.self.invariant c.self.view_is c.requires c.get_mut-routes.ensures.value) c.reserve.ensures.same c.args.new c.args.unique c.in_default.ensures.refusal (c.numbered-row.ensures ∙ ap (λ n. numbered (n + 1) c.args.new) c.last_number.ensures)
 
 pub returns-clause-ok : goal.returns-clause-ok
 returns-clause-ok c =
-    let none : None ≡ connect_refusal (rows_at c.args.self.now c.args.place) c.args.new c.args.unique = c.in_default.ensures.refusal in
-    connected_view c.self.inside.rows c.self.inside.routes c.args.self.now c.self.invariant c.self.view_is c.args.place c.requires c.get_mut-routes.result.now c.reserve.new.self c.get_mut-routes.ensures.value c.reserve.ensures.same c.args.new c.args.unique none c.numbered-row.result (c.numbered-row.ensures ∙ ap (λ n. numbered (n + 1) c.args.new) c.last_number.ensures) c.push.new.self c.add.new.self c.in_ok-key.key c.in_ok-key.ensures.added c.in_ok-key.ensures.vacant c.in_ok-key.ensures.short c.add.ensures.number c.add.ensures.routed
+    connected_view (seen c.self.invariant c.self.view_is c.requires c.get_mut-routes.ensures.value) c.reserve.ensures.same c.args.new c.args.unique c.in_default.ensures.refusal (c.numbered-row.ensures ∙ ap (λ n. numbered (n + 1) c.args.new) c.last_number.ensures) c.in_ok-key.key c.in_ok-key.ensures.added c.in_ok-key.ensures.vacant c.in_ok-key.ensures.short c.add.ensures.number c.add.ensures.routed

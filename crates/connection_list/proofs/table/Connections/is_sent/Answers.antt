@@ -4,11 +4,11 @@ use Rattle.shared_rows.specs.Rows.{Keyed, rows_at}
 use Rattle.connection_list.specs.declared.connection.Connection.{Connection}
 use Rattle.connection_list.specs.Rows.{is_next}
 use Rattle.connection_list.proofs.KeyedLemmas.{find_map}
-use Rattle.connection_list.proofs.SeenLemmas.{routes_place, seen}
+use Rattle.connection_list.proofs.SeenLemmas.{seen, seen_anyhow}
 use Rattle.connection_list.proofs.table.Connections.is_sent.Goals as goal
 
 pub get-routes-requires : goal.get-routes-requires
-get-routes-requires c = routes_place c.self.inside.rows c.self.inside.routes c.args.self.now c.self.invariant c.self.view_is c.args.place c.requires
+get-routes-requires c = (seen_anyhow c.self.invariant c.self.view_is c.requires).routes_place
 
 -- there is a key where there is a row
 as_row : (found : Option (Keyed Connection)) → is_some (option_map (λ keyed. keyed.key) found) ≡ is_some (option_map (λ keyed. keyed.row) found)
@@ -17,7 +17,7 @@ as_row (Some keyed) = refl
 
 pub returns-clause-sent : goal.returns-clause-sent
 returns-clause-sent c =
-    let at = seen c.self.inside.rows c.self.inside.routes c.args.self.now c.self.invariant c.self.view_is c.args.place c.requires c.get-routes.result.now c.get-routes.ensures in
+    let at = seen c.self.invariant c.self.view_is c.requires c.get-routes.ensures in
     let rows = rows_at c.self.inside.rows c.args.place in
     let test = is_next c.args.sender c.args.signal 0 c.get-routes.result.now.last_number in
     rw (at.shows, sym c.last_number.ensures)
@@ -25,5 +25,5 @@ returns-clause-sent c =
 
 pub returns-clause-sound : goal.returns-clause-sound
 returns-clause-sound c =
-    let at = seen c.self.inside.rows c.self.inside.routes c.args.self.now c.self.invariant c.self.view_is c.args.place c.requires c.get-routes.result.now c.get-routes.ensures in
+    let at = seen c.self.invariant c.self.view_is c.requires c.get-routes.ensures in
     rw at.shows at.kept.sound

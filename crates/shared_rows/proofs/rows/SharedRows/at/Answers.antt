@@ -4,19 +4,13 @@ use Rattle.shared_rows.proofs.KeptLemmas.{entry_shown, entry_some, seen_by}
 use Rattle.shared_rows.proofs.rows.SharedRows.at.Goals as goal
 
 pub get-requires-2 : goal.get-requires-2
-get-requires-2 g c =
-    let seen = seen_by c.self.invariant c.self.inside.indexes.room c.args.self.now c.self.view_is c.args.place c.requires.place c.get.result.now c.get.ensures in
-    omega (arith, seen.count, c.requires.stands)
+get-requires-2 g c = omega (arith, (seen_by c.self.invariant c.self.view_is c.requires.place c.get.ensures).count, c.requires.stands)
 
 pub index-requires : goal.index-requires
-index-requires g c =
-    let seen = seen_by c.self.invariant c.self.inside.indexes.room c.args.self.now c.self.view_is c.args.place c.requires.place c.get.result.now c.get.ensures in
-    entry_some seen c.args.position c.get-2.result c.requires.stands (c.get-2.ensures c.get-2.result)
+index-requires g c = entry_some (seen_by c.self.invariant c.self.view_is c.requires.place c.get.ensures) c.args.position c.requires.stands (c.get-2.ensures c.get-2.result)
 
 pub returns : goal.returns
-returns g c =
-    let seen = seen_by c.self.invariant c.self.inside.indexes.room c.args.self.now c.self.view_is c.args.place c.requires.place c.get.result.now c.get.ensures in
-    entry_shown seen c.args.position c.get-2.result c.index.result.now c.requires.stands (c.get-2.ensures c.get-2.result) c.index.ensures
+returns g c = entry_shown (seen_by c.self.invariant c.self.view_is c.requires.place c.get.ensures) c.args.position c.requires.stands (c.get-2.ensures c.get-2.result) c.index.ensures
 
 pub get-requires : goal.get-requires
 get-requires g c = grind (arith, common_steps)

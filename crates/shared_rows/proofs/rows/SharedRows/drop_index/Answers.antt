@@ -1,19 +1,17 @@
-use Rattle.std.proofs.Common.{◌∙◌, [], refl, sym, arith}
+use Rattle.std.proofs.Common.{◌∙◌, refl, sym, arith}
 use Rattle.std.proofs.lemmas.Grind.{common_steps}
 use Rattle.shared_rows.proofs.KeptLemmas.{none_there, seen_by, unchanged}
-use Rattle.places.proofs.TableLemmas.{with_same}
 use Rattle.shared_rows.proofs.rows.SharedRows.drop_index.Goals as goal
 
 pub invariant_of-self : goal.invariant_of-self
 invariant_of-self g c =
-    let seen = seen_by c.self.invariant c.self.inside.indexes.room c.args.self.now c.self.view_is c.args.place c.requires.place c.get_mut.result.now c.get_mut.ensures.value in
-    (unchanged c.self.invariant seen c.self.inside.indexes.room c.self.view_is c.self.inside.slab.slots c.new.result refl (c.new.ensures ∙ sym (none_there seen c.requires.empty))).kept
+    let seen = seen_by c.self.invariant c.self.view_is c.requires.place c.get_mut.ensures.value in
+    (unchanged c.self.invariant seen c.self.view_is c.new.result refl (c.new.ensures ∙ sym (none_there seen c.requires.empty))).kept
 
 pub returns : goal.returns
 returns g c =
-    let seen = seen_by c.self.invariant c.self.inside.indexes.room c.args.self.now c.self.view_is c.args.place c.requires.place c.get_mut.result.now c.get_mut.ensures.value in
-    (unchanged c.self.invariant seen c.self.inside.indexes.room c.self.view_is c.self.inside.slab.slots c.new.result refl (c.new.ensures ∙ sym (none_there seen c.requires.empty))).view
-    ∙ with_same [] c.args.self.now c.args.place
+    let seen = seen_by c.self.invariant c.self.view_is c.requires.place c.get_mut.ensures.value in
+    (unchanged c.self.invariant seen c.self.view_is c.new.result refl (c.new.ensures ∙ sym (none_there seen c.requires.empty))).view
 
 pub get_mut-requires : goal.get_mut-requires
 get_mut-requires g c = grind (arith, common_steps)

@@ -5,7 +5,7 @@ use Rattle.shared_rows.proofs.rows.SharedRows.len.Goals as goal
 
 pub returns : goal.returns
 returns g c =
-    let seen = seen_by c.self.invariant c.self.inside.indexes.room c.args.self.now c.self.view_is c.args.place c.requires c.get.result.now c.get.ensures in
+    let seen = seen_by c.self.invariant c.self.view_is c.requires c.get.ensures in
     record { len = c.len.ensures ∙ sym seen.count; sound = seen.sound }
 
 pub get-requires : goal.get-requires
