@@ -7,7 +7,7 @@ use Rattle.variant_value.specs.Values.{IsOfKind, is_same}
 use Rattle.property_store.specs.Store.{Store}
 use Rattle.property_store.specs.Store as store
 use Rattle.binding_graph.specs.declared.change.Change.{Change}
-use Rattle.binding_graph.specs.declared.change.Told.TheVariants as told
+use Rattle.binding_graph.specs.declared.change.Message.TheVariants as message
 use Rattle.binding_values.specs.declared.property.BindingError.{BindingError}
 use Rattle.property_store.specs.declared.property.Property.{Property}
 use Rattle.binding_graph.specs.declared.shown.Shown.{Shown}
@@ -52,11 +52,11 @@ module _ (s : Store) (sound : store.IsSound s) (g : Graph) (are : graph.IsSound 
   warns : (last : List Shown) (shown : Shown) (change : Change) → warning last shown ≡ Some change → Fits change
   warns last shown change is = by shown.error is
     where
-      at : (error : BindingError) (t : Bool) → cond t None (Some (let c : Change = record { at = shown.at; told = told.Error error } in c)) ≡ Some change → Fits change
+      at : (error : BindingError) (t : Bool) → cond t None (Some (let c : Change = record { at = shown.at; told = message.Error error } in c)) ≡ Some change → Fits change
       at error true e = absurd (cc)
-      at error false e = let same : (let c : Change = record { at = shown.at; told = told.Error error } in c) ≡ change = cc in subst Fits same tt
+      at error false e = let same : (let c : Change = record { at = shown.at; told = message.Error error } in c) ≡ change = cc in subst Fits same tt
 
-      by : (o : Option BindingError) → option_and_then (λ error. if option_map_or (is_same_error error) (before last shown).error false then None else Some (let c : Change = record { at = shown.at; told = told.Error error } in c)) o ≡ Some change → Fits change
+      by : (o : Option BindingError) → option_and_then (λ error. if option_map_or (is_same_error error) (before last shown).error false then None else Some (let c : Change = record { at = shown.at; told = message.Error error } in c)) o ≡ Some change → Fits change
       by None e = absurd (cc)
       by (Some error) e = at error (option_map_or (is_same_error error) (before last shown).error false) e
 
@@ -67,9 +67,9 @@ module _ (s : Store) (sound : store.IsSound s) (g : Graph) (are : graph.IsSound 
       fits None e = tt
       fits (Some cell) e = subst (λ k. IsOfKind k shown.value) (sym e) it.fits
 
-      by : (t : Bool) → cond t None (Some (let c : Change = record { at = shown.at; told = told.Value shown.value } in c)) ≡ Some change → Fits change
+      by : (t : Bool) → cond t None (Some (let c : Change = record { at = shown.at; told = message.Value shown.value } in c)) ≡ Some change → Fits change
       by true e = absurd (cc)
-      by false e = let same : (let c : Change = record { at = shown.at; told = told.Value shown.value } in c) ≡ change = cc in subst Fits same (fits (cell_in s shown.at) it.kind)
+      by false e = let same : (let c : Change = record { at = shown.at; told = message.Value shown.value } in c) ≡ change = cc in subst Fits same (fits (cell_in s shown.at) it.kind)
 
   told_fit : (written : Option Property) → All Fits (changes g.last (all_shown s g.bindings) written)
   told_fit written =

@@ -19,7 +19,7 @@ use Rattle.binding_values.specs.Sorted.{IsRising, is_before}
 use Rattle.binding_values.proofs.FuelLemmas.{is_itself, property_eq}
 use Rattle.binding_values.proofs.SortedLemmas.{before_trans, is_behind, is_other, is_property_sym}
 use Rattle.binding_graph.specs.declared.change.Change.{Change}
-use Rattle.binding_graph.specs.declared.change.Told.TheVariants as told
+use Rattle.binding_graph.specs.declared.change.Message.TheVariants as message
 use Rattle.binding_graph.specs.declared.shown.Shown.{Shown}
 use Rattle.binding_graph.specs.Graph.{changes, has_turn, in_turn, is_same_error, notice, shown_at, warning}
 
@@ -119,7 +119,7 @@ same_value (v.Text text) = (bytes_eq-Decides text text).1 refl
 no_warning : (last : List Shown) (shown : Shown) → shown_at last shown.at ≡ Some shown → warning last shown ≡ None
 no_warning last shown stood = rw stood (by shown.error)
   where
-    by : (error : Option BindingError) → option_and_then (λ e. cond (option_map_or (is_same_error e) error false) None (Some (let change : Change = record { at = shown.at; told = told.Error e } in change))) error ≡ None
+    by : (error : Option BindingError) → option_and_then (λ e. cond (option_map_or (is_same_error e) error false) None (Some (let change : Change = record { at = shown.at; told = message.Error e } in change))) error ≡ None
     by None = refl
     by (Some BindingLoop) = refl
     by (Some EvaluationError) = refl

@@ -11,7 +11,7 @@ use Rattle.term_core.specs.Term.{Term}
 use Rattle.property_store.specs.Store.{Store, default_of, written}
 use Rattle.binding_values.specs.declared.binding.Binding.{Binding}
 use Rattle.binding_graph.specs.declared.change.Change.{Change}
-use Rattle.binding_graph.specs.declared.change.Told.TheVariants as told
+use Rattle.binding_graph.specs.declared.change.Message.TheVariants as message
 use Rattle.property_store.specs.declared.property.Property.{Property}
 use Rattle.binding_values.specs.declared.property.BindingError.{BindingError}
 use Rattle.binding_values.specs.declared.property.BindingError.TheVariants.{BindingLoop, EvaluationError}
@@ -86,11 +86,11 @@ before last shown = option_map_or (λ stood. stood) (shown_at last shown.at) (fr
 -- a warning, where the error is new or another one
 abbrev pub warning : List Shown → Shown → Option Change
 warning last shown =
-    option_and_then (λ error. if option_map_or (is_same_error error) (before last shown).error false then None else Some (record { at = shown.at; told = told.Error error })) shown.error
+    option_and_then (λ error. if option_map_or (is_same_error error) (before last shown).error false then None else Some (record { at = shown.at; told = message.Error error })) shown.error
 
 -- a notification, where the value is another one
 abbrev pub notice : List Shown → Shown → Option Change
-notice last shown = if is_same (before last shown).value shown.value then None else Some (record { at = shown.at; told = told.Value shown.value })
+notice last shown = if is_same (before last shown).value shown.value then None else Some (record { at = shown.at; told = message.Value shown.value })
 
 -- is it the turn of a property: of the written one first, of the others then
 abbrev pub has_turn : Option Property → Bool → Shown → Bool

@@ -6,7 +6,7 @@ use variant_value::Value;
 /// What a settling tells of a property.
 pub struct Change {
     pub at: Property,
-    pub told: Told,
+    pub told: Message,
 }
 
 impl Drop for Change {
@@ -17,7 +17,7 @@ impl Drop for Change {
 
 /// What is told.
 #[derive(Drop)]
-pub enum Told {
+pub enum Message {
     /// An error that is new, or another than before.
     Error(BindingError),
     /// The value, which is another than before.

@@ -3,7 +3,7 @@ ghost use Rattle.std.specs.Prelude.{◌≡◌, ◌++◌, IfOk, OnOk, filter, fil
 ghost use Rattle.variant_value.specs.Values.{is_same};
 ghost use Rattle.binding_graph.specs.Graph.{before, changes, has_turn, is_same_error, notice, warning};
 
-use crate::change::{Change, Told};
+use crate::change::{Change, Message};
 use crate::showing::Showing;
 use crate::shown::Shown;
 use binding_values::BindingError;
@@ -52,7 +52,7 @@ fn warning(last: &Showing, shown: &Shown) -> Option<Change>
     }
     Some(Change {
         at: shown.at,
-        told: Told::Error(error),
+        told: Message::Error(error),
     })
 }
 
@@ -65,7 +65,7 @@ fn notice(alloc: Global, last: &Showing, shown: &Shown) -> Result<Option<Change>
     }
     Ok(Some(Change {
         at: shown.at,
-        told: Told::Value(shown.value.copy(alloc)?),
+        told: Message::Value(shown.value.copy(alloc)?),
     }))
 }
 

@@ -17,6 +17,6 @@ mod showing;
 mod shown;
 
 pub use bindings::Bindings;
-pub use change::{Change, Told};
+pub use change::{Change, Message};
 pub use laws::{fitting, openings, steps};
 pub use lazy_graph::{BINDINGS, GROUPS};

@@ -125,7 +125,7 @@ none_by_entry rows order is q none = ap (option_map (λ (row : Done). row.kept))
 -- with an entry for the row that is kept
 pub ordered_more : (rows : List Done) (order new : List Entry) → IsOrdered rows order → (row : Done) → IsListed order new row.at (length rows) → IsOrdered (rows ++ row ∷ []) new
 ordered_more rows order new is row (inl stood) = subst (IsOrdered (rows ++ row ∷ [])) (sym stood.same) (still_ordered rows order is row stood.entry stood.found)
-ordered_more rows order new is row (inr entered) = subst (IsOrdered (rows ++ row ∷ [])) (sym entered.entered) (one_more rows order is row entered.place (record { at = row.at; row = length rows }) refl refl entered.count entered.absent)
+ordered_more rows order new is row (inr entered) = subst (IsOrdered (rows ++ row ∷ [])) (sym entered.entered) (one_more rows order is row entered.position (record { at = row.at; row = length rows }) refl refl entered.count entered.absent)
 
 pub listed_there : (order : List Entry) (at : Property) (place : ℕ) → IsRising (λ (entry : Entry). entry.at) order → IsCountBefore (λ (entry : Entry). entry.at) order at place → (t : Bool) → t ≡ option_map_or (λ (entry : Entry). is_property at entry.at) (slice_get order place) false → (row : ℕ) → t ≡ true → IsListed order order at row
 listed_there order at place rising count t asked row e =
@@ -134,4 +134,4 @@ listed_there order at place rising count t asked row e =
     inl (record { entry = get_or order place default; found = found_there (λ (entry : Entry). entry.at) order at place count default within (stands_so (λ (entry : Entry). entry.at) order place at t asked default within ∙ e); same = refl })
 
 pub listed_new : (order new : List Entry) (at : Property) (place : ℕ) → IsRising (λ (entry : Entry). entry.at) order → IsCountBefore (λ (entry : Entry). entry.at) order at place → (t : Bool) → t ≡ option_map_or (λ (entry : Entry). is_property at entry.at) (slice_get order place) false → (row : ℕ) → t ≡ false → new ≡ insert order place (record { at = at; row = row }) → IsListed order new at row
-listed_new order new at place rising count t asked row e is = inr (record { place = place; count = count; absent = λ d within. stands_so (λ (entry : Entry). entry.at) order place at t asked d within ∙ e; entered = is })
+listed_new order new at place rising count t asked row e is = inr (record { position = place; count = count; absent = λ d within. stands_so (λ (entry : Entry). entry.at) order place at t asked d within ∙ e; entered = is })

@@ -8,10 +8,10 @@ use Rattle.binding_values.specs.Sorted.{IsCountBefore}
 
 -- it was put in where it belongs
 pub record IsEntered (old new : List Entry) (at : Property) (row : ℕ) : Type 0 where
-  pub place : ℕ
-  pub count : IsCountBefore (λ entry. entry.at) old at place
-  pub absent : (default : Entry) → place < length old → is_property at (slice_index_or old place default).at ≡ false
-  pub entered : new ≡ insert old place (record { at = at; row = row })
+  pub position : ℕ
+  pub count : IsCountBefore (λ entry. entry.at) old at position
+  pub absent : (default : Entry) → position < length old → is_property at (slice_index_or old position default).at ≡ false
+  pub entered : new ≡ insert old position (record { at = at; row = row })
 
 -- or there was one
 pub record HasStood (old new : List Entry) (at : Property) : Type 0 where

@@ -19,7 +19,7 @@ use Rattle.property_store.proofs.KindLemmas.{converted_fits, with_value_sound}
 use Rattle.property_store.proofs.SoundLemmas.{sound_changed}
 use Rattle.binding_values.specs.declared.binding.Binding.{Binding}
 use Rattle.binding_graph.specs.declared.change.Change.{Change}
-use Rattle.binding_graph.specs.declared.change.Told.TheVariants as told
+use Rattle.binding_graph.specs.declared.change.Message.TheVariants as message
 use Rattle.property_store.specs.declared.property.Property.{Property}
 use Rattle.binding_graph.specs.Graph.{Graph, all_shown, changes, is_bound, is_open, no_graph, value_in}
 use Rattle.binding_values.specs.Scene.{Cell}
@@ -108,7 +108,7 @@ module _ (store : Store) (sound : IsSound store) (q : Property) (value fit : Val
   pub tells_alone : changes_in q fit (alone (is_change store q.object q.number value)) ≡ changes (all_shown store []) (all_shown new []) (Some q)
   tells_alone = ap (λ change. changes_in q fit (alone change)) other ∙ (by (is_same written.old fit) ∙ sym (write_told store q fit new_sound (record { kind = written.field.kind; value = written.old }) cell_before))
     where
-      by : (same : Bool) → changes_in q fit (alone (not same)) ≡ cond same [] ((let change : Change = record { at = q; told = told.Value fit } in change) ∷ [])
+      by : (same : Bool) → changes_in q fit (alone (not same)) ≡ cond same [] ((let change : Change = record { at = q; told = message.Value fit } in change) ∷ [])
       by true = refl
       by false = refl
 

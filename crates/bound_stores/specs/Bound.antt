@@ -22,8 +22,8 @@ abbrev pub seen_of : Shelves → Graphs → BoundShelves
 seen_of shelves bindings = record { shelves = shelves; graphs = all_closed bindings.graphs }
 
 -- and what was written is not
-abbrev pub seen : Stock → Graphs → BoundShelves
-seen stores bindings = seen_of stores.shelves bindings
+abbrev pub without_marks : Stock → Graphs → BoundShelves
+without_marks stores bindings = seen_of stores.shelves bindings
 
 -- what is stored at a place
 abbrev pub stored_at : BoundShelves → ℕ → Store

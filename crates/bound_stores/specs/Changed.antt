@@ -3,7 +3,7 @@ use Rattle.std.specs.Prelude.{ℕ, Bool, true, false, List, [], ◌∷◌, Optio
 use Rattle.variant_value.specs.declared.value.Value.{Value}
 use Rattle.property_store.specs.Store.{Store}
 use Rattle.binding_graph.specs.declared.change.Change.{Change}
-use Rattle.binding_graph.specs.declared.change.Told.TheVariants as told
+use Rattle.binding_graph.specs.declared.change.Message.TheVariants as message
 use Rattle.property_store.specs.declared.property.Property.{Property}
 use Rattle.binding_graph.specs.Graph.{Graph, all_shown, changes, is_open}
 use Rattle.bound_stores.specs.declared.changed.Changed.{Changed}
@@ -21,7 +21,7 @@ told_at place old new written = told_of (stored_at old place) (bound_at old plac
 -- the changes that a write has found, where the written property shows this value now
 abbrev pub changes_in : Property → Value → Changed → List Change
 changes_in at value Nothing = []
-changes_in at value Written = record { at = at; told = told.Value value } ∷ []
+changes_in at value Written = record { at = at; told = message.Value value } ∷ []
 changes_in at value (Several changes) = changes
 
 -- what a write changes where nothing is bound and no group is open

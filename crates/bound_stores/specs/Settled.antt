@@ -8,7 +8,7 @@ use Rattle.binding_graph.specs.declared.shown.Shown.{Shown}
 use Rattle.binding_graph.specs.Graph.{Graph, all_shown, is_open, no_graph}
 use Rattle.binding_graph.specs.Step.{InStep}
 use Rattle.binding_graph.specs.Table.{Graphs, graph_at}
-use Rattle.bound_stores.specs.Bound.{ChangesBound, seen}
+use Rattle.bound_stores.specs.Bound.{ChangesBound, without_marks}
 
 -- what is kept of a place where no group is open: what is shown, and nothing where nothing is bound
 abbrev pub kept_of : Store → List Binding → List Shown
@@ -62,7 +62,7 @@ pub record LeavesStores (place : ℕ) (old new : Stock) (bindings after : Graphs
 
 -- no place but this one has changed, and every place is settled
 pub record StaysSettled (place : ℕ) (old new : Stock) (bindings after : Graphs) : Type 0 where
-  pub only : ChangesBound place (seen old bindings) (seen new after)
+  pub only : ChangesBound place (without_marks old bindings) (without_marks new after)
   pub all : AllSettled new after
 
 -- nothing is bound, and no group is open

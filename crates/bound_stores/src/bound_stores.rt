@@ -35,7 +35,7 @@ pub struct BoundStores {
 }
 
 impl Model for BoundStores {
-    ghost use Rattle.bound_stores.specs.Bound.{BoundShelves, seen};
+    ghost use Rattle.bound_stores.specs.Bound.{BoundShelves, without_marks};
     ghost use Rattle.bound_stores.specs.Coded.{coded_bound};
     ghost use Rattle.bound_stores.specs.Settled.{AllSettled};
 
@@ -43,7 +43,7 @@ impl Model for BoundStores {
 
     ghost coded = { coded_bound };
 
-    ghost view = { λ bound. seen bound.stores bound.bindings };
+    ghost view = { λ bound. without_marks bound.stores bound.bindings };
 
     ghost invariant = { λ bound. AllSettled bound.stores bound.bindings };
 }

@@ -10,7 +10,7 @@ ghost use Rattle.binding_graph.specs.Graph.{all_shown, begin_refusal, begun, bin
 ghost use Rattle.binding_values.specs.Stored.{is_bindable};
 ghost use Rattle.binding_graph.specs.Table.{graph_at};
 ghost use Rattle.thread_model.specs.State.{closed};
-ghost use Rattle.bound_stores.specs.Bound.{bound_at, seen, with_bound};
+ghost use Rattle.bound_stores.specs.Bound.{bound_at, without_marks, with_bound};
 ghost use Rattle.bound_stores.specs.Changed.{alone, told_at};
 ghost use Rattle.bound_stores.specs.Named.{TellsWritten, WritesNamed, with_written};
 ghost use Rattle.bound_stores.specs.Settled.{AllSettled, IsReady, StaysSettled, is_idle};
@@ -50,7 +50,7 @@ fn alone(is_change: bool) -> Changed
 /// Takes out all objects of a place, with their bindings, and ends its groups.
 pub(crate) fn clear(stores: &mut Stores, bindings: &mut Bindings, place: usize)
     requires ready { IsReady place stores.old bindings.old }
-    ensures new { seen stores.new bindings.new ≡ with_bound (seen stores.old bindings.old) place [] no_graph }
+    ensures new { without_marks stores.new bindings.new ≡ with_bound (without_marks stores.old bindings.old) place [] no_graph }
     ensures all { AllSettled stores.new bindings.new }
 {
     steps();
@@ -68,8 +68,8 @@ pub(crate) fn add_object(
 ) -> Result<(), AllocError>
     requires ready { IsReady place stores.old bindings.old }
     requires absent { properties_of (store_at stores.old.shelves place) object ≡ None }
-    ensures ok { OnOk result (seen stores.new bindings.new ≡ with_bound (seen stores.old bindings.old) place
-        (added (store_at stores.old.shelves place) object (fields_of stores.old.shelves class)) (bound_at (seen stores.old bindings.old) place)) }
+    ensures ok { OnOk result (without_marks stores.new bindings.new ≡ with_bound (without_marks stores.old bindings.old) place
+        (added (store_at stores.old.shelves place) object (fields_of stores.old.shelves class)) (bound_at (without_marks stores.old bindings.old) place)) }
     ensures stays { StaysSettled place stores.old stores.new bindings.old bindings.new }
 {
     steps();
@@ -96,8 +96,8 @@ pub(crate) fn write(
     requires ready { IsReady place stores.old bindings.old }
     requires fits { fitting (store_at stores.old.shelves place) at.object at.number value ≡ Some value }
     requires short { IsShort value }
-    ensures told { IfOk result (TellsWritten place at (seen stores.old bindings.old) (seen stores.new bindings.new)) }
-    ensures ok { OnOk result (seen stores.new bindings.new ≡ with_written (seen stores.old bindings.old) place at value) }
+    ensures told { IfOk result (TellsWritten place at (without_marks stores.old bindings.old) (without_marks stores.new bindings.new)) }
+    ensures ok { OnOk result (without_marks stores.new bindings.new ≡ with_written (without_marks stores.old bindings.old) place at value) }
     ensures idle { OnErr result (IsFalse (is_idle (graph_at bindings.old.graphs place))) }
     ensures stays { StaysSettled place stores.old stores.new bindings.old bindings.new }
 {
@@ -126,7 +126,7 @@ pub(crate) fn write_named(
 ) -> Result<Result<(usize, Changed), Unwritten>, AllocError>
     requires ready { IsReady place stores.old bindings.old }
     requires short { IsShort value }
-    ensures writes { IfOk result (λ answer. WritesNamed place object name.now value (seen stores.old bindings.old) answer (seen stores.new bindings.new)) }
+    ensures writes { IfOk result (λ answer. WritesNamed place object name.now value (without_marks stores.old bindings.old) answer (without_marks stores.new bindings.new)) }
     ensures idle { OnErr result (IsFalse (is_idle (graph_at bindings.old.graphs place))) }
     ensures stays { StaysSettled place stores.old stores.new bindings.old bindings.new }
 {
@@ -157,9 +157,9 @@ pub(crate) fn remove(
     object: u32,
 ) -> Result<Items<Change>, AllocError>
     requires ready { IsReady place stores.old bindings.old }
-    ensures told { IfOk result (λ told. told ≡ told_at place (seen stores.old bindings.old) (seen stores.new bindings.new) None) }
-    ensures ok { OnOk result (seen stores.new bindings.new ≡ with_bound (seen stores.old bindings.old) place
-        (without object (store_at stores.old.shelves place)) (without_object object (bound_at (seen stores.old bindings.old) place))) }
+    ensures told { IfOk result (λ told. told ≡ told_at place (without_marks stores.old bindings.old) (without_marks stores.new bindings.new) None) }
+    ensures ok { OnOk result (without_marks stores.new bindings.new ≡ with_bound (without_marks stores.old bindings.old) place
+        (without object (store_at stores.old.shelves place)) (without_object object (bound_at (without_marks stores.old bindings.old) place))) }
     ensures idle { OnErr result (IsFalse (is_idle (graph_at bindings.old.graphs place))) }
     ensures stays { StaysSettled place stores.old stores.new bindings.old bindings.new }
 {
@@ -188,12 +188,12 @@ pub(crate) fn bind(
     requires ready { IsReady place stores.old bindings.old }
     requires bindable { IsTrue (is_bindable (store_at stores.old.shelves place) at) }
     requires limited { IsTrue (is_within_limits expr) }
-    ensures refusal { RefusedBy (bind_refusal (bound_at (seen stores.old bindings.old) place) at) result }
-    ensures told { IfOk result (λ told. told ≡ told_at place (seen stores.old bindings.old) (seen stores.new bindings.new) (Some at)) }
-    ensures ok { OnOk result (seen stores.new bindings.new ≡ with_bound (seen stores.old bindings.old) place
-        (store_at stores.old.shelves place) (bound (bound_at (seen stores.old bindings.old) place) at expr)) }
-    ensures refused { IfSome (bind_refusal (bound_at (seen stores.old bindings.old) place) at)
-        (λ code. seen stores.new bindings.new ≡ seen stores.old bindings.old) }
+    ensures refusal { RefusedBy (bind_refusal (bound_at (without_marks stores.old bindings.old) place) at) result }
+    ensures told { IfOk result (λ told. told ≡ told_at place (without_marks stores.old bindings.old) (without_marks stores.new bindings.new) (Some at)) }
+    ensures ok { OnOk result (without_marks stores.new bindings.new ≡ with_bound (without_marks stores.old bindings.old) place
+        (store_at stores.old.shelves place) (bound (bound_at (without_marks stores.old bindings.old) place) at expr)) }
+    ensures refused { IfSome (bind_refusal (bound_at (without_marks stores.old bindings.old) place) at)
+        (λ code. without_marks stores.new bindings.new ≡ without_marks stores.old bindings.old) }
     ensures stays { StaysSettled place stores.old stores.new bindings.old bindings.new }
 {
     match settling::bind(stores, bindings, place, at, expr) {
@@ -214,9 +214,9 @@ pub(crate) fn unbind(
     at: Property,
 ) -> Result<Items<Change>, AllocError>
     requires ready { IsReady place stores.old bindings.old }
-    ensures told { IfOk result (λ told. told ≡ told_at place (seen stores.old bindings.old) (seen stores.new bindings.new) (Some at)) }
-    ensures ok { OnOk result (seen stores.new bindings.new ≡ with_bound (seen stores.old bindings.old) place
-        (taken (store_at stores.old.shelves place) (bound_at (seen stores.old bindings.old) place) at) (unbound (bound_at (seen stores.old bindings.old) place) at)) }
+    ensures told { IfOk result (λ told. told ≡ told_at place (without_marks stores.old bindings.old) (without_marks stores.new bindings.new) (Some at)) }
+    ensures ok { OnOk result (without_marks stores.new bindings.new ≡ with_bound (without_marks stores.old bindings.old) place
+        (taken (store_at stores.old.shelves place) (bound_at (without_marks stores.old bindings.old) place) at) (unbound (bound_at (without_marks stores.old bindings.old) place) at)) }
     ensures stays { StaysSettled place stores.old stores.new bindings.old bindings.new }
 {
     match settling::unbind(stores, bindings, place, at) {
@@ -235,11 +235,11 @@ pub(crate) fn begin(
     place: usize,
 ) -> Result<u32, Fault>
     requires ready { IsReady place stores.old bindings.old }
-    ensures refusal { RefusedBy (begin_refusal (bound_at (seen stores.old bindings.old) place)) result }
-    ensures depth { IfOk result (λ depth. depth ≡ (bound_at (seen stores.new bindings.new) place).depth) }
-    ensures ok { OnOk result (seen stores.new bindings.new ≡ with_bound (seen stores.old bindings.old) place
-        (store_at stores.old.shelves place) (begun (store_at stores.old.shelves place) (bound_at (seen stores.old bindings.old) place))) }
-    ensures err { OnErr result (seen stores.new bindings.new ≡ seen stores.old bindings.old) }
+    ensures refusal { RefusedBy (begin_refusal (bound_at (without_marks stores.old bindings.old) place)) result }
+    ensures depth { IfOk result (λ depth. depth ≡ (bound_at (without_marks stores.new bindings.new) place).depth) }
+    ensures ok { OnOk result (without_marks stores.new bindings.new ≡ with_bound (without_marks stores.old bindings.old) place
+        (store_at stores.old.shelves place) (begun (store_at stores.old.shelves place) (bound_at (without_marks stores.old bindings.old) place))) }
+    ensures err { OnErr result (without_marks stores.new bindings.new ≡ without_marks stores.old bindings.old) }
     ensures stays { StaysSettled place stores.old stores.new bindings.old bindings.new }
 {
     bindings.begin(place, stores)
@@ -253,14 +253,14 @@ pub(crate) fn end(
     place: usize,
 ) -> Result<(u32, Items<Change>), Fault>
     requires ready { IsReady place stores.old bindings.old }
-    ensures refusal { RefusedBy (end_refusal (bound_at (seen stores.old bindings.old) place)) result }
-    ensures depth { IfOk result (λ left. left.0 ≡ (bound_at (seen stores.new bindings.new) place).depth) }
-    ensures told { IfOk result (λ left. left.1 ≡ (if is_open (bound_at (seen stores.new bindings.new) place) then []
-        else changes (bound_at (seen stores.old bindings.old) place).last (all_shown (store_at stores.new.shelves place) (bound_at (seen stores.new bindings.new) place).bindings) None)) }
-    ensures ok { OnOk result (seen stores.new bindings.new ≡ with_bound (seen stores.old bindings.old) place
-        (store_at stores.old.shelves place) (closed (ended (bound_at (seen stores.old bindings.old) place)))) }
-    ensures refused { IfSome (end_refusal (bound_at (seen stores.old bindings.old) place))
-        (λ code. seen stores.new bindings.new ≡ seen stores.old bindings.old) }
+    ensures refusal { RefusedBy (end_refusal (bound_at (without_marks stores.old bindings.old) place)) result }
+    ensures depth { IfOk result (λ left. left.0 ≡ (bound_at (without_marks stores.new bindings.new) place).depth) }
+    ensures told { IfOk result (λ left. left.1 ≡ (if is_open (bound_at (without_marks stores.new bindings.new) place) then []
+        else changes (bound_at (without_marks stores.old bindings.old) place).last (all_shown (store_at stores.new.shelves place) (bound_at (without_marks stores.new bindings.new) place).bindings) None)) }
+    ensures ok { OnOk result (without_marks stores.new bindings.new ≡ with_bound (without_marks stores.old bindings.old) place
+        (store_at stores.old.shelves place) (closed (ended (bound_at (without_marks stores.old bindings.old) place)))) }
+    ensures refused { IfSome (end_refusal (bound_at (without_marks stores.old bindings.old) place))
+        (λ code. without_marks stores.new bindings.new ≡ without_marks stores.old bindings.old) }
     ensures stays { StaysSettled place stores.old stores.new bindings.old bindings.new }
 {
     match settling::end(stores, bindings, place) {

@@ -10,9 +10,9 @@ use Rattle.signature_core.specs.declared.signature.Signature.{Signature}
 use Rattle.signature_core.specs.Kinds.{is_same_kind}
 use Rattle.signature_core.specs.Reading.{signature_of}
 use Rattle.term_core.specs.declared.body.Body.{Body}
-use Rattle.term_core.specs.declared.action.Effect.TheVariants.{DeleteLater}
+use Rattle.term_core.specs.declared.action.SingleAction.TheVariants.{DeleteLater}
 use Rattle.term_core.specs.declared.target.Target.TheVariants.{Itself}
-use Rattle.term_core.specs.Act.{effect}
+use Rattle.term_core.specs.Act.{single_action}
 use Rattle.term_core.specs.Bodies.{body_of}
 use Rattle.class_table.specs.declared.class.TheConstants.{METHODS, PROPERTIES}
 use Rattle.class_table.specs.declared.class.Class.{Class}
@@ -78,7 +78,7 @@ empty_body params = record { params = params; actions = [] }
 
 -- the body `[{"deleteLater":"self"}]`
 abbrev pub delete_later_body : Body
-delete_later_body = record { params = 0; actions = effect (DeleteLater Itself) ∷ [] }
+delete_later_body = record { params = 0; actions = single_action (DeleteLater Itself) ∷ [] }
 
 -- the fault of a class whose slot has a body with this fault
 abbrev pub body_fault : Code → ClassFaultKind

@@ -7,7 +7,7 @@ use crate::class::{Class, Method, Property};
 use plain_types::{Items, Text};
 use signature_core::{Kind, Signature};
 use std::alloc::{AllocError, Global};
-use term_core::{Action, Body, Effect, Step, Target};
+use term_core::{Action, Body, SingleAction, Step, Target};
 
 /// `QObject`, with the methods and the property of Qt's class of that name that there are here.
 pub(crate) fn q_object(alloc: Global) -> Result<Class, AllocError>
@@ -88,7 +88,7 @@ fn delete_later(alloc: Global) -> Result<Method, AllocError>
 {
     let mut actions = Items::new(alloc);
     actions.push(Action {
-        step: Step::Effect(Effect::DeleteLater(Target::Itself)),
+        step: Step::Single(SingleAction::DeleteLater(Target::Itself)),
     })?;
     let signature = Signature {
         name: Text::from_str(alloc, "deleteLater")?,

@@ -5,7 +5,7 @@ use Rattle.std.proofs.lemmas.Bool.Decides.{nat_tests}
 use Rattle.std.proofs.lemmas.List.{length_push, map-append}
 use Rattle.std.proofs.lemmas.List.Elements.{All-push, Contains-get_or}
 use Rattle.std.proofs.lemmas.List.Quantifiers.{all_pairs_push}
-use Rattle.places.specs.Joined.{joined_tables}
+use Rattle.places.specs.Paired.{paired_tables}
 use Rattle.places.specs.Table.{Table, with_place}
 use Rattle.places.proofs.TableLemmas.{with_same}
 use Rattle.refusals.specs.declared.code.Code.TheVariants.{ConnectedAlready, Limit, NumbersUsedUp}
@@ -88,9 +88,9 @@ module _ {rows : Table (List (Keyed Connection))} {routes : Table Routes} {table
   pub reserved_kept : AreKept rows.places (set routes.places place reserved)
   reserved_kept = subst (λ (t : Table (List (Keyed Connection))). AreKept t.places (set routes.places place reserved)) (with_same [] rows place) (kept_changed seen reserved_at)
 
-  pub reserved_view : joined_tables place_of rows (with_place routes place reserved) ≡ table
+  pub reserved_view : paired_tables place_of rows (with_place routes place reserved) ≡ table
   reserved_view =
-      ap (λ (t : Table (List (Keyed Connection))). joined_tables place_of t (with_place routes place reserved)) (sym (with_same [] rows place))
+      ap (λ (t : Table (List (Keyed Connection))). paired_tables place_of t (with_place routes place reserved)) (sym (with_same [] rows place))
       ∙ (view_changed seen reserved_at ∙ (ap (with_rows table place) shows ∙ with_same no_rows table place))
 
   module _ (new : NewConnection) (unique : Bool) (none : None ≡ connect_refusal (rows_at table place) new unique) where
@@ -118,9 +118,9 @@ module _ {rows : Table (List (Keyed Connection))} {routes : Table Routes} {table
         pub connected_kept : AreKept next.places (set routes.places place after)
         connected_kept = subst (λ (t : Table (List (Keyed Connection))). AreKept t.places (set routes.places place after)) (sym changed) (kept_changed seen place_kept)
 
-        pub connected_view : joined_tables place_of next (with_place routes place after) ≡ with_rows table place (connected (rows_at table place) new)
+        pub connected_view : paired_tables place_of next (with_place routes place after) ≡ with_rows table place (connected (rows_at table place) new)
         connected_view =
-            ap (λ (t : Table (List (Keyed Connection))). joined_tables place_of t (with_place routes place after)) changed
+            ap (λ (t : Table (List (Keyed Connection))). paired_tables place_of t (with_place routes place after)) changed
             ∙ (view_changed seen place_kept
             ∙ ap (with_rows table place) (ap (λ list. record { rows = list; last_number = after.last_number }) (mapped (shared.rows_at rows place) reserved reserved key row reserved_at has number_is)
             ∙ (ap (λ n. record { rows = map (λ keyed. keyed.row) (shared.rows_at rows place) ++ row ∷ []; last_number = n }) (last ∙ number_is)

@@ -6,11 +6,11 @@ use Rattle.std.proofs.lemmas.Bool.{cases_eq, cases_lt, eq-eqb}
 use Rattle.std.proofs.lemmas.Bool.Decides.{nat_tests}
 use Rattle.std.proofs.lemmas.List.{get_or-set_same, get_or-set_other, get_or_append_left, get_or_default, get_or_push, length-map, length-set, length_push}
 use Rattle.std.proofs.lemmas.List.Sums.{length-filter, count_by-le-length}
-use Rattle.places.specs.Joined.{joined, joined_tables}
+use Rattle.places.specs.Paired.{paired, paired_tables}
 use Rattle.places.specs.Table.{IsPlace, Table, with_place, opened}
 use Rattle.places.proofs.TableLemmas.{changes_open}
 use Rattle.shared_rows.proofs.LinkedLemmas.{all_from}
-use Rattle.places.proofs.JoinedLemmas.{joined_at, joined_push, joined_set, length-joined}
+use Rattle.places.proofs.PairedLemmas.{paired_at, paired_push, paired_set, length-paired}
 use Rattle.shared_rows.specs.Rows.{Keyed, row_under}
 use Rattle.shared_rows.specs.Rows as shared
 use Rattle.connection_list.specs.declared.connection.Connection.{Connection}
@@ -25,7 +25,7 @@ use Rattle.connection_list.proofs.WithoutLemmas.{length-without}
 -- a place, seen from its rows and routes
 pub record IsSeen (rows : Table (List (Keyed Connection))) (routes : Table Routes) (table : Table Rows) (place : ℕ) (at : Routes) : Type 0 where
   pub tables : AreKept rows.places routes.places
-  pub view : joined_tables place_of rows routes ≡ table
+  pub view : paired_tables place_of rows routes ≡ table
   pub rows_place : IsPlace rows place
   pub routes_place : IsPlace routes place
   pub is : (default : Routes) → at ≡ get_or routes.places place default
@@ -36,12 +36,12 @@ pub record IsSeen (rows : Table (List (Keyed Connection))) (routes : Table Route
 abbrev pub blank : Routes
 blank = record { last_number = 0; sent = record { links = []; capacity = 0 }; received = record { links = []; capacity = 0 } }
 
-places_there : (rows : Table (List (Keyed Connection))) (routes : Table Routes) (table : Table Rows) (place : ℕ) → AreKept rows.places routes.places → joined_tables place_of rows routes ≡ table → IsPlace table place → IsPlace rows place × IsPlace routes place
+places_there : (rows : Table (List (Keyed Connection))) (routes : Table Routes) (table : Table Rows) (place : ℕ) → AreKept rows.places routes.places → paired_tables place_of rows routes ≡ table → IsPlace table place → IsPlace rows place × IsPlace routes place
 places_there rows routes table place kept view_is is_place =
-    let within : IsPlace rows place = omega (arith, is_place, ap (λ (t : Table Rows). length t.places) view_is, length-joined place_of rows.places routes.places kept.same) in
+    let within : IsPlace rows place = omega (arith, is_place, ap (λ (t : Table Rows). length t.places) view_is, length-paired place_of rows.places routes.places kept.same) in
     (within, omega (arith, within, kept.same))
 
-module _ {rows : Table (List (Keyed Connection))} {routes : Table Routes} {table : Table Rows} {place : ℕ} (kept : AreKept rows.places routes.places) (view_is : joined_tables place_of rows routes ≡ table) (is_place : IsPlace table place) where
+module _ {rows : Table (List (Keyed Connection))} {routes : Table Routes} {table : Table Rows} {place : ℕ} (kept : AreKept rows.places routes.places) (view_is : paired_tables place_of rows routes ≡ table) (is_place : IsPlace table place) where
   pub seen : {at : Routes} → ((default : Routes) → at ≡ get_or routes.places place default) → IsSeen rows routes table place at
   seen {at} is =
       let there = places_there rows routes table place kept view_is is_place in
@@ -52,7 +52,7 @@ module _ {rows : Table (List (Keyed Connection))} {routes : Table Routes} {table
         routes_place = there.1;
         is = is;
         kept = subst (IsPlaceKept (shared.rows_at rows place)) (sym (is at)) (kept.each place at there.0);
-        shows = ap (λ (t : Table Rows). rows_at t place) (sym view_is) ∙ (joined_at place_of rows.places routes.places place [] at no_rows kept.same there.0 ∙ ap (place_of (shared.rows_at rows place)) (sym (is at)));
+        shows = ap (λ (t : Table Rows). rows_at t place) (sym view_is) ∙ (paired_at place_of rows.places routes.places place [] at no_rows kept.same there.0 ∙ ap (place_of (shared.rows_at rows place)) (sym (is at)));
       }
 
   -- also where nothing was read there
@@ -80,9 +80,9 @@ module _ {rows : Table (List (Keyed Connection))} {routes : Table Routes} {table
           (cases_eq other place);
     }
 
-    pub view_changed : joined_tables place_of (with_place rows place list) (with_place routes place new) ≡ with_rows table place (place_of list new)
+    pub view_changed : paired_tables place_of (with_place rows place list) (with_place routes place new) ≡ with_rows table place (place_of list new)
     view_changed =
-        ap (λ places. record { places = places; room = min rows.room routes.room }) (joined_set place_of rows.places routes.places place list new seen.tables.same)
+        ap (λ places. record { places = places; room = min rows.room routes.room }) (paired_set place_of rows.places routes.places place list new seen.tables.same)
         ∙ ap (λ t. with_place t place (place_of list new)) seen.view
 
   -- rows are gone
@@ -99,9 +99,9 @@ module _ {rows : Table (List (Keyed Connection))} {routes : Table Routes} {table
           ap (map (λ (keyed : Keyed Connection). keyed.row)) (out.rows ∙ filter_alike gone (λ keyed. test keyed.row) (shared.rows_at rows place) alike)
           ∙ (sym (filter_map (λ row. not (test row)) (shared.rows_at rows place)) ∙ ap (λ (p : Rows). filter (λ row. not (test row)) p.rows) (sym seen.shows))
 
-      pub gone_view : joined_tables place_of new (with_place routes place after) ≡ with_rows table place (without test (rows_at table place))
+      pub gone_view : paired_tables place_of new (with_place routes place after) ≡ with_rows table place (without test (rows_at table place))
       gone_view =
-          ap (λ (t : Table (List (Keyed Connection))). joined_tables place_of t (with_place routes place after)) out.elsewhere
+          ap (λ (t : Table (List (Keyed Connection))). paired_tables place_of t (with_place routes place after)) out.elsewhere
           ∙ (view_changed out.kept
           ∙ (ap (λ list. with_rows table place (record { rows = list; last_number = after.last_number })) gone_rows
           ∙ ap (λ n. with_rows table place (record { rows = filter (λ row. not (test row)) (rows_at table place).rows; last_number = n })) (out.last_number ∙ ap (λ (p : Rows). p.last_number) (sym seen.shows))))
@@ -161,7 +161,7 @@ pub empty_shows : (routes : Routes) → routes.last_number ≡ 0 → place_of []
 empty_shows routes none = ap (λ n. record { rows = []; last_number = n }) none
 
 -- one more place
-module _ (rows : Table (List (Keyed Connection))) (routes : Table Routes) {table : Table Rows} (kept : AreKept rows.places routes.places) (view_is : joined_tables place_of rows routes ≡ table) {at : Routes} (none : at.last_number ≡ 0) (routed : IsRouted [] at) where
+module _ (rows : Table (List (Keyed Connection))) (routes : Table Routes) {table : Table Rows} (kept : AreKept rows.places routes.places) (view_is : paired_tables place_of rows routes ≡ table) {at : Routes} (none : at.last_number ≡ 0) (routed : IsRouted [] at) where
   pub kept_opened : AreKept (rows.places ++ [] ∷ []) (routes.places ++ at ∷ [])
   kept_opened = record {
     same = omega (arith, kept.same, length_push rows.places [], length_push routes.places at);
@@ -173,14 +173,14 @@ module _ (rows : Table (List (Keyed Connection))) (routes : Table Routes) {table
         (cases_lt place (length rows.places));
   }
 
-  pub view_opened : joined_tables place_of (opened rows []) (opened routes at) ≡ opened table no_rows
+  pub view_opened : paired_tables place_of (opened rows []) (opened routes at) ≡ opened table no_rows
   view_opened =
-      ap (λ places. record { places = places; room = min (rows.room - 1) (routes.room - 1) }) (joined_push place_of rows.places routes.places [] at kept.same ∙ ap (λ p. joined place_of rows.places routes.places ++ p ∷ []) (empty_shows at none))
-      ∙ (ap (λ room. record { places = joined place_of rows.places routes.places ++ no_rows ∷ []; room = room }) rooms
+      ap (λ places. record { places = places; room = min (rows.room - 1) (routes.room - 1) }) (paired_push place_of rows.places routes.places [] at kept.same ∙ ap (λ p. paired place_of rows.places routes.places ++ p ∷ []) (empty_shows at none))
+      ∙ (ap (λ room. record { places = paired place_of rows.places routes.places ++ no_rows ∷ []; room = room }) rooms
       ∙ ap (λ t. opened t no_rows) view_is)
     where
       rooms : min (rows.room - 1) (routes.room - 1) ≡ min rows.room routes.room - 1
       rooms = omega arith
 
   pub opened_count : length routes.places ≡ length table.places
-  opened_count = sym (ap (λ (t : Table Rows). length t.places) (sym view_is) ∙ (length-joined place_of rows.places routes.places kept.same ∙ kept.same))
+  opened_count = sym (ap (λ (t : Table Rows). length t.places) (sym view_is) ∙ (length-paired place_of rows.places routes.places kept.same ∙ kept.same))

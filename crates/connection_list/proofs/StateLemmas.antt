@@ -9,14 +9,14 @@ use Rattle.connection_list.specs.Rows.{IsSound, Rows, is_of_functor, with_state}
 
 module _ (change : Connection → Connection) where
   -- a change that this does not see
-  abbrev pub Keeps : {A : Type 0} → (Connection → A) → Type 0
-  Keeps f = (row : Connection) → f (change row) ≡ f row
+  abbrev pub IsUnseen : {A : Type 0} → (Connection → A) → Type 0
+  IsUnseen f = (row : Connection) → f (change row) ≡ f row
 
-  pub find-changed : (test : Connection → Bool) → Keeps test → (rows : List Connection) → find test (map change rows) ≡ option_map change (find test rows)
+  pub find-changed : (test : Connection → Bool) → IsUnseen test → (rows : List Connection) → find test (map change rows) ≡ option_map change (find test rows)
   find-changed test keeps [] = refl
   find-changed test keeps (row ∷ rows) = rw (keeps row) (⊎_elim (λ (yes : test row ≡ true). rw yes refl) (λ (no : test row ≡ false). rw no (find-changed test keeps rows)) (cases_Bool (test row)))
 
-  pub filter-changed : (test : Connection → Bool) → Keeps test → (rows : List Connection) → filter test (map change rows) ≡ map change (filter test rows)
+  pub filter-changed : (test : Connection → Bool) → IsUnseen test → (rows : List Connection) → filter test (map change rows) ≡ map change (filter test rows)
   filter-changed test keeps [] = refl
   filter-changed test keeps (row ∷ rows) =
       rw (keeps row) (⊎_elim (λ (yes : test row ≡ true). rw yes (ap (λ rest. change row ∷ rest) (filter-changed test keeps rows))) (λ (no : test row ≡ false). rw no (filter-changed test keeps rows)) (cases_Bool (test row)))
@@ -26,7 +26,7 @@ module _ (change : Connection → Connection) where
       let inside : i < length rows = omega (arith, within, length-map rows change) in
       subst Q (sym (get_or-map change rows i d d inside)) (each _ (all i d inside))
 
-  pub sound_changed : Keeps (λ row. row.number) → (place : Rows) → IsSound place → IsSound (record { rows = map change place.rows; last_number = place.last_number })
+  pub sound_changed : IsUnseen (λ row. row.number) → (place : Rows) → IsSound place → IsSound (record { rows = map change place.rows; last_number = place.last_number })
   sound_changed keeps place sound =
       let many = length-map place.rows change in
       record {
@@ -45,7 +45,7 @@ module _ (number state : ℕ) where
   abbrev pub stepped_row : Connection → Connection
   stepped_row row = cond (is_of_functor number row) (record row { state = state }) row
 
-  pub stepped-same : {A : Type 0} (f : Connection → A) → ((row : Connection) → f (record row { state = state }) ≡ f row) → Keeps stepped_row f
+  pub stepped-same : {A : Type 0} (f : Connection → A) → ((row : Connection) → f (record row { state = state }) ≡ f row) → IsUnseen stepped_row f
   stepped-same f stateless row = by (is_of_functor number row)
     where
       by : (b : Bool) → f (cond b (record row { state = state }) row) ≡ f row

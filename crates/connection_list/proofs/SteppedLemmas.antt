@@ -6,7 +6,7 @@ use Rattle.std.specs.Prelude.{option_and_then, if◌then◌else◌}
 use Rattle.std.proofs.lemmas.Bool.{eqb-true}
 use Rattle.std.proofs.lemmas.List.{get_or-map, length-map}
 use Rattle.std.proofs.lemmas.List.Elements.{All-cons, All-map, Contains-get_or}
-use Rattle.places.specs.Joined.{joined_tables}
+use Rattle.places.specs.Paired.{paired_tables}
 use Rattle.places.specs.Table.{Table, with_place}
 use Rattle.places.proofs.TableLemmas.{with_same}
 use Rattle.shared_rows.specs.Rows.{Keyed, row_under, with_row}
@@ -137,10 +137,10 @@ module _ {rows : Table (List (Keyed Connection))} {routes : Table Routes} {table
           (subst (λ (t : Table Routes). AreKept (with_place rows place (map (stepped_keyed number state) (shared.rows_at rows place))).places t.places) routes_same
           (kept_changed seen place_kept))
 
-      pub stepped_view : joined_tables place_of new routes ≡ with_rows table place (with_state number state (rows_at table place))
+      pub stepped_view : paired_tables place_of new routes ≡ with_rows table place (with_state number state (rows_at table place))
       stepped_view =
-          ap (λ (t : Table (List (Keyed Connection))). joined_tables place_of t routes) new_is
-          ∙ (ap (λ (t : Table Routes). joined_tables place_of (with_place rows place (map (stepped_keyed number state) (shared.rows_at rows place))) t) (sym routes_same)
+          ap (λ (t : Table (List (Keyed Connection))). paired_tables place_of t routes) new_is
+          ∙ (ap (λ (t : Table Routes). paired_tables place_of (with_place rows place (map (stepped_keyed number state) (shared.rows_at rows place))) t) (sym routes_same)
           ∙ (view_changed seen place_kept
           ∙ (ap (with_rows table place) (place_stepped number state (shared.rows_at rows place) at)
           ∙ ap (λ p. with_rows table place (with_state number state p)) (sym seen.shows))))

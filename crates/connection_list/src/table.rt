@@ -32,10 +32,10 @@ impl Model for Connections {
 
     ghost Value = { Table Rows };
 
-    ghost use Rattle.places.specs.Joined.{joined_tables};
+    ghost use Rattle.places.specs.Paired.{paired_tables};
     ghost use Rattle.connection_list.specs.Routes.{AreKept, place_of};
 
-    ghost view = { λ c. joined_tables place_of c.rows c.routes };
+    ghost view = { λ c. paired_tables place_of c.rows c.routes };
 
     ghost invariant = { λ c. AreKept c.rows.places c.routes.places };
 }

@@ -4,9 +4,9 @@ use Rattle.std.specs.List.{slice_get}
 use Rattle.std.proofs.lemmas.Bool.{cases_eq, cases_lt}
 use Rattle.std.proofs.lemmas.Bool.Decides.{nat_tests}
 use Rattle.std.proofs.lemmas.List.{get_or-set_same, get_or-set_other, get_or_append_left, get_or_push, length-drop, length-map, length-set, length_push}
-use Rattle.places.specs.Joined.{joined, joined_tables}
+use Rattle.places.specs.Paired.{paired, paired_tables}
 use Rattle.places.specs.Table.{ChangesAt, IsPlace, Table, opened, with_place}
-use Rattle.places.proofs.JoinedLemmas.{joined_at, joined_push, joined_set, length-joined}
+use Rattle.places.proofs.PairedLemmas.{paired_at, paired_push, paired_set, length-paired}
 use Rattle.places.proofs.TableLemmas.{changes_length, changes_same, changes_twice, with_same}
 use Rattle.shared_rows.specs.Rows.{Keyed, rows_at}
 use Rattle.event_queue.specs.declared.event.Event.{Event}
@@ -55,9 +55,9 @@ module _ {old middle : Table (List (Keyed Posted))} {place : ℕ} {before betwee
         waits_twice (has_waiting middle middle place between back events (changes_same [] middle middle place refl)
         (back_going between after (events_at middle place) one.counted object way added marks back subtracted keeps) one.waits (omega (arith, ap length one.waits)))
 
-module _ {rows : Table (List (Keyed Posted))} {logs : Table Log} (are : AreLogged rows logs) (table : Table Queue) (view_is : joined_tables queue_of rows logs ≡ table) (place : ℕ) (is_place : IsPlace table place) where
+module _ {rows : Table (List (Keyed Posted))} {logs : Table Log} (are : AreLogged rows logs) (table : Table Queue) (view_is : paired_tables queue_of rows logs ≡ table) (place : ℕ) (is_place : IsPlace table place) where
   pub of_rows : IsPlace rows place
-  of_rows = omega (arith, is_place, ap (λ (t : Table Queue). length t.places) view_is, length-joined queue_of rows.places logs.places are.same)
+  of_rows = omega (arith, is_place, ap (λ (t : Table Queue). length t.places) view_is, length-paired queue_of rows.places logs.places are.same)
 
   pub of_logs : IsPlace logs place
   of_logs = omega (arith, of_rows, are.same)
@@ -66,7 +66,7 @@ module _ {rows : Table (List (Keyed Posted))} {logs : Table Log} (are : AreLogge
   pub seen : (log : Log) → ((d : Log) → log ≡ get_or logs.places place d) → queue_at table place ≡ queue_of (rows_at rows place) log
   seen log is =
       ap (λ (t : Table Queue). queue_at t place) (sym view_is)
-      ∙ (joined_at queue_of rows.places logs.places place [] log (record { events = []; lost = 0; mismatched = 0 }) are.same of_rows
+      ∙ (paired_at queue_of rows.places logs.places place [] log (record { events = []; lost = 0; mismatched = 0 }) are.same of_rows
       ∙ ap (queue_of (rows_at rows place)) (sym (is log)))
 
   -- and what holds of it
@@ -80,7 +80,7 @@ module _ {rows : Table (List (Keyed Posted))} {logs : Table Log} (are : AreLogge
   -- rows and logs after a change at the place
   pub record IsAfter (rows' : Table (List (Keyed Posted))) (logs' : Table Log) (queue : Queue) : Type 0 where
     pub kept : AreLogged rows' logs'
-    pub view : joined_tables queue_of rows' logs' ≡ with_queue table place queue
+    pub view : paired_tables queue_of rows' logs' ≡ with_queue table place queue
 
   module _ (rows' : Table (List (Keyed Posted))) (events : List Event) (has : HasEvents rows rows' place events) (log : Log) (holds : IsLogged events log) (queue : Queue) (is : record { events = waiting log.objects events; lost = log.lost; mismatched = log.mismatched } ≡ queue) where
     pub after : IsAfter rows' (with_place logs place log) queue
@@ -98,10 +98,10 @@ module _ {rows : Table (List (Keyed Posted))} {logs : Table Log} (are : AreLogge
               (cases_eq other place);
         }
 
-        view : joined_tables queue_of rows' (with_place logs place log) ≡ with_queue table place queue
+        view : paired_tables queue_of rows' (with_place logs place log) ≡ with_queue table place queue
         view =
-            ap (λ t. joined_tables queue_of t (with_place logs place log)) has.changed
-            ∙ (ap (λ places. record { places = places; room = min rows.room logs.room }) (joined_set queue_of rows.places logs.places place (rows_at rows' place) log are.same)
+            ap (λ t. paired_tables queue_of t (with_place logs place log)) has.changed
+            ∙ (ap (λ places. record { places = places; room = min rows.room logs.room }) (paired_set queue_of rows.places logs.places place (rows_at rows' place) log are.same)
             ∙ (ap (λ t. with_queue t place (queue_of (rows_at rows' place) log)) view_is
             ∙ ap (with_queue table place) (ap (λ list. record { events = waiting log.objects list; lost = log.lost; mismatched = log.mismatched }) has.now ∙ is)))
 
@@ -217,12 +217,12 @@ module _ {rows : Table (List (Keyed Posted))} {logs : Table Log} (are : AreLogge
     back_again = with_same empty_queue table place
 
     -- where the place is full all stays
-    pub full_stays : (event : Event) → EVENTS ≤ log.queued → (has_room (queue_at table place) ≡ false) × (joined_tables queue_of rows (with_place logs place log) ≡ with_queue table place (posted (queue_at table place) event))
+    pub full_stays : (event : Event) → EVENTS ≤ log.queued → (has_room (queue_at table place) ≡ false) × (paired_tables queue_of rows (with_place logs place log) ≡ with_queue table place (posted (queue_at table place) event))
     full_stays event full =
         let long = (logged log stood).queued in
         let none : has_room (queue_at table place) ≡ false = ap has_room (seen log stood) ∙ grind (arith, nat_tests, long, full) in
         let whole : with_place logs place log ≡ logs = ap (with_place logs place) (stood log) ∙ with_same log logs place in
-        (none, ap (joined_tables queue_of rows) whole ∙ (view_is ∙ rw none (sym back_again)))
+        (none, ap (paired_tables queue_of rows) whole ∙ (view_is ∙ rw none (sym back_again)))
 
     pub counts_told : record { queued = log.queued; lost = log.lost; mismatched = log.mismatched } ≡ counts_of (queue_at table place)
     counts_told =
@@ -237,10 +237,10 @@ module _ {rows : Table (List (Keyed Posted))} {logs : Table Log} (are : AreLogge
 -- one more place, with no event
 pub record IsOpened (rows rows' : Table (List (Keyed Posted))) (logs' : Table Log) (table : Table Queue) : Type 0 where
   pub kept : AreLogged rows' logs'
-  pub view : joined_tables queue_of rows' logs' ≡ opened table empty_queue
+  pub view : paired_tables queue_of rows' logs' ≡ opened table empty_queue
   pub place : (result : ℕ) → result ≡ length rows.places → result ≡ length table.places
 
-module _ {rows : Table (List (Keyed Posted))} {logs : Table Log} (are : AreLogged rows logs) (table : Table Queue) (view_is : joined_tables queue_of rows logs ≡ table) (new : Log) (lost : new.lost ≡ 0) (mismatched : new.mismatched ≡ 0) (holds : IsLogged [] new) where
+module _ {rows : Table (List (Keyed Posted))} {logs : Table Log} (are : AreLogged rows logs) (table : Table Queue) (view_is : paired_tables queue_of rows logs ≡ table) (new : Log) (lost : new.lost ≡ 0) (mismatched : new.mismatched ≡ 0) (holds : IsLogged [] new) where
   pub opened_by : (rows' : Table (List (Keyed Posted))) (logs' : Table Log) → rows' ≡ opened rows [] → logs' ≡ opened logs new → IsOpened rows rows' logs' table
   opened_by rows' logs' rows_are logs_are = rw (rows_are, logs_are) (record { kept = kept; view = view; place = place })
     where
@@ -257,14 +257,14 @@ module _ {rows : Table (List (Keyed Posted))} {logs : Table Log} (are : AreLogge
             (cases_lt other (length rows.places));
       }
 
-      view : joined_tables queue_of (opened rows []) (opened logs new) ≡ opened table empty_queue
+      view : paired_tables queue_of (opened rows []) (opened logs new) ≡ opened table empty_queue
       view =
           let room : min (rows.room - 1) (logs.room - 1) ≡ min rows.room logs.room - 1 = omega arith in
           let empty : queue_of [] new ≡ empty_queue = rw (lost, mismatched) refl in
-          ap (λ places. record { places = places; room = min (rows.room - 1) (logs.room - 1) }) (joined_push queue_of rows.places logs.places [] new are.same)
-          ∙ (ap {B = Table Queue} (λ both. record { places = joined queue_of rows.places logs.places ++ both ∷ []; room = min (rows.room - 1) (logs.room - 1) }) empty
-          ∙ (ap {B = Table Queue} (λ n. record { places = joined queue_of rows.places logs.places ++ empty_queue ∷ []; room = n }) room
+          ap (λ places. record { places = places; room = min (rows.room - 1) (logs.room - 1) }) (paired_push queue_of rows.places logs.places [] new are.same)
+          ∙ (ap {B = Table Queue} (λ both. record { places = paired queue_of rows.places logs.places ++ both ∷ []; room = min (rows.room - 1) (logs.room - 1) }) empty
+          ∙ (ap {B = Table Queue} (λ n. record { places = paired queue_of rows.places logs.places ++ empty_queue ∷ []; room = n }) room
           ∙ ap (λ t. opened t empty_queue) view_is))
 
       place : (result : ℕ) → result ≡ length rows.places → result ≡ length table.places
-      place result is = is ∙ (sym (length-joined queue_of rows.places logs.places are.same) ∙ ap (λ (t : Table Queue). length t.places) view_is)
+      place result is = is ∙ (sym (length-paired queue_of rows.places logs.places are.same) ∙ ap (λ (t : Table Queue). length t.places) view_is)

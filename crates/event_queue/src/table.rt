@@ -65,13 +65,13 @@ pub struct Queues {
 
 impl Model for Queues {
     ghost use Rattle.places.specs.Table.{Table};
-    ghost use Rattle.places.specs.Joined.{joined_tables};
+    ghost use Rattle.places.specs.Paired.{paired_tables};
     ghost use Rattle.event_queue.specs.Queue.{Queue};
     ghost use Rattle.event_queue.specs.Inside.{AreLogged, queue_of};
 
     ghost Value = { Table Queue };
 
-    ghost view = { λ queues. joined_tables queue_of queues.rows queues.logs };
+    ghost view = { λ queues. paired_tables queue_of queues.rows queues.logs };
 
     ghost invariant = { λ queues. AreLogged queues.rows queues.logs };
 }

@@ -21,8 +21,8 @@ pub(crate) fn count<T: Copy>(places: &Vec<T>, gap: Gap) -> usize
     places.len() - gap.gone as usize
 }
 
-/// The place of an element of the list.
-pub(crate) fn place(gap: Gap, at: usize) -> usize
+/// Where an element of the list stands.
+pub(crate) fn position(gap: Gap, at: usize) -> usize
     requires { at + gap.gone < 4294967296 }
     ensures { IsPlaceOf gap at result }
 {
@@ -39,7 +39,7 @@ pub(crate) fn read<T: Copy>(places: &Vec<T>, gap: Gap, at: usize) -> &T
     requires within { at < length (listed places.now.items gap) }
     ensures { result.now ≡ slice_index_or (listed places.now.items gap) at result.now }
 {
-    &places[place(gap, at)]
+    &places[position(gap, at)]
 }
 
 /// Puts another element in place of one.
@@ -50,7 +50,7 @@ pub(crate) fn write<T: Copy>(places: &mut Vec<T>, gap: Gap, at: usize, element: 
     ensures fits { IsGapOf places.new.items gap }
     ensures capacity { vec_capacity places.new ≡ vec_capacity places.old }
 {
-    places[place(gap, at)] = element;
+    places[position(gap, at)] = element;
 }
 
 /// Whether one more element takes no memory, and a place is still counted by 32 bits.

@@ -17,7 +17,7 @@ use Rattle.variant_value.specs.declared.value.Value.{Value}
 use Rattle.class_table.specs.declared.class.Method as class
 use Rattle.connection_types.specs.declared.callee.Callee.{Callee}
 use Rattle.connection_types.specs.declared.callee.Callee.TheVariants.{Functor, Method}
-use Rattle.term_core.specs.declared.action.Effect.{Effect}
+use Rattle.term_core.specs.declared.action.SingleAction.{SingleAction}
 use Rattle.term_core.specs.Term.{Term}
 use Rattle.connection_list.specs.declared.connection.Connection.{Connection}
 use Rattle.connection_list.specs.Rows.{IsRising, IsSound, has_number, is_next}
@@ -28,7 +28,7 @@ use Rattle.event_queue.specs.declared.event.Priority.TheVariants.{Normal}
 use Rattle.event_queue.specs.Queue.{has_room}
 use Rattle.object_tree.specs.declared.row.Row.{Row}
 use Rattle.object_tree.specs.Rows.{row_of}
-use Rattle.term_core.specs.Act.{Act, Acts, acts_of, effect, when}
+use Rattle.term_core.specs.Act.{Act, Acts, acts_of, single_action, when}
 use Rattle.thread_model.specs.declared.call.TheConstants.{DESTROYED, NESTED_SIGNALS}
 use Rattle.thread_model.specs.declared.line.Line.{Line}
 use Rattle.thread_model.specs.declared.line.Line.TheVariants.{Warning}
@@ -42,7 +42,7 @@ use Rattle.class_table.specs.declared.class.Class.{Class}
 use Rattle.publish_board.specs.declared.publication.Publication.{Publication}
 use Rattle.publish_board.specs.Rows.{publishes}
 use Rattle.thread_model.specs.Arriving.{kinds_of, post_of, posts_of}
-use Rattle.thread_model.specs.Doing.{Doing, in_state, lost, posted, posting, shot, told, turn_taken, used_up}
+use Rattle.thread_model.specs.Doing.{Doing, in_state, lost, posted, posting, shot, line_told, turn_taken, used_up}
 use Rattle.thread_model.specs.Items.{Call, Emit, Item, Next, Run, Warn, puts}
 use Rattle.thread_model.specs.Posting.{is_queued}
 use Rattle.thread_model.specs.Run.{longest_functor, run}
@@ -63,7 +63,7 @@ use Rattle.session_tables.specs.Tables.{IsPlaced, state_at, with_state}
 use Rattle.session_tables.proofs.TablesLemmas.{state_with}
 use Rattle.session_effects.specs.declared.slot.Slot.{Slot}
 use Rattle.nested_calls.specs.declared.telling.Telling.{Telling}
-use Rattle.session_effects.specs.Actions.{Keeps, Tries, act_of}
+use Rattle.session_effects.specs.Actions.{KeepsOthers, Tries, act_of}
 use Rattle.session_effects.proofs.ActionLemmas.{keeps_same, keeps_with}
 use Rattle.session_effects.specs.declared.caller.Caller.{Caller}
 use Rattle.session_effects.specs.Setup.{settings_of}
@@ -172,7 +172,7 @@ is_let_through blocked signal either = ⊎_elim
     either
 
 -- a call that is posted, or for which memory was wanted, changes no other session
-pub keeps_posted : {T E : Type 0} (result : Result T E) (place : ℕ) (middle new : Tables) (state : State) → IsPlaced middle place → OnOk result (new ≡ with_state middle place state) → OnErr result (new ≡ middle) → Keeps place middle new
+pub keeps_posted : {T E : Type 0} (result : Result T E) (place : ℕ) (middle new : Tables) (state : State) → IsPlaced middle place → OnOk result (new ≡ with_state middle place state) → OnErr result (new ≡ middle) → KeepsOthers place middle new
 keeps_posted (Ok value) place middle new state still ok err = keeps_with middle new place state still ok
 keeps_posted (Err error) place middle new state still ok err = keeps_same middle new place err
 
@@ -284,8 +284,8 @@ module _ (settings : Settings) (target signal : ℕ) (args : List Value) (depth 
       (let later = (run_later settings (Call next.number args depth ∷ []) middle).last in omega (arith, later, most))
 
 -- what was told
-pub told_is : (place : ℕ) (tables : Tables) (before after : Telling) (earlier : List Post) (line : Line) → after ≡ with_line before line → told (doing_at place tables before earlier) line ≡ doing_at place tables after earlier
-unfolding told
+pub told_is : (place : ℕ) (tables : Tables) (before after : Telling) (earlier : List Post) (line : Line) → after ≡ with_line before line → line_told (doing_at place tables before earlier) line ≡ doing_at place tables after earlier
+unfolding line_told
 told_is place tables before after earlier line e = ap (λ (telling : Telling). doing_at place tables telling earlier) (sym e)
 
 -- that no turn is left is told once
@@ -316,17 +316,17 @@ module _ (settings : Settings) (slot : Slot) (place : ℕ) (tables : Tables) (be
   test_warned test held failed (Refused code) why e = warned (act_of slot (when test held failed)) code (action.when_faulty settings slot.object slot.sender slot.args.now slot.depth (doing_at place tables before earlier) test held failed code why) e
   test_warned test held failed Memory why e = absurd e
 
--- so an effect that is refused
-pub effect_warned : {T : Type 0} (caller : Caller) (slot : Slot) (plain : Effect) (tables : Tables) (items : T → List Item) (new : Tables) (before after : Telling) (earlier : List Post) (fault : Fault) → Tries caller slot plain tables items new (Err fault) → Warns fault slot.object before after
-    → run (settings_of caller.setup.now) (act_of slot (effect plain) ∷ []) (doing_at caller.place tables before earlier) ≡ doing_at caller.place tables after earlier
-effect_warned caller slot plain tables items new before after earlier (Refused code) tried e = warned (settings_of caller.setup.now) slot caller.place tables before after earlier (act_of slot (effect plain)) code (tried (doing_at caller.place tables before earlier)) e
+-- so a single action that is refused
+pub effect_warned : {T : Type 0} (caller : Caller) (slot : Slot) (plain : SingleAction) (tables : Tables) (items : T → List Item) (new : Tables) (before after : Telling) (earlier : List Post) (fault : Fault) → Tries caller slot plain tables items new (Err fault) → Warns fault slot.object before after
+    → run (settings_of caller.setup.now) (act_of slot (single_action plain) ∷ []) (doing_at caller.place tables before earlier) ≡ doing_at caller.place tables after earlier
+effect_warned caller slot plain tables items new before after earlier (Refused code) tried e = warned (settings_of caller.setup.now) slot caller.place tables before after earlier (act_of slot (single_action plain)) code (tried (doing_at caller.place tables before earlier)) e
 effect_warned caller slot plain tables items new before after earlier Memory tried e = absurd e
 
 -- the same of one that may have changed the session before memory was wanted
-pub effect_refused : {T : Type 0} (caller : Caller) (slot : Slot) (plain : Effect) (old : Tables) (items : T → List Item) (new : Tables) (before after : Telling) (earlier : List Post) (fault : Fault) → Tries caller slot plain old items new (Err fault) → OnRefused {T = T} (Err fault) (new ≡ old)
-    → Warns fault slot.object before after → run (settings_of caller.setup.now) (act_of slot (effect plain) ∷ []) (doing_at caller.place old before earlier) ≡ doing_at caller.place new after earlier
+pub effect_refused : {T : Type 0} (caller : Caller) (slot : Slot) (plain : SingleAction) (old : Tables) (items : T → List Item) (new : Tables) (before after : Telling) (earlier : List Post) (fault : Fault) → Tries caller slot plain old items new (Err fault) → OnRefused {T = T} (Err fault) (new ≡ old)
+    → Warns fault slot.object before after → run (settings_of caller.setup.now) (act_of slot (single_action plain) ∷ []) (doing_at caller.place old before earlier) ≡ doing_at caller.place new after earlier
 effect_refused caller slot plain old items new before after earlier (Refused code) tried same e =
-    warned (settings_of caller.setup.now) slot caller.place old before after earlier (act_of slot (effect plain)) code (tried (doing_at caller.place old before earlier)) e ∙ ap (λ tables. doing_at caller.place tables after earlier) (sym same)
+    warned (settings_of caller.setup.now) slot caller.place old before after earlier (act_of slot (single_action plain)) code (tried (doing_at caller.place old before earlier)) e ∙ ap (λ tables. doing_at caller.place tables after earlier) (sym same)
 effect_refused caller slot plain old items new before after earlier Memory tried same e = absurd e
 
 module _ (settings : Settings) (slot : Slot) (doing : Doing) (test : Term) (held failed : Acts) where
@@ -471,7 +471,7 @@ module _ (caller : Caller) (connection : Connection) (args : List Value) (depth 
               ∙ does
 
           pub call_slot : (done : Doing) → is_queued connection.mode ≡ false → method.is_signal ≡ false
-              → run its_settings (model.acts (acts_of method.body.actions) given connection.receiver connection.sender (depth + 1)) (told (doing_at caller.place new taken earlier) (call_line method connection.receiver connection.sender given)) ≡ done
+              → run its_settings (model.acts (acts_of method.body.actions) given connection.receiver connection.sender (depth + 1)) (line_told (doing_at caller.place new taken earlier) (call_line method connection.receiver connection.sender given)) ≡ done
               → run its_settings (Call connection.number args depth ∷ []) (doing_at caller.place old before earlier) ≡ done
           call_slot done at_once slot does =
               by_step its_settings (Call connection.number args depth) (doing_at caller.place old before earlier) _
@@ -502,9 +502,9 @@ next_smaller target signal after up_to rows row found =
     let within = next_within target signal after up_to row (find-passes (is_next target signal after up_to) rows row found) in
     omega (arith, within.0, within.1)
 
--- an effect that is not refused is done by what it comes to
-pub effect_done : (caller : Caller) (slot : Slot) (plain : Effect) (old : Tables) (agenda : List Item) (between : Tables) (before : Telling) (earlier : List Post) (done : Doing)
-    → step (settings_of caller.setup.now) (act_of slot (effect plain)) (doing_at caller.place old before earlier) ≡ puts agenda (doing_at caller.place between before earlier)
+-- a single action that is not refused is done by what it comes to
+pub effect_done : (caller : Caller) (slot : Slot) (plain : SingleAction) (old : Tables) (agenda : List Item) (between : Tables) (before : Telling) (earlier : List Post) (done : Doing)
+    → step (settings_of caller.setup.now) (act_of slot (single_action plain)) (doing_at caller.place old before earlier) ≡ puts agenda (doing_at caller.place between before earlier)
     → run (settings_of caller.setup.now) agenda (doing_at caller.place between before earlier) ≡ done
-    → run (settings_of caller.setup.now) (act_of slot (effect plain) ∷ []) (doing_at caller.place old before earlier) ≡ done
-effect_done caller slot plain old agenda between before earlier done is does = by_step (settings_of caller.setup.now) (act_of slot (effect plain)) (doing_at caller.place old before earlier) _ is ∙ does
+    → run (settings_of caller.setup.now) (act_of slot (single_action plain) ∷ []) (doing_at caller.place old before earlier) ≡ done
+effect_done caller slot plain old agenda between before earlier done is does = by_step (settings_of caller.setup.now) (act_of slot (single_action plain)) (doing_at caller.place old before earlier) _ is ∙ does

@@ -11,7 +11,7 @@ use Rattle.session_tables.specs.declared.tables.Tables.{Tables}
 use Rattle.session_tables.specs.Reaching.{Reaches}
 use Rattle.session_tables.specs.Tables.{IsPlaced}
 use Rattle.session_tables.proofs.ReachingLemmas.{placed_shaped, reaches_changed, reaches_twice}
-use Rattle.session_effects.specs.Actions.{Keeps}
+use Rattle.session_effects.specs.Actions.{KeepsOthers}
 use Rattle.session_effects.specs.declared.caller.Caller.{Caller}
 use Rattle.session_effects.specs.Setup.{settings_of}
 use Rattle.nested_calls.specs.declared.telling.Telling.{Telling}
@@ -44,7 +44,7 @@ abbrev pub done_by : Caller → Next → Doing
 done_by caller next = run (settings_of caller.setup.now) next.items next.doing
 
 -- what changes only the session itself posts nothing
-pub reaches_none : (caller : Caller) (old new : Tables) (before after : Bool) → Keeps caller.place old new → after ≡ before → Reaches caller.setup.now.classes caller.name.now caller.place [] old new before after
+pub reaches_none : (caller : Caller) (old new : Tables) (before after : Bool) → KeepsOthers caller.place old new → after ≡ before → Reaches caller.setup.now.classes caller.name.now caller.place [] old new before after
 reaches_none caller old new before after keeps same =
     subst (Reaches caller.setup.now.classes caller.name.now caller.place [] old new before) (sym same) (reaches_changed caller.setup.now.classes caller.name.now caller.place old new before keeps.only keeps.failed)
 
@@ -56,7 +56,7 @@ module _ (caller : Caller) (next : List Post → Next) (old : Tables) (before : 
     none_front earlier = front_nothing earlier _ (run_front (settings_of caller.setup.now) earlier (next earlier) (begins earlier))
 
     -- what is done without a post
-    pub next_none : {T E : Type 0} (new : Tables) (after : Telling) (result : Result T E) → Keeps caller.place old new → after.failing ≡ before.failing
+    pub next_none : {T E : Type 0} (new : Tables) (after : Telling) (result : Result T E) → KeepsOthers caller.place old new → after.failing ≡ before.failing
         → OnOk result ((earlier : List Post) → done_by caller (next earlier) ≡ doing_at caller.place new after earlier) → DoesNext caller next old new before after result
     next_none new after result keeps same does = record {
       posts = [];
@@ -66,11 +66,11 @@ module _ (caller : Caller) (next : List Post → Next) (old : Tables) (before : 
     }
 
     -- memory is wanted before anything is posted
-    pub next_wanting : {T E : Type 0} (new : Tables) (after : Telling) (result : Result T E) → IsErr result → Keeps caller.place old new → after.failing ≡ before.failing → DoesNext caller next old new before after result
+    pub next_wanting : {T E : Type 0} (new : Tables) (after : Telling) (result : Result T E) → IsErr result → KeepsOthers caller.place old new → after.failing ≡ before.failing → DoesNext caller next old new before after result
     next_wanting new after result wanted keeps same = next_none new after result keeps same (on_wanting _ result wanted)
 
   -- what comes to something else when the session has changed, and is done by that
-  pub does_after : {T E : Type 0} (other : List Post → Next) (middle new : Tables) (between after : Telling) (result : Result T E) → IsPlaced old caller.place → Keeps caller.place old middle → between.failing ≡ before.failing
+  pub does_after : {T E : Type 0} (other : List Post → Next) (middle new : Tables) (between after : Telling) (result : Result T E) → IsPlaced old caller.place → KeepsOthers caller.place old middle → between.failing ≡ before.failing
       → ((earlier : List Post) (done : Doing) → done_by caller (other earlier) ≡ done → done_by caller (next earlier) ≡ done)
       → DoesNext caller other middle new between after result → DoesNext caller next old new before after result
   does_after other middle new between after result placed keeps same by does = record {
@@ -97,11 +97,11 @@ here caller items tables telling posts = puts items (doing_at caller.place table
 
 -- items that are done without a post, or where memory is wanted before one
 module _ (caller : Caller) (items : List Item) (old : Tables) (before : Telling) where
-  pub does_none : {T E : Type 0} (new : Tables) (after : Telling) (result : Result T E) → Keeps caller.place old new → after.failing ≡ before.failing
+  pub does_none : {T E : Type 0} (new : Tables) (after : Telling) (result : Result T E) → KeepsOthers caller.place old new → after.failing ≡ before.failing
       → OnOk result ((earlier : List Post) → done_by caller (here caller items old before earlier) ≡ doing_at caller.place new after earlier) → DoesNext caller (here caller items old before) old new before after result
   does_none new after result keeps same does = next_none caller (here caller items old before) old before front_same new after result keeps same does
 
-  pub does_wanting : {T E : Type 0} (new : Tables) (after : Telling) (result : Result T E) → IsErr result → Keeps caller.place old new → after.failing ≡ before.failing → DoesNext caller (here caller items old before) old new before after result
+  pub does_wanting : {T E : Type 0} (new : Tables) (after : Telling) (result : Result T E) → IsErr result → KeepsOthers caller.place old new → after.failing ≡ before.failing → DoesNext caller (here caller items old before) old new before after result
   does_wanting new after result wanted keeps same = next_wanting caller (here caller items old before) old before front_same new after result wanted keeps same
 
 -- a place stays one
@@ -116,7 +116,7 @@ pub record SoFar (caller : Caller) (whole rest : List Post → Next) (old now : 
 
 module _ (caller : Caller) (whole : List Post → Next) (old : Tables) (before : Telling) (placed : IsPlaced old caller.place) where
   -- at first the session may change
-  pub far_none : (rest : List Post → Next) (now : Tables) (between : Telling) → Keeps caller.place old now → between.failing ≡ before.failing
+  pub far_none : (rest : List Post → Next) (now : Tables) (between : Telling) → KeepsOthers caller.place old now → between.failing ≡ before.failing
       → ((earlier : List Post) → done_by caller (rest earlier) ≡ done_by caller (whole earlier)) → SoFar caller whole rest old now before between
   far_none rest now between keeps same first = record {
     posts = [];
@@ -194,7 +194,7 @@ module _ (caller : Caller) (whole : List Post → Next) (old : Tables) (before :
   }
 
   -- memory is wanted while the session changes, and what is left posts only behind what was before
-  pub far_stopped : {T E : Type 0} (rest : List Post → Next) (now new : Tables) (between : Telling) (end : Result T E) → IsErr end → SoFar caller whole rest old now before between → Keeps caller.place now new
+  pub far_stopped : {T E : Type 0} (rest : List Post → Next) (now new : Tables) (between : Telling) (end : Result T E) → IsErr end → SoFar caller whole rest old now before between → KeepsOthers caller.place now new
       → ((earlier : List Post) → IsFront earlier (rest earlier).doing.posts) → DoesNext caller whole old new before between end
   far_stopped rest now new between end wanted so keeps begins = record {
     posts = so.posts;

@@ -9,7 +9,7 @@ use Rattle.thread_model.specs.declared.line.Line.TheVariants.{Warning}
 use Rattle.thread_model.specs.declared.post.Post.{Post}
 use Rattle.thread_model.specs.Agenda.{step}
 use Rattle.thread_model.specs.Deeds.{deed_done}
-use Rattle.thread_model.specs.Doing.{Doing, dying, first_taken, in_state, lost, posted, posting, severed, shot, stepped, told, turn_taken, used_up}
+use Rattle.thread_model.specs.Doing.{Doing, dying, first_taken, in_state, lost, posted, posting, severed, shot, stepped, line_told, turn_taken, used_up}
 use Rattle.thread_model.specs.Items.{Item, Next}
 use Rattle.thread_model.specs.Run.{run}
 use Rattle.thread_model.specs.Settings.{Settings}
@@ -40,8 +40,8 @@ same : (doing : Doing) → PostsBehind doing doing
 same doing = front_same doing.posts
 
 -- what is told posts nothing
-pub told_front : (doing : Doing) (said : Line) → PostsBehind doing (told doing said)
-unfolding told
+pub told_front : (doing : Doing) (said : Line) → PostsBehind doing (line_told doing said)
+unfolding line_told
 told_front doing said = same doing
 
 -- nor does another state of a functor

@@ -21,7 +21,7 @@ use Rattle.stored_slots.specs.declared.functor.Functor as stored
 use Rattle.thread_model.specs.Acts as model
 use Rattle.thread_model.specs.Agenda.{callee_called, functor_called, functor_line, queued}
 use Rattle.thread_model.specs.declared.post.Post.{Post}
-use Rattle.thread_model.specs.Doing.{Doing, in_state, lost, posted, stepped, told}
+use Rattle.thread_model.specs.Doing.{Doing, in_state, lost, posted, stepped, line_told}
 use Rattle.thread_model.specs.Functors.{functor_at}
 use Rattle.thread_model.specs.Items.{Item, Next, RunFunctor, puts}
 use Rattle.thread_model.specs.Posting.{is_queued}
@@ -59,7 +59,7 @@ abbrev pub ran_at : Doing → ℕ → ℕ → ℕ → List Value → ℕ → sto
 ran_at doing target sender connection args depth functor =
     let state = functor_state doing.state connection in
     puts (model.acts (acts_of (with_state state functor.body).actions) args target sender depth)
-    (stepped (told doing (functor_line functor target sender args)) connection (after functor.next state args))
+    (stepped (line_told doing (functor_line functor target sender args)) connection (after functor.next state args))
 
 -- what a functor's run comes to
 module _ (settings : Settings) (target index sender connection : ℕ) (args : List Value) (depth : ℕ) (doing : Doing) where
@@ -161,11 +161,11 @@ left_functor place old new telling number next placed e =
 -- what a functor answers over the state of its connection, done behind the change of that, is what it comes to
 module _ (settings : Settings) (index : ℕ) (functor : stored.Functor) (has : Some functor ≡ functor_at settings index) (target sender connection : ℕ) (args : List Value) (depth : ℕ) where
   pub functor_does : (doing middle done : Doing) (state next : ℕ) (answered : List Act) → state ≡ functor_state doing.state connection → answered ≡ unfolded_body args (with_state state functor.body) → next ≡ after functor.next state args
-      → stepped (told doing (functor_line functor target sender args)) connection next ≡ middle → run settings (model.acts (acts_of answered) [] target sender depth) middle ≡ done
+      → stepped (line_told doing (functor_line functor target sender args)) connection next ≡ middle → run settings (model.acts (acts_of answered) [] target sender depth) middle ≡ done
       → (let its = ran_at doing target sender connection args depth functor in run settings its.items its.doing) ≡ done
   functor_does doing middle done state next answered state_is answered_is next_is middle_is does =
-      ap (λ n. run settings (model.acts (acts_of (with_state n functor.body).actions) args target sender depth) (stepped (told doing (functor_line functor target sender args)) connection (after functor.next n args))) (sym state_is)
-      ∙ ap (λ n. run settings (model.acts (acts_of (with_state state functor.body).actions) args target sender depth) (stepped (told doing (functor_line functor target sender args)) connection n)) (sym next_is)
+      ap (λ n. run settings (model.acts (acts_of (with_state n functor.body).actions) args target sender depth) (stepped (line_told doing (functor_line functor target sender args)) connection (after functor.next n args))) (sym state_is)
+      ∙ ap (λ n. run settings (model.acts (acts_of (with_state state functor.body).actions) args target sender depth) (stepped (line_told doing (functor_line functor target sender args)) connection n)) (sym next_is)
       ∙ ap (run settings (model.acts (acts_of (with_state state functor.body).actions) args target sender depth)) middle_is
       ∙ answered_does settings index functor has state args answered answered_is target sender depth middle done does
 
@@ -173,4 +173,4 @@ module _ (settings : Settings) (index : ℕ) (functor : stored.Functor) (has : S
   functor_front doing =
       let line = functor_line functor target sender args in
       let next = after functor.next (functor_state doing.state connection) args in
-      front_both doing.posts (told doing line).posts (stepped (told doing line) connection next).posts (told_front doing line) (stepped_front (told doing line) connection next)
+      front_both doing.posts (line_told doing line).posts (stepped (line_told doing line) connection next).posts (told_front doing line) (stepped_front (line_told doing line) connection next)

@@ -4,13 +4,13 @@
 ghost use Rattle.std.specs.Prelude.{◌≡◌, ◌∷◌, [], ◌≤◌, ◌<◌, OnOk, OnErr, Some, find, is_some, take};
 ghost use Rattle.connection_list.specs.Rows.{IsSound, is_next};
 ghost use Rattle.connection_types.specs.declared.callee.Callee.TheVariants as callee;
-ghost use Rattle.term_core.specs.Act.{acts_of, effect};
+ghost use Rattle.term_core.specs.Act.{acts_of, single_action};
 ghost use Rattle.event_queue.specs.declared.event.Priority.TheVariants.{Normal};
 ghost use Rattle.thread_model.specs.declared.call.TheConstants.{NESTED_SIGNALS};
 ghost use Rattle.thread_model.specs.Acts as model;
 ghost use Rattle.thread_model.specs.Agenda.{call_line, callee_called, connection_of, functor_line};
 ghost use Rattle.term_evaluation.specs.Stating.{after, with_state};
-ghost use Rattle.thread_model.specs.Doing.{stepped, told};
+ghost use Rattle.thread_model.specs.Doing.{stepped, line_told};
 ghost use Rattle.thread_model.specs.Items.{Call, Emit, puts};
 ghost use Rattle.thread_model.specs.Functors.{functor_at};
 ghost use Rattle.thread_model.specs.Posting.{is_queued};
@@ -18,7 +18,7 @@ ghost use Rattle.thread_model.specs.State.{functor_state, with_call};
 ghost use Rattle.class_table.specs.Sound.{IsMethod};
 ghost use Rattle.session_tables.specs.Tables as session;
 ghost use Rattle.session_tables.specs.Tables.{IsPlaced, state_at};
-ghost use Rattle.session_effects.specs.Actions.{Keeps, act_of};
+ghost use Rattle.session_effects.specs.Actions.{KeepsOthers, act_of};
 ghost use Rattle.session_effects.specs.Setup.{settings_of};
 ghost use Rattle.nested_calls.specs.Agenda.{Does, DoesNext};
 ghost use Rattle.nested_calls.specs.Telling.{doing_at};
@@ -38,7 +38,7 @@ use session_effects::{Caller, Slot, change, deleted, functor_at, method_at, sent
 use session_tables::Tables;
 use std::alloc::AllocError;
 use stored_slots::Functor;
-use term_core::{Action, Effect, Step};
+use term_core::{Action, SingleAction, Step};
 use thread_model::{DESTROYED, NESTED_SIGNALS};
 use variant_value::{Args, Value};
 
@@ -218,7 +218,7 @@ pub fn run_slot<F: Answering>(
     requires depth { slot.now.depth ≤ NESTED_SIGNALS }
     requires sound { IsMethod method.now }
     ensures { DoesNext actor.now.caller (λ earlier. puts (model.acts (acts_of method.now.body.actions) slot.now.args.now slot.now.object slot.now.sender slot.now.depth)
-        (told (doing_at actor.now.caller.place tables.old telling.old earlier) (call_line method.now slot.now.object slot.now.sender slot.now.args.now))) tables.old tables.new telling.old telling.new result }
+        (line_told (doing_at actor.now.caller.place tables.old telling.old earlier) (call_line method.now slot.now.object slot.now.sender slot.now.args.now))) tables.old tables.new telling.old telling.new result }
 {
     telling.call(actor.caller.setup.alloc, method, slot)?;
     acts(actor, tables, telling, slot, method.body.actions.as_slice())
@@ -242,7 +242,7 @@ pub fn run_functor<F: Answering>(
     requires found { Some functor.now ≡ functor_at (settings_of actor.now.caller.setup.now) index }
     ensures { DoesNext actor.now.caller (λ earlier. let state = functor_state (state_at tables.old actor.now.caller.place) connection in
         puts (model.acts (acts_of (with_state state functor.now.body).actions) slot.now.args.now slot.now.object slot.now.sender slot.now.depth)
-        (stepped (told (doing_at actor.now.caller.place tables.old telling.old earlier) (functor_line functor.now slot.now.object slot.now.sender slot.now.args.now))
+        (stepped (line_told (doing_at actor.now.caller.place tables.old telling.old earlier) (functor_line functor.now slot.now.object slot.now.sender slot.now.args.now))
         connection (after functor.now.next state slot.now.args.now))) tables.old tables.new telling.old telling.new result }
 {
     telling.call_functor(actor.caller.setup.alloc, functor, slot)?;
@@ -278,7 +278,7 @@ fn acts<F: Answering>(
     Ok(())
 }
 
-/// Does an action: its effect, or the branch that its test chooses.
+/// Does an action: a single one, or the branch that its test chooses.
 #[cycle(agenda)]
 fn act<F: Answering>(
     actor: &Actor<F>,
@@ -292,7 +292,7 @@ fn act<F: Answering>(
     ensures { Does actor.now.caller (act_of slot.now action.now ∷ []) tables.old tables.new telling.old telling.new result }
 {
     match &action.step {
-        Step::Effect(plain) => effect(actor, tables, telling, slot, plain),
+        Step::Single(plain) => single_action(actor, tables, telling, slot, plain),
         Step::When(test, held, failed) => match truth(&actor.caller, tables, slot, test) {
             Ok(true) => acts(actor, tables, telling, slot, held),
             Ok(false) => acts(actor, tables, telling, slot, failed),
@@ -303,19 +303,19 @@ fn act<F: Answering>(
 
 /// Does what an action does that is no choice.
 #[cycle(agenda)]
-fn effect<F: Answering>(
+fn single_action<F: Answering>(
     actor: &Actor<F>,
     tables: &mut Tables,
     telling: &mut Telling,
     slot: &Slot,
-    plain: &Effect,
+    plain: &SingleAction,
 ) -> Result<(), AllocError>
     requires placed { IsPlaced tables.old actor.now.caller.place }
     requires depth { slot.now.depth ≤ NESTED_SIGNALS }
-    ensures { Does actor.now.caller (act_of slot.now (effect plain.now) ∷ []) tables.old tables.new telling.old telling.new result }
+    ensures { Does actor.now.caller (act_of slot.now (single_action plain.now) ∷ []) tables.old tables.new telling.old telling.new result }
 {
     match plain {
-        Effect::Emit { of, signal, args } => {
+        SingleAction::Emit { of, signal, args } => {
             match sent(&actor.caller, tables, slot, of, signal, args.as_slice()) {
                 Ok(sent) => emit(
                     actor,
@@ -329,11 +329,11 @@ fn effect<F: Answering>(
                 Err(fault) => telling.warn_of(fault, slot.object),
             }
         }
-        Effect::Delete(target) => match deleted(&actor.caller, tables, slot, target) {
+        SingleAction::Delete(target) => match deleted(&actor.caller, tables, slot, target) {
             Ok(object) => delete(actor, tables, telling, object, slot.depth),
             Err(fault) => telling.warn_of(fault, slot.object),
         },
-        Effect::Set {
+        SingleAction::Set {
             of,
             property,
             value,

@@ -5,7 +5,7 @@ ghost use Rattle.std.specs.Prelude.{◌∷◌, [], ◌≤◌, OnOk};
 ghost use Rattle.thread_model.specs.declared.call.TheConstants.{NESTED_SIGNALS};
 ghost use Rattle.thread_model.specs.Items.{Cut, Delete, Kin};
 ghost use Rattle.session_tables.specs.Tables.{IsPlaced};
-ghost use Rattle.session_effects.specs.Actions.{Keeps};
+ghost use Rattle.session_effects.specs.Actions.{KeepsOthers};
 ghost use Rattle.nested_calls.specs.Agenda.{Does};
 ghost use Rattle.nested_calls.specs.Telling.{doing_at};
 

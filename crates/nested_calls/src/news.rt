@@ -4,7 +4,7 @@ ghost use Rattle.std.specs.Prelude.{◌≡◌, ◌∷◌, [], ◌≤◌, OnOk};
 ghost use Rattle.thread_model.specs.declared.call.TheConstants.{NESTED_SIGNALS};
 ghost use Rattle.session_tables.specs.Tables.{IsPlaced, state_at};
 ghost use Rattle.session_effects.specs.declared.announcing.News.TheVariants.{One};
-ghost use Rattle.session_effects.specs.Actions.{Keeps};
+ghost use Rattle.session_effects.specs.Actions.{KeepsOthers};
 ghost use Rattle.session_effects.specs.Setup.{settings_of};
 ghost use Rattle.session_effects.specs.Writing.{announced, items_of, told_items};
 ghost use Rattle.nested_calls.specs.Agenda.{Does};

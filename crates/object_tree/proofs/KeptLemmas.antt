@@ -5,8 +5,8 @@ use Rattle.std.specs.Option.{option_map}
 use Rattle.std.proofs.lemmas.Bool.{cases_eq, cond_both}
 use Rattle.std.proofs.lemmas.List.{length-set, length_push, map_push, get_or-set_same, get_or-set_other, get_or_append_left, get_or_push, get_or-map, length-map}
 use Rattle.places.specs.Table.{ChangesAt, IsPlace, Table, opened, with_place}
-use Rattle.places.specs.Joined.{joined_tables}
-use Rattle.places.proofs.JoinedLemmas.{joined_at, joined_push, joined_set, length-joined}
+use Rattle.places.specs.Paired.{paired_tables}
+use Rattle.places.proofs.PairedLemmas.{paired_at, paired_push, paired_set, length-paired}
 use Rattle.places.proofs.TableLemmas.{changes_twice, changes_with, default_pushed, with_same, with_there}
 use Rattle.shared_rows.specs.Links.{AreLinked, IsInOrder, Linked, with_link, without_link}
 use Rattle.shared_rows.proofs.LinkedLemmas.{linked_push, linked_same}
@@ -46,9 +46,9 @@ stands_under {keyed} {key} {n} {row} sound under is = stands keyed key n row sou
 -- both tables are kept, and seen with another forest at a place
 pub record IsChanged (table : Table Forest) (place : ℕ) (rows : Shared) (kinships : Table Kinship) (forest : Forest) : Type 0 where
   pub kept : IsKept rows kinships
-  pub seen : joined_tables forest_of rows kinships ≡ with_forest table place forest
+  pub seen : paired_tables forest_of rows kinships ≡ with_forest table place forest
 
-pub unchanged_seen : {table : Table Forest} {place : ℕ} {rows : Shared} {kinships : Table Kinship} → IsChanged table place rows kinships (forest_at table place) → joined_tables forest_of rows kinships ≡ table
+pub unchanged_seen : {table : Table Forest} {place : ℕ} {rows : Shared} {kinships : Table Kinship} → IsChanged table place rows kinships (forest_at table place) → paired_tables forest_of rows kinships ≡ table
 unchanged_seen {table} {place} changed = changed.seen ∙ with_same empty_forest table place
 
 -- a place that has neither a row nor a link
@@ -58,9 +58,9 @@ empty_kept kinship none number stamp = record {
   sound = rw (number, stamp) sound_empty;
 }
 
-module _ {rows : Shared} {kinships : Table Kinship} {table : Table Forest} (kept : IsKept rows kinships) (view : joined_tables forest_of rows kinships ≡ table) where
+module _ {rows : Shared} {kinships : Table Kinship} {table : Table Forest} (kept : IsKept rows kinships) (view : paired_tables forest_of rows kinships ≡ table) where
   pub as_many : length table.places ≡ length kinships.places
-  as_many = ap (λ (t : Table Forest). length t.places) (sym view) ∙ (length-joined forest_of rows.places kinships.places kept.same ∙ kept.same)
+  as_many = ap (λ (t : Table Forest). length t.places) (sym view) ∙ (length-paired forest_of rows.places kinships.places kept.same ∙ kept.same)
 
   module _ (place : ℕ) (is_place : IsPlace table place) where
     pub in_kinships : IsPlace kinships place
@@ -81,14 +81,14 @@ module _ {rows : Shared} {kinships : Table Kinship} {table : Table Forest} (kept
             (cases_eq other place);
       });
       seen =
-          (λ i. joined_tables forest_of (rows_are i) (kinships_are i))
-          ∙ ((λ i. record { places = joined_set forest_of rows.places kinships.places place keyed kinship kept.same i; room = min rows.room kinships.room })
+          (λ i. paired_tables forest_of (rows_are i) (kinships_are i))
+          ∙ ((λ i. record { places = paired_set forest_of rows.places kinships.places place keyed kinship kept.same i; room = min rows.room kinships.room })
           ∙ (ap (λ t. with_forest t place (forest_of keyed kinship)) view ∙ ap (with_forest table place) is));
     }
 
     -- its forest, also where nothing was read there
     pub seen_anyhow : forest_at table place ≡ forest_of (rows_at rows place) (get_or kinships.places place nobodys)
-    seen_anyhow = ap (λ t. forest_at t place) (sym view) ∙ joined_at forest_of rows.places kinships.places place [] nobodys empty_forest kept.same in_rows
+    seen_anyhow = ap (λ t. forest_at t place) (sym view) ∙ paired_at forest_of rows.places kinships.places place [] nobodys empty_forest kept.same in_rows
 
     pub sound_anyhow : IsSound (forest_at table place)
     sound_anyhow = subst IsSound (sym seen_anyhow) (kept.each place nobodys in_kinships).sound
@@ -151,10 +151,10 @@ module _ {rows : Shared} {kinships : Table Kinship} {table : Table Forest} (kept
     pub absent_same : (f : Row → Row) (n : ℕ) → None ≡ key_of number_of (rows_at rows place) n → table ≡ with_forest table place (record (forest_at table place) { rows = changed f n (forest_at table place).rows })
     absent_same f n none = sym ((λ i. with_forest table place (record (forest_at table place) { rows = (unchanged f n (forest_at table place).rows (absent n none)).0 i })) ∙ with_same empty_forest table place)
 
-    pub absent_gone : {new_rows : Shared} (n : ℕ) → new_rows ≡ rows → key_of number_of (rows_at rows place) n ≡ None → joined_tables forest_of new_rows kinships ≡ with_forest table place (removed (forest_at table place) n)
+    pub absent_gone : {new_rows : Shared} (n : ℕ) → new_rows ≡ rows → key_of number_of (rows_at rows place) n ≡ None → paired_tables forest_of new_rows kinships ≡ with_forest table place (removed (forest_at table place) n)
     unfolding removed
     absent_gone n same none =
-        ap (λ rows. joined_tables forest_of rows kinships) same
+        ap (λ rows. paired_tables forest_of rows kinships) same
         ∙ (view ∙ (sym (with_same empty_forest table place) ∙ λ i. with_forest table place (record (forest_at table place) { rows = sym (orphans_absent (forest_at table place) sound_anyhow n (absent n (sym none))) i })))
 
     -- a row that is there
@@ -201,7 +201,7 @@ ready_kept {rows} {new_rows} {kinships} {new_kinships} kept rows_are kinships_ar
 }
 
 -- one more place
-module _ {rows new_rows : Shared} {kinships new_kinships : Table Kinship} {table : Table Forest} (kept : IsKept rows kinships) (view : joined_tables forest_of rows kinships ≡ table)
+module _ {rows new_rows : Shared} {kinships new_kinships : Table Kinship} {table : Table Forest} (kept : IsKept rows kinships) (view : paired_tables forest_of rows kinships ≡ table)
     (kinship : Kinship) (rows_are : new_rows ≡ opened rows []) (kinships_are : new_kinships ≡ opened kinships kinship) (number : kinship.last_number ≡ 0) (stamp : kinship.last_stamp ≡ 0) where
   pub open_kept : kinship.children.links ≡ [] → IsKept new_rows new_kinships
   open_kept none = rw (rows_are, kinships_are) (record {
@@ -220,11 +220,11 @@ module _ {rows new_rows : Shared} {kinships new_kinships : Table Kinship} {table
       past (first ∷ rest) zero h = absurd (omega arith)
       past (first ∷ rest) (suc place) h = past rest place (omega arith)
 
-  pub open_seen : joined_tables forest_of new_rows new_kinships ≡ opened table empty_forest
+  pub open_seen : paired_tables forest_of new_rows new_kinships ≡ opened table empty_forest
   open_seen =
-      (λ i. joined_tables forest_of (rows_are i) (kinships_are i))
-      ∙ ((λ i. record { places = joined_push forest_of rows.places kinships.places [] kinship kept.same i; room = rooms i })
-      ∙ ((λ i. opened (joined_tables forest_of rows kinships) (record { rows = []; last_number = number i; last_stamp = stamp i })) ∙ ap (λ t. opened t empty_forest) view))
+      (λ i. paired_tables forest_of (rows_are i) (kinships_are i))
+      ∙ ((λ i. record { places = paired_push forest_of rows.places kinships.places [] kinship kept.same i; room = rooms i })
+      ∙ ((λ i. opened (paired_tables forest_of rows kinships) (record { rows = []; last_number = number i; last_stamp = stamp i })) ∙ ap (λ t. opened t empty_forest) view))
     where
       rooms : min (rows.room - 1) (kinships.room - 1) ≡ min rows.room kinships.room - 1
       rooms = omega arith

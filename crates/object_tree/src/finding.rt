@@ -85,6 +85,7 @@ impl Forests {
         ensures nearest { (passes : ℕ → Bool) → AnswersBy (F.post test) passes
             → IfOk result (λ found. IsNearest (forest_at self.now place).rows object passes found) }
     {
+        // For the proof: in a sound forest the first by levels is the nearest.
         self.sound(place);
         self.find_below(place, object, &test)
     }

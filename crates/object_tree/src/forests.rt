@@ -34,10 +34,10 @@ impl Model for Forests {
 
     ghost Value = { Table Forest };
 
-    ghost use Rattle.places.specs.Joined.{joined_tables};
+    ghost use Rattle.places.specs.Paired.{paired_tables};
     ghost use Rattle.object_tree.specs.Children.{IsKept, forest_of};
 
-    ghost view = { λ forests. joined_tables forest_of forests.rows forests.kinships };
+    ghost view = { λ forests. paired_tables forest_of forests.rows forests.kinships };
 
     ghost invariant = { λ forests. IsKept forests.rows forests.kinships };
 }

@@ -82,6 +82,7 @@ impl Forests {
         if let Some(code) = self.cycle_refusal(place, object, parent) {
             return Some(code);
         }
+        // For the proof: a sound forest is small enough for the sum.
         self.sound(place);
         if self.depth_at(place, parent) + self.height(place, object) > DEPTH {
             return Some(Code::Limit);

@@ -1,2 +1,2 @@
 pub mod TableLemmas
-pub mod JoinedLemmas
+pub mod PairedLemmas

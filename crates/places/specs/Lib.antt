@@ -1,3 +1,3 @@
 pub mod Table
-pub mod Joined
+pub mod Paired
 pub mod Lending

@@ -3,16 +3,16 @@ use Rattle.std.specs.Prelude.{ℤ, List, [], ◌∷◌, codes}
 use Rattle.variant_value.specs.declared.value.Value.TheVariants as v
 use Rattle.signature_core.specs.declared.kind.Kind.TheVariants.{Int}
 use Rattle.stored_slots.specs.declared.functor.Functor.{Functor}
-use Rattle.term_core.specs.declared.action.Effect.TheVariants.{Set}
+use Rattle.term_core.specs.declared.action.SingleAction.TheVariants.{Set}
 use Rattle.term_core.specs.declared.body.Body.{Body}
 use Rattle.term_core.specs.declared.operator.Operator.TheVariants.{Less}
 use Rattle.term_core.specs.declared.target.Target.TheVariants.{Itself}
-use Rattle.term_core.specs.Act.{Act, Acts, effect, when, nothing, more}
+use Rattle.term_core.specs.Act.{Act, Acts, single_action, when, nothing, more}
 use Rattle.term_core.specs.Term.{Term, const, arg, state, binary}
 
 -- its context object's `x` is set to a value
 abbrev pub sets_x : Term → Acts
-sets_x value = more (effect (Set Itself (codes "x") value)) nothing
+sets_x value = more (single_action (Set Itself (codes "x") value)) nothing
 
 -- `x` is set to a number, or to the most where it is above that
 abbrev pub at_most : ℤ → Term → Act

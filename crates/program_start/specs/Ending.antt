@@ -60,20 +60,20 @@ EndsByWords kind ending = IsOutOfMemory ending ⊎ IsToldOfWords kind ending
 
 -- what is known of a sink: the bytes that it has taken, and how often it failed
 pub record Sunk : Type 0 where
-  pub held : Option (List ℕ)
+  pub received : Option (List ℕ)
   pub failures : ℕ
 
 abbrev pub sunk : Option (List ℕ) → ℕ → Sunk
-sunk held failures = record { held = held; failures = failures }
+sunk held failures = record { received = held; failures = failures }
 
 -- a sink took all of a text, or it failed
 abbrev pub Takes : Sunk → Sunk → List ℕ → Type 0
-Takes old new text = (Appends old.held new.held text × (new.failures ≡ old.failures)) ⊎ FailsOnce old.failures new.failures
+Takes old new text = (Appends old.received new.received text × (new.failures ≡ old.failures)) ⊎ FailsOnce old.failures new.failures
 
 -- standard output took all of the text, or it failed: then standard error is told, and the status is 4
 abbrev pub Shows : Ending → ℕ → Sunk → Sunk → Sunk → Sunk → Type 0
 Shows ending status output output_after error error_after =
-    ((status ≡ ending.status) × Appends output.held output_after.held (cow_str_bytes ending.text) × (output_after.failures ≡ output.failures) × (error_after ≡ error))
+    ((status ≡ ending.status) × Appends output.received output_after.received (cow_str_bytes ending.text) × (output_after.failures ≡ output.failures) × (error_after ≡ error))
     ⊎ ((status ≡ 4) × FailsOnce output.failures output_after.failures × Takes error error_after (line (codes "metad: write fault")))
 
 -- standard error is told the text, and standard output nothing

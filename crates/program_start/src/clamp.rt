@@ -14,7 +14,7 @@ ghost use Rattle.program_start.specs.Clamp.{at_most, clamped, clamp_body, sets_x
 
 use plain_types::{Items, Text};
 use std::alloc::{AllocError, Global};
-use term_core::{Action, Body, Effect, Expr, Node, Operator, Step, Target};
+use term_core::{Action, Body, Expr, Node, Operator, SingleAction, Step, Target};
 use variant_value::Value;
 
 fn number(number: i32) -> Expr
@@ -45,7 +45,7 @@ fn set_x(alloc: Global, value: Expr) -> Result<Vec<Action>, AllocError>
     ensures { IfOk result (λ actions. acts_of actions.items ≡ sets_x value) }
 {
     let property = Text::from_str(alloc, "x")?;
-    let step = Step::Effect(Effect::Set {
+    let step = Step::Single(SingleAction::Set {
         of: Target::Itself,
         property,
         value,

@@ -8,7 +8,7 @@ ghost use Rattle.program_start.specs.Count.{count_body, counted, one_more};
 
 use plain_types::{Items, Text};
 use std::alloc::{AllocError, Global};
-use term_core::{Action, Body, Effect, Expr, Node, Operator, Step, Target};
+use term_core::{Action, Body, Expr, Node, Operator, SingleAction, Step, Target};
 use term_evaluation::state_value;
 use variant_value::Value;
 
@@ -31,7 +31,7 @@ fn counted(alloc: Global, number: Expr) -> Result<Vec<Action>, AllocError>
 {
     let property = Text::from_str(alloc, "y")?;
     let value = one_more(alloc, number)?;
-    let step = Step::Effect(Effect::Set {
+    let step = Step::Single(SingleAction::Set {
         of: Target::Itself,
         property,
         value,

@@ -4,9 +4,9 @@ use Rattle.std.specs.List.{All, slice_get}
 use Rattle.std.proofs.lemmas.Bool.{and_right, both_ways, cases_Bool, cases_eq, cases_lt, eq-eqb, le-ltb, lt-ltb, ne_eqb, or_left, or_right}
 use Rattle.std.proofs.lemmas.List.Elements.{All-append, All-filter}
 use Rattle.std.proofs.lemmas.List.{length_push}
-use Rattle.places.specs.Joined.{joined}
+use Rattle.places.specs.Paired.{paired}
 use Rattle.places.specs.Table.{IsPlace, Table, opened, with_place}
-use Rattle.places.proofs.JoinedLemmas.{joined_push}
+use Rattle.places.proofs.PairedLemmas.{paired_push}
 use Rattle.places.proofs.TableLemmas.{default_pushed, with_same}
 use Rattle.shared_rows.specs.Rows.{Keyed, inserted, key_of, rows_at, without}
 use Rattle.property_store.specs.declared.field.Field.{Field}
@@ -47,10 +47,10 @@ module _ {layouts : List (List Field)} {rows : Table (List (Keyed Row))} {heads 
           let never : i < 0 = rw first at inside in
           omega (arith, never)
 
-  pub opened_marks : (rows' : Table (List (Keyed Row))) (heads' : Table Head) → rows' ≡ opened rows [] → heads' ≡ opened heads head.None → joined marks_of rows'.places heads'.places ≡ seen.marks ++ no_marks ∷ []
+  pub opened_marks : (rows' : Table (List (Keyed Row))) (heads' : Table Head) → rows' ≡ opened rows [] → heads' ≡ opened heads head.None → paired marks_of rows'.places heads'.places ≡ seen.marks ++ no_marks ∷ []
   opened_marks rows' heads' rows_are heads_are =
-      (λ i. joined marks_of (rows_are i).places (heads_are i).places)
-      ∙ (joined_push marks_of rows.places heads.places [] head.None (sym kept.same) ∙ ap (λ marks. marks ++ no_marks ∷ []) (marks_seen view_is))
+      (λ i. paired marks_of (rows_are i).places (heads_are i).places)
+      ∙ (paired_push marks_of rows.places heads.places [] head.None (sym kept.same) ∙ ap (λ marks. marks ++ no_marks ∷ []) (marks_seen view_is))
 
   module _ (place : ℕ) (is_place : IsPlace seen.shelves.table place) where
     abbrev here : List (Keyed Row)
@@ -66,7 +66,7 @@ module _ {layouts : List (List Field)} {rows : Table (List (Keyed Row))} {heads 
     pub record AreGone (rows' : Table (List (Keyed Row))) (heads' : Table Head) (left : Store) : Type 0 where
       pub kept_still : IsKept layouts rows' heads'
       pub stores : shelves_of layouts (limited rows' heads'.room) ≡ with_store seen.shelves place left
-      pub marks : HasMarks place all_marks seen.marks (joined marks_of rows'.places heads'.places)
+      pub marks : HasMarks place all_marks seen.marks (paired marks_of rows'.places heads'.places)
 
     pub gone : (rows' : Table (List (Keyed Row))) (list : List (Keyed Row)) (left : Store) → rows' ≡ with_place rows place list → AreRows layouts list → All (λ keyed. length keyed.row.links ≡ length keyed.row.values) list
         → ((q : Property) → is_linked (link_at list q) ≡ false) → store_of layouts list ≡ left → AreGone rows' (with_place heads place head.All) left
@@ -198,7 +198,7 @@ module _ {layouts : List (List Field)} {rows : Table (List (Keyed Row))} {heads 
         pub come_limited : limited rows' heads'.room ≡ with_place (limited rows heads.room) place list
         come_limited = limited_moved kept view_is place in_rows come_moved
 
-        pub come_marks : AreMarked place (is_new n (fields_of seen.shelves class)) seen.marks (joined marks_of rows'.places heads'.places)
+        pub come_marks : AreMarked place (is_new n (fields_of seen.shelves class)) seen.marks (paired marks_of rows'.places heads'.places)
         come_marks =
-            subst (λ fields. AreMarked place (is_new n fields) seen.marks (joined marks_of rows'.places heads'.places)) (ap (λ (s : Shelves). fields_in s.layouts class) (shelves_seen view_is))
+            subst (λ fields. AreMarked place (is_new n fields) seen.marks (paired marks_of rows'.places heads'.places)) (ap (λ (s : Shelves). fields_in s.layouts class) (shelves_seen view_is))
             (marked_moved kept view_is place in_rows come_moved (is_new n (fields_in layouts class)) come_marked)

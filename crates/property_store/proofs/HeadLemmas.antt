@@ -4,9 +4,9 @@ use Rattle.std.specs.List.{All}
 use Rattle.std.proofs.lemmas.Bool.{cases_Bool, cases_eq, or_left, or_right}
 use Rattle.std.proofs.lemmas.List.{get_or-set_other, get_or-set_same, length-set, set-get_or}
 use Rattle.std.proofs.lemmas.List.Elements.{All-map}
-use Rattle.places.specs.Joined.{joined}
+use Rattle.places.specs.Paired.{paired}
 use Rattle.places.specs.Table.{IsPlace, Table, with_place}
-use Rattle.places.proofs.JoinedLemmas.{joined_set}
+use Rattle.places.proofs.PairedLemmas.{paired_set}
 use Rattle.shared_rows.specs.Rows.{Keyed, key_of, row_under, rows_at, with_row}
 use Rattle.shared_rows.specs.Rows as table
 use Rattle.property_store.specs.declared.field.Field.{Field}
@@ -28,7 +28,7 @@ use Rattle.property_store.proofs.KindLemmas.{as_many}
 use Rattle.property_store.proofs.PlaceLemmas.{IsChanged, marks_seen, rows_open, shelves_seen, under_all}
 use Rattle.property_store.proofs.StoreLemmas.{IsRowOf, number}
 
-joined_marks : (rows : List (List (Keyed Row))) (heads : List Head) → length heads ≡ length rows → (place : ℕ) → get_or (joined marks_of rows heads) place no_marks ≡ marks_of (get_or rows place []) (get_or heads place head.None)
+joined_marks : (rows : List (List (Keyed Row))) (heads : List Head) → length heads ≡ length rows → (place : ℕ) → get_or (paired marks_of rows heads) place no_marks ≡ marks_of (get_or rows place []) (get_or heads place head.None)
 joined_marks [] [] same place = refl
 joined_marks [] (first ∷ heads) same place = absurd (omega arith)
 joined_marks (row ∷ rows) [] same place = absurd (omega arith)
@@ -76,30 +76,30 @@ module _ {layouts : List (List Field)} {rows : Table (List (Keyed Row))} {heads 
           (cases_eq other place);
     }
 
-    pub here_moved : marks_at (joined marks_of rows'.places heads'.places) place ≡ marks_of list first
+    pub here_moved : marks_at (paired marks_of rows'.places heads'.places) place ≡ marks_of list first
     here_moved = joined_marks rows'.places heads'.places same_moved place ∙ (λ i. marks_of (rows_here i) (head_here i))
 
-    pub beside_moved : (other : ℕ) → other ≢ place → marks_at (joined marks_of rows'.places heads'.places) other ≡ marks_at seen.marks other
+    pub beside_moved : (other : ℕ) → other ≢ place → marks_at (paired marks_of rows'.places heads'.places) other ≡ marks_at seen.marks other
     beside_moved other differ =
         joined_marks rows'.places heads'.places same_moved other
         ∙ ((λ i. marks_of (rows_beside other differ i) (head_beside other differ i))
         ∙ (sym (joined_marks rows.places heads.places kept.same other) ∙ ap (λ marks. marks_at marks other) (marks_seen view_is)))
 
-    pub marked_moved : (these : Property → Bool) → ((q : Property) → is_marked (marks_of list first) q ≡ (these q || is_marked (marks_of (rows_at rows place) (head_at heads place)) q)) → AreMarked place these seen.marks (joined marks_of rows'.places heads'.places)
+    pub marked_moved : (these : Property → Bool) → ((q : Property) → is_marked (marks_of list first) q ≡ (these q || is_marked (marks_of (rows_at rows place) (head_at heads place)) q)) → AreMarked place these seen.marks (paired marks_of rows'.places heads'.places)
     marked_moved these are = record {
       here = λ q. ap (λ marks. is_marked marks q) here_moved ∙ (are q ∙ ap (λ marks. these q || is_marked marks q) (sym marks_there));
       others = beside_moved;
     }
 
-    pub has_moved : (marks : Marks) → marks_of list first ≡ marks → HasMarks place marks seen.marks (joined marks_of rows'.places heads'.places)
+    pub has_moved : (marks : Marks) → marks_of list first ≡ marks → HasMarks place marks seen.marks (paired marks_of rows'.places heads'.places)
     has_moved marks are = record { here = here_moved ∙ are; others = beside_moved }
 
-    pub marks_kept : marks_of list first ≡ marks_of (rows_at rows place) (head_at heads place) → joined marks_of rows'.places heads'.places ≡ seen.marks
+    pub marks_kept : marks_of list first ≡ marks_of (rows_at rows place) (head_at heads place) → paired marks_of rows'.places heads'.places ≡ seen.marks
     marks_kept are =
-        (λ i. joined marks_of (moved.rows_are i).places (moved.heads_are i).places)
-        ∙ (joined_set marks_of rows.places heads.places place list first (sym kept.same)
-        ∙ (ap (set (joined marks_of rows.places heads.places) place) (are ∙ sym (joined_marks rows.places heads.places kept.same place))
-        ∙ (set-get_or (joined marks_of rows.places heads.places) place no_marks ∙ marks_seen view_is)))
+        (λ i. paired marks_of (moved.rows_are i).places (moved.heads_are i).places)
+        ∙ (paired_set marks_of rows.places heads.places place list first (sym kept.same)
+        ∙ (ap (set (paired marks_of rows.places heads.places) place) (are ∙ sym (joined_marks rows.places heads.places kept.same place))
+        ∙ (set-get_or (paired marks_of rows.places heads.places) place no_marks ∙ marks_seen view_is)))
 
 -- the row of an object is another
 module _ (rows : List (Keyed Row)) (key n : ℕ) (old row : Row) (is : IsRowOf rows key n old) (numbered : row.object ≡ n) (first : Head) (chained : AreChained rows first) where

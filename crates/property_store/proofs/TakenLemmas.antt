@@ -3,7 +3,7 @@ use Rattle.std.proofs.Common.{◌≡◌, ◌≢◌, ◌∙◌, ℕ, ◌==◌, Bo
 use Rattle.std.specs.Option.{IsSome}
 use Rattle.std.proofs.lemmas.List.{length-set}
 use Rattle.std.proofs.lemmas.List.Elements.{All-map}
-use Rattle.places.specs.Joined.{joined}
+use Rattle.places.specs.Paired.{paired}
 use Rattle.places.specs.Table.{IsPlace, Table, with_place}
 use Rattle.places.proofs.TableLemmas.{with_same}
 use Rattle.shared_rows.specs.Rows.{Keyed, rows_at}
@@ -32,7 +32,7 @@ use Rattle.property_store.proofs.PlaceLemmas.{after, kept_with, rows_open, shelv
 pub record IsLeft (layouts : List (List Field)) (rows : Table (List (Keyed Row))) (heads : Table Head) (seen : Stock) (place : ℕ) : Type 0 where
   pub kept : IsKept layouts rows heads
   pub shelves : shelves_of layouts (limited rows heads.room) ≡ seen.shelves
-  pub others : (other : ℕ) → other ≢ place → marks_at (joined marks_of rows.places heads.places) other ≡ marks_at seen.marks other
+  pub others : (other : ℕ) → other ≢ place → marks_at (paired marks_of rows.places heads.places) other ≡ marks_at seen.marks other
 
 module _ {layouts : List (List Field)} {rows : Table (List (Keyed Row))} {heads : Table Head} (kept : IsKept layouts rows heads) {seen : Stock} (view_is : stock_of layouts rows heads ≡ seen) (place : ℕ) (is_place : IsPlace seen.shelves.table place) where
   abbrev here : List (Keyed Row)
@@ -62,7 +62,7 @@ module _ {layouts : List (List Field)} {rows : Table (List (Keyed Row))} {heads 
       others = beside_moved kept view_is place in_rows all_moved;
     }
 
-    pub all_taken : IsTaken (marks_at seen.marks place) (marks_at (joined marks_of rows.places (with_place heads place head.None).places) place) told.All
+    pub all_taken : IsTaken (marks_at seen.marks place) (marks_at (paired marks_of rows.places (with_place heads place head.None).places) place) told.All
     all_taken = (
       ap (λ (marks : Marks). marks.all) (marks_there kept view_is place ∙ ap (marks_of here) is),
       here_moved kept view_is place in_rows all_moved ∙ ap {B = Marks} (λ list. record { all = false; each = list }) (none_marked here all_linked head.None),
@@ -128,7 +128,7 @@ module _ {layouts : List (List Field)} {rows : Table (List (Keyed Row))} {heads 
         others = beside_moved kept view_is place in_rows one_moved;
       }
 
-      pub one_taken : IsTaken (marks_at seen.marks place) (marks_at (joined marks_of rows'.places (with_place heads place next).places) place) (told.One at)
+      pub one_taken : IsTaken (marks_at seen.marks place) (marks_at (paired marks_of rows'.places (with_place heads place next).places) place) (told.One at)
       one_taken =
           let there = marks_there kept view_is place ∙ ap (marks_of here) is in (
             ap (λ (marks : Marks). marks.all) there,

@@ -4,7 +4,7 @@ use Rattle.std.specs.Option.{option_map, option_map_or}
 use Rattle.std.specs.Prelude.{option_and_then}
 use Rattle.std.specs.List.{slice_get}
 use Rattle.std.proofs.lemmas.List.{length-set}
-use Rattle.places.specs.Joined.{joined}
+use Rattle.places.specs.Paired.{paired}
 use Rattle.places.specs.Table.{Table}
 use Rattle.shared_rows.specs.Rows.{Keyed, rows_at, with_row}
 use Rattle.refusals.specs.declared.code.Code.{Code}
@@ -104,7 +104,7 @@ module _ {layouts : List (List Field)} {rows : Table (List (Keyed Row))} {heads 
         (subst (AreChained (with_row (rows_at rows place) key row)) (sym head_same)
         (chained_same (rows_at rows place) key n old row is_old numbered_n before (it.kept.chained place) same (ap length same ∙ (old_many ∙ sym values))))
 
-    pub marks_as_before : joined marks_of rows'.places heads'.places ≡ seen.marks
+    pub marks_as_before : paired marks_of rows'.places heads'.places ≡ seen.marks
     marks_as_before =
         marks_kept it.kept it.view_is place (in_rows it) (as_moved it)
         (ap (marks_of (with_row (rows_at rows place) key row)) head_same ∙ marks_same (rows_at rows place) key n old row is_old numbered_n before (it.kept.chained place) same)
@@ -138,7 +138,7 @@ module _ {layouts : List (List Field)} {rows : Table (List (Keyed Row))} {heads 
     fitting_is : fitting store n number value ≡ fit_in fields number value
     fitting_is = rw (old_there (as_changed it)) refl
 
-    pub stored_marks : AreMarked place (is_written store n number value) seen.marks (joined marks_of rows'.places heads'.places)
+    pub stored_marks : AreMarked place (is_written store n number value) seen.marks (paired marks_of rows'.places heads'.places)
     stored_marks = marked_moved it.kept it.view_is place (in_rows it) (as_moved it) (is_written store n number value) (λ q. ap (λ h. is_marked (marks_of (with_row (rows_at rows place) key row) h) q) head_linked ∙ (by (fit_in fields number value) (was_linked result) said.marked q ∙ ap (λ (fit : Option Value). (is_some fit && is_property (record { object = n; number = number }) q) || is_marked (marks_of (rows_at rows place) before) q) (sym fitting_is)))
       where
         by : (fit : Option Value) (linked : Bool) → IsMarkedWith fit before number old.links row.links linked → (q : Property)
@@ -163,20 +163,20 @@ module _ {layouts : List (List Field)} {rows : Table (List (Keyed Row))} {heads 
     declared_is : declared_at store n name ≡ option_and_then (λ number. option_map (λ (field : Field). (number, field.kind)) (slice_get fields number)) (field_number name fields)
     declared_is = rw (old_there (as_changed it)) refl
 
-    pub named_marks : AreMarked place (is_written_named store n name value) seen.marks (joined marks_of rows'.places heads'.places)
+    pub named_marks : AreMarked place (is_written_named store n name value) seen.marks (paired marks_of rows'.places heads'.places)
     named_marks = by (field_number name fields) refl said
       where
-        as_declared : (found : Option (ℕ × Kind)) → declared_at store n name ≡ found → AreMarked place (λ q. option_map_or (λ (at : ℕ × Kind). is_written store n at.0 value q) found false) seen.marks (joined marks_of rows'.places heads'.places) → AreMarked place (is_written_named store n name value) seen.marks (joined marks_of rows'.places heads'.places)
-        as_declared found is marked = subst (λ o. AreMarked place (λ q. option_map_or (λ (at : ℕ × Kind). is_written store n at.0 value q) o false) seen.marks (joined marks_of rows'.places heads'.places)) (sym is) marked
+        as_declared : (found : Option (ℕ × Kind)) → declared_at store n name ≡ found → AreMarked place (λ q. option_map_or (λ (at : ℕ × Kind). is_written store n at.0 value q) found false) seen.marks (paired marks_of rows'.places heads'.places) → AreMarked place (is_written_named store n name value) seen.marks (paired marks_of rows'.places heads'.places)
+        as_declared found is marked = subst (λ o. AreMarked place (λ q. option_map_or (λ (at : ℕ × Kind). is_written store n at.0 value q) o false) seen.marks (paired marks_of rows'.places heads'.places)) (sym is) marked
 
-        by : (found : Option ℕ) → field_number name fields ≡ found → IsNumbered fields value before old row result found → AreMarked place (is_written_named store n name value) seen.marks (joined marks_of rows'.places heads'.places)
+        by : (found : Option ℕ) → field_number name fields ≡ found → IsNumbered fields value before old row result found → AreMarked place (is_written_named store n name value) seen.marks (paired marks_of rows'.places heads'.places)
         by None is none = as_declared None (declared_is ∙ ap (option_and_then (λ number. option_map (λ (field : Field). (number, field.kind)) (slice_get fields number))) is)
             (record {
               here = λ q. ap (λ marks. is_marked (marks_at marks place) q) same;
               others = λ other differ. ap (λ marks. marks_at marks other) same;
             })
           where
-            same : joined marks_of rows'.places heads'.places ≡ seen.marks
+            same : paired marks_of rows'.places heads'.places ≡ seen.marks
             same = marks_as_before (ap (λ (r : Row). r.links) none.1) (ap (λ (r : Row). length r.values) none.1) (ap (λ (r : Row). r.object) none.1) (head_is ∙ ap (head_after_named n before) none.0)
         by (Some number) is some =
             let there = standing fields number some.0 in

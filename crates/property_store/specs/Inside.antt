@@ -1,7 +1,7 @@
 -- How stores stand in rows. No public clause cites this module.
 use Rattle.std.specs.Prelude.{ℕ, ◌≡◌, ◌==◌, ◌<◌, ◌≤◌, if◌then◌else◌, List, length, All, Option, filter, find, map, min, nat_lt, option_and_then, option_map, slice_get, slice_index_or, slice_set}
 use Rattle.std.specs.List.{AllWithin, flat_map, range_with_len}
-use Rattle.places.specs.Joined.{joined}
+use Rattle.places.specs.Paired.{paired}
 use Rattle.places.specs.Table.{Table}
 use Rattle.shared_rows.specs.Rows.{Keyed, rows_at}
 use Rattle.property_store.specs.declared.field.Field.{Field}
@@ -91,4 +91,4 @@ module _ (layouts : List (List Field)) where
 
   -- what contracts see
   abbrev pub stock_of : Table (List (Keyed Row)) → Table Head → Stock
-  stock_of rows heads = record { shelves = shelves_of (limited rows heads.room); marks = joined marks_of rows.places heads.places }
+  stock_of rows heads = record { shelves = shelves_of (limited rows heads.room); marks = paired marks_of rows.places heads.places }

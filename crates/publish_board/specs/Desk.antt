@@ -42,8 +42,8 @@ join_refusal own desk join wanted =
     else (if nat_le 1024 (length desk.joins) then Some Limit else None))
 
 -- with one join more
-abbrev pub joined : Desk → Join → Desk
-joined desk join = record desk { joins = desk.joins ++ join ∷ [] }
+abbrev pub with_join : Desk → Join → Desk
+with_join desk join = record desk { joins = desk.joins ++ join ∷ [] }
 
 -- without the joins that are equal in these four
 abbrev pub left : Desk → List ℕ → List ℕ → ℕ → ℕ → Desk

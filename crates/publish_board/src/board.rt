@@ -4,7 +4,7 @@ ghost use Rattle.std.specs.List.{list_any};
 ghost use Rattle.places.specs.Table.{IsPlace, opened};
 ghost use Rattle.refusals.specs.Answers.{RefusedBy};
 ghost use Rattle.publish_board.specs.Rows.{has_name, is_join, listens, names_of, publishes};
-ghost use Rattle.publish_board.specs.Desk.{IsSound, counts_of, join_refusal, joined, left, names_session, no_desk, publish_refusal, published, unpublished, without_object};
+ghost use Rattle.publish_board.specs.Desk.{IsSound, counts_of, join_refusal, with_join, left, names_session, no_desk, publish_refusal, published, unpublished, without_object};
 ghost use Rattle.publish_board.specs.Table.{IsNextJoiner, desk_at, with_desk};
 ghost use Rattle.publish_board.specs.Going.{gone};
 ghost use Rattle.publish_board.specs.Inside.{without_join};
@@ -118,7 +118,7 @@ impl Board {
     ) -> Result<(), Fault>
         requires { IsPlace self.old place }
         ensures refusal { RefusedBy (join_refusal own.now (desk_at self.old place) join wanted.now) result }
-        ensures ok { OnOk result (self.new ≡ with_desk self.old place (joined (desk_at self.old place) join)) }
+        ensures ok { OnOk result (self.new ≡ with_desk self.old place (with_join (desk_at self.old place) join)) }
         ensures err { OnErr result (self.new ≡ self.old) }
     {
         self.desks.get(place).may_join(own, &join, wanted)?;
@@ -130,7 +130,7 @@ impl Board {
     fn add(&mut self, place: usize, join: Join) -> Result<(), AllocError>
         requires place { IsPlace self.old place }
         requires room { length (desk_at self.old place).joins < 1024 }
-        ensures ok { OnOk result (self.new ≡ with_desk self.old place (joined (desk_at self.old place) join)) }
+        ensures ok { OnOk result (self.new ≡ with_desk self.old place (with_join (desk_at self.old place) join)) }
         ensures err { OnErr result (self.new ≡ self.old) }
     {
         let from = join.from.copy(self.alloc)?;

@@ -4,7 +4,7 @@ ghost use Rattle.std.specs.List.{list_any};
 ghost use Rattle.std.specs.Result.{result_err};
 ghost use Rattle.refusals.specs.Answers.{RefusedBy};
 ghost use Rattle.publish_board.specs.Rows.{has_name};
-ghost use Rattle.publish_board.specs.Desk.{IsSound, counts_of, join_refusal, joined, names_session, no_desk, publish_refusal, published, unpublished};
+ghost use Rattle.publish_board.specs.Desk.{IsSound, counts_of, join_refusal, with_join, names_session, no_desk, publish_refusal, published, unpublished};
 ghost use Rattle.publish_board.specs.Inside.{desk_of, without_join, without_publications};
 
 use crate::join::Join;
@@ -154,7 +154,7 @@ impl LazyDesk {
     /// Adds a join behind all others.
     pub(crate) fn add_join(&mut self, alloc: Global, join: Join) -> Result<(), AllocError>
         requires { length self.old.joins < 1024 }
-        ensures ok { OnOk result (self.new ≡ joined self.old join) }
+        ensures ok { OnOk result (self.new ≡ with_join self.old join) }
         ensures err { OnErr result (self.new ≡ self.old) }
     {
         make(&mut self.made, alloc)?;

@@ -1,6 +1,6 @@
 //! The rows of a desk.
 ghost use Rattle.std.specs.Prelude.{◌≡◌, ◌<◌, [], OnOk, OnErr, length, slice_index_or};
-ghost use Rattle.publish_board.specs.Desk.{joined, no_desk, published, unpublished};
+ghost use Rattle.publish_board.specs.Desk.{with_join, no_desk, published, unpublished};
 ghost use Rattle.publish_board.specs.Inside.{desk_in, without_join, without_publications};
 
 use crate::join::Join;
@@ -48,7 +48,7 @@ impl Rows {
     }
 
     pub(crate) fn join(&mut self, join: Join) -> Result<(), AllocError>
-        ensures ok { OnOk result (desk_in self.new ≡ joined (desk_in self.old) join) }
+        ensures ok { OnOk result (desk_in self.new ≡ with_join (desk_in self.old) join) }
         ensures err { OnErr result (desk_in self.new ≡ desk_in self.old) }
     {
         self.joins.push(join)?;

@@ -18,12 +18,12 @@ use Rattle.session_tables.specs.Session.{Session, fresh}
 use Rattle.session_tables.proofs.ReachingLemmas.{heard-none, stays_failed}
 use Rattle.session_tables.specs.Tables.{session_at}
 use Rattle.session_engine.specs.Core as engine
-use Rattle.session_engine.specs.Core.{Contents, place}
+use Rattle.session_engine.specs.Core.{EngineState, place}
 use Rattle.session_engine.specs.Items.{BeginsAnew}
 use Rattle.session_engine.specs.Sessions.{AreSound, AreWell, IsStep, is_reset}
 use Rattle.session_engine.proofs.EngineLemmas.{position-any, position-None}
 use Rattle.server_world.specs.Names.{with_name}
-use Rattle.server_world.specs.Server.{Server, IsLost, StaysOut, failed, seen, sessions, settings, was_refused}
+use Rattle.server_world.specs.Server.{Server, IsLost, StaysOut, failed, seen_by_name, sessions, settings, was_refused}
 
 pub refused_in_engine : (server : Server) → IsTrue (engine.was_refused server.engine) → IsTrue (was_refused server)
 unfolding was_refused
@@ -53,7 +53,7 @@ module _ (old new : Server) (same : new.memory_refused ≡ old.memory_refused) w
   refused_first was now = ⊎_elim (λ inside. inside) (λ outside. absurd (both_ways _ (found_elsewhere old was) (sym same ∙ outside))) (or_cases _ _ now)
 
   -- so a step of the engine is one of the server
-  pub step_of_engine : (name : List ℕ) (asked : Asked) (told : Option (List Line)) → IsStep (engine.seen old.engine) (engine.seen new.engine) name asked told → IsStep (seen old) (seen new) name asked told
+  pub step_of_engine : (name : List ℕ) (asked : Asked) (told : Option (List Line)) → IsStep (engine.seen_by_name old.engine) (engine.seen_by_name new.engine) name asked told → IsStep (seen_by_name old) (seen_by_name new) name asked told
   step_of_engine name asked told step = record {
     lines = λ found. step.lines (found_in_engine new found);
     states = λ found. step.states (found_in_engine new found);
@@ -74,7 +74,7 @@ module _ (old new : Server) (same : new.memory_refused ≡ old.memory_refused) w
   }
 
 -- nothing is done for a name that could not be entered
-pub step_out : (old new : Server) (name : List ℕ) (asked : Asked) → StaysOut old.engine new.engine name → AreWell (engine.seen old.engine) → AreSound (engine.seen old.engine) → IsStep (seen old) (seen new) name asked None
+pub step_out : (old new : Server) (name : List ℕ) (asked : Asked) → StaysOut old.engine new.engine name → AreWell (engine.seen_by_name old.engine) → AreSound (engine.seen_by_name old.engine) → IsStep (seen_by_name old) (seen_by_name new) name asked None
 step_out old new name asked out well sound =
     let refused : IsTrue (was_refused new) = refused_in_engine new out.refused in
     record {
@@ -103,10 +103,10 @@ none_of_err (Ok value) h = absurd (cc)
 none_of_err (Err error) h = refl
 
 -- with a name that has a place the names stay, and one that has none goes last
-pub with_name-there : (sessions : Contents) (name : List ℕ) (at : ℕ) → place sessions name ≡ Some at → engine.names sessions ≡ with_name (engine.names sessions) name
+pub with_name-there : (sessions : EngineState) (name : List ℕ) (at : ℕ) → place sessions name ≡ Some at → engine.names sessions ≡ with_name (engine.names sessions) name
 with_name-there sessions name at there = sym (cond-true (list_any (bytes_eq name) sessions.names) _ _ (position-any (bytes_eq name) sessions.names at there))
 
-pub with_name-new : (sessions : Contents) (name : List ℕ) → place sessions name ≡ None → engine.names sessions ++ name ∷ [] ≡ with_name (engine.names sessions) name
+pub with_name-new : (sessions : EngineState) (name : List ℕ) → place sessions name ≡ None → engine.names sessions ++ name ∷ [] ≡ with_name (engine.names sessions) name
 with_name-new sessions name absent = sym (cond-false (list_any (bytes_eq name) sessions.names) _ _ (position-None (bytes_eq name) sessions.names absent))
 
 -- a session that has had no command joins none
@@ -115,7 +115,7 @@ unfolding joins_name
 empty_joins_none name = refl
 
 -- so the names of an engine are all that may have a join
-pub knows_all : (settings : Settings) (sessions : Contents) → KnowsAll (machine settings) (engine.states sessions) (engine.names sessions)
+pub knows_all : (settings : Settings) (sessions : EngineState) → KnowsAll (machine settings) (engine.states sessions) (engine.names sessions)
 knows_all settings sessions name t joins = by (place sessions name) refl
   where
     by : (found : Option ℕ) → place sessions name ≡ found → list_any (bytes_eq name) sessions.names ≡ true
@@ -123,7 +123,7 @@ knows_all settings sessions name t joins = by (place sessions name) refl
     by None absent = absurd (both_ways _ (empty_joins_none t) (sym (ap (λ found. joins_name (option_map_or (session_at sessions.tables) found fresh).state t) absent) ∙ joins))
 
 -- a session that has failed is there
-pub failed_there : (sessions : Contents) (name : List ℕ) → IsTrue (engine.failed sessions name) → list_any (bytes_eq name) (engine.names sessions) ≡ true
+pub failed_there : (sessions : EngineState) (name : List ℕ) → IsTrue (engine.failed sessions name) → list_any (bytes_eq name) (engine.names sessions) ≡ true
 failed_there sessions name was = by (place sessions name) refl
   where
     by : (found : Option ℕ) → place sessions name ≡ found → list_any (bytes_eq name) sessions.names ≡ true
@@ -131,7 +131,7 @@ failed_there sessions name was = by (place sessions name) refl
     by None absent = absurd (true≢false (sym was ∙ ap (λ found. (option_map_or (session_at sessions.tables) found fresh).failed) absent))
 
 -- a session that has failed stays so, unless it begins anew
-pub failed_kept : (old new : Server) (name : List ℕ) (asked : Asked) (told : Option (List Line)) → IsStep (seen old) (seen new) name asked told → IfNone told (IsLost old new name) → (other : List ℕ) → IsTrue (failed old other)
+pub failed_kept : (old new : Server) (name : List ℕ) (asked : Asked) (told : Option (List Line)) → IsStep (seen_by_name old) (seen_by_name new) name asked told → IfNone told (IsLost old new name) → (other : List ℕ) → IsTrue (failed old other)
     → IsTrue (failed new other) ⊎ IsTrue (bytes_eq other name && is_reset asked)
 failed_kept old new name asked told step lost other was = ⊎_elim
     (λ here. ⊎_elim
@@ -143,7 +143,7 @@ failed_kept old new name asked told step lost other was = ⊎_elim
     (λ elsewhere. inl (stays_failed (settings old).classes name step.posts (sessions old other) (sessions new other) (step.others other elsewhere) was))
     (cases_Bool (bytes_eq other name))
   where
-    own : (told : Option (List Line)) → IsStep (seen old) (seen new) name asked told → IfNone told (IsLost old new name) → is_reset asked ≡ false → IsTrue (failed old name) → IsTrue (failed new name)
+    own : (told : Option (List Line)) → IsStep (seen_by_name old) (seen_by_name new) name asked told → IfNone told (IsLost old new name) → is_reset asked ≡ false → IsTrue (failed old name) → IsTrue (failed new name)
     own (Some lines) step lost plain was = ap (λ session. session.failed) step.leaves ∙ ap (λ failed. failed && not (is_reset asked)) was ∙ ap not plain
     own None step lost plain was = ⊎_elim
         (λ gone. ap (λ session. session.failed) gone)
@@ -178,7 +178,7 @@ named_by names name other known = by (list_any (bytes_eq name) names) known
         (or_cases (list_any (bytes_eq other) names) _ (sym (list_any-append (bytes_eq other) names (name ∷ [])) ∙ e))
 
 -- a session that is not there is where it would be put
-pub anew_absent : (server : Server) (name : List ℕ) → place server.engine name ≡ None → AreSound (engine.seen server.engine) → BeginsAnew (seen server) (seen server) name
+pub anew_absent : (server : Server) (name : List ℕ) → place server.engine name ≡ None → AreSound (engine.seen_by_name server.engine) → BeginsAnew (seen_by_name server) (seen_by_name server) name
 anew_absent server name absent sound = record {
   fresh = ap (λ found. option_map_or (session_at server.engine.tables) found fresh) absent;
   others = λ other elsewhere. refl;

@@ -15,7 +15,7 @@ use Rattle.thread_model.specs.declared.line.Line.{Line}
 use Rattle.session_engine.specs.Sessions.{AreSound, IsStep, is_reset}
 use Rattle.server_world.specs.declared.report.Entry.{Entry}
 use Rattle.server_world.specs.Names.{with_name, with_names}
-use Rattle.server_world.specs.Server.{Server, IsLost, KnowsAtMost, KnowsItsSessions, failed, names, seen, settings, states, was_refused}
+use Rattle.server_world.specs.Server.{Server, IsLost, KnowsAtMost, KnowsItsSessions, failed, names, seen_by_name, settings, states, was_refused}
 use Rattle.server_world.specs.declared.report.Entry.TheVariants.{Lines, OutOfMemory}
 
 -- the commands of a list, as definitions see them
@@ -33,7 +33,7 @@ entry_lines OutOfMemory = None
 
 -- one command of a run, with its entry: a step, from where all sessions stand
 pub record IsEntry (old new : Server) (t : Tagged (List ℕ) Asked) (entry : Entry) : Type 0 where
-  pub step : IsStep (seen old) (seen new) t.session t.command (entry_lines entry)
+  pub step : IsStep (seen_by_name old) (seen_by_name new) t.session t.command (entry_lines entry)
   pub known : KnowsAtMost old new t.session
   pub there : OnSome (entry_lines entry) (names new ≡ with_name (names old) t.session)
   pub lost : IfNone (entry_lines entry) (IsLost old new t.session)
@@ -81,7 +81,7 @@ pub record IsLater (old new : Server) : Type 0 where
   pub settings : settings new ≡ settings old
   pub kept : IsTrue (was_refused old) → IsTrue (was_refused new)
   pub knows : KnowsItsSessions new
-  pub sound : AreSound (seen new)
+  pub sound : AreSound (seen_by_name new)
 
 -- does the session begin anew with this command
 abbrev pub resets : List ℕ → Tagged (List ℕ) Asked → Bool

@@ -7,19 +7,19 @@ use Rattle.thread_model.specs.Machine.{machine}
 use Rattle.session_tables.specs.Session.{Session, gone}
 use Rattle.server_world.specs.declared.server.Server as code
 use Rattle.session_engine.specs.Core as engine
-use Rattle.session_engine.specs.Core.{Contents, place}
-use Rattle.session_engine.specs.Engine.{held}
+use Rattle.session_engine.specs.Core.{EngineState, place}
+use Rattle.session_engine.specs.Engine.{seen_engine}
 use Rattle.session_engine.specs.Sessions.{Sessions}
 use Rattle.server_world.specs.Names.{with_name}
 
 -- a server without what answers the calls of its functors
 pub record Server : Type 0 where
-  pub engine : Contents
+  pub engine : EngineState
   -- memory was wanted outside the engine and not found
   pub memory_refused : Bool
 
 abbrev pub seen_as : {x : _} {f : _} {g : _} → code.Server x f g → Server
-seen_as server = record { engine = held server.engine; memory_refused = server.memory_refused }
+seen_as server = record { engine = seen_engine server.engine; memory_refused = server.memory_refused }
 
 -- what is fixed for the whole life of the server
 abbrev pub settings : Server → Settings
@@ -46,11 +46,11 @@ abbrev pub failed : Server → List ℕ → Bool
 failed server = engine.failed server.engine
 
 -- all that is seen by name
-abbrev pub seen : Server → Sessions
-seen server = record { settings = settings server; session = sessions server; memory_refused = was_refused server }
+abbrev pub seen_by_name : Server → Sessions
+seen_by_name server = record { settings = settings server; session = sessions server; memory_refused = was_refused server }
 
 -- memory was wanted for a new name and not found: it is not there, and no session has changed
-pub record StaysOut (old new : Contents) (name : List ℕ) : Type 0 where
+pub record StaysOut (old new : EngineState) (name : List ℕ) : Type 0 where
   pub absent : place new name ≡ None
   pub names : engine.names new ≡ engine.names old
   pub sessions : engine.sessions new ≡ engine.sessions old

@@ -8,11 +8,11 @@ ghost use Rattle.thread_model.specs.State.{empty};
 ghost use Rattle.stored_slots.specs.Table.{functors_of};
 ghost use Rattle.session_engine.specs.Core as engine;
 ghost use Rattle.session_engine.specs.Core.{place};
-ghost use Rattle.session_engine.specs.Engine.{held};
+ghost use Rattle.session_engine.specs.Engine.{seen_engine};
 ghost use Rattle.session_engine.specs.Items.{BeginsAnew};
 ghost use Rattle.session_engine.specs.Sessions.{AreSound, AreWell, IsStep};
 ghost use Rattle.server_world.specs.Names.{with_name};
-ghost use Rattle.server_world.specs.Server.{IsLost, IsNew, KnowsAtMost, OnlyRefused, StaysOut, failed, names, seen, seen_as, settings, states, was_refused};
+ghost use Rattle.server_world.specs.Server.{IsLost, IsNew, KnowsAtMost, OnlyRefused, StaysOut, failed, names, seen_by_name, seen_as, settings, states, was_refused};
 ghost use Rattle.server_world.specs.Runs.{AreSteps, IsBlamed, IsEntry, IsIsolated, IsLater, IsWorldRun, tags};
 ghost use Rattle.server_world.specs.Noting.{IsNoted, IsWithin, StopsShort, kept_places, marked_from, name_at, named};
 ghost use Rattle.server_world.specs.NotedRuns.{IsKeptRun, Stops};
@@ -74,7 +74,7 @@ impl Server {
     /// Does one command. A refusal is told by one line; where memory is wanted and not found, the
     /// command's session has failed, or is not there if this was its first command.
     pub fn step(&mut self, given: &Tagged) -> Result<Items<Line>, AllocError>
-        ensures step { IsStep (seen (seen_as self.old)) (seen (seen_as self.new)) given.now.session (asked given.now.command) (result_ok result) }
+        ensures step { IsStep (seen_by_name (seen_as self.old)) (seen_by_name (seen_as self.new)) given.now.session (asked given.now.command) (result_ok result) }
         ensures known { KnowsAtMost (seen_as self.old) (seen_as self.new) given.now.session }
         ensures there { OnOk result (names (seen_as self.new) ≡ with_name (names (seen_as self.old)) given.now.session) }
         ensures lost { OnErr result (IsLost (seen_as self.old) (seen_as self.new) given.now.session) }
@@ -234,7 +234,7 @@ impl Server {
     /// would be put.
     #[tactic(auto, unfolding(crate::specs::Server::was_refused))]
     pub fn reset(&mut self, session: &Text)
-        ensures anew { BeginsAnew (seen (seen_as self.old)) (seen (seen_as self.new)) session.now }
+        ensures anew { BeginsAnew (seen_by_name (seen_as self.old)) (seen_by_name (seen_as self.new)) session.now }
         ensures names { names (seen_as self.new) ≡ names (seen_as self.old) }
     {
         self.engine.sound();
@@ -245,7 +245,7 @@ impl Server {
 
     /// What holds of every session. There is nothing to run: the clause is for the proofs of callers.
     pub fn sound(&self)
-        ensures { AreSound (seen (seen_as self.now)) }
+        ensures { AreSound (seen_by_name (seen_as self.now)) }
     {
         self.engine.sound();
     }
@@ -271,12 +271,12 @@ impl Server {
 
 /// The place of a session, which is opened where it is not there.
 fn enter(sessions: &mut Engine, name: &Text) -> Result<usize, AllocError>
-    ensures place { IfOk result (λ at. place (held sessions.new) name.now ≡ Some at) }
-    ensures there { OnOk result (engine.names (held sessions.new) ≡ with_name (engine.names (held sessions.old)) name.now) }
-    ensures seen { OnOk result (engine.seen (held sessions.new) ≡ engine.seen (held sessions.old)) }
-    ensures out { OnErr result (StaysOut (held sessions.old) (held sessions.new) name.now) }
-    ensures well { AreWell (engine.seen (held sessions.old)) }
-    ensures sound { AreSound (engine.seen (held sessions.old)) }
+    ensures place { IfOk result (λ at. place (seen_engine sessions.new) name.now ≡ Some at) }
+    ensures there { OnOk result (engine.names (seen_engine sessions.new) ≡ with_name (engine.names (seen_engine sessions.old)) name.now) }
+    ensures seen { OnOk result (engine.seen_by_name (seen_engine sessions.new) ≡ engine.seen_by_name (seen_engine sessions.old)) }
+    ensures out { OnErr result (StaysOut (seen_engine sessions.old) (seen_engine sessions.new) name.now) }
+    ensures well { AreWell (engine.seen_by_name (seen_engine sessions.old)) }
+    ensures sound { AreSound (engine.seen_by_name (seen_engine sessions.old)) }
 {
     sessions.sound();
     match sessions.find(name) {

@@ -17,7 +17,7 @@ use Rattle.property_store.proofs.KindLemmas.{converted_fits}
 use Rattle.class_table.specs.Lookup.{properties}
 use Rattle.object_tree.specs.declared.row.Row.{Row}
 use Rattle.object_tree.specs.Rows.{is_there, row_of}
-use Rattle.term_core.specs.declared.action.Effect.TheVariants as e
+use Rattle.term_core.specs.declared.action.SingleAction.TheVariants as e
 use Rattle.term_core.specs.declared.target.Target.{Target}
 use Rattle.term_core.specs.Term.{Term}
 use Rattle.binding_graph.specs.declared.change.Change.{Change}
@@ -32,7 +32,7 @@ use Rattle.thread_model.specs.Settings.{Settings}
 use Rattle.thread_model.specs.Showing.{changes, property_at, told_value}
 use Rattle.thread_model.specs.State.{State, shown}
 use Rattle.thread_model.specs.Targets.{evaluated, object_of}
-use Rattle.thread_model.specs.Writing.{Declared, Dynamic, Place, Removed, Writing, acted_writing, declared, dynamic_writing, short, with_writing, written}
+use Rattle.thread_model.specs.Writing.{Declared, Dynamic, DeclaredField, Removed, Writing, acted_writing, declared, dynamic_writing, short, with_writing, written}
 use Rattle.thread_model.proofs.ActionLemmas.{set_done, set_faulty}
 use Rattle.thread_model.proofs.WritingLemmas.{dynamic_removed, dynamic_set}
 use Rattle.session_tables.specs.declared.tables.Tables.{Tables}
@@ -45,7 +45,7 @@ use Rattle.session_effects.specs.declared.announcing.News.{News}
 use Rattle.session_effects.specs.declared.announcing.News.TheVariants.{Nothing, One}
 use Rattle.session_effects.specs.declared.announcing.Notice.{Notice}
 use Rattle.session_effects.specs.declared.caller.Caller.{Caller}
-use Rattle.session_effects.specs.Actions.{Keeps, Tries}
+use Rattle.session_effects.specs.Actions.{KeepsOthers, Tries}
 use Rattle.session_effects.specs.declared.slot.Slot.{Slot}
 use Rattle.session_effects.specs.Setup.{settings_of}
 use Rattle.session_effects.specs.Writing.{TriesToWrite, Writes, items_of, told_items}
@@ -166,21 +166,21 @@ short_kept (v.Text text) is = ap (λ fits. cond fits (Ok (v.Text text)) (Err Lim
 
 -- what an action writes to the property of a name, by where that stands
 module _ (state : State) (object : ℕ) (name : List ℕ) (given : Value) (is_short : IsShort given) where
-  by_place : Place → Found Value → Found Writing
+  by_place : DeclaredField → Found Value → Found Writing
   by_place place found = found >>= short >>= λ value. Ok (Declared place.number value)
 
-  acted_at : (found : Option Place) → declared state object name ≡ found
+  acted_at : (found : Option DeclaredField) → declared state object name ≡ found
       → acted_writing state object name given ≡ option_map_or (λ place. ok_or (converted place.kind given) BadValue >>= short >>= λ value. Ok (Declared place.number value)) found (short given >>= dynamic_writing state object name)
-  acted_at found e = ap (λ (found : Option Place). option_map_or (λ place. ok_or (converted place.kind given) BadValue >>= short >>= λ value. Ok (Declared place.number value)) found (short given >>= dynamic_writing state object name)) e
+  acted_at found e = ap (λ (found : Option DeclaredField). option_map_or (λ place. ok_or (converted place.kind given) BadValue >>= short >>= λ value. Ok (Declared place.number value)) found (short given >>= dynamic_writing state object name)) e
 
-  pub acted_declared : (place : Place) (fit : Value) → declared state object name ≡ Some place → converted place.kind given ≡ Some fit → acted_writing state object name given ≡ Ok (Declared place.number fit)
+  pub acted_declared : (place : DeclaredField) (fit : Value) → declared state object name ≡ Some place → converted place.kind given ≡ Some fit → acted_writing state object name given ≡ Ok (Declared place.number fit)
   acted_declared place fit there fits =
       acted_at (Some place) there
       ∙ ap (λ (found : Option Value). ok_or found BadValue >>= short >>= λ value. Ok (Declared place.number value)) fits
       ∙ ap (λ (found : Found Value). found >>= λ value. Ok (Declared place.number value)) (short_kept fit (converted_fits place.kind given fit is_short fits).1)
 
   -- a value that does not fit is refused
-  pub acted_unfit : (place : Place) → declared state object name ≡ Some place → converted place.kind given ≡ None → acted_writing state object name given ≡ Err BadValue
+  pub acted_unfit : (place : DeclaredField) → declared state object name ≡ Some place → converted place.kind given ≡ None → acted_writing state object name given ≡ Err BadValue
   acted_unfit place there misfit = acted_at (Some place) there ∙ ap (λ (found : Option Value). ok_or found BadValue >>= short >>= λ value. Ok (Declared place.number value)) misfit
 
   -- and one of a name that is not declared is a dynamic property's
@@ -210,7 +210,7 @@ module _ (caller : Caller) (object : ℕ) (name : List ℕ) (value : Value) (old
       (subst (λ (tables : Tables). TriesToWrite caller object (dynamic_writing (state_at tables caller.place) object name handed) tables (λ done. Nothing) new result) none.2 tried))
 
 -- a call that has put another state, or failed, changes no other session
-pub set_keeps : {T E : Type 0} (place : ℕ) (old new : Tables) (state : State) (result : Result T E) → IsPlaced old place → OnOk result (new ≡ with_state old place state) → OnErr result (new ≡ old) → Keeps place old new
+pub set_keeps : {T E : Type 0} (place : ℕ) (old new : Tables) (state : State) (result : Result T E) → IsPlaced old place → OnOk result (new ≡ with_state old place state) → OnErr result (new ≡ old) → KeepsOthers place old new
 set_keeps place old new state (Ok value) placed ok err = keeps_with old new place state placed ok
 set_keeps place old new state (Err error) placed ok err = keeps_same old new place err
 

@@ -3,10 +3,10 @@ use Rattle.std.specs.Prelude.{◌≡◌, ℕ, Bool, true, false, List, [], ◌�
 use Rattle.refusals.specs.declared.fault.Fault.{Fault}
 use Rattle.refusals.specs.declared.fault.Fault.TheVariants.{Refused, Memory}
 use Rattle.variant_value.specs.declared.value.Value.{Value}
-use Rattle.term_core.specs.declared.action.Effect.{Effect}
-use Rattle.term_core.specs.declared.action.Effect.TheVariants as e
+use Rattle.term_core.specs.declared.action.SingleAction.{SingleAction}
+use Rattle.term_core.specs.declared.action.SingleAction.TheVariants as e
 use Rattle.term_core.specs.Act as term
-use Rattle.term_core.specs.Act.{effect}
+use Rattle.term_core.specs.Act.{single_action}
 use Rattle.thread_model.specs.declared.deed.Deed.{Deed}
 use Rattle.thread_model.specs.Acts.{act_deed}
 use Rattle.thread_model.specs.Agenda.{step}
@@ -22,7 +22,7 @@ use Rattle.session_effects.specs.declared.slot.Slot.{Slot}
 use Rattle.session_effects.specs.Setup.{settings_of}
 
 -- no other session has changed, and none has failed or was mended
-pub record Keeps (place : ℕ) (old new : Tables) : Type 0 where
+pub record KeepsOthers (place : ℕ) (old new : Tables) : Type 0 where
   pub only : ChangesOnly place old new
   pub failed : new.failed ≡ old.failed
 
@@ -30,8 +30,8 @@ pub record Keeps (place : ℕ) (old new : Tables) : Type 0 where
 abbrev pub act_of : Slot → term.Act → Item
 act_of slot action = Act action slot.args.now slot.object slot.sender slot.depth
 
--- may an effect send a signal or delete an object
-abbrev pub is_nested : Effect → Bool
+-- may a single action send a signal or delete an object
+abbrev pub is_nested : SingleAction → Bool
 is_nested (e.Set of property value) = true
 is_nested (e.Emit of signal args) = true
 is_nested (e.Delete target) = true
@@ -39,18 +39,18 @@ is_nested _ = false
 
 -- the call has found exactly the deed that an action is, with its ends, or is refused as it is, unless memory
 -- was wanted
-abbrev pub FindsDeed : Caller → Slot → Effect → Tables → Result Deed Fault → Type 0
+abbrev pub FindsDeed : Caller → Slot → SingleAction → Tables → Result Deed Fault → Type 0
 FindsDeed caller slot plain tables (Ok deed) = (act_deed (settings_of caller.setup.now) (state_at tables caller.place) slot.object slot.sender plain ≡ Some (Ok deed)) × HasEnds (state_at tables caller.place) deed
 FindsDeed caller slot plain tables (Err (Refused code)) = act_deed (settings_of caller.setup.now) (state_at tables caller.place) slot.object slot.sender plain ≡ Some (Err code)
 FindsDeed caller slot plain tables (Err Memory) = Unit {0}
 
 -- an action comes to these items and these tables by what the call returns, or to a warning where it is refused,
 -- whatever was told before and however many turns are left
-abbrev pub Tries : {T : Type 0} → Caller → Slot → Effect → Tables → (T → List Item) → Tables → Result T Fault → Type 0
+abbrev pub Tries : {T : Type 0} → Caller → Slot → SingleAction → Tables → (T → List Item) → Tables → Result T Fault → Type 0
 Tries caller slot plain old items new (Ok value) = (doing : Doing) →
-    step (settings_of caller.setup.now) (act_of slot (effect plain)) (in_state doing (state_at old caller.place)) ≡ puts (items value) (in_state doing (state_at new caller.place))
+    step (settings_of caller.setup.now) (act_of slot (single_action plain)) (in_state doing (state_at old caller.place)) ≡ puts (items value) (in_state doing (state_at new caller.place))
 Tries caller slot plain old items new (Err (Refused code)) = (doing : Doing) →
-    step (settings_of caller.setup.now) (act_of slot (effect plain)) (in_state doing (state_at old caller.place)) ≡ puts (Warn code (Some slot.object) ∷ []) (in_state doing (state_at old caller.place))
+    step (settings_of caller.setup.now) (act_of slot (single_action plain)) (in_state doing (state_at old caller.place)) ≡ puts (Warn code (Some slot.object) ∷ []) (in_state doing (state_at old caller.place))
 Tries caller slot plain old items new (Err Memory) = Unit {0}
 
 -- the call has found exactly this emission of the object, or is refused as it is, unless memory was wanted

@@ -2,7 +2,7 @@
 ghost use Rattle.std.specs.Prelude.{◌≡◌, IfOk, map, option_and_then, option_map, slice_get, ℕ};
 ghost use Rattle.std.specs.Option.{option_copied};
 ghost use Rattle.class_table.specs.Lookup.{properties};
-ghost use Rattle.binding_graph.specs.declared.change.Told.TheVariants as t;
+ghost use Rattle.binding_graph.specs.declared.change.Message.TheVariants as t;
 ghost use Rattle.thread_model.specs.Showing.{property_at, told_as};
 ghost use Rattle.thread_model.specs.State.{State, shown};
 ghost use Rattle.bound_stores.specs.Changed.{changes_in};
@@ -14,7 +14,7 @@ ghost use Rattle.session_effects.specs.Writing.{announced, items_of, name_of, no
 use crate::caller::Caller;
 use crate::effects::Emission;
 use crate::methods::kinds_at;
-use binding_graph::{Change, Told};
+use binding_graph::{Change, Message};
 use binding_values::BindingError;
 use class_table::Property;
 use plain_types::{Items, Text};
@@ -154,8 +154,8 @@ fn announcement_of(
         ≡ told_as (settings_of caller.now.setup.now) (state_at tables.now caller.now.place) depth change.now.at change.now.told) }
 {
     match &change.told {
-        Told::Error(error) => Ok(Some(Announcement::Warning(change.at, *error))),
-        Told::Value(value) => notification(caller, tables, change.at, value),
+        Message::Error(error) => Ok(Some(Announcement::Warning(change.at, *error))),
+        Message::Value(value) => notification(caller, tables, change.at, value),
     }
 }
 

@@ -48,7 +48,7 @@ pub fn asked_connection(
     let signal = signal_named(caller, tables, sender, signal)?;
     let method = method_named(caller, tables, receiver, method)?;
     check_fits(caller, tables, sender, signal, receiver, method)?;
-    Ok(joined(sender, signal, receiver, method, options))
+    Ok(to_method(sender, signal, receiver, method, options))
 }
 
 /// The connection to a functor that a command asks for.
@@ -100,7 +100,7 @@ pub fn connection(
     let signal = signal_with(caller, tables, sender, signal)?;
     let method = method_with(caller, tables, receiver, method)?;
     check_fits(caller, tables, sender, signal, receiver, method)?;
-    Ok(joined(sender, signal, receiver, method, options))
+    Ok(to_method(sender, signal, receiver, method, options))
 }
 
 /// Refuses a signal whose parameters do not fit those of the method.
@@ -124,7 +124,13 @@ fn check_fits(
     }
 }
 
-fn joined(sender: u32, signal: u32, receiver: u32, method: u32, options: Options) -> NewConnection
+fn to_method(
+    sender: u32,
+    signal: u32,
+    receiver: u32,
+    method: u32,
+    options: Options,
+) -> NewConnection
     ensures { result ≡ record { sender = sender; signal = signal; receiver = receiver; callee = Method method; mode = options.mode; single = options.single } }
 {
     NewConnection {

@@ -1,12 +1,12 @@
 //! What actions do that neither send signals nor delete objects, and what those that do come to.
 ghost use Rattle.std.specs.Prelude.{◌≡◌, ◌∷◌, [], IfOk, OnErr, IsFalse, IsTrue, Some};
 ghost use Rattle.refusals.specs.Answers.{Answers};
-ghost use Rattle.term_core.specs.declared.action.Effect.TheVariants as e;
+ghost use Rattle.term_core.specs.declared.action.SingleAction.TheVariants as e;
 ghost use Rattle.thread_model.specs.Acts.{emission};
 ghost use Rattle.thread_model.specs.Items.{Delete, Emit};
 ghost use Rattle.thread_model.specs.Targets.{truth_evaluated};
 ghost use Rattle.session_tables.specs.Tables.{IsPlaced, state_at};
-ghost use Rattle.session_effects.specs.Actions.{FindsDeed, IsSent, Keeps, Tries, is_nested};
+ghost use Rattle.session_effects.specs.Actions.{FindsDeed, IsSent, KeepsOthers, Tries, is_nested};
 ghost use Rattle.session_effects.specs.Setup.{settings_of};
 
 use crate::caller::Caller;
@@ -21,7 +21,7 @@ use plain_types::Items;
 use refusals::Fault;
 use session_tables::Tables;
 use signature_core::Signature;
-use term_core::{Effect, Expr, Target};
+use term_core::{Expr, SingleAction, Target};
 use thread_model::Deed;
 use variant_value::Value;
 
@@ -106,13 +106,13 @@ pub fn change(
     caller: &Caller,
     tables: &mut Tables,
     slot: &Slot,
-    effect: &Effect,
+    effect: &SingleAction,
 ) -> Result<(), Fault>
     requires placed { IsPlaced tables.old caller.now.place }
     requires simple { IsFalse (is_nested effect.now) }
     ensures tries { Tries caller.now slot.now effect.now tables.old (λ _. []) tables.new result }
     ensures err { OnErr result (tables.new ≡ tables.old) }
-    ensures keeps { Keeps caller.now.place tables.old tables.new }
+    ensures keeps { KeepsOthers caller.now.place tables.old tables.new }
 {
     let deed = deed_of(caller, tables, slot, effect)?;
     do_found(tables, caller.place, deed)?;
@@ -120,14 +120,19 @@ pub fn change(
 }
 
 /// The deed that an action is.
-fn deed_of(caller: &Caller, tables: &Tables, slot: &Slot, effect: &Effect) -> Result<Deed, Fault>
+fn deed_of(
+    caller: &Caller,
+    tables: &Tables,
+    slot: &Slot,
+    effect: &SingleAction,
+) -> Result<Deed, Fault>
     requires placed { IsPlaced tables.now caller.now.place }
     requires simple { IsFalse (is_nested effect.now) }
     ensures { FindsDeed caller.now slot.now effect.now tables.now result }
 {
     let reader = reader(caller, tables, slot);
     match effect {
-        Effect::Connect {
+        SingleAction::Connect {
             of,
             signal,
             to,
@@ -143,20 +148,20 @@ fn deed_of(caller: &Caller, tables: &Tables, slot: &Slot, effect: &Effect) -> Re
             };
             connect_deed(caller, tables, slot, of, signal, to, method, options)
         }
-        Effect::Disconnect {
+        SingleAction::Disconnect {
             of,
             signal,
             to,
             method,
         } => disconnect_deed(caller, tables, slot, of, signal, to, method),
-        Effect::DeleteLater(target) => Ok(Deed::DeleteLater {
+        SingleAction::DeleteLater(target) => Ok(Deed::DeleteLater {
             object: object_of(&reader, target)?,
         }),
-        Effect::Block { of, on } => Ok(Deed::Block {
+        SingleAction::Block { of, on } => Ok(Deed::Block {
             object: object_of(&reader, of)?,
             on: *on,
         }),
-        Effect::SetParent { of, parent } => Ok(Deed::SetParent {
+        SingleAction::SetParent { of, parent } => Ok(Deed::SetParent {
             object: object_of(&reader, of)?,
             parent: named_object_of(&reader, parent)?,
         }),

@@ -1,6 +1,6 @@
 //! Writing properties, and what there is to tell of it.
 ghost use Rattle.std.specs.Prelude.{◌≡◌, ◌<◌, ℕ, Err, IfOk, List, length};
-ghost use Rattle.term_core.specs.declared.action.Effect.TheVariants as e;
+ghost use Rattle.term_core.specs.declared.action.SingleAction.TheVariants as e;
 ghost use Rattle.variant_value.specs.Values.{IsShort};
 ghost use Rattle.variant_value.specs.declared.value.Value.TheVariants as v;
 ghost use Rattle.property_store.specs.Store.{fitting};
@@ -8,7 +8,7 @@ ghost use Rattle.thread_model.specs.Writing.{Declared, acted_writing, dynamic_wr
 ghost use Rattle.session_tables.specs.Classes.{HasClass};
 ghost use Rattle.session_tables.specs.Refused.{OnRefused};
 ghost use Rattle.session_tables.specs.Tables.{IsPlaced, state_at};
-ghost use Rattle.session_effects.specs.Actions.{Keeps, Tries};
+ghost use Rattle.session_effects.specs.Actions.{KeepsOthers, Tries};
 ghost use Rattle.session_effects.specs.Setup.{settings_of};
 ghost use Rattle.session_effects.specs.declared.announcing.News.TheVariants.{Nothing};
 ghost use Rattle.session_effects.specs.Writing.{TriesToWrite, Writes, items_of};
@@ -39,7 +39,7 @@ pub fn set(
     ensures tries { Tries caller.now slot.now (e.Set of.now property.now value.now) tables.old
         (items_of (settings_of caller.now.setup.now) (state_at tables.new caller.now.place) slot.now.depth) tables.new result }
     ensures refused { OnRefused result (tables.new ≡ tables.old) }
-    ensures keeps { Keeps caller.now.place tables.old tables.new }
+    ensures keeps { KeepsOthers caller.now.place tables.old tables.new }
 {
     let reader = reader(caller, tables, slot);
     let object = object_of(&reader, of)?;
@@ -62,7 +62,7 @@ fn write(
     requires class { HasClass (state_at tables.old caller.now.place) object class }
     ensures writes { TriesToWrite caller.now object (acted_writing (state_at tables.old caller.now.place) object property.now value) tables.old (λ told. told) tables.new result }
     ensures refused { OnRefused result (tables.new ≡ tables.old) }
-    ensures keeps { Keeps caller.now.place tables.old tables.new }
+    ensures keeps { KeepsOthers caller.now.place tables.old tables.new }
 {
     if let Value::Text(text) = &value
         && text.as_str().len() > TEXT_BYTES
@@ -107,7 +107,7 @@ pub fn write_declared(
     requires short { IsShort value }
     requires fits { fitting (state_at tables.old caller.now.place).store object number value ≡ Some value }
     ensures writes { IfOk result (λ told. Writes caller.now object (Declared number value) tables.old told tables.new) }
-    ensures keeps { Keeps caller.now.place tables.old tables.new }
+    ensures keeps { KeepsOthers caller.now.place tables.old tables.new }
 {
     let changed = tables.write(caller.place, object, number, value)?;
     Ok(news_of(caller, object, class, number, changed))
@@ -126,7 +126,7 @@ pub fn write_dynamic(
     requires short { IsShort value }
     ensures writes { TriesToWrite caller.now object (dynamic_writing (state_at tables.old caller.now.place) object name.now value) tables.old (λ _. Nothing) tables.new result }
     ensures refused { OnRefused result (tables.new ≡ tables.old) }
-    ensures keeps { Keeps caller.now.place tables.old tables.new }
+    ensures keeps { KeepsOthers caller.now.place tables.old tables.new }
 {
     if let Value::Invalid = &value {
         tables.remove_dynamic(caller.place, object, name.as_str());

@@ -17,17 +17,17 @@ use Rattle.session_tables.specs.Tables.{ChangesOnly, session_at, with_session}
 use Rattle.session_tables.proofs.PostLemmas.{changes_session}
 use Rattle.session_tables.proofs.ReachingLemmas.{session_unchanged, shaped_changed}
 use Rattle.session_tables.proofs.TablesLemmas.{session_there}
-use Rattle.session_engine.specs.Core.{Contents, IsKept, IsWhole, place, seen, sessions}
+use Rattle.session_engine.specs.Core.{EngineState, IsKept, IsWhole, place, seen_by_name, sessions}
 use Rattle.session_engine.specs.Items.{BeginsAnew, HasArrived}
 use Rattle.session_engine.specs.Sessions.{Fails}
 use Rattle.session_engine.proofs.EngineLemmas.{one_name, placed, sessions-place, sound_by_name}
 use Rattle.session_engine.proofs.SessionLemmas.{heard_state, kept_fresh, kept_gone, kept_heard}
 
 -- with these tables, and this mark that memory was refused
-abbrev pub changed : Contents → Tables → Bool → Contents
+abbrev pub changed : EngineState → Tables → Bool → EngineState
 changed engine new refused = record { settings = engine.settings; names = engine.names; tables = new; memory_refused = refused }
 
-module _ (engine : Contents) (new : Tables) (refused : Bool) (at : ℕ) (name : List ℕ) (whole : IsWhole engine) (there : place engine name ≡ Some at) (changes : ChangesOnly at engine.tables new) where
+module _ (engine : EngineState) (new : Tables) (refused : Bool) (at : ℕ) (name : List ℕ) (whole : IsWhole engine) (there : place engine name ≡ Some at) (changes : ChangesOnly at engine.tables new) where
   -- the session of this name is the one at the place
   own_changed : sessions (changed engine new refused) name ≡ session_at new at
   own_changed = sessions-place (changed engine new refused) name at there
@@ -63,7 +63,7 @@ module _ (engine : Contents) (new : Tables) (refused : Bool) (at : ℕ) (name : 
             (record { well = λ found. (whole.kept other).well (less found); sound = (whole.kept other).sound })
 
 -- a post has come to the session at a place
-module _ {T E : Type 0} (engine : Contents) (new : Tables) (refused : Bool) (at : ℕ) (name from : List ℕ) (post : Post) (result : Result T E) (whole : IsWhole engine) (right : IsRightPost post) (there : place engine name ≡ Some at) (changes : ChangesOnly at engine.tables new)
+module _ {T E : Type 0} (engine : EngineState) (new : Tables) (refused : Bool) (at : ℕ) (name from : List ℕ) (post : Post) (result : Result T E) (whole : IsWhole engine) (right : IsRightPost post) (there : place engine name ≡ Some at) (changes : ChangesOnly at engine.tables new)
     (ok : OnOk result (session_at new at ≡ heard engine.settings.classes from (post ∷ []) (session_at engine.tables at))) (err : OnErr result (FailsBy from (post ∷ []) (session_at engine.tables at) (session_at new at)))
     (found : OnOk result (refused ≡ engine.memory_refused)) (memory : OnErr result (IsTrue refused)) where
   found_before : IsFalse refused → IsFalse engine.memory_refused
@@ -84,7 +84,7 @@ module _ {T E : Type 0} (engine : Contents) (new : Tables) (refused : Bool) (at 
   pub whole_arrived : IsWhole (changed engine new refused)
   whole_arrived = whole_changed engine new refused at name whole there changes found_before kept_arrived
 
-  pub has_arrived : HasArrived (seen engine) (seen (changed engine new refused)) name from post (result_ok result)
+  pub has_arrived : HasArrived (seen_by_name engine) (seen_by_name (changed engine new refused)) name from post (result_ok result)
   has_arrived = by result ok err found memory
     where
       own : sessions engine name ≡ session_at engine.tables at
@@ -94,7 +94,7 @@ module _ {T E : Type 0} (engine : Contents) (new : Tables) (refused : Bool) (at 
       now = own_changed engine new refused at name whole there changes
 
       by : (result : Result T E) → OnOk result (session_at new at ≡ heard engine.settings.classes from (post ∷ []) (session_at engine.tables at)) → OnErr result (FailsBy from (post ∷ []) (session_at engine.tables at) (session_at new at)) → OnOk result (refused ≡ engine.memory_refused)
-          → OnErr result (IsTrue refused) → HasArrived (seen engine) (seen (changed engine new refused)) name from post (result_ok result)
+          → OnErr result (IsTrue refused) → HasArrived (seen_by_name engine) (seen_by_name (changed engine new refused)) name from post (result_ok result)
       by (Ok done) ok err found memory =
           let heard_it : sessions (changed engine new refused) name ≡ heard engine.settings.classes from (post ∷ []) (sessions engine name) = now ∙ ok ∙ ap (heard engine.settings.classes from (post ∷ [])) (sym own) in
           record {
@@ -120,7 +120,7 @@ module _ {T E : Type 0} (engine : Contents) (new : Tables) (refused : Bool) (at 
       }
 
 -- another session is put at a place
-module _ (engine : Contents) (new : Tables) (at : ℕ) (name : List ℕ) (session : Session) (whole : IsWhole engine) (there : place engine name ≡ Some at) (is : new ≡ with_session engine.tables at session) where
+module _ (engine : EngineState) (new : Tables) (at : ℕ) (name : List ℕ) (session : Session) (whole : IsWhole engine) (there : place engine name ≡ Some at) (is : new ≡ with_session engine.tables at session) where
   put_changes : ChangesOnly at engine.tables new
   put_changes = changes_session engine.tables new at session (placed engine name at whole there) is
 
@@ -137,11 +137,11 @@ module _ (engine : Contents) (new : Tables) (at : ℕ) (name : List ℕ) (sessio
   others_put refused = others_changed engine new refused at name whole there put_changes
 
 -- the session at a place begins anew
-module _ (engine : Contents) (new : Tables) (at : ℕ) (name : List ℕ) (whole : IsWhole engine) (there : place engine name ≡ Some at) (is : new ≡ with_session engine.tables at fresh) where
+module _ (engine : EngineState) (new : Tables) (at : ℕ) (name : List ℕ) (whole : IsWhole engine) (there : place engine name ≡ Some at) (is : new ≡ with_session engine.tables at fresh) where
   pub whole_anew : IsWhole (changed engine new engine.memory_refused)
   whole_anew = whole_put engine new at name fresh whole there is engine.memory_refused (λ found. found) (kept_fresh engine.settings engine.memory_refused)
 
-  pub begins_anew : BeginsAnew (seen engine) (seen (changed engine new engine.memory_refused)) name
+  pub begins_anew : BeginsAnew (seen_by_name engine) (seen_by_name (changed engine new engine.memory_refused)) name
   begins_anew = record {
     fresh = own_put engine new at name fresh whole there is engine.memory_refused;
     others = others_put engine new at name fresh whole there is engine.memory_refused;
@@ -151,11 +151,11 @@ module _ (engine : Contents) (new : Tables) (at : ℕ) (name : List ℕ) (whole 
   }
 
 -- the session at a place has failed for memory that was refused
-module _ (engine : Contents) (new : Tables) (at : ℕ) (name : List ℕ) (whole : IsWhole engine) (there : place engine name ≡ Some at) (is : new ≡ with_session engine.tables at gone) where
+module _ (engine : EngineState) (new : Tables) (at : ℕ) (name : List ℕ) (whole : IsWhole engine) (there : place engine name ≡ Some at) (is : new ≡ with_session engine.tables at gone) where
   pub whole_failed : IsWhole (changed engine new true)
   whole_failed = whole_put engine new at name gone whole there is true (λ found. absurd (true≢false found)) (kept_gone engine.settings)
 
-  pub fails_now : Fails (seen engine) (seen (changed engine new true)) name
+  pub fails_now : Fails (seen_by_name engine) (seen_by_name (changed engine new true)) name
   fails_now = record {
     fails = own_put engine new at name gone whole there is true;
     others = others_put engine new at name gone whole there is true;

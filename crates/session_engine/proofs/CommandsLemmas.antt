@@ -43,8 +43,8 @@ use Rattle.session_engine.specs.Commands.{Obeys, OthersHear, Performs, Reads, it
 use Rattle.nested_calls.specs.Front.{IsFront}
 use Rattle.nested_calls.specs.Telling.{doing_at, fresh_telling}
 use Rattle.nested_calls.proofs.FrontLemmas.{front_none, front_same}
-use Rattle.session_engine.specs.Core.{Contents, IsWhole, contents, place, seen, sessions, states}
-use Rattle.session_engine.specs.Returning.{IsAnswered, Returns, told, wants_memory}
+use Rattle.session_engine.specs.Core.{EngineState, IsWhole, engine_state, place, seen_by_name, sessions, states}
+use Rattle.session_engine.specs.Returning.{IsAnswered, Returns, answer_lines, wants_memory}
 use Rattle.session_engine.specs.Sessions.{IsStep, is_reset, is_shut, session_after, session_does, session_refusal}
 use Rattle.session_effects.specs.Setup.{settings_of}
 use Rattle.session_engine.proofs.EngineLemmas.{named_at, sessions-place}
@@ -99,8 +99,8 @@ module _ (caller : Caller) (asked : Asked) (old new : Tables) where
 
   -- where memory was wanted in what it sets off, other sessions have heard the first of its posts
   pub starved_last : {T : Type 0} (telling : Telling) (posts : List Post) (done : doing.Doing) (last : Line) (lines : T → List Line) (result : Result T Fault) → IsErrAnd result (λ fault. fault ≡ Memory) → its_refusal caller asked old ≡ None
-      → its_effect caller asked old ≡ ended (doing.told done last) → IsFront posts done.posts → Reaches caller.setup.now.classes caller.name.now caller.place posts old new false telling.failing → Performs caller asked old new telling.failing lines result
-  unfolding doing.told
+      → its_effect caller asked old ≡ ended (doing.line_told done last) → IsFront posts done.posts → Reaches caller.setup.now.classes caller.name.now caller.place posts old new false telling.failing → Performs caller asked old new telling.failing lines result
+  unfolding doing.line_told
   starved_last telling posts done last lines (Ok value) h passed effect front reaches = absurd h
   starved_last telling posts done last lines (Err fault) h passed effect front reaches =
       subst (λ fault. Performs caller asked old new telling.failing lines (Err fault)) (sym h)
@@ -138,9 +138,9 @@ module _ (caller : Caller) (asked : Asked) (old new : Tables) where
   }
 
   -- so it does behind what was told by what it set off
-  pub replied_last : (telling : Telling) (answer : Answer) (posts : List Post) → its_refusal caller asked old ≡ None → its_effect caller asked old ≡ ended (doing.told (doing_at caller.place new telling posts) (Reply answer)) → Reaches caller.setup.now.classes caller.name.now caller.place posts old new false telling.failing
+  pub replied_last : (telling : Telling) (answer : Answer) (posts : List Post) → its_refusal caller asked old ≡ None → its_effect caller asked old ≡ ended (doing.line_told (doing_at caller.place new telling posts) (Reply answer)) → Reaches caller.setup.now.classes caller.name.now caller.place posts old new false telling.failing
       → Performs caller asked old new telling.failing (reply_after telling.lines) (Ok answer)
-  unfolding doing.told
+  unfolding doing.line_told
   replied_last telling answer posts passed effect reaches = record {
     returns = (passed, ap (λ effect. effect.lines) effect);
     posts = posts;
@@ -309,7 +309,7 @@ module _ (caller : Caller) (old : Tables) (placed : IsPlaced old caller.place) w
       }
 
 -- the mark that memory was refused, by what was noted
-marks_of : (was now failing : Bool) (result : Result (List Line) Fault) → now ≡ (wants_memory result || failing || was) → Marks was now failing (told result)
+marks_of : (was now failing : Bool) (result : Result (List Line) Fault) → now ≡ (wants_memory result || failing || was) → Marks was now failing (answer_lines result)
 marks_of was now true (Ok lines) mark = Loud (inr refl) mark
 marks_of was now false (Ok lines) mark = Quiet refl refl mark
 marks_of was now true (Err (Refused code)) mark = Loud (inr refl) mark
@@ -412,7 +412,7 @@ module _ (caller : Caller) (asked : Asked) (old new : Tables) where
 
   -- so it ends as a command does
   module _ (names : List (List ℕ)) (was now : Bool) where
-    pub ends : (result : Result (List Line) Fault) → (obeyed : Obeys caller asked old new was now result) → Ended (contents caller.setup.now names old was) (contents caller.setup.now names new now) caller.place caller.name.now asked (told result) obeyed.failing
+    pub ends : (result : Result (List Line) Fault) → (obeyed : Obeys caller asked old new was now result) → Ended (engine_state caller.setup.now names old was) (engine_state caller.setup.now names new now) caller.place caller.name.now asked (answer_lines result) obeyed.failing
     ends result obeyed = record {
       settings = refl;
       names = refl;
@@ -423,65 +423,65 @@ module _ (caller : Caller) (asked : Asked) (old new : Tables) where
       stays = stay result obeyed;
     }
       where
-        own : (result : Result (List Line) Fault) → (obeyed : Obeys caller asked old new was now result) → Own (settings_of caller.setup.now) caller.name.now asked (told result) obeyed.posts session (session_at new caller.place)
+        own : (result : Result (List Line) Fault) → (obeyed : Obeys caller asked old new was now result) → Own (settings_of caller.setup.now) caller.name.now asked (answer_lines result) obeyed.posts session (session_at new caller.place)
         own (Ok lines) obeyed =
             Told (ap Some (obeyed.returns.1 ∙ sym (ap (λ refusal. (unless refusal session.state (performs (settings_of caller.setup.now) caller.name.now session.state asked)).lines) obeyed.returns.0))) obeyed.done.0 obeyed.done.1
         own (Err (Refused code)) obeyed = Told (ap (λ refusal. Some (unless refusal session.state (performs (settings_of caller.setup.now) caller.name.now session.state asked)).lines) (sym obeyed.returns)) obeyed.done.0 obeyed.done.1
         own (Err Memory) obeyed = GaveUp refl obeyed.fails.0 obeyed.front
 
-        stay : (result : Result (List Line) Fault) → Obeys caller asked old new was now result → IsSome own_refusal → OnSome (told result) (new ≡ old)
+        stay : (result : Result (List Line) Fault) → Obeys caller asked old new was now result → IsSome own_refusal → OnSome (answer_lines result) (new ≡ old)
         stay (Ok lines) obeyed refused = some_none_of own_refusal obeyed.returns.0 refused
         stay (Err (Refused code)) obeyed refused = obeyed.refused
         stay (Err Memory) obeyed refused = tt
 
 -- an engine whose session at a place did a command
 module _ (caller : Caller) (asked : Asked) (old new : Tables) (was now : Bool) (result : Result (List Line) Fault) (obeyed : Obeys caller asked old new was now result)
-    (names : List (List ℕ)) (engine : Contents) (whole : IsWhole (contents caller.setup.now names old was)) (fits : (state : State) → IsFittingAsked (settings_of caller.setup.now) state asked) (is : contents caller.setup.now names old was ≡ engine) (given : Some caller.name.now ≡ slice_get names caller.place) where
+    (names : List (List ℕ)) (engine : EngineState) (whole : IsWhole (engine_state caller.setup.now names old was)) (fits : (state : State) → IsFittingAsked (settings_of caller.setup.now) state asked) (is : engine_state caller.setup.now names old was ≡ engine) (given : Some caller.name.now ≡ slice_get names caller.place) where
   module _ (name : List ℕ) (there : place engine name ≡ Some caller.place) where
     same : name ≡ caller.name.now
-    same = named_at (contents caller.setup.now names old was) name caller.place caller.name.now (ap (λ engine. place engine name) is ∙ there) given
+    same = named_at (engine_state caller.setup.now names old was) name caller.place caller.name.now (ap (λ engine. place engine name) is ∙ there) given
 
-    here : place (contents caller.setup.now names old was) caller.name.now ≡ Some caller.place
-    here = subst (λ name. place (contents caller.setup.now names old was) name ≡ Some caller.place) same (ap (λ engine. place engine name) is ∙ there)
+    here : place (engine_state caller.setup.now names old was) caller.name.now ≡ Some caller.place
+    here = subst (λ name. place (engine_state caller.setup.now names old was) name ≡ Some caller.place) same (ap (λ engine. place engine name) is ∙ there)
 
-    its_ending : Ended (contents caller.setup.now names old was) (contents caller.setup.now names new now) caller.place caller.name.now asked (told result) obeyed.failing
+    its_ending : Ended (engine_state caller.setup.now names old was) (engine_state caller.setup.now names new now) caller.place caller.name.now asked (answer_lines result) obeyed.failing
     its_ending = ends caller asked old new names was now result obeyed
 
-    pub done_whole : IsWhole (contents caller.setup.now names new now)
-    done_whole = whole_after _ _ caller.place caller.name.now asked (told result) obeyed.failing whole fits here its_ending
+    pub done_whole : IsWhole (engine_state caller.setup.now names new now)
+    done_whole = whole_after _ _ caller.place caller.name.now asked (answer_lines result) obeyed.failing whole fits here its_ending
 
-    pub done_step : IsStep (seen engine) (seen (contents caller.setup.now names new now)) name asked (told result)
-    done_step = subst (λ (engine : Contents). IsStep (seen engine) (seen (contents caller.setup.now names new now)) name asked (told result)) is
-        (subst (λ name. IsStep (seen (contents caller.setup.now names old was)) (seen (contents caller.setup.now names new now)) name asked (told result)) (sym same)
-        (step_of _ _ caller.place caller.name.now asked (told result) obeyed.failing whole fits here its_ending))
+    pub done_step : IsStep (seen_by_name engine) (seen_by_name (engine_state caller.setup.now names new now)) name asked (answer_lines result)
+    done_step = subst (λ (engine : EngineState). IsStep (seen_by_name engine) (seen_by_name (engine_state caller.setup.now names new now)) name asked (answer_lines result)) is
+        (subst (λ name. IsStep (seen_by_name (engine_state caller.setup.now names old was)) (seen_by_name (engine_state caller.setup.now names new now)) name asked (answer_lines result)) (sym same)
+        (step_of _ _ caller.place caller.name.now asked (answer_lines result) obeyed.failing whole fits here its_ending))
 
-    now_there : place (contents caller.setup.now names new now) name ≡ Some caller.place
+    now_there : place (engine_state caller.setup.now names new now) name ≡ Some caller.place
     now_there = ap (λ engine. place engine name) is ∙ there
 
     own : session_at old caller.place ≡ sessions engine name
-    own = sym (sessions-place (contents caller.setup.now names old was) name caller.place now_there) ∙ ap (λ engine. sessions engine name) is
+    own = sym (sessions-place (engine_state caller.setup.now names old was) name caller.place now_there) ∙ ap (λ engine. sessions engine name) is
 
     -- what the call returns, by the name of its session
-    ReturnsIn : Contents → List ℕ → Session → Type 0
+    ReturnsIn : EngineState → List ℕ → Session → Type 0
     ReturnsIn engine name session = Returns (session_refusal engine.settings name session asked) (λ lines. lines ≡ (performs engine.settings name session.state asked).lines) result
 
     returns_named : Returns (session_refusal engine.settings name (sessions engine name) asked) (λ lines. lines ≡ (performs engine.settings name (states engine name) asked).lines) result
     unfolding ReturnsIn
     returns_named =
         subst (ReturnsIn engine name) own
-        (subst (λ (engine : Contents). ReturnsIn engine name (session_at old caller.place)) is
-        (subst (λ name. ReturnsIn (contents caller.setup.now names old was) name (session_at old caller.place)) (sym same) obeyed.returns))
+        (subst (λ (engine : EngineState). ReturnsIn engine name (session_at old caller.place)) is
+        (subst (λ name. ReturnsIn (engine_state caller.setup.now names old was) name (session_at old caller.place)) (sym same) obeyed.returns))
 
-    pub done_answered : IsAnswered engine (contents caller.setup.now names new now) name asked result
+    pub done_answered : IsAnswered engine (engine_state caller.setup.now names new now) name asked result
     done_answered = record { returns = returns_named; refused = stays result obeyed.refused; fails = (ends_so result obeyed.fails).0; fine = (ends_so result obeyed.fails).1 }
       where
-        stays : (result : Result (List Line) Fault) → OnRefused result (new ≡ old) → OnRefused result (sessions (contents caller.setup.now names new now) ≡ sessions engine)
+        stays : (result : Result (List Line) Fault) → OnRefused result (new ≡ old) → OnRefused result (sessions (engine_state caller.setup.now names new now) ≡ sessions engine)
         stays (Ok lines) kept = tt
-        stays (Err (Refused code)) kept = ap (λ tables. sessions (contents caller.setup.now names tables now)) kept ∙ ap sessions is
+        stays (Err (Refused code)) kept = ap (λ tables. sessions (engine_state caller.setup.now names tables now)) kept ∙ ap sessions is
         stays (Err Memory) kept = tt
 
         ends_so : (result : Result (List Line) Fault) → OnMemory result ((session_at new caller.place ≡ gone) × IsFalse (is_shut (session_at old caller.place) asked))
-            → OnMemory result (sessions (contents caller.setup.now names new now) name ≡ gone) × OnMemory result (IsFalse (is_shut (sessions engine name) asked))
+            → OnMemory result (sessions (engine_state caller.setup.now names new now) name ≡ gone) × OnMemory result (IsFalse (is_shut (sessions engine name) asked))
         ends_so (Ok lines) fails = (tt, tt)
         ends_so (Err (Refused code)) fails = (tt, tt)
-        ends_so (Err Memory) fails = (sessions-place (contents caller.setup.now names new now) name caller.place now_there ∙ fails.0, subst (λ (session : Session). IsFalse (is_shut session asked)) own fails.1)
+        ends_so (Err Memory) fails = (sessions-place (engine_state caller.setup.now names new now) name caller.place now_there ∙ fails.0, subst (λ (session : Session). IsFalse (is_shut session asked)) own fails.1)

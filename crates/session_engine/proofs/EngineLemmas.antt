@@ -25,7 +25,7 @@ use Rattle.session_tables.specs.Session.{Session, fresh}
 use Rattle.session_tables.specs.Tables as tables
 use Rattle.session_tables.specs.Tables.{AreEven, AreSame, IsPlaced, session_at}
 use Rattle.session_tables.proofs.TablesLemmas.{even_opened, even_same, placed_by, session_opened, session_past, session_same}
-use Rattle.session_engine.specs.Core.{Contents, IsKept, IsWhole, place, seen, sessions}
+use Rattle.session_engine.specs.Core.{EngineState, IsKept, IsWhole, place, seen_by_name, sessions}
 use Rattle.session_engine.specs.Sessions.{AreSound, IsSoundSession}
 use Rattle.session_engine.proofs.SessionLemmas.{kept_fresh}
 
@@ -53,38 +53,38 @@ insert_key-new names name copy equal absent =
     ap (insert_key bytes_eq names) equal ∙ cond-false (list_any (bytes_eq name) names) _ _ (position-None (bytes_eq name) names absent)
 
 -- the first place that has a name, or the end
-first : Contents → List ℕ → ℕ
+first : EngineState → List ℕ → ℕ
 first engine name = position_or_len (bytes_eq name) engine.names
 
 at_first : {X : Type 0} (f : ℕ → X) (found : Bool) (i : ℕ) (default : X) → (found ≡ false → default ≡ f i) → option_map_or f (cond found (Some i) None) default ≡ f i
 at_first f true i default past = refl
 at_first f false i default past = past refl
 
-sessions-first : (engine : Contents) (name : List ℕ) → IsWhole engine → sessions engine name ≡ session_at engine.tables (first engine name)
+sessions-first : (engine : EngineState) (name : List ℕ) → IsWhole engine → sessions engine name ≡ session_at engine.tables (first engine name)
 unfolding first
 sessions-first engine name whole =
     at_first (session_at engine.tables) _ (position_or_len (bytes_eq name) engine.names) fresh
     (λ past. sym (session_past engine.tables _ whole.even (grind (arith, common_steps, whole.paired))))
 
 -- the session at a place of a name is the name's
-pub sessions-place : (engine : Contents) (name : List ℕ) (at : ℕ) → place engine name ≡ Some at → sessions engine name ≡ session_at engine.tables at
+pub sessions-place : (engine : EngineState) (name : List ℕ) (at : ℕ) → place engine name ≡ Some at → sessions engine name ≡ session_at engine.tables at
 sessions-place engine name at there = ap (λ found. option_map_or (session_at engine.tables) found fresh) there
 
 -- a name's place is open in every table
-pub placed : (engine : Contents) (name : List ℕ) (at : ℕ) → IsWhole engine → place engine name ≡ Some at → IsPlaced engine.tables at
+pub placed : (engine : EngineState) (name : List ℕ) (at : ℕ) → IsWhole engine → place engine name ≡ Some at → IsPlaced engine.tables at
 placed engine name at whole there =
     let within : at < length engine.names = (position-Some (bytes_eq name) engine.names at [] there).0 in
     placed_by engine.tables at whole.even (omega (arith, within, whole.paired))
 
 -- two names with one place are one
-pub one_name : (engine : Contents) (name other : List ℕ) (at : ℕ) → place engine name ≡ Some at → place engine other ≡ Some at → name ≡ other
+pub one_name : (engine : EngineState) (name other : List ℕ) (at : ℕ) → place engine name ≡ Some at → place engine other ≡ Some at → name ≡ other
 one_name engine name other at there there' =
     let found = position-Some (bytes_eq name) engine.names at [] there in
     let found' = position-Some (bytes_eq other) engine.names at [] there' in
     (bytes_eq-Decides name _).0 found.1 ∙ sym ((bytes_eq-Decides other _).0 found'.1)
 
 -- so the name at its place is this one
-pub named_at : (engine : Contents) (name : List ℕ) (at : ℕ) (given : List ℕ) → place engine name ≡ Some at → Some given ≡ slice_get engine.names at → name ≡ given
+pub named_at : (engine : EngineState) (name : List ℕ) (at : ℕ) (given : List ℕ) → place engine name ≡ Some at → Some given ≡ slice_get engine.names at → name ≡ given
 named_at engine name at given there is =
     let found = position-Some (bytes_eq name) engine.names at [] there in
     let same : Some given ≡ Some (get_or engine.names at []) = is ∙ slice_get-get_or engine.names at [] found.0 in
@@ -92,15 +92,15 @@ named_at engine name at given there is =
     cc
 
 -- what holds of each session holds of that of a name
-pub kept_by_name : (engine : Contents) (name : List ℕ) → IsWhole engine → IsKept engine.settings engine.memory_refused (sessions engine name)
+pub kept_by_name : (engine : EngineState) (name : List ℕ) → IsWhole engine → IsKept engine.settings engine.memory_refused (sessions engine name)
 kept_by_name engine name whole = subst (IsKept engine.settings engine.memory_refused) (sym (sessions-first engine name whole)) (whole.kept (first engine name))
 
 -- so all are sound
-pub sound_by_name : (engine : Contents) → IsWhole engine → AreSound (seen engine)
+pub sound_by_name : (engine : EngineState) → IsWhole engine → AreSound (seen_by_name engine)
 sound_by_name engine whole = λ name. (kept_by_name engine name whole).sound
 
 -- and they stay so where none of them changes
-pub sound_still : (old new : Contents) → sessions new ≡ sessions old → new.settings ≡ old.settings → AreSound (seen old) → AreSound (seen new)
+pub sound_still : (old new : EngineState) → sessions new ≡ sessions old → new.settings ≡ old.settings → AreSound (seen_by_name old) → AreSound (seen_by_name new)
 sound_still old new same fixed sound = λ name.
     subst (λ (settings : Settings). IsSoundSession settings (sessions new name)) (sym fixed)
     (subst (λ (sessions : List ℕ → Session). IsSoundSession old.settings (sessions name)) (sym same) (sound name))
@@ -142,10 +142,10 @@ named_opened names name absent named at within = by (ltb at (length names)) refl
         ∙ found_at (bytes_eq name) (position_or_len_push (bytes_eq name) names name ∙ grind (arith, itself, end, last))
 
 -- with one more session
-abbrev opened : Contents → List ℕ → Contents
+abbrev opened : EngineState → List ℕ → EngineState
 opened engine name = record { settings = engine.settings; names = engine.names ++ name ∷ []; tables = tables.opened engine.tables; memory_refused = engine.memory_refused }
 
-module _ (engine : Contents) (whole : IsWhole engine) where
+module _ (engine : EngineState) (whole : IsWhole engine) where
   -- a new place changes no session: the new one is fresh, and was so before
   pub whole_opened : (name : List ℕ) → place engine name ≡ None → IsWhole (opened engine name)
   whole_opened name absent = record {
@@ -172,11 +172,11 @@ module _ (engine : Contents) (whole : IsWhole engine) where
       sessions-first (opened engine name) other (whole_opened name absent) ∙ session_opened engine.tables new ∙ same ∙ sym (sessions-first engine other whole)
 
 -- the engine with other tables
-abbrev pub with_tables : Contents → Tables → Contents
+abbrev pub with_tables : EngineState → Tables → EngineState
 with_tables engine tables = record { settings = engine.settings; names = engine.names; tables = tables; memory_refused = engine.memory_refused }
 
 -- more room changes no session
-pub whole_same : (engine : Contents) (ready : Tables) → AreSame engine.tables ready → IsWhole engine → IsWhole (with_tables engine ready)
+pub whole_same : (engine : EngineState) (ready : Tables) → AreSame engine.tables ready → IsWhole engine → IsWhole (with_tables engine ready)
 whole_same engine ready same whole = record {
   settings = whole.settings;
   even = even_same engine.tables ready same whole.even;
@@ -186,7 +186,7 @@ whole_same engine ready same whole = record {
   kept = λ at. subst (IsKept engine.settings engine.memory_refused) (sym (session_same engine.tables ready at same)) (whole.kept at);
 }
 
-pub sessions-same : (engine : Contents) (ready : Tables) → AreSame engine.tables ready → sessions (with_tables engine ready) ≡ sessions engine
+pub sessions-same : (engine : EngineState) (ready : Tables) → AreSame engine.tables ready → sessions (with_tables engine ready) ≡ sessions engine
 sessions-same engine ready same =
     ap (λ (session : ℕ → Session). λ name. option_map_or session (place engine name) fresh) (fun_ext (λ at. session_same engine.tables ready at same))
 
@@ -206,7 +206,7 @@ whole_new settings are names layouts tables no_names forests stores graphs conne
     }
 
 -- a new name has the new place
-pub place-opened : (engine : Contents) (name : List ℕ) → place engine name ≡ None → place (opened engine name) name ≡ Some (length engine.names)
+pub place-opened : (engine : EngineState) (name : List ℕ) → place engine name ≡ None → place (opened engine name) name ≡ Some (length engine.names)
 place-opened engine name absent =
     let passes = bytes_eq name in
     let more = position_or_len_push passes engine.names name in
@@ -218,9 +218,9 @@ place-opened engine name absent =
     cond-true _ _ _ within ∙ ap Some found
 
 -- a new name has gone behind the others, and its session behind theirs, over tables with room
-module _ (engine : Contents) (ready after : Tables) (name copy : List ℕ) (keys : List (List ℕ)) (same : AreSame engine.tables ready) (whole : IsWhole engine) (absent : place engine name ≡ None)
+module _ (engine : EngineState) (ready after : Tables) (name copy : List ℕ) (keys : List (List ℕ)) (same : AreSame engine.tables ready) (whole : IsWhole engine) (absent : place engine name ≡ None)
     (equal : copy ≡ name) (inserted : keys ≡ insert_key bytes_eq engine.names copy) (one_more : after ≡ tables.opened ready) where
-  abbrev entered : Contents
+  abbrev entered : EngineState
   entered = record { settings = engine.settings; names = keys; tables = after; memory_refused = engine.memory_refused }
 
   is : entered ≡ opened (with_tables engine ready) name

@@ -19,7 +19,7 @@ use Rattle.thread_model.specs.Asked as asked
 use Rattle.thread_model.specs.Effects.{ended}
 use Rattle.thread_model.specs.Posting.{spin_of}
 use Rattle.thread_model.specs.Agenda.{call_items, call_line, event_items, method_items}
-use Rattle.thread_model.specs.Doing.{Doing, first_taken, told, turn_taken}
+use Rattle.thread_model.specs.Doing.{Doing, first_taken, line_told, turn_taken}
 use Rattle.thread_model.specs.Items.{Item, Run, Spin}
 use Rattle.thread_model.specs.Methods.{method_at}
 use Rattle.thread_model.specs.Run.{run}
@@ -142,7 +142,7 @@ module _ (settings : Settings) (place : ℕ) (tables : Tables) (telling : Tellin
 
     module _ (method : Method) (has : Some method ≡ method_at settings (state_at tables place) call.object index) (done : Doing) where
       -- a slot is run
-      pub calls_slot : method.is_signal ≡ false → run settings (acts (acts_of method.body.actions) call.args call.object call.sender 1) (told its_doing (call_line method call.object call.sender call.args)) ≡ done
+      pub calls_slot : method.is_signal ≡ false → run settings (acts (acts_of method.body.actions) call.args call.object call.sender 1) (line_told its_doing (call_line method call.object call.sender call.args)) ≡ done
           → run settings its_items its_doing ≡ done
       calls_slot slot does =
           ap (λ (items : List Item). run settings items its_doing) (by_method (Some method) has ∙ cond-false method.is_signal _ _ slot)
@@ -161,13 +161,13 @@ few_taken settings agenda place old new before after earlier posts does =
 
 -- what came of it is replied last
 pub spin_runs : (caller : Caller) (old new : Tables) (before : Telling) → before ≡ fresh_telling caller.setup.now.turns
-    → let done = run (settings_of caller.setup.now) (Spin ∷ []) (doing_at caller.place old before []) in its_effect caller asked.Spin old ≡ ended (told done (line.Reply (a.Spun (spin_of done))))
+    → let done = run (settings_of caller.setup.now) (Spin ∷ []) (doing_at caller.place old before []) in its_effect caller asked.Spin old ≡ ended (line_told done (line.Reply (a.Spun (spin_of done))))
 spin_runs caller old new before fresh =
     let settings = settings_of caller.setup.now in
     let state = state_at old caller.place in
     rule.performs_spin settings caller.name.now state
     ∙ spun_last settings state
-    ∙ ap (λ (doing : Doing). ended (told (run settings (Spin ∷ []) doing) (line.Reply (a.Spun (spin_of (run settings (Spin ∷ []) doing)))))) (sym (ap (λ (telling : Telling). doing_at caller.place old telling []) fresh))
+    ∙ ap (λ (doing : Doing). ended (line_told (run settings (Spin ∷ []) doing) (line.Reply (a.Spun (spin_of (run settings (Spin ∷ []) doing)))))) (sym (ap (λ (telling : Telling). doing_at caller.place old telling []) fresh))
 
 -- so the command is performed
 pub performs_spun : {T E : Type 0} (caller : Caller) (old new : Tables) (before after : Telling) (value : T) (spin : Came) → before ≡ fresh_telling caller.setup.now.turns
@@ -179,6 +179,6 @@ performs_spun caller old new before after value spin fresh does is =
     let end = doing_at caller.place new after does.posts in
     replied_last caller asked.Spin old new after (a.Spun spin) does.posts (rule.refusal_spin settings caller.name.now state)
     (spin_runs caller old new before fresh
-    ∙ ap (λ (done : Doing). ended (told done (line.Reply (a.Spun (spin_of done))))) (does.runs [])
-    ∙ ap (λ (spin : Came). ended (told end (line.Reply (a.Spun spin)))) (sym is))
+    ∙ ap (λ (done : Doing). ended (line_told done (line.Reply (a.Spun (spin_of done))))) (does.runs [])
+    ∙ ap (λ (spin : Came). ended (line_told end (line.Reply (a.Spun spin)))) (sym is))
     (at_first_reaches caller old new before after does.posts fresh does.reaches)

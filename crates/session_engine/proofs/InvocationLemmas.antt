@@ -25,7 +25,7 @@ use Rattle.thread_model.specs.Absence.{absence}
 use Rattle.thread_model.specs.Acts.{acts}
 use Rattle.thread_model.specs.Agenda.{call_line, with_turn}
 use Rattle.thread_model.specs.Asked.{Invoke}
-use Rattle.thread_model.specs.Doing.{Doing, begun, told, turn_taken, used_up}
+use Rattle.thread_model.specs.Doing.{Doing, begun, line_told, turn_taken, used_up}
 use Rattle.thread_model.specs.Effects.{does_next, ended}
 use Rattle.thread_model.specs.Items.{Emit, Next, Run, puts}
 use Rattle.thread_model.specs.Methods.{Found, ◌>>=◌, is_signal_at, kinds_at, method_at, methods_of, signature_in}
@@ -129,7 +129,7 @@ module _ (caller : Caller) (object index : ℕ) (values : List Value) (tables : 
   -- and else it takes one, and is run
   pub run_called : (done : Doing) → 0 < telling.turns
       → run (settings_of caller.setup.now) (acts (acts_of method.body.actions) values object 0 1)
-      (told (doing_at caller.place tables (record { lines = telling.lines; turns = telling.turns - 1; spent = telling.spent; taken = telling.taken; failing = telling.failing }) []) (call_line method object 0 values)) ≡ done
+      (line_told (doing_at caller.place tables (record { lines = telling.lines; turns = telling.turns - 1; spent = telling.spent; taken = telling.taken; failing = telling.failing }) []) (call_line method object 0 values)) ≡ done
       → run (settings_of caller.setup.now) next.items next.doing ≡ done
   unfolding turn_taken
   run_called done some does =
@@ -198,7 +198,7 @@ pub invoke_runs : (caller : Caller) (object : ℕ) (text : List ℕ) (args : Lis
     → is_queued mode ≡ false → asked_method (settings_of caller.setup.now) (state_at old caller.place) object text ≡ Some index
     → asked_values (settings_of caller.setup.now) (state_at old caller.place) object index args ≡ Ok values
     → let next = invoked (settings_of caller.setup.now) (state_at old caller.place) object index values in
-    its_effect caller (Invoke object text args mode priority) old ≡ ended (told (run (settings_of caller.setup.now) next.items next.doing) (line.Reply (a.Truth true)))
+    its_effect caller (Invoke object text args mode priority) old ≡ ended (line_told (run (settings_of caller.setup.now) next.items next.doing) (line.Reply (a.Truth true)))
 invoke_runs caller object text args mode priority old new index values at_once found given =
     let settings = settings_of caller.setup.now in
     let state = state_at old caller.place in
@@ -218,7 +218,7 @@ pub performs_invoked : {T E : Type 0} (caller : Caller) (object : ℕ) (text : L
 performs_invoked caller object text args mode priority old new before after value index values fresh at_once passed found given does =
     replied_last caller (Invoke object text args mode priority) old new after (a.Truth true) does.posts passed
     (invoke_runs caller object text args mode priority old new index values at_once found given
-    ∙ ap (λ done. ended (told done (line.Reply (a.Truth true)))) does.runs)
+    ∙ ap (λ done. ended (line_told done (line.Reply (a.Truth true)))) does.runs)
     (at_first_reaches caller old new before after does.posts fresh does.reaches)
 
 -- what a command begins with is done by nested calls

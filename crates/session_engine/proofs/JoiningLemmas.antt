@@ -14,7 +14,7 @@ use Rattle.session_tables.specs.Joining.{AreJoiners}
 use Rattle.session_tables.specs.Session.{Session, fresh}
 use Rattle.session_tables.specs.Tables.{session_at, state_at}
 use Rattle.session_tables.proofs.TablesLemmas.{session_past}
-use Rattle.session_engine.specs.Core.{AreJoinersOf, Contents, IsWhole, name_at, names_at, place, states}
+use Rattle.session_engine.specs.Core.{AreJoinersOf, EngineState, IsWhole, name_at, names_at, place, states}
 use Rattle.session_engine.proofs.EngineLemmas.{position-None, sessions-place}
 
 -- tests that agree on each element find alike
@@ -56,7 +56,7 @@ fresh_joins : (from : List ℕ) → joins_name empty from ≡ false
 unfolding joins_name
 fresh_joins from = refl
 
-module _ (engine : Contents) (from : List ℕ) (places : List ℕ) (whole : IsWhole engine) (are : AreJoiners engine.tables from places) where
+module _ (engine : EngineState) (from : List ℕ) (places : List ℕ) (whole : IsWhole engine) (are : AreJoiners engine.tables from places) where
   -- each of these places has a name, since the session of one without a name has had no command
   joiners_within : All (λ at. at < length engine.names) places
   joiners_within i default within = ⊎_elim (λ less. less) (λ past. absurd (true≢false (sym joins ∙ strange past))) (cases_lt at (length engine.names))
@@ -88,6 +88,6 @@ module _ (engine : Contents) (from : List ℕ) (places : List ℕ) (whole : IsWh
   joiners_of = record { joiners = are; named = joiners_named; within = joiners_within }
 
 -- so what has found the places has found the names
-pub if_joiners : {X E : Type 0} (engine : Contents) (from : List ℕ) (items : X → List ℕ) (result : Result X E) → IsWhole engine → IfOk result (λ found. AreJoiners engine.tables from (items found)) → IfOk result (λ found. AreJoinersOf engine from (items found))
+pub if_joiners : {X E : Type 0} (engine : EngineState) (from : List ℕ) (items : X → List ℕ) (result : Result X E) → IsWhole engine → IfOk result (λ found. AreJoiners engine.tables from (items found)) → IfOk result (λ found. AreJoinersOf engine from (items found))
 if_joiners engine from items (Ok found) whole are = joiners_of engine from (items found) whole are
 if_joiners engine from items (Err error) whole are = are

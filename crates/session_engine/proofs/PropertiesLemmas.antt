@@ -24,12 +24,12 @@ use Rattle.thread_model.specs.Items.{Item}
 use Rattle.thread_model.specs.Methods.{Found, ◌>>=◌}
 use Rattle.thread_model.specs.Properties.{is_declared}
 use Rattle.thread_model.specs.State.{State}
-use Rattle.thread_model.specs.Writing.{Declared, Dynamic, Nothing, Place, Removed, Writing, asked_place, asked_writing, declared, dynamic_writing, written}
+use Rattle.thread_model.specs.Writing.{Declared, Dynamic, Nothing, DeclaredField, Removed, Writing, asked_place, asked_writing, declared, dynamic_writing, written}
 use Rattle.thread_model.proofs.PropertyLemmas.{refusal_set, set_written}
 use Rattle.session_tables.specs.declared.tables.Tables.{Tables}
 use Rattle.session_tables.specs.Refused.{OnRefused}
 use Rattle.session_tables.specs.Tables.{ChangesOnly, IsPlaced, state_at}
-use Rattle.session_effects.specs.Actions.{Keeps}
+use Rattle.session_effects.specs.Actions.{KeepsOthers}
 use Rattle.session_effects.specs.declared.caller.Caller.{Caller}
 use Rattle.session_effects.specs.declared.announcing.News.{News}
 use Rattle.session_effects.specs.Setup.{settings_of}
@@ -54,7 +54,7 @@ is_null (d.array ds) h = absurd (cc)
 is_null (d.object ms) h = absurd (cc)
 
 -- all but null is read as a value of the property's kind
-place_valued : (json : Data) (place : Place) → is_some (as_null json) ≡ false → asked_place json place ≡ value_of place.kind json >>= λ value. Ok (Declared place.number value)
+place_valued : (json : Data) (place : DeclaredField) → is_some (as_null json) ≡ false → asked_place json place ≡ value_of place.kind json >>= λ value. Ok (Declared place.number value)
 place_valued d.null place h = absurd (cc)
 place_valued (d.boolean b) place h = refl
 place_valued (d.number n) place h = refl
@@ -63,24 +63,24 @@ place_valued (d.array ds) place h = refl
 place_valued (d.object ms) place h = refl
 
 -- where a property is declared, by what was found of it
-pub place_is : (of : ℕ × Kind) (found : Option Place) → Some of ≡ option_map (λ place. (place.number, place.kind)) found → Some (record { number = of.0; kind = of.1 }) ≡ found
+pub place_is : (of : ℕ × Kind) (found : Option DeclaredField) → Some of ≡ option_map (λ place. (place.number, place.kind)) found → Some (record { number = of.0; kind = of.1 }) ≡ found
 place_is of None e = absurd (cc)
 place_is of (Some place) e = ap (option_map (λ (of : ℕ × Kind). record { number = of.0; kind = of.1 })) e
 
 -- and where none is
-absent_place : (found : Option Place) → ◌≡◌ {A = Option (ℕ × Kind)} None (option_map (λ (place : Place). (place.number, place.kind)) found) → found ≡ None
+absent_place : (found : Option DeclaredField) → ◌≡◌ {A = Option (ℕ × Kind)} None (option_map (λ (place : DeclaredField). (place.number, place.kind)) found) → found ≡ None
 absent_place None e = refl
 absent_place (Some place) e = absurd (cc)
 
 -- what a command writes
 module _ (state : State) (object : ℕ) (name : List ℕ) (json : Data) where
-  writing_at : (found : Option Place) → declared state object name ≡ found → asked_writing state object name json ≡ option_map_or (asked_place json) found (inferred json >>= dynamic_writing state object name)
+  writing_at : (found : Option DeclaredField) → declared state object name ≡ found → asked_writing state object name json ≡ option_map_or (asked_place json) found (inferred json >>= dynamic_writing state object name)
   writing_at found e = ap (λ found. option_map_or (asked_place json) found (inferred json >>= dynamic_writing state object name)) e
 
-  pub asked_dynamic : ◌≡◌ {A = Option (ℕ × Kind)} None (option_map (λ (place : Place). (place.number, place.kind)) (declared state object name)) → asked_writing state object name json ≡ inferred json >>= dynamic_writing state object name
+  pub asked_dynamic : ◌≡◌ {A = Option (ℕ × Kind)} None (option_map (λ (place : DeclaredField). (place.number, place.kind)) (declared state object name)) → asked_writing state object name json ≡ inferred json >>= dynamic_writing state object name
   asked_dynamic none = writing_at None (absent_place (declared state object name) none)
 
-  module _ (place : Place) (there : Some place ≡ declared state object name) where
+  module _ (place : DeclaredField) (there : Some place ≡ declared state object name) where
     pub asked_nothing : is_some (as_null json) ≡ true → asked_writing state object name json ≡ Ok Nothing
     asked_nothing null = writing_at (Some place) (sym there) ∙ ap (λ json. asked_place json place) (is_null json null)
 
@@ -113,7 +113,7 @@ written_fault caller asked old new lines object wanted tell Memory result h is w
 -- a command that writes what was found
 module _ (caller : Caller) (object : ℕ) (property : List ℕ) (json : Data) (old middle new : Tables) (before after : Telling) (writing : Writing) (replied : Bool) (news : News)
     (is : is_declared writing ≡ replied) (there : None ≡ absence (state_at old caller.place) object) (fresh : before ≡ fresh_telling caller.setup.now.turns) (asked : asked_writing (state_at old caller.place) object property json ≡ Ok writing)
-    (writes : Writes caller object writing old news middle) (placed : IsPlaced old caller.place) (keeps : Keeps caller.place old middle) where
+    (writes : Writes caller object writing old news middle) (placed : IsPlaced old caller.place) (keeps : KeepsOthers caller.place old middle) where
   abbrev pub items : List Item
   items = items_of (settings_of caller.setup.now) (state_at middle caller.place) 0 news
 

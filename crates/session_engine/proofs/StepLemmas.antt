@@ -28,7 +28,7 @@ use Rattle.session_tables.proofs.TablesLemmas.{placed_by, session_past}
 use Rattle.nested_calls.specs.Front.{IsFront}
 use Rattle.nested_calls.proofs.FrontLemmas.{front_same}
 use Rattle.session_engine.specs.Commands.{OthersHear}
-use Rattle.session_engine.specs.Core.{Contents, IsKept, IsWhole, place, seen, sessions, states}
+use Rattle.session_engine.specs.Core.{EngineState, IsKept, IsWhole, place, seen_by_name, sessions, states}
 use Rattle.session_engine.specs.Sessions.{AllAreNamed, AnotherFails, Fails, IsStep, Sessions, given_by, session_after, session_does, session_refusal}
 use Rattle.session_engine.proofs.EngineLemmas.{kept_by_name, one_name, placed, sessions-place, sound_by_name}
 use Rattle.session_engine.proofs.SessionLemmas.{does_fine, heard_state, kept_fresh, kept_gone, kept_heard, named_after, named_hears, not_shut, right_front, right_posts, sound_after}
@@ -65,7 +65,7 @@ pub data Own (settings : Settings) (name : List ℕ) (asked : Asked) (told : Opt
   GaveUp : told ≡ None → new ≡ gone → IsFront posts (session_does settings name old asked).posts → Own settings name asked told posts old new
 
 -- what became of a command of the session at a place
-pub record Ended (old new : Contents) (at : ℕ) (name : List ℕ) (asked : Asked) (told : Option (List Line)) (failing : Bool) : Type 0 where
+pub record Ended (old new : EngineState) (at : ℕ) (name : List ℕ) (asked : Asked) (told : Option (List Line)) (failing : Bool) : Type 0 where
   pub settings : new.settings ≡ old.settings
   pub names : new.names ≡ old.names
   pub posts : List Post
@@ -78,7 +78,7 @@ pub record Ended (old new : Contents) (at : ℕ) (name : List ℕ) (asked : Aske
 heard_fresh : (classes : List Class) (from : List ℕ) (posts : List Post) → fresh ≡ heard classes from posts fresh
 heard_fresh classes from posts = sym (heard_stranger classes from posts fresh refl)
 
-module _ (old new : Contents) (at : ℕ) (name : List ℕ) (asked : Asked) (told : Option (List Line)) (failing : Bool) (whole : IsWhole old) (named : (state : State) → IsFittingAsked old.settings state asked) (there : place old name ≡ Some at) (ended : Ended old new at name asked told failing) where
+module _ (old new : EngineState) (at : ℕ) (name : List ℕ) (asked : Asked) (told : Option (List Line)) (failing : Bool) (whole : IsWhole old) (named : (state : State) → IsFittingAsked old.settings state asked) (there : place old name ≡ Some at) (ended : Ended old new at name asked told failing) where
   own : sessions old name ≡ session_at old.tables at
   own = sessions-place old name at there
 
@@ -200,7 +200,7 @@ module _ (old new : Contents) (at : ℕ) (name : List ℕ) (asked : Asked) (told
       by (Loud either e) = absurd (both_ways _ found e)
 
   -- dynamic properties stay called by names
-  named_all : IsNamedAsked asked → AllAreNamed (seen old) → AllAreNamed (seen new)
+  named_all : IsNamedAsked asked → AllAreNamed (seen_by_name old) → AllAreNamed (seen_by_name new)
   named_all is all = each (λ other. AreNamed (sessions new other).state) (subst (λ (session : Session). AreNamed session.state) (sym now_own) (by ended.own))
       (λ other elsewhere. named_hears old.settings.classes name ended.posts (sessions old other) (sessions new other) (hears_other other elsewhere) (all other))
     where
@@ -209,7 +209,7 @@ module _ (old new : Contents) (at : ℕ) (name : List ℕ) (asked : Asked) (told
           (named_after old.settings name (session_at old.tables at) asked whole.settings is (subst (λ (session : Session). AreNamed session.state) own (all name)))
       by (GaveUp nothing e front) = subst (λ (session : Session). AreNamed session.state) (sym e) keeps_named.at_first
 
-  pub step_of : IsStep (seen old) (seen new) name asked told
+  pub step_of : IsStep (seen_by_name old) (seen_by_name new) name asked told
   step_of = by ended.own ended.mark
     where
       kept_mark : Marks old.memory_refused new.memory_refused failing told → IsTrue old.memory_refused → IsTrue new.memory_refused
@@ -221,7 +221,7 @@ module _ (old new : Contents) (at : ℕ) (name : List ℕ) (asked : Asked) (told
       on_same (Some lines) same = fun_ext (λ other.
           ap (λ found. option_map_or (session_at new.tables) found fresh) (ap (position (bytes_eq other)) ended.names) ∙ ap (λ tables. option_map_or (session_at tables) (place old other) fresh) same)
 
-      another : failing ≡ true → AnotherFails (seen old) (seen new) name
+      another : failing ≡ true → AnotherFails (seen_by_name old) (seen_by_name new) name
       another some =
           let it = ended.others.one some in
           let within : it.0 < length old.names = omega (arith, whole.paired, it.2.4) in
@@ -235,12 +235,12 @@ module _ (old new : Contents) (at : ℕ) (name : List ℕ) (asked : Asked) (told
               (λ differ. differ)
               (cases_Bool (bytes_eq other name))
 
-      blames : Marks old.memory_refused new.memory_refused failing told → IsFalse old.memory_refused → IsTrue new.memory_refused → (told ≡ None) ⊎ AnotherFails (seen old) (seen new) name
+      blames : Marks old.memory_refused new.memory_refused failing told → IsFalse old.memory_refused → IsTrue new.memory_refused → (told ≡ None) ⊎ AnotherFails (seen_by_name old) (seen_by_name new) name
       blames (Quiet none some e) was now = absurd (both_ways _ was (sym e ∙ now))
       blames (Loud (inl nothing) e) was now = inl nothing
       blames (Loud (inr some) e) was now = inr (another some)
 
-      by : Own old.settings name asked told ended.posts (session_at old.tables at) (session_at new.tables at) → Marks old.memory_refused new.memory_refused failing told → IsStep (seen old) (seen new) name asked told
+      by : Own old.settings name asked told ended.posts (session_at old.tables at) (session_at new.tables at) → Marks old.memory_refused new.memory_refused failing told → IsStep (seen_by_name old) (seen_by_name new) name asked told
       by (Told lines e posts) mark =
           let left : sessions new name ≡ session_after old.settings name (sessions old name) asked = now_own ∙ e ∙ ap (λ session. session_after old.settings name session asked) (sym own) in
           let made : ended.posts ≡ (session_does old.settings name (sessions old name) asked).posts = posts ∙ ap (λ session. (session_does old.settings name session asked).posts) (sym own) in

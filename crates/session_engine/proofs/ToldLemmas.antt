@@ -7,7 +7,7 @@ use Rattle.thread_model.specs.declared.line.Line.{Line}
 use Rattle.thread_model.specs.declared.line.Line.TheVariants as line
 use Rattle.thread_model.specs.declared.post.Post.{Post}
 use Rattle.thread_model.specs.Asked.{Asked}
-use Rattle.thread_model.specs.Doing.{begun, in_state, told}
+use Rattle.thread_model.specs.Doing.{begun, in_state, line_told}
 use Rattle.thread_model.specs.Effects.{does_next, ended}
 use Rattle.thread_model.specs.Items.{Item, Next, puts}
 use Rattle.thread_model.specs.Run.{run}
@@ -16,7 +16,7 @@ use Rattle.session_tables.specs.declared.tables.Tables.{Tables}
 use Rattle.session_tables.specs.Reaching.{Reaches}
 use Rattle.session_tables.specs.Tables.{IsPlaced, state_at}
 use Rattle.session_tables.proofs.ReachingLemmas.{reaches_twice}
-use Rattle.session_effects.specs.Actions.{Keeps}
+use Rattle.session_effects.specs.Actions.{KeepsOthers}
 use Rattle.session_effects.specs.declared.caller.Caller.{Caller}
 use Rattle.session_effects.specs.Setup.{settings_of}
 use Rattle.nested_calls.specs.declared.telling.Telling.{Telling}
@@ -32,15 +32,15 @@ comes caller old middle items = puts items (in_state (begun (settings_of caller.
 
 module _ (caller : Caller) (asked : Asked) (old middle new : Tables) (before after : Telling) (items : List Item) (next : Next) (answer : Answer)
     (placed : IsPlaced old caller.place) (fresh : before ≡ fresh_telling caller.setup.now.turns) (passed : its_refusal caller asked old ≡ None)
-    (effect : its_effect caller asked old ≡ does_next (settings_of caller.setup.now) next answer) (is : next ≡ comes caller old middle items) (keeps : Keeps caller.place old middle) where
+    (effect : its_effect caller asked old ≡ does_next (settings_of caller.setup.now) next answer) (is : next ≡ comes caller old middle items) (keeps : KeepsOthers caller.place old middle) where
   -- it is done, and then replied
-  told_runs : its_effect caller asked old ≡ ended (told (run (settings_of caller.setup.now) items (doing_at caller.place middle before [])) (line.Reply answer))
+  told_runs : its_effect caller asked old ≡ ended (line_told (run (settings_of caller.setup.now) items (doing_at caller.place middle before [])) (line.Reply answer))
   told_runs =
       let settings = settings_of caller.setup.now in
       effect
       ∙ ap (λ (next : Next). does_next settings next answer) is
       ∙ replies_last settings (comes caller old middle items) answer
-      ∙ ap (λ (telling : Telling). ended (told (run settings items (doing_at caller.place middle telling [])) (line.Reply answer))) (sym fresh)
+      ∙ ap (λ (telling : Telling). ended (line_told (run settings items (doing_at caller.place middle telling [])) (line.Reply answer))) (sym fresh)
 
   -- the change itself has posted nothing
   told_reaches : (posts : List Post) → Reaches caller.setup.now.classes caller.name.now caller.place posts middle new before.failing after.failing → Reaches caller.setup.now.classes caller.name.now caller.place posts old new false after.failing
@@ -49,7 +49,7 @@ module _ (caller : Caller) (asked : Asked) (old middle new : Tables) (before aft
       (reaches_twice caller.setup.now.classes caller.name.now caller.place [] posts old middle new before.failing before.failing after.failing placed (reaches_none caller old middle before.failing before.failing keeps refl) reaches)
 
   pub performs_told : {T E : Type 0} (value : T) → Does {E = E} caller items middle new before after (Ok value) → Performs caller asked old new after.failing (reply_after after.lines) (Ok answer)
-  performs_told value does = replied_last caller asked old new after answer does.posts passed (told_runs ∙ ap (λ doing. ended (told doing (line.Reply answer))) (does.runs [])) (told_reaches does.posts does.reaches)
+  performs_told value does = replied_last caller asked old new after answer does.posts passed (told_runs ∙ ap (λ doing. ended (line_told doing (line.Reply answer))) (does.runs [])) (told_reaches does.posts does.reaches)
 
   -- where memory was wanted, the first of its posts are made
   pub starved_told : {T E U : Type 0} (error : E) (lines : U → List Line) (result : Result U Fault) → IsErrAnd result (λ fault. fault ≡ Memory) → Does {T = T} caller items middle new before after (Err error) → Performs caller asked old new after.failing lines result

@@ -13,7 +13,7 @@ use Rattle.session_effects.specs.declared.setup.Setup.{Setup}
 use Rattle.session_engine.specs.Sessions.{IsSoundSession, Sessions}
 use Rattle.session_effects.specs.Setup.{settings_of}
 
-pub record Contents : Type 0 where
+pub record EngineState : Type 0 where
   -- what is fixed for the whole life of the engine
   pub settings : Settings
   -- the name of each place
@@ -24,42 +24,42 @@ pub record Contents : Type 0 where
   pub memory_refused : Bool
 
 -- made of these
-abbrev pub contents : Setup → List (List ℕ) → Tables → Bool → Contents
-contents setup names tables memory_refused = record { settings = settings_of setup; names = names; tables = tables; memory_refused = memory_refused }
+abbrev pub engine_state : Setup → List (List ℕ) → Tables → Bool → EngineState
+engine_state setup names tables memory_refused = record { settings = settings_of setup; names = names; tables = tables; memory_refused = memory_refused }
 
-abbrev pub settings : Contents → Settings
+abbrev pub settings : EngineState → Settings
 settings engine = engine.settings
 
-abbrev pub was_refused : Contents → Bool
+abbrev pub was_refused : EngineState → Bool
 was_refused engine = engine.memory_refused
 
 -- the names of the sessions, by place
-abbrev pub names : Contents → List (List ℕ)
+abbrev pub names : EngineState → List (List ℕ)
 names engine = engine.names
 
-abbrev pub place : Contents → List ℕ → Option ℕ
+abbrev pub place : EngineState → List ℕ → Option ℕ
 place engine name = position (bytes_eq name) engine.names
 
 -- the session of each name, fresh where it has no place
-abbrev pub sessions : Contents → List ℕ → Session
+abbrev pub sessions : EngineState → List ℕ → Session
 sessions engine name = option_map_or (session_at engine.tables) (place engine name) fresh
 
-abbrev pub states : Contents → List ℕ → State
+abbrev pub states : EngineState → List ℕ → State
 states engine name = (sessions engine name).state
 
-abbrev pub failed : Contents → List ℕ → Bool
+abbrev pub failed : EngineState → List ℕ → Bool
 failed engine name = (sessions engine name).failed
 
 -- the name of a place
-abbrev pub name_at : Contents → ℕ → List ℕ
+abbrev pub name_at : EngineState → ℕ → List ℕ
 name_at engine at = get_or engine.names at []
 
 -- the names of these places
-abbrev pub names_at : Contents → List ℕ → List (List ℕ)
+abbrev pub names_at : EngineState → List ℕ → List (List ℕ)
 names_at engine places = map (name_at engine) places
 
 -- these places join the session of this name
-pub record AreJoinersOf (engine : Contents) (from : List ℕ) (places : List ℕ) : Type 0 where
+pub record AreJoinersOf (engine : EngineState) (from : List ℕ) (places : List ℕ) : Type 0 where
   -- exactly they, by rising number
   pub joiners : AreJoiners engine.tables from places
   -- and their names are exactly those of the sessions that do
@@ -67,20 +67,20 @@ pub record AreJoinersOf (engine : Contents) (from : List ℕ) (places : List ℕ
   pub within : All (λ at. at < length engine.names) places
 
 -- all that is seen by name
-abbrev pub seen : Contents → Sessions
-seen engine = record { settings = settings engine; session = sessions engine; memory_refused = was_refused engine }
+abbrev pub seen_by_name : EngineState → Sessions
+seen_by_name engine = record { settings = settings engine; session = sessions engine; memory_refused = was_refused engine }
 
 -- some session has this place
-abbrev pub IsPlace : Contents → ℕ → Type 0
+abbrev pub IsPlace : EngineState → ℕ → Type 0
 IsPlace engine at = (name : List ℕ) × (place engine name ≡ Some at)
 
 -- each name has its place still, and this place has a name
-pub record KeepsPlaces (old new : Contents) (at : ℕ) : Type 0 where
+pub record KeepsPlaces (old new : EngineState) (at : ℕ) : Type 0 where
   pub names : names new ≡ names old
   pub there : IsPlace new at
 
 -- a fact of the session at a place, by its name
-abbrev pub OfSession : Contents → ℕ → (List ℕ → Type 0) → Type 0
+abbrev pub OfSession : EngineState → ℕ → (List ℕ → Type 0) → Type 0
 OfSession engine at P = (name : List ℕ) → place engine name ≡ Some at → P name
 
 -- what holds of every session: it has failed only where memory was refused, and it is sound
@@ -90,7 +90,7 @@ pub record IsKept (settings : Settings) (memory_refused : Bool) (session : Sessi
 
 -- the classes and functors are sound, each name has its place in every table, the tables know the classes, and
 -- every session is as it must be
-pub record IsWhole (engine : Contents) : Type 0 where
+pub record IsWhole (engine : EngineState) : Type 0 where
   pub settings : AreSettings engine.settings
   pub even : AreEven engine.tables
   pub paired : length engine.names ≡ length engine.tables.failed.places

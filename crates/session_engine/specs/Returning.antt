@@ -10,7 +10,7 @@ use Rattle.thread_model.specs.declared.line.Line.{Line}
 use Rattle.thread_model.specs.declared.line.Line.TheVariants.{Error}
 use Rattle.session_tables.specs.Refused.{OnRefused}
 use Rattle.session_tables.specs.Session.{gone}
-use Rattle.session_engine.specs.Core.{Contents, sessions, settings, states}
+use Rattle.session_engine.specs.Core.{EngineState, sessions, settings, states}
 use Rattle.session_engine.specs.Sessions.{is_shut, session_refusal}
 
 -- the call is refused exactly by this code, and else returns a value of which this holds, unless memory was wanted
@@ -20,7 +20,7 @@ Returns refusal Holds (Err (Refused code)) = refusal ≡ Some code
 Returns refusal Holds (Err Memory) = Unit {0}
 
 -- what a command of the session of this name returns, and what that leaves
-pub record IsAnswered (old new : Contents) (name : List ℕ) (asked : Asked) (result : Result (List Line) Fault) : Type 0 where
+pub record IsAnswered (old new : EngineState) (name : List ℕ) (asked : Asked) (result : Result (List Line) Fault) : Type 0 where
   -- it is refused exactly by its refusal, and else returns what it tells,
   pub returns : Returns (session_refusal (settings old) name (sessions old name) asked) (λ lines. lines ≡ (performs (settings old) name (states old name) asked).lines) result
   -- and a refused command changes nothing
@@ -30,10 +30,10 @@ pub record IsAnswered (old new : Contents) (name : List ℕ) (asked : Asked) (re
   pub fine : OnMemory result (IsFalse (is_shut (sessions old name) asked))
 
 -- what is told of a command: its lines, or its refusal by one line; nothing where memory was wanted
-abbrev pub told : Result (List Line) Fault → Option (List Line)
-told (Ok lines) = Some lines
-told (Err (Refused code)) = Some (Error code ∷ [])
-told (Err Memory) = None
+abbrev pub answer_lines : Result (List Line) Fault → Option (List Line)
+answer_lines (Ok lines) = Some lines
+answer_lines (Err (Refused code)) = Some (Error code ∷ [])
+answer_lines (Err Memory) = None
 
 -- was memory wanted and not found
 abbrev pub wants_memory : {T : Type 0} → Result T Fault → Bool

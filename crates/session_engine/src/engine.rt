@@ -36,15 +36,15 @@ impl Model for Core {
     ghost use Rattle.class_table.specs.contracts.class.Class as class;
     ghost use Rattle.stored_slots.specs.contracts.functor.Functor as functor;
     ghost use Rattle.session_tables.specs.contracts.tables.Tables as held;
-    ghost use Rattle.session_engine.specs.Core.{Contents, IsWhole, contents};
+    ghost use Rattle.session_engine.specs.Core.{EngineState, IsWhole, engine_state};
 
-    ghost Value = { Contents };
+    ghost Value = { EngineState };
 
     ghost coded = { Prim.hlevel (codes, class.the_row.coded, functor.the_row.coded, held.the_row.coded) };
 
-    ghost view = { λ e. contents e.setup e.names.keys e.tables e.memory_refused };
+    ghost view = { λ e. engine_state e.setup e.names.keys e.tables e.memory_refused };
 
-    ghost invariant = { λ e. IsWhole (contents e.setup e.names.keys e.tables e.memory_refused) };
+    ghost invariant = { λ e. IsWhole (engine_state e.setup e.names.keys e.tables e.memory_refused) };
 }
 
 /// The sessions of a server. Each is named by a text, and has a place that calls use; none is ever
@@ -73,10 +73,10 @@ impl Engine {
     ghost use Rattle.thread_model.specs.Fitting.{IsRightPost};
     ghost use Rattle.session_tables.specs.Session.{fresh, gone};
     ghost use Rattle.session_engine.specs.Items.{BeginsAnew, HasAdded, HasArrived, HasCome, IsRightItem, RunsAlone, item_of};
-    ghost use Rattle.session_engine.specs.Returning.{IsAnswered, told};
+    ghost use Rattle.session_engine.specs.Returning.{IsAnswered, answer_lines};
     ghost use Rattle.session_engine.specs.Sessions.{AreSound, AreWell, Fails, IsStep};
-    ghost use Rattle.session_engine.specs.Core.{AreJoinersOf, IsPlace, KeepsPlaces, name_at, OfSession, failed, names, place, seen, sessions, was_refused};
-    ghost use Rattle.session_engine.specs.Engine.{held};
+    ghost use Rattle.session_engine.specs.Core.{AreJoinersOf, IsPlace, KeepsPlaces, name_at, OfSession, failed, names, place, seen_by_name, sessions, was_refused};
+    ghost use Rattle.session_engine.specs.Engine.{seen_engine};
 
     /// An engine with no session. Its objects may have these classes, its signals may be connected to
     /// these functors, whose rows are copied for it, and each command has so many turns for the calls
@@ -92,10 +92,10 @@ impl Engine {
         requires rows { rows ≡ functors_of functors }
         requires few { length rows ≤ FUNCTORS }
         requires each { All IsFunctor rows }
-        ensures sessions { IfOk result (λ engine. (name : List ℕ) → sessions (held engine) name ≡ fresh) }
-        ensures names { IfOk result (λ engine. names (held engine) ≡ []) }
-        ensures settings { IfOk result (λ engine. settings (held engine) ≡ record { turns = turns; classes = classes; functors = functors_of functors }) }
-        ensures refused { IfOk result (λ engine. IsFalse (was_refused (held engine))) }
+        ensures sessions { IfOk result (λ engine. (name : List ℕ) → sessions (seen_engine engine) name ≡ fresh) }
+        ensures names { IfOk result (λ engine. names (seen_engine engine) ≡ []) }
+        ensures settings { IfOk result (λ engine. settings (seen_engine engine) ≡ record { turns = turns; classes = classes; functors = functors_of functors }) }
+        ensures refused { IfOk result (λ engine. IsFalse (was_refused (seen_engine engine))) }
     {
         // The look-up is for the proof, which then knows what holds of the table.
         let _base = classes.class_row(0);
@@ -116,16 +116,16 @@ impl Engine {
 
     /// The place of a session.
     pub fn find(&self, name: &Text) -> Option<usize>
-        ensures { result ≡ place (held self.now) name.now }
+        ensures { result ≡ place (seen_engine self.now) name.now }
     {
         self.core.names.get_index_of(name)
     }
 
     /// How many sessions there are.
     pub fn len(&self) -> usize
-        ensures count { result ≡ length (names (held self.now)) }
+        ensures count { result ≡ length (names (seen_engine self.now)) }
         // No two of them have one name.
-        ensures named { (at : ℕ) → at < length (names (held self.now)) → place (held self.now) (name_at (held self.now) at) ≡ Some at }
+        ensures named { (at : ℕ) → at < length (names (seen_engine self.now)) → place (seen_engine self.now) (name_at (seen_engine self.now) at) ≡ Some at }
     {
         self.core.names.len()
     }
@@ -133,7 +133,7 @@ impl Engine {
     /// The places of the sessions with a join that names this session, by rising number. No other is
     /// walked.
     pub fn joiners(&self, from: &Text) -> Result<Vec<usize>, AllocError>
-        ensures { IfOk result (λ places. AreJoinersOf (held self.now) from.now places.items) }
+        ensures { IfOk result (λ places. AreJoinersOf (seen_engine self.now) from.now places.items) }
     {
         self.core.tables.joiners(self.core.setup.alloc, from)
     }
@@ -141,8 +141,8 @@ impl Engine {
     /// What holds of every session. There is nothing to run: the clauses are for the proofs of
     /// callers.
     pub fn sound(&self)
-        ensures well { AreWell (seen (held self.now)) }
-        ensures sound { AreSound (seen (held self.now)) }
+        ensures well { AreWell (seen_by_name (seen_engine self.now)) }
+        ensures sound { AreSound (seen_by_name (seen_engine self.now)) }
     {
         // The loan is for the proof, which then knows what holds of the engine.
         let _names = &self.core.names;
@@ -150,14 +150,14 @@ impl Engine {
 
     /// Opens a session for a name that has none, and returns its place.
     pub fn open(&mut self, name: &Text) -> Result<usize, AllocError>
-        requires { place (held self.old) name.now ≡ None }
-        ensures place { IfOk result (λ at. place (held self.new) name.now ≡ Some at) }
-        ensures sessions { sessions (held self.new) ≡ sessions (held self.old) }
-        ensures names { OnOk result (names (held self.new) ≡ names (held self.old) ++ name.now ∷ []) }
-        ensures settings { settings (held self.new) ≡ settings (held self.old) }
-        ensures ok { OnOk result (was_refused (held self.new) ≡ was_refused (held self.old)) }
-        ensures err { OnErr result (IsTrue (was_refused (held self.new)) × (names (held self.new) ≡ names (held self.old))) }
-        ensures sound { AreSound (seen (held self.new)) }
+        requires { place (seen_engine self.old) name.now ≡ None }
+        ensures place { IfOk result (λ at. place (seen_engine self.new) name.now ≡ Some at) }
+        ensures sessions { sessions (seen_engine self.new) ≡ sessions (seen_engine self.old) }
+        ensures names { OnOk result (names (seen_engine self.new) ≡ names (seen_engine self.old) ++ name.now ∷ []) }
+        ensures settings { settings (seen_engine self.new) ≡ settings (seen_engine self.old) }
+        ensures ok { OnOk result (was_refused (seen_engine self.new) ≡ was_refused (seen_engine self.old)) }
+        ensures err { OnErr result (IsTrue (was_refused (seen_engine self.new)) × (names (seen_engine self.new) ≡ names (seen_engine self.old))) }
+        ensures sound { AreSound (seen_by_name (seen_engine self.new)) }
     {
         self.sound();
         let entered = self.enter(name);
@@ -168,13 +168,13 @@ impl Engine {
     }
 
     fn enter(&mut self, name: &Text) -> Result<usize, AllocError>
-        requires { place (held self.old) name.now ≡ None }
-        ensures place { IfOk result (λ at. place (held self.new) name.now ≡ Some at) }
-        ensures sessions { sessions (held self.new) ≡ sessions (held self.old) }
-        ensures names { OnOk result (names (held self.new) ≡ names (held self.old) ++ name.now ∷ []) }
-        ensures settings { settings (held self.new) ≡ settings (held self.old) }
-        ensures refused { was_refused (held self.new) ≡ was_refused (held self.old) }
-        ensures err { OnErr result (names (held self.new) ≡ names (held self.old)) }
+        requires { place (seen_engine self.old) name.now ≡ None }
+        ensures place { IfOk result (λ at. place (seen_engine self.new) name.now ≡ Some at) }
+        ensures sessions { sessions (seen_engine self.new) ≡ sessions (seen_engine self.old) }
+        ensures names { OnOk result (names (seen_engine self.new) ≡ names (seen_engine self.old) ++ name.now ∷ []) }
+        ensures settings { settings (seen_engine self.new) ≡ settings (seen_engine self.old) }
+        ensures refused { was_refused (seen_engine self.new) ≡ was_refused (seen_engine self.old) }
+        ensures err { OnErr result (names (seen_engine self.new) ≡ names (seen_engine self.old)) }
     {
         self.core.tables.ready()?;
         let name = name.copy(self.core.setup.alloc)?;
@@ -185,10 +185,10 @@ impl Engine {
     /// Does a command of a session. A session that has failed for want of memory refuses every
     /// command; where memory is wanted now and not found, the session has failed.
     pub fn command(&mut self, at: usize, command: &Command) -> Result<Items<Line>, Fault>
-        requires { IsPlace (held self.old) at }
-        ensures step { OfSession (held self.old) at (λ name. IsStep (seen (held self.old)) (seen (held self.new)) name (asked command.now) (told result)) }
-        ensures answered { OfSession (held self.old) at (λ name. IsAnswered (held self.old) (held self.new) name (asked command.now) result) }
-        ensures places { KeepsPlaces (held self.old) (held self.new) at }
+        requires { IsPlace (seen_engine self.old) at }
+        ensures step { OfSession (seen_engine self.old) at (λ name. IsStep (seen_by_name (seen_engine self.old)) (seen_by_name (seen_engine self.new)) name (asked command.now) (answer_lines result)) }
+        ensures answered { OfSession (seen_engine self.old) at (λ name. IsAnswered (seen_engine self.old) (seen_engine self.new) name (asked command.now) result) }
+        ensures places { KeepsPlaces (seen_engine self.old) (seen_engine self.new) at }
     {
         let Some(name) = self.core.names.get_index(at) else {
             unreachable!()
@@ -210,10 +210,10 @@ impl Engine {
     /// Does a command of a session, and tells a refusal by its line. Where that line finds no
     /// memory, the session has failed too.
     pub fn told(&mut self, at: usize, command: &Command) -> Result<Items<Line>, AllocError>
-        requires { IsPlace (held self.old) at }
-        ensures step { OfSession (held self.old) at (λ name. IsStep (seen (held self.old)) (seen (held self.new)) name (asked command.now) (result_ok result)) }
-        ensures fails { OfSession (held self.old) at (λ name. OnErr result (sessions (held self.new) name ≡ gone)) }
-        ensures places { KeepsPlaces (held self.old) (held self.new) at }
+        requires { IsPlace (seen_engine self.old) at }
+        ensures step { OfSession (seen_engine self.old) at (λ name. IsStep (seen_by_name (seen_engine self.old)) (seen_by_name (seen_engine self.new)) name (asked command.now) (result_ok result)) }
+        ensures fails { OfSession (seen_engine self.old) at (λ name. OnErr result (sessions (seen_engine self.new) name ≡ gone)) }
+        ensures places { KeepsPlaces (seen_engine self.old) (seen_engine self.new) at }
     {
         match self.command(at, command) {
             Ok(lines) => Ok(lines),
@@ -232,10 +232,10 @@ impl Engine {
     /// kind. A session that has failed ignores it; where memory is wanted for it and not found, the session
     /// has failed.
     pub fn arrive(&mut self, at: usize, from: &Text, post: &Post) -> Result<(), AllocError>
-        requires there { IsPlace (held self.old) at }
+        requires there { IsPlace (seen_engine self.old) at }
         requires right { IsRightPost post.now }
-        ensures arrives { OfSession (held self.old) at (λ name. HasArrived (seen (held self.old)) (seen (held self.new)) name from.now post.now (result_ok result)) }
-        ensures places { KeepsPlaces (held self.old) (held self.new) at }
+        ensures arrives { OfSession (seen_engine self.old) at (λ name. HasArrived (seen_by_name (seen_engine self.old)) (seen_by_name (seen_engine self.new)) name from.now post.now (result_ok result)) }
+        ensures places { KeepsPlaces (seen_engine self.old) (seen_engine self.new) at }
     {
         let setup = &self.core.setup;
         let tables = &mut self.core.tables;
@@ -249,11 +249,11 @@ impl Engine {
     /// Lets items come to a session, in order, and returns what its commands are told; a refusal is told by
     /// its line. The first for which memory is wanted and not found is the last, and the session has failed.
     pub fn alone(&mut self, at: usize, items: &[Item]) -> Result<Items<Line>, AllocError>
-        requires there { IsPlace (held self.old) at }
+        requires there { IsPlace (seen_engine self.old) at }
         requires right { All IsRightItem items.now }
-        ensures alone { OfSession (held self.old) at (λ name. RunsAlone (seen (held self.old)) (seen (held self.new)) name (map item_of items.now) (result_ok result)) }
-        ensures fails { OfSession (held self.old) at (λ name. OnErr result (sessions (held self.new) name ≡ gone)) }
-        ensures places { KeepsPlaces (held self.old) (held self.new) at }
+        ensures alone { OfSession (seen_engine self.old) at (λ name. RunsAlone (seen_by_name (seen_engine self.old)) (seen_by_name (seen_engine self.new)) name (map item_of items.now) (result_ok result)) }
+        ensures fails { OfSession (seen_engine self.old) at (λ name. OnErr result (sessions (seen_engine self.new) name ≡ gone)) }
+        ensures places { KeepsPlaces (seen_engine self.old) (seen_engine self.new) at }
     {
         let mut told = Items::new(self.core.setup.alloc);
         'items: for item in items {
@@ -264,14 +264,14 @@ impl Engine {
 
     /// Lets one item come to a session, and puts what it is told of that behind what it was told before.
     fn come(&mut self, at: usize, item: &Item, told: &mut Items<Line>) -> Result<(), AllocError>
-        requires there { IsPlace (held self.old) at }
+        requires there { IsPlace (seen_engine self.old) at }
         requires right { IsRightItem item.now }
-        ensures ok { OfSession (held self.old) at (λ name.
-            OnOk result (HasAdded (seen (held self.old)) (seen (held self.new)) name (item_of item.now) told.old told.new)) }
-        ensures err { OfSession (held self.old) at (λ name.
-            OnErr result (HasCome (seen (held self.old)) (seen (held self.new)) name (item_of item.now) None)) }
-        ensures fails { OfSession (held self.old) at (λ name. OnErr result (sessions (held self.new) name ≡ gone)) }
-        ensures places { KeepsPlaces (held self.old) (held self.new) at }
+        ensures ok { OfSession (seen_engine self.old) at (λ name.
+            OnOk result (HasAdded (seen_by_name (seen_engine self.old)) (seen_by_name (seen_engine self.new)) name (item_of item.now) told.old told.new)) }
+        ensures err { OfSession (seen_engine self.old) at (λ name.
+            OnErr result (HasCome (seen_by_name (seen_engine self.old)) (seen_by_name (seen_engine self.new)) name (item_of item.now) None)) }
+        ensures fails { OfSession (seen_engine self.old) at (λ name. OnErr result (sessions (seen_engine self.new) name ≡ gone)) }
+        ensures places { KeepsPlaces (seen_engine self.old) (seen_engine self.new) at }
     {
         match item {
             Item::Own(command) => {
@@ -289,18 +289,18 @@ impl Engine {
     /// Puts a session back to where it was before its first command, also one that has failed. What other
     /// sessions have joined stays.
     pub fn reset(&mut self, at: usize)
-        requires { IsPlace (held self.old) at }
-        ensures anew { OfSession (held self.old) at (λ name. BeginsAnew (seen (held self.old)) (seen (held self.new)) name) }
-        ensures places { KeepsPlaces (held self.old) (held self.new) at }
+        requires { IsPlace (seen_engine self.old) at }
+        ensures anew { OfSession (seen_engine self.old) at (λ name. BeginsAnew (seen_by_name (seen_engine self.old)) (seen_by_name (seen_engine self.new)) name) }
+        ensures places { KeepsPlaces (seen_engine self.old) (seen_engine self.new) at }
     {
         self.core.tables.renew(at);
     }
 
     /// Lets a session fail, as where memory is wanted for it elsewhere and not found.
     pub fn give_up(&mut self, at: usize)
-        requires { IsPlace (held self.old) at }
-        ensures fails { OfSession (held self.old) at (λ name. Fails (seen (held self.old)) (seen (held self.new)) name) }
-        ensures places { KeepsPlaces (held self.old) (held self.new) at }
+        requires { IsPlace (seen_engine self.old) at }
+        ensures fails { OfSession (seen_engine self.old) at (λ name. Fails (seen_by_name (seen_engine self.old)) (seen_by_name (seen_engine self.new)) name) }
+        ensures places { KeepsPlaces (seen_engine self.old) (seen_engine self.new) at }
     {
         self.core.tables.give_up(at);
         self.core.memory_refused = true;
@@ -308,15 +308,15 @@ impl Engine {
 
     /// Whether a session has failed for want of memory.
     pub fn failed(&self, at: usize) -> bool
-        requires { IsPlace (held self.now) at }
-        ensures { OfSession (held self.now) at (λ name. result ≡ failed (held self.now) name) }
+        requires { IsPlace (seen_engine self.now) at }
+        ensures { OfSession (seen_engine self.now) at (λ name. result ≡ failed (seen_engine self.now) name) }
     {
         self.core.tables.failed(at)
     }
 
     /// Whether memory was wanted and not found in any call of the engine so far.
     pub fn memory_refused(&self) -> bool
-        ensures { result ≡ was_refused (held self.now) }
+        ensures { result ≡ was_refused (seen_engine self.now) }
     {
         self.core.memory_refused
     }

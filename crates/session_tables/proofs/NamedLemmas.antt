@@ -16,7 +16,7 @@ use Rattle.binding_graph.specs.Graph.{Graph, unbound}
 use Rattle.bound_stores.specs.declared.changed.Changed.{Changed}
 use Rattle.bound_stores.specs.Bound.{BoundShelves, bound_at, stored_at, with_bound}
 use Rattle.bound_stores.specs.Named as bound
-use Rattle.thread_model.specs.Writing.{Place, declared}
+use Rattle.thread_model.specs.Writing.{DeclaredField, declared}
 use Rattle.session_tables.specs.declared.tables.Tables.{Tables}
 use Rattle.session_tables.specs.Named.{DoesNotFit, Tells, WritesDeclared}
 use Rattle.session_tables.specs.Tables.{state_at, with_state}
@@ -34,7 +34,7 @@ state_with_stores tables place store graph = sym (columns (with_stores tables (w
 module _ (place object : ℕ) (name : List ℕ) (value : Value) (old : Tables) where
   -- the property of a name, as a state sees it
   record IsDeclared (number : ℕ) (kind : Kind) : Type 0 where
-    of : Place
+    of : DeclaredField
     is : declared (state_at old place) object name ≡ Some of
     number_is : of.number ≡ number
     kind_is : of.kind ≡ kind

@@ -7,16 +7,16 @@ use Rattle.signature_core.specs.declared.kind.Kind.{Kind}
 use Rattle.property_store.specs.declared.field.Field.{Field}
 use Rattle.property_store.specs.Store.{Properties, declared_in, field_number, properties_of}
 use Rattle.thread_model.specs.State.{State}
-use Rattle.thread_model.specs.Writing.{Place, declared}
+use Rattle.thread_model.specs.Writing.{DeclaredField, declared}
 
-abbrev pub pair_of : Place → ℕ × Kind
+abbrev pub pair_of : DeclaredField → ℕ × Kind
 pair_of place = (place.number, place.kind)
 
-abbrev place_in : List Field → ℕ → Option Place
+abbrev place_in : List Field → ℕ → Option DeclaredField
 place_in fields number = option_map (λ (field : Field). record { number = number; kind = field.kind }) (slice_get fields number)
 
 -- the number and the kind of a declared property
-pub declared_pair : (state : State) (object : ℕ) (name : List ℕ) → option_and_then (λ (of : Properties). declared_in name of.fields) (properties_of state.store object) ≡ option_map (λ (place : Place). (place.number, place.kind)) (declared state object name)
+pub declared_pair : (state : State) (object : ℕ) (name : List ℕ) → option_and_then (λ (of : Properties). declared_in name of.fields) (properties_of state.store object) ≡ option_map (λ (place : DeclaredField). (place.number, place.kind)) (declared state object name)
 declared_pair state object name = by_object (properties_of state.store object)
   where
     by_field : (number : ℕ) (field : Option Field) → option_map (λ (field : Field). (number, field.kind)) field ≡ option_map pair_of (option_map (λ (field : Field). record { number = number; kind = field.kind }) field)

@@ -24,7 +24,7 @@ Tells at old new changed = changes_in at (shown new at.object at.number).0 chang
 module _ (place object : ℕ) (name : List ℕ) (value : Value) (old : Tables) where
   -- a declared property of this name was given the value as one of its kind
   pub record WritesDeclared (found : ℕ) (changed : Changed) (after : Tables) : Type 0 where
-    pub of : writing.Place
+    pub of : writing.DeclaredField
     pub written : Value
     pub named : declared (state_at old place) object name ≡ Some of
     pub number : found ≡ of.number
@@ -34,7 +34,7 @@ module _ (place object : ℕ) (name : List ℕ) (value : Value) (old : Tables) w
 
   -- there is one of this name, whose kind the value does not fit
   pub record DoesNotFit : Type 0 where
-    pub of : writing.Place
+    pub of : writing.DeclaredField
     pub named : declared (state_at old place) object name ≡ Some of
     pub misfit : converted of.kind value ≡ None
 

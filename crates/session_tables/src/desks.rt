@@ -2,7 +2,7 @@
 ghost use Rattle.std.specs.Prelude.{◌≡◌, IfOk, OnOk, OnErr};
 ghost use Rattle.std.specs.List.{list_any};
 ghost use Rattle.refusals.specs.Answers.{RefusedBy};
-ghost use Rattle.publish_board.specs.Desk.{join_refusal, joined, left, publish_refusal, published, unpublished};
+ghost use Rattle.publish_board.specs.Desk.{join_refusal, with_join, left, publish_refusal, published, unpublished};
 ghost use Rattle.publish_board.specs.Rows.{has_name, is_join};
 ghost use Rattle.thread_model.specs.State.{with_desk, without_ties};
 ghost use Rattle.session_tables.specs.Joining.{AreJoiners};
@@ -45,7 +45,7 @@ impl Tables {
     ) -> Result<(), Fault>
         requires { IsPlaced self.old place }
         ensures refusal { RefusedBy (join_refusal own.now (state_at self.old place).desk join wanted.now) result }
-        ensures ok { OnOk result (self.new ≡ with_state self.old place (with_desk (state_at self.old place) (joined (state_at self.old place).desk join))) }
+        ensures ok { OnOk result (self.new ≡ with_state self.old place (with_desk (state_at self.old place) (with_join (state_at self.old place).desk join))) }
         ensures err { OnErr result (self.new ≡ self.old) }
     {
         self.desks.join(place, own, join, wanted)

@@ -3,10 +3,10 @@ use Rattle.std.proofs.Props.{props}
 use Rattle.signature_core.specs.declared.kind.Kind.{Kind}
 use Rattle.std.specs.Prelude.{ℕ, List}
 use Rattle.std.specs.Coded.{×_prop, Unit-prop}
-use Rattle.term_core.specs.declared.action.Effect.{Effect}
-use Rattle.term_core.specs.declared.action.Effect.TheVariants as e
+use Rattle.term_core.specs.declared.action.SingleAction.{SingleAction}
+use Rattle.term_core.specs.declared.action.SingleAction.TheVariants as e
 use Rattle.term_core.specs.declared.body.Body.{Body}
-use Rattle.term_core.specs.Act.{Act, Acts, effect, when, nothing, more}
+use Rattle.term_core.specs.Act.{Act, Acts, single_action, when, nothing, more}
 use Rattle.term_core.specs.Arguments.{ActTakesAtMost, ActsTakeAtMost, EffectTakesAtMost, TakesAtMost}
 use Rattle.term_core.specs.Bodies.{IsNext}
 use Rattle.term_core.specs.Term.{Term, const, arg, state, prop, binary, choice}
@@ -21,7 +21,7 @@ TakesAtMost-prop n (prop target name) = Unit-prop
 TakesAtMost-prop n (binary operator a b) = ×_prop (TakesAtMost-prop n a) (TakesAtMost-prop n b)
 TakesAtMost-prop n (choice test a b) = ×_prop (TakesAtMost-prop n test) (×_prop (TakesAtMost-prop n a) (TakesAtMost-prop n b))
 
-EffectTakesAtMost-prop : (n : ℕ) (effect : Effect) → IsProp (EffectTakesAtMost n effect)
+EffectTakesAtMost-prop : (n : ℕ) (effect : SingleAction) → IsProp (EffectTakesAtMost n effect)
 EffectTakesAtMost-prop n (e.Set of property value) = TakesAtMost-prop n value
 EffectTakesAtMost-prop n (e.Emit of signal sent) = hlevel (props, TakesAtMost-prop)
 EffectTakesAtMost-prop n (e.Connect of signal to method mode unique single) = Unit-prop
@@ -33,7 +33,7 @@ EffectTakesAtMost-prop n (e.SetParent of parent) = Unit-prop
 
 mutual
   ActTakesAtMost-prop : (n : ℕ) (action : Act) → IsProp (ActTakesAtMost n action)
-  ActTakesAtMost-prop n (effect plain) = EffectTakesAtMost-prop n plain
+  ActTakesAtMost-prop n (single_action plain) = EffectTakesAtMost-prop n plain
   ActTakesAtMost-prop n (when test held failed) = ×_prop (TakesAtMost-prop n test) (×_prop (ActsTakeAtMost-prop n held) (ActsTakeAtMost-prop n failed))
 
   ActsTakeAtMost-prop : (n : ℕ) (actions : Acts) → IsProp (ActsTakeAtMost n actions)

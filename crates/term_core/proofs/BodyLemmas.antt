@@ -13,10 +13,10 @@ use Rattle.refusals.specs.Answers.{Answers}
 use Rattle.refusals.specs.declared.fault.Fault.{Fault}
 use Rattle.variant_value.specs.declared.value.Value.{Value}
 use Rattle.term_core.specs.declared.target.Target.{Target}
-use Rattle.term_core.specs.declared.action.Effect.{Effect}
+use Rattle.term_core.specs.declared.action.SingleAction.{SingleAction}
 use Rattle.term_core.specs.declared.body.Body.{Body}
 use Rattle.term_core.specs.declared.operator.Operator.{Operator}
-use Rattle.term_core.specs.declared.operator.Operator.TheVariants.{Sum, Difference, Less, Equal, Joined}
+use Rattle.term_core.specs.declared.operator.Operator.TheVariants.{Sum, Difference, Less, Equal, Concatenated}
 use Rattle.term_core.specs.Act.{Act, acts_of, are_named, is_effect_named, is_named}
 use Rattle.term_core.specs.declared.scope.Scope.TheVariants.{Slot, Functor, Next}
 use Rattle.term_core.specs.Arguments.{TakesAtMost, EffectTakesAtMost, ActTakesAtMost, ActsTakeAtMost}
@@ -113,7 +113,7 @@ module _ (scope : Scope) (P : Term → Type 0) (is : IsKept scope P) where
         found P _ (bytes_eq key (codes "-")) _ _ _ (binary_read Difference json) (
         found P _ (bytes_eq key (codes "<")) _ _ _ (binary_read Less json) (
         found P _ (bytes_eq key (codes "=")) _ _ _ (binary_read Equal json) (
-        found P _ (bytes_eq key (codes "cat")) _ _ _ (binary_read Joined json) (
+        found P _ (bytes_eq key (codes "cat")) _ _ _ (binary_read Concatenated json) (
         found P _ (bytes_eq key (codes "if")) _ _ _ (choice_read json) tt))))))))
     only_member_read (member key json (member other more rest)) = tt
 
@@ -177,7 +177,7 @@ terms_read scope (item json rest) = kept (Term_ok scope) (All (Term_ok scope)) (
 
 -- actions that do one thing
 
-abbrev Effect_ok : Scope → Effect → Type 0
+abbrev Effect_ok : Scope → SingleAction → Type 0
 Effect_ok scope effect = EffectTakesAtMost (forms.params scope) effect × IsTrue (is_effect_named effect)
 
 abbrev Named : List ℕ → Type 0

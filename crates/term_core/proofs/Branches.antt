@@ -10,7 +10,7 @@ use Rattle.serde_json.specs.declared.value.Value.{Value}
 use Rattle.term_core.specs.declared.scope.Scope.{Scope}
 use Rattle.term_core.specs.Bodies.{made, action_in, act_in, branch_in, actions_in, acts_in}
 use Rattle.term_core.specs.Json.{◌>>=◌}
-use Rattle.term_core.proofs.Joined.{ReadsAll}
+use Rattle.term_core.proofs.Concatenated.{ReadsAll}
 
 chosen : {A B : Type 0} (f : A → B) (x : A) (rest : Option B) (found : Option A) (o : Ordering) (b : Bool) → is_eq o ≡ b → rest ≡ option_map f found → cond b (Some (f x)) rest ≡ option_map f (match_ordering o found (Some x) found)
 chosen f x rest found Less b e same = rw (← e) same

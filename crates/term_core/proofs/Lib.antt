@@ -1,5 +1,5 @@
 pub mod Keys
-pub mod Joined
+pub mod Concatenated
 pub mod Branches
 pub mod Counts
 pub mod BodyLemmas

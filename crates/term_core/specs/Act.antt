@@ -4,12 +4,12 @@ use Rattle.std.specs.List.{list_all}
 use Rattle.plain_types.specs.Names.{is_name}
 use Rattle.term_core.specs.Term.{Term}
 use Rattle.term_core.specs.Forms.{is_within_limits}
-use Rattle.term_core.specs.declared.action.Effect.{Effect}
-use Rattle.term_core.specs.declared.action.Effect.TheVariants as e
+use Rattle.term_core.specs.declared.action.SingleAction.{SingleAction}
+use Rattle.term_core.specs.declared.action.SingleAction.TheVariants as e
 
 mutual
   pub data Act : Type 0 where
-    effect : Effect → Act
+    single_action : SingleAction → Act
     when : Term → Acts → Acts → Act
 
   pub data Acts : Type 0 where
@@ -23,15 +23,15 @@ acts_of (action ∷ rest) = more action (acts_of rest)
 -- how many actions there are, those in branches among them
 abbrev mutual
   pub count : Act → ℕ
-  count (effect e) = 1
+  count (single_action e) = 1
   count (when test a b) = counts a + counts b + 1
 
   pub counts : Acts → ℕ
   counts nothing = 0
   counts (more action rest) = count action + counts rest
 
--- the expressions of an effect keep to their limits
-abbrev pub is_effect_limited : Effect → Bool
+-- the expressions of a single action keep to their limits
+abbrev pub is_effect_limited : SingleAction → Bool
 is_effect_limited (e.Set of property value) = is_within_limits value
 is_effect_limited (e.Emit of signal args) = list_all is_within_limits args
 is_effect_limited _ = true
@@ -39,22 +39,22 @@ is_effect_limited _ = true
 -- all expressions keep to their limits
 abbrev mutual
   pub is_limited : Act → Bool
-  is_limited (effect e) = is_effect_limited e
+  is_limited (single_action e) = is_effect_limited e
   is_limited (when test a b) = is_within_limits test && (are_limited a && are_limited b)
 
   pub are_limited : Acts → Bool
   are_limited nothing = true
   are_limited (more action rest) = is_limited action && are_limited rest
 
--- the property that an effect sets has a name
-abbrev pub is_effect_named : Effect → Bool
+-- the property that a single action sets has a name
+abbrev pub is_effect_named : SingleAction → Bool
 is_effect_named (e.Set of property value) = is_name property
 is_effect_named _ = true
 
 -- so have all that are set
 abbrev mutual
   pub is_named : Act → Bool
-  is_named (effect e) = is_effect_named e
+  is_named (single_action e) = is_effect_named e
   is_named (when test a b) = are_named a && are_named b
 
   pub are_named : Acts → Bool

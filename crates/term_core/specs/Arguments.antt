@@ -1,9 +1,9 @@
 -- The arguments that expressions and actions take.
 use Rattle.std.specs.Prelude.{◌<◌, ℕ}
 use Rattle.std.specs.List.{All}
-use Rattle.term_core.specs.declared.action.Effect.{Effect}
-use Rattle.term_core.specs.declared.action.Effect.TheVariants as e
-use Rattle.term_core.specs.Act.{Act, Acts, effect, when, nothing, more}
+use Rattle.term_core.specs.declared.action.SingleAction.{SingleAction}
+use Rattle.term_core.specs.declared.action.SingleAction.TheVariants as e
+use Rattle.term_core.specs.Act.{Act, Acts, single_action, when, nothing, more}
 use Rattle.term_core.specs.Term.{Term, const, arg, state, prop, binary, choice}
 
 -- every argument of an expression is among the first so many
@@ -16,14 +16,14 @@ TakesAtMost n (binary operator a b) = TakesAtMost n a × TakesAtMost n b
 TakesAtMost n (choice test a b) = TakesAtMost n test × (TakesAtMost n a × TakesAtMost n b)
 
 -- so it is in an action that does one thing, and in any action
-abbrev pub EffectTakesAtMost : ℕ → Effect → Type 0
+abbrev pub EffectTakesAtMost : ℕ → SingleAction → Type 0
 EffectTakesAtMost n (e.Set of property value) = TakesAtMost n value
 EffectTakesAtMost n (e.Emit of signal sent) = All (TakesAtMost n) sent
 EffectTakesAtMost n other = Unit {0}
 
 abbrev mutual
   pub ActTakesAtMost : ℕ → Act → Type 0
-  ActTakesAtMost n (effect plain) = EffectTakesAtMost n plain
+  ActTakesAtMost n (single_action plain) = EffectTakesAtMost n plain
   ActTakesAtMost n (when test held failed) = TakesAtMost n test × (ActsTakeAtMost n held × ActsTakeAtMost n failed)
 
   pub ActsTakeAtMost : ℕ → Acts → Type 0

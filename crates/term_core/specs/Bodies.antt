@@ -7,7 +7,7 @@ use Rattle.term_core.specs.declared.body.Body.{Body}
 use Rattle.term_core.specs.declared.limits.TheConstants.{ACTIONS}
 use Rattle.term_core.specs.declared.scope.Scope.{Scope}
 use Rattle.term_core.specs.declared.scope.Scope.TheVariants.{Slot, Functor}
-use Rattle.term_core.specs.Act.{Act, effect, when, acts_of, counts, are_limited, are_named}
+use Rattle.term_core.specs.Act.{Act, single_action, when, acts_of, counts, are_limited, are_named}
 use Rattle.term_core.specs.Arguments.{ActsTakeAtMost, TakesAtMost}
 use Rattle.term_core.specs.Effects.{effect_in}
 use Rattle.term_core.specs.Forms.{is_within_limits, term_in}
@@ -25,7 +25,7 @@ choice_in scope json held failed = where_only (codes "when" ∷ codes "then" ∷
 
 -- an action, by the same
 abbrev pub made : Scope → Data → Option (Read (List Act)) → Option (Read (List Act)) → Read Act
-made scope json held failed = if is_some (get (codes "when") json) then choice_in scope json held failed else (effect_in scope json >>= λ plain. Ok (effect plain))
+made scope json held failed = if is_some (get (codes "when") json) then choice_in scope json held failed else (effect_in scope json >>= λ plain. Ok (single_action plain))
 
 abbrev mutual
   -- the action that a piece of JSON is, however large

@@ -6,8 +6,8 @@ use Rattle.serde_json.specs.Find.{get, as_array, as_bool, as_str}
 use Rattle.refusals.specs.declared.code.Code.TheVariants.{BadValue}
 use Rattle.signature_core.specs.declared.signature.Signature.{Signature}
 use Rattle.signature_core.specs.Reading.{signature_of}
-use Rattle.term_core.specs.declared.action.Effect.{Effect}
-use Rattle.term_core.specs.declared.action.Effect.TheVariants as e
+use Rattle.term_core.specs.declared.action.SingleAction.{SingleAction}
+use Rattle.term_core.specs.declared.action.SingleAction.TheVariants as e
 use Rattle.connection_types.specs.declared.connection_type.ConnectionType.{ConnectionType}
 use Rattle.connection_types.specs.declared.connection_type.ConnectionType.TheVariants as mode
 use Rattle.connection_types.specs.Modes.{mode_named}
@@ -44,7 +44,7 @@ terms_in scope (item json rest) = term_in scope json >>= λ term. terms_in scope
 
 -- each action by what stands behind the key that names it, and by the whole object
 
-abbrev pub set_in : Scope → Data → Data → Read Effect
+abbrev pub set_in : Scope → Data → Data → Read SingleAction
 set_in scope json named = where_only (codes "set" ∷ codes "to" ∷ codes "of" ∷ []) json (do
   to ← at_key (codes "to") json
   property ← name_in named
@@ -52,7 +52,7 @@ set_in scope json named = where_only (codes "set" ∷ codes "to" ∷ codes "of" 
   value ← term_in scope to
   Ok (e.Set of property value))
 
-abbrev pub emit_in : Scope → Data → Data → Read Effect
+abbrev pub emit_in : Scope → Data → Data → Read SingleAction
 emit_in scope json named = where_only (codes "emit" ∷ codes "args" ∷ codes "of" ∷ []) json (do
   there ← at_key (codes "args") json
   items ← formed (as_array there)
@@ -61,7 +61,7 @@ emit_in scope json named = where_only (codes "emit" ∷ codes "args" ∷ codes "
   args ← terms_in scope items
   Ok (e.Emit of signal args))
 
-abbrev pub connect_in : Data → Data → Read Effect
+abbrev pub connect_in : Data → Data → Read SingleAction
 connect_in json named = where_only (codes "connect" ∷ codes "of" ∷ codes "to" ∷ codes "method" ∷ codes "type" ∷ codes "unique" ∷ codes "single" ∷ []) json (do
   receiver ← at_key (codes "to") json
   member ← at_key (codes "method") json
@@ -78,7 +78,7 @@ connect_in json named = where_only (codes "connect" ∷ codes "of" ∷ codes "to
 abbrev pub has_receiver : Data → Bool
 has_receiver json = is_none (get (codes "method") json) || is_some (get (codes "to") json)
 
-abbrev pub disconnect_in : Data → Data → Read Effect
+abbrev pub disconnect_in : Data → Data → Read SingleAction
 disconnect_in json named = where_holds (has_receiver json && has_only (codes "disconnect" ∷ codes "of" ∷ codes "to" ∷ codes "method" ∷ []) json) (do
   signal ← unless_null signature_in named
   of ← subject_in json
@@ -86,30 +86,30 @@ disconnect_in json named = where_holds (has_receiver json && has_only (codes "di
   method ← optional signature_in (codes "method") json
   Ok (e.Disconnect of signal to method))
 
-abbrev pub delete_in : Data → Data → Read Effect
+abbrev pub delete_in : Data → Data → Read SingleAction
 delete_in json named = where_only (codes "delete" ∷ []) json (do
   target ← target_in named
   Ok (e.Delete target))
 
-abbrev pub delete_later_in : Data → Data → Read Effect
+abbrev pub delete_later_in : Data → Data → Read SingleAction
 delete_later_in json named = where_only (codes "deleteLater" ∷ []) json (do
   target ← target_in named
   Ok (e.DeleteLater target))
 
-abbrev pub block_in : Data → Data → Read Effect
+abbrev pub block_in : Data → Data → Read SingleAction
 block_in json named = where_only (codes "block" ∷ codes "of" ∷ []) json (do
   on ← formed (as_bool named)
   of ← subject_in json
   Ok (e.Block of on))
 
-abbrev pub set_parent_in : Data → Data → Read Effect
+abbrev pub set_parent_in : Data → Data → Read SingleAction
 set_parent_in json named = where_only (codes "setParent" ∷ codes "of" ∷ []) json (do
   parent ← unless_null target_in named
   of ← subject_in json
   Ok (e.SetParent of parent))
 
 -- the action whose key the object has
-abbrev pub effect_in : Scope → Data → Read Effect
+abbrev pub effect_in : Scope → Data → Read SingleAction
 effect_in scope json =
     option_map_or (set_in scope json) (get (codes "set") json) (
     option_map_or (emit_in scope json) (get (codes "emit") json) (

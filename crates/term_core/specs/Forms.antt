@@ -8,7 +8,7 @@ use Rattle.term_core.specs.declared.limits.TheConstants.{NODES}
 use Rattle.term_core.specs.declared.target.Target.{Target}
 use Rattle.term_core.specs.declared.target.Target.TheVariants.{Itself, Sender, Child, Object}
 use Rattle.term_core.specs.declared.operator.Operator.{Operator}
-use Rattle.term_core.specs.declared.operator.Operator.TheVariants.{Sum, Difference, Less, Equal, Joined}
+use Rattle.term_core.specs.declared.operator.Operator.TheVariants.{Sum, Difference, Less, Equal, Concatenated}
 use Rattle.term_core.specs.declared.operator.Form.{Form}
 use Rattle.term_core.specs.declared.operator.Form.TheVariants as form
 use Rattle.term_core.specs.declared.scope.Scope.{Scope}
@@ -50,7 +50,7 @@ form_named key =
     if bytes_eq key (codes "-") then Some (form.Binary Difference) else (
     if bytes_eq key (codes "<") then Some (form.Binary Less) else (
     if bytes_eq key (codes "=") then Some (form.Binary Equal) else (
-    if bytes_eq key (codes "cat") then Some (form.Binary Joined) else (
+    if bytes_eq key (codes "cat") then Some (form.Binary Concatenated) else (
     if bytes_eq key (codes "if") then Some form.Choice else None))))))))
 
 -- an argument of the slot

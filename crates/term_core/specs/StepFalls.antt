@@ -8,5 +8,5 @@ use Rattle.term_core.specs.declared.action.Step.TheVariants as step
 use Rattle.term_core.specs.declared.action.Action.TheDeep.{deep-Step}
 
 pub deep_le-count : (s : Step) → max (deep-Step s) 0 ≤ count (act_at s)
-deep_le-count (step.Effect e) = omega arith
+deep_le-count (step.Single e) = omega arith
 deep_le-count (step.When test a b) = omega (arith, most_counts a.items, most_counts b.items)

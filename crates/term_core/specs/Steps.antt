@@ -2,12 +2,12 @@
 use Rattle.std.specs.Prelude.{◌+◌, ◌≤◌, List, [], ◌∷◌}
 use Rattle.std.proofs.Common.{arith}
 use denote.Param.Weighed.{most}
-use Rattle.term_core.specs.Act.{Act, effect, when, acts_of, count, counts}
+use Rattle.term_core.specs.Act.{Act, single_action, when, acts_of, count, counts}
 use Rattle.term_core.specs.declared.action.Step.{Step}
 use Rattle.term_core.specs.declared.action.Step.TheVariants as step
 
 abbrev pub act_at : Step → Act
-act_at (step.Effect e) = effect e
+act_at (step.Single e) = single_action e
 act_at (step.When test a b) = when test (acts_of a.items) (acts_of b.items)
 
 -- no action of a list counts more than all of them

@@ -2,7 +2,7 @@
 ghost use Rattle.std.specs.Prelude.{◌≡◌, ◌^◌, ◌-◌, min};
 ghost use Rattle.std.specs.List.{list_all};
 ghost use Rattle.term_core.specs.Forms.{is_within_limits};
-ghost use Rattle.term_core.specs.Act.{effect, when, acts_of, count, counts, is_effect_limited, is_limited, are_limited};
+ghost use Rattle.term_core.specs.Act.{single_action, when, acts_of, count, counts, is_effect_limited, is_limited, are_limited};
 
 use crate::expr::Expr;
 use crate::target::Target;
@@ -13,7 +13,7 @@ use std::marker::Model;
 
 /// An action that does one thing. `of` is the object that it acts on. A target's object is looked up
 /// when the action is run.
-pub enum Effect {
+pub enum SingleAction {
     /// Writes a property.
     Set {
         of: Target,
@@ -60,20 +60,20 @@ pub enum Effect {
     },
 }
 
-impl Drop for Effect {
+impl Drop for SingleAction {
     fn drop(self) {
         match self {
-            Effect::Set {
+            SingleAction::Set {
                 of: _,
                 property: _,
                 value: _,
             }
-            | Effect::Emit {
+            | SingleAction::Emit {
                 of: _,
                 signal: _,
                 args: _,
             }
-            | Effect::Connect {
+            | SingleAction::Connect {
                 of: _,
                 signal: _,
                 to: _,
@@ -82,28 +82,28 @@ impl Drop for Effect {
                 unique: _,
                 single: _,
             }
-            | Effect::Disconnect {
+            | SingleAction::Disconnect {
                 of: _,
                 signal: _,
                 to: _,
                 method: _,
             }
-            | Effect::Delete(_)
-            | Effect::DeleteLater(_)
-            | Effect::Block { of: _, on: _ }
-            | Effect::SetParent { of: _, parent: _ } => (),
+            | SingleAction::Delete(_)
+            | SingleAction::DeleteLater(_)
+            | SingleAction::Block { of: _, on: _ }
+            | SingleAction::SetParent { of: _, parent: _ } => (),
         }
     }
 }
 
-impl Effect {
+impl SingleAction {
     /// Whether all expressions keep to their limits.
     fn is_limited(&self) -> bool
         ensures { result ≡ is_effect_limited self.now }
     {
         match self {
-            Effect::Set { value, .. } => value.is_within_limits(),
-            Effect::Emit { args, .. } => are_within_limits(args.as_slice()),
+            SingleAction::Set { value, .. } => value.is_within_limits(),
+            SingleAction::Emit { args, .. } => are_within_limits(args.as_slice()),
             _ => true,
         }
     }
@@ -122,11 +122,11 @@ pub struct Action {
     pub step: Step,
 }
 
-/// What an action is: one effect, or a choice between two bodies.
+/// What an action is: a single one, or a choice between two bodies.
 #[cycle(action)]
 #[derive(Drop)]
 pub enum Step {
-    Effect(Effect),
+    Single(SingleAction),
     /// A truth, the actions where it holds, and those where it does not.
     When(Expr, Vec<Action>, Vec<Action>),
 }
@@ -151,11 +151,11 @@ impl Model for Action {
 }
 
 impl Action {
-    pub(crate) fn effect(plain: Effect) -> Action
-        ensures { result ≡ effect plain }
+    pub(crate) fn single(plain: SingleAction) -> Action
+        ensures { result ≡ single_action plain }
     {
         Action {
-            step: Step::Effect(plain),
+            step: Step::Single(plain),
         }
     }
 
@@ -173,7 +173,7 @@ impl Action {
         ensures { result ≡ min (count self.now) (2 ^ 64 - 1) }
     {
         match &self.step {
-            Step::Effect(_) => 1,
+            Step::Single(_) => 1,
             Step::When(_, held, failed) => count_all(held)
                 .saturating_add(count_all(failed))
                 .saturating_add(1),
@@ -186,7 +186,7 @@ impl Action {
         ensures { result ≡ is_limited self.now }
     {
         match &self.step {
-            Step::Effect(effect) => effect.is_limited(),
+            Step::Single(effect) => effect.is_limited(),
             Step::When(test, held, failed) => {
                 test.is_within_limits() && are_limited(held) && are_limited(failed)
             }

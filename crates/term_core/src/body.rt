@@ -5,7 +5,7 @@ ghost use Rattle.refusals.specs.Answers.{Answers};
 ghost use Rattle.term_core.specs.Bodies.{IsBody, body_of, functor_body_of, limited_body, action_in, actions_in, acts_in};
 
 use crate::action::{Action, are_limited, count_all};
-use crate::effects::effect;
+use crate::effects::single_action;
 use crate::forms::expression;
 use crate::json::{BAD, has_only};
 use crate::limits::ACTIONS;
@@ -75,7 +75,7 @@ fn action(alloc: Global, scope: Scope, json: &Json) -> Result<Action, Fault>
     ensures { Answers result (action_in scope (view json.now)) }
 {
     let Some(condition) = json.get("when") else {
-        return Ok(Action::effect(effect(alloc, scope, json)?));
+        return Ok(Action::single(single_action(alloc, scope, json)?));
     };
     if !has_only(json, &["when", "then", "else"]) {
         return Err(BAD);

@@ -5,7 +5,7 @@ ghost use Rattle.refusals.specs.Answers.{Answers};
 ghost use Rattle.term_core.specs.Json.{target_in};
 ghost use Rattle.term_core.specs.Effects.{signature_in, unless_null, optional, flag_in, mode_in, terms_in, set_in, emit_in, connect_in, has_receiver, disconnect_in, delete_in, delete_later_in, block_in, set_parent_in, effect_in};
 
-use crate::action::Effect;
+use crate::action::SingleAction;
 use crate::expr::Expr;
 use crate::forms::{expression, subject};
 use crate::json::{BAD, has_only, name, target};
@@ -72,7 +72,7 @@ fn mode(json: &Json) -> Result<ConnectionType, Fault>
     }
 }
 
-fn set(alloc: Global, scope: Scope, json: &Json, named: &Json) -> Result<Effect, Fault>
+fn set(alloc: Global, scope: Scope, json: &Json, named: &Json) -> Result<SingleAction, Fault>
     ensures { Answers result (set_in scope (view json.now) (view named.now)) }
 {
     if !has_only(json, &["set", "to", "of"]) {
@@ -84,7 +84,7 @@ fn set(alloc: Global, scope: Scope, json: &Json, named: &Json) -> Result<Effect,
     let property = name(alloc, named)?;
     let of = subject(alloc, json)?;
     let value = expression(alloc, scope, to)?;
-    Ok(Effect::Set {
+    Ok(SingleAction::Set {
         of,
         property,
         value,
@@ -102,7 +102,7 @@ fn expressions(alloc: Global, scope: Scope, list: &[Json]) -> Result<Items<Expr>
     Ok(Items::from_vec(found))
 }
 
-fn emit(alloc: Global, scope: Scope, json: &Json, named: &Json) -> Result<Effect, Fault>
+fn emit(alloc: Global, scope: Scope, json: &Json, named: &Json) -> Result<SingleAction, Fault>
     ensures { Answers result (emit_in scope (view json.now) (view named.now)) }
 {
     if !has_only(json, &["emit", "args", "of"]) {
@@ -114,10 +114,10 @@ fn emit(alloc: Global, scope: Scope, json: &Json, named: &Json) -> Result<Effect
     let signal = signature(alloc, named)?;
     let of = subject(alloc, json)?;
     let args = expressions(alloc, scope, list)?;
-    Ok(Effect::Emit { of, signal, args })
+    Ok(SingleAction::Emit { of, signal, args })
 }
 
-fn connect(alloc: Global, json: &Json, named: &Json) -> Result<Effect, Fault>
+fn connect(alloc: Global, json: &Json, named: &Json) -> Result<SingleAction, Fault>
     ensures { Answers result (connect_in (view json.now) (view named.now)) }
 {
     if !has_only(
@@ -139,7 +139,7 @@ fn connect(alloc: Global, json: &Json, named: &Json) -> Result<Effect, Fault>
     let of = subject(alloc, json)?;
     let to = target(alloc, receiver)?;
     let method = signature(alloc, member)?;
-    Ok(Effect::Connect {
+    Ok(SingleAction::Connect {
         of,
         signal,
         to,
@@ -177,7 +177,7 @@ fn has_receiver(json: &Json) -> bool
     json.get("method").is_none() || json.get("to").is_some()
 }
 
-fn disconnect(alloc: Global, json: &Json, named: &Json) -> Result<Effect, Fault>
+fn disconnect(alloc: Global, json: &Json, named: &Json) -> Result<SingleAction, Fault>
     ensures { Answers result (disconnect_in (view json.now) (view named.now)) }
 {
     if !has_receiver(json) || !has_only(json, &["disconnect", "of", "to", "method"]) {
@@ -187,7 +187,7 @@ fn disconnect(alloc: Global, json: &Json, named: &Json) -> Result<Effect, Fault>
     let of = subject(alloc, json)?;
     let to = receiver(alloc, json)?;
     let method = method(alloc, json)?;
-    Ok(Effect::Disconnect {
+    Ok(SingleAction::Disconnect {
         of,
         signal,
         to,
@@ -195,25 +195,25 @@ fn disconnect(alloc: Global, json: &Json, named: &Json) -> Result<Effect, Fault>
     })
 }
 
-fn delete(alloc: Global, json: &Json, named: &Json) -> Result<Effect, Fault>
+fn delete(alloc: Global, json: &Json, named: &Json) -> Result<SingleAction, Fault>
     ensures { Answers result (delete_in (view json.now) (view named.now)) }
 {
     if !has_only(json, &["delete"]) {
         return Err(BAD);
     }
-    Ok(Effect::Delete(target(alloc, named)?))
+    Ok(SingleAction::Delete(target(alloc, named)?))
 }
 
-fn delete_later(alloc: Global, json: &Json, named: &Json) -> Result<Effect, Fault>
+fn delete_later(alloc: Global, json: &Json, named: &Json) -> Result<SingleAction, Fault>
     ensures { Answers result (delete_later_in (view json.now) (view named.now)) }
 {
     if !has_only(json, &["deleteLater"]) {
         return Err(BAD);
     }
-    Ok(Effect::DeleteLater(target(alloc, named)?))
+    Ok(SingleAction::DeleteLater(target(alloc, named)?))
 }
 
-fn block(alloc: Global, json: &Json, named: &Json) -> Result<Effect, Fault>
+fn block(alloc: Global, json: &Json, named: &Json) -> Result<SingleAction, Fault>
     ensures { Answers result (block_in (view json.now) (view named.now)) }
 {
     if !has_only(json, &["block", "of"]) {
@@ -223,10 +223,10 @@ fn block(alloc: Global, json: &Json, named: &Json) -> Result<Effect, Fault>
         return Err(BAD);
     };
     let of = subject(alloc, json)?;
-    Ok(Effect::Block { of, on })
+    Ok(SingleAction::Block { of, on })
 }
 
-fn set_parent(alloc: Global, json: &Json, named: &Json) -> Result<Effect, Fault>
+fn set_parent(alloc: Global, json: &Json, named: &Json) -> Result<SingleAction, Fault>
     ensures { Answers result (set_parent_in (view json.now) (view named.now)) }
 {
     if !has_only(json, &["setParent", "of"]) {
@@ -234,11 +234,11 @@ fn set_parent(alloc: Global, json: &Json, named: &Json) -> Result<Effect, Fault>
     }
     let parent = target_or_null(alloc, named)?;
     let of = subject(alloc, json)?;
-    Ok(Effect::SetParent { of, parent })
+    Ok(SingleAction::SetParent { of, parent })
 }
 
 /// The action that the JSON is, unless it chooses between others. What is none is `BadValue`.
-pub(crate) fn effect(alloc: Global, scope: Scope, json: &Json) -> Result<Effect, Fault>
+pub(crate) fn single_action(alloc: Global, scope: Scope, json: &Json) -> Result<SingleAction, Fault>
     ensures { Answers result (effect_in scope (view json.now)) }
 {
     if let Some(named) = json.get("set") {

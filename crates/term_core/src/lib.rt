@@ -12,7 +12,7 @@ mod operator;
 mod scope;
 mod target;
 
-pub use action::{Action, Effect, Step};
+pub use action::{Action, SingleAction, Step};
 pub use body::Body;
 pub use expr::{Expr, Node};
 pub use limits::{ACTIONS, NODES};

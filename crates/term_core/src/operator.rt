@@ -14,7 +14,7 @@ pub enum Operator {
     /// Whether two numbers, two truths or two texts are equal.
     Equal,
     /// Two texts, one behind the other.
-    Joined,
+    Concatenated,
 }
 
 /// A form of expression that has one key.
@@ -40,7 +40,7 @@ impl Form {
             "-" => Form::Binary(Operator::Difference),
             "<" => Form::Binary(Operator::Less),
             "=" => Form::Binary(Operator::Equal),
-            "cat" => Form::Binary(Operator::Joined),
+            "cat" => Form::Binary(Operator::Concatenated),
             "if" => Form::Choice,
             _ => return None,
         })

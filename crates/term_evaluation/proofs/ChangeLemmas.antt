@@ -3,9 +3,9 @@
 use Rattle.std.proofs.Common.{◌≡◌, ◌∙◌, ◌&&◌, ℕ, Bool, true, false, List, [], ◌∷◌, map, nat_le, IsTrue, refl, ap, ap₂, arith}
 use Rattle.std.specs.List.{All, list_all}
 use Rattle.std.proofs.lemmas.List.Elements.{All-nil, All-cons, All-head, All-tail}
-use Rattle.term_core.specs.declared.action.Effect.{Effect}
-use Rattle.term_core.specs.declared.action.Effect.TheVariants as e
-use Rattle.term_core.specs.Act.{Act, Acts, effect, when, nothing, more, acts_of, count, counts, is_effect_limited, is_limited, are_limited, is_effect_named, is_named, are_named}
+use Rattle.term_core.specs.declared.action.SingleAction.{SingleAction}
+use Rattle.term_core.specs.declared.action.SingleAction.TheVariants as e
+use Rattle.term_core.specs.Act.{Act, Acts, single_action, when, nothing, more, acts_of, count, counts, is_effect_limited, is_limited, are_limited, is_effect_named, is_named, are_named}
 use Rattle.term_core.specs.Arguments.{TakesAtMost, EffectTakesAtMost, ActTakesAtMost, ActsTakeAtMost}
 use Rattle.term_core.specs.Bodies.{is_body_limited}
 use Rattle.term_core.specs.Forms.{is_within_limits}
@@ -30,7 +30,7 @@ module _ (change : Term → Term) where
     terms_take [] h = All-nil (TakesAtMost n)
     terms_take (term ∷ rest) h = All-cons (TakesAtMost n) (change term) (map change rest) (each term (All-head (TakesAtMost m) term rest h)) (terms_take rest (All-tail (TakesAtMost m) term rest h))
 
-    effect_takes : (plain : Effect) → EffectTakesAtMost m plain → EffectTakesAtMost n (effect_by change plain)
+    effect_takes : (plain : SingleAction) → EffectTakesAtMost m plain → EffectTakesAtMost n (effect_by change plain)
     effect_takes (e.Set of property value) h = each value h
     effect_takes (e.Emit of signal sent) h = terms_take sent h
     effect_takes (e.Connect of signal to method mode unique single) h = tt
@@ -42,7 +42,7 @@ module _ (change : Term → Term) where
 
     mutual
       act_takes : (action : Act) → ActTakesAtMost m action → ActTakesAtMost n (act_by change action)
-      act_takes (effect plain) h = effect_takes plain h
+      act_takes (single_action plain) h = effect_takes plain h
       act_takes (when test held failed) h = (each test h.0, (acts_take held h.1.0, acts_take failed h.1.1))
 
       acts_take : (actions : Acts) → ActsTakeAtMost m actions → ActsTakeAtMost n (acts_by change actions)
@@ -56,7 +56,7 @@ module _ (change : Term → Term) where
 
   mutual
     count_changed : (action : Act) → count (act_by change action) ≡ count action
-    count_changed (effect plain) = refl
+    count_changed (single_action plain) = refl
     count_changed (when test held failed) = omega (arith, counts_changed held, counts_changed failed)
 
     counts_changed : (actions : Acts) → counts (acts_by change actions) ≡ counts actions
@@ -68,7 +68,7 @@ module _ (change : Term → Term) where
 
   -- the names of what they set
 
-  effect_named : (plain : Effect) → is_effect_named (effect_by change plain) ≡ is_effect_named plain
+  effect_named : (plain : SingleAction) → is_effect_named (effect_by change plain) ≡ is_effect_named plain
   effect_named (e.Set of property value) = refl
   effect_named (e.Emit of signal sent) = refl
   effect_named (e.Connect of signal to method mode unique single) = refl
@@ -80,7 +80,7 @@ module _ (change : Term → Term) where
 
   mutual
     act_named : (action : Act) → is_named (act_by change action) ≡ is_named action
-    act_named (effect plain) = effect_named plain
+    act_named (single_action plain) = effect_named plain
     act_named (when test held failed) = ap₂ (λ a b. a && b) (acts_named held) (acts_named failed)
 
     acts_named : (actions : Acts) → are_named (acts_by change actions) ≡ are_named actions
@@ -99,7 +99,7 @@ module _ (change : Term → Term) where
         let parts = both (is_within_limits term) (list_all is_within_limits rest) h in
         pair _ _ (each term parts.0) (terms_within rest parts.1)
 
-    effect_within : (plain : Effect) → IsTrue (is_effect_limited plain) → IsTrue (is_effect_limited (effect_by change plain))
+    effect_within : (plain : SingleAction) → IsTrue (is_effect_limited plain) → IsTrue (is_effect_limited (effect_by change plain))
     effect_within (e.Set of property value) h = each value h
     effect_within (e.Emit of signal sent) h = terms_within sent h
     effect_within (e.Connect of signal to method mode unique single) h = refl
@@ -111,7 +111,7 @@ module _ (change : Term → Term) where
 
     mutual
       act_within : (action : Act) → IsTrue (is_limited action) → IsTrue (is_limited (act_by change action))
-      act_within (effect plain) h = effect_within plain h
+      act_within (single_action plain) h = effect_within plain h
       act_within (when test held failed) h =
           let first = both (is_within_limits test) (are_limited held && are_limited failed) h in
           let parts = both (are_limited held) (are_limited failed) first.1 in
@@ -135,7 +135,7 @@ module _ (change : Term → Term) where
     terms_same [] = refl
     terms_same (term ∷ rest) = ap₂ (λ term rest. term ∷ rest) (each term) (terms_same rest)
 
-    effect_same : (plain : Effect) → effect_by change plain ≡ plain
+    effect_same : (plain : SingleAction) → effect_by change plain ≡ plain
     effect_same (e.Set of property value) = ap (e.Set of property) (each value)
     effect_same (e.Emit of signal sent) = ap (e.Emit of signal) (terms_same sent)
     effect_same (e.Connect of signal to method mode unique single) = refl
@@ -147,7 +147,7 @@ module _ (change : Term → Term) where
 
     mutual
       act_same : (action : Act) → act_by change action ≡ action
-      act_same (effect plain) = ap effect (effect_same plain)
+      act_same (single_action plain) = ap single_action (effect_same plain)
       act_same (when test held failed) =
           ap (λ test. when test (acts_by change held) (acts_by change failed)) (each test)
           ∙ ap₂ (when test) (acts_same held) (acts_same failed)
@@ -170,7 +170,7 @@ module _ (change next : Term → Term) where
   terms_twice [] = refl
   terms_twice (term ∷ rest) = ap (λ rest. next (change term) ∷ rest) (terms_twice rest)
 
-  effect_twice : (plain : Effect) → effect_by next (effect_by change plain) ≡ effect_by both_changes plain
+  effect_twice : (plain : SingleAction) → effect_by next (effect_by change plain) ≡ effect_by both_changes plain
   effect_twice (e.Set of property value) = refl
   effect_twice (e.Emit of signal sent) = ap (e.Emit of signal) (terms_twice sent)
   effect_twice (e.Connect of signal to method mode unique single) = refl
@@ -182,7 +182,7 @@ module _ (change next : Term → Term) where
 
   mutual
     act_twice : (action : Act) → act_by next (act_by change action) ≡ act_by both_changes action
-    act_twice (effect plain) = ap effect (effect_twice plain)
+    act_twice (single_action plain) = ap single_action (effect_twice plain)
     act_twice (when test held failed) = ap₂ (when (next (change test))) (acts_twice held) (acts_twice failed)
 
     acts_twice : (actions : Acts) → acts_by next (acts_by change actions) ≡ acts_by both_changes actions

@@ -13,7 +13,7 @@ use Rattle.variant_value.specs.declared.value.Value.{Value}
 use Rattle.variant_value.specs.declared.value.Value.TheVariants as v
 use Rattle.variant_value.specs.Values.{IsShort, is_within, number_of, truth_in, number_in, text_in, inferred_number}
 use Rattle.term_core.specs.declared.operator.Operator.{Operator}
-use Rattle.term_core.specs.declared.operator.Operator.TheVariants.{Sum, Difference, Less, Equal, Joined}
+use Rattle.term_core.specs.declared.operator.Operator.TheVariants.{Sum, Difference, Less, Equal, Concatenated}
 use Rattle.term_core.specs.declared.target.Target.{Target}
 use Rattle.term_core.specs.Term.{Term, const, arg, state, prop, binary, choice, is_short, has_short_texts}
 use Rattle.term_evaluation.specs.declared.reading.Read.{Read}
@@ -124,7 +124,7 @@ applied_short O Sum a b = number_short _ (of_two number_in (λ x y. x +ℤ y) a 
 applied_short O Difference a b = number_short _ (of_two number_in (λ x y. x -ℤ y) a b)
 applied_short O Less a b = truth_short _ (of_two number_in int_lt a b)
 applied_short O Equal a b = truth_short _ (are_equal a b)
-applied_short O Joined a b = text_short _ (of_two text_in (λ x y. x ++ y) a b)
+applied_short O Concatenated a b = text_short _ (of_two text_in (λ x y. x ++ y) a b)
 
 constant_short : (value : Value) → IsTrue (is_short value) → IsShort value
 constant_short v.Invalid h = tt

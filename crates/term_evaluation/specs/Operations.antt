@@ -9,7 +9,7 @@ use Rattle.variant_value.specs.declared.value.Value.{Value}
 use Rattle.variant_value.specs.declared.value.Value.TheVariants as v
 use Rattle.variant_value.specs.Values.{truth_in, number_in, text_in, inferred_number, text_of}
 use Rattle.term_core.specs.declared.operator.Operator.{Operator}
-use Rattle.term_core.specs.declared.operator.Operator.TheVariants.{Sum, Difference, Less, Equal, Joined}
+use Rattle.term_core.specs.declared.operator.Operator.TheVariants.{Sum, Difference, Less, Equal, Concatenated}
 
 -- what is made of two values that are both of a sort
 abbrev pub of_two : {A B : Type 0} → (Value → Option A) → (A → A → B) → Value → Value → Option B
@@ -36,4 +36,4 @@ applied Sum a b = number_value (of_two number_in (λ x y. x +ℤ y) a b)
 applied Difference a b = number_value (of_two number_in (λ x y. x -ℤ y) a b)
 applied Less a b = truth_value (of_two number_in int_lt a b)
 applied Equal a b = truth_value (are_equal a b)
-applied Joined a b = text_value (of_two text_in (λ x y. x ++ y) a b)
+applied Concatenated a b = text_value (of_two text_in (λ x y. x ++ y) a b)

@@ -2,14 +2,14 @@
 use Rattle.std.specs.Prelude.{List, map, slice_get}
 use Rattle.std.specs.Option.{option_map_or}
 use Rattle.variant_value.specs.declared.value.Value.{Value}
-use Rattle.term_core.specs.declared.action.Effect.{Effect}
-use Rattle.term_core.specs.declared.action.Effect.TheVariants as e
+use Rattle.term_core.specs.declared.action.SingleAction.{SingleAction}
+use Rattle.term_core.specs.declared.action.SingleAction.TheVariants as e
 use Rattle.term_core.specs.declared.body.Body.{Body}
-use Rattle.term_core.specs.Act.{Act, Acts, effect, when, nothing, more}
+use Rattle.term_core.specs.Act.{Act, Acts, single_action, when, nothing, more}
 use Rattle.term_core.specs.Term.{Term, const, arg, state, prop, binary, choice}
 
 -- an action that does one thing, with each of its expressions changed
-abbrev pub effect_by : (Term → Term) → Effect → Effect
+abbrev pub effect_by : (Term → Term) → SingleAction → SingleAction
 effect_by change (e.Set of property value) = e.Set of property (change value)
 effect_by change (e.Emit of signal sent) = e.Emit of signal (map change sent)
 effect_by change other = other
@@ -17,7 +17,7 @@ effect_by change other = other
 -- any action, so: the test of a choice, and what is in both branches
 abbrev mutual
   pub act_by : (Term → Term) → Act → Act
-  act_by change (effect plain) = effect (effect_by change plain)
+  act_by change (single_action plain) = single_action (effect_by change plain)
   act_by change (when test held failed) = when (change test) (acts_by change held) (acts_by change failed)
 
   pub acts_by : (Term → Term) → Acts → Acts
@@ -35,7 +35,7 @@ unfolded_term args (binary operator a b) = binary operator (unfolded_term args a
 unfolded_term args (choice test a b) = choice (unfolded_term args test) (unfolded_term args a) (unfolded_term args b)
 
 -- actions, so
-abbrev pub unfolded_effect : List Value → Effect → Effect
+abbrev pub unfolded_effect : List Value → SingleAction → SingleAction
 unfolded_effect args plain = effect_by (unfolded_term args) plain
 
 abbrev pub unfolded : List Value → Act → Act

@@ -24,7 +24,7 @@ pub fn apply(alloc: Global, operator: Operator, a: &Value, b: &Value) -> Result<
         Operator::Difference => difference(a, b),
         Operator::Less => less(a, b).map(Value::Bool),
         Operator::Equal => equal(a, b).map(Value::Bool),
-        Operator::Joined => return joined(alloc, a, b),
+        Operator::Concatenated => return concatenated(alloc, a, b),
     };
     value.ok_or(Fault::Refused(Code::BadValue))
 }
@@ -173,7 +173,7 @@ fn equal_texts(a: &Value, b: &Value) -> Option<bool>
 }
 
 /// The second text behind the first.
-fn joined(alloc: Global, a: &Value, b: &Value) -> Result<Value, Fault>
+fn concatenated(alloc: Global, a: &Value, b: &Value) -> Result<Value, Fault>
     ensures { Answers result (text_value (of_two text_in (λ x y. x ++ y) a.now b.now)) }
 {
     match (text(a), text(b)) {

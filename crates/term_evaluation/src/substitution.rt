@@ -3,7 +3,7 @@ ghost use Rattle.std.specs.Prelude.{◌≡◌, List, IfOk, map};
 ghost use Rattle.term_core.specs.Act.{acts_of, when};
 ghost use Rattle.term_core.specs.Term as term;
 ghost use Rattle.term_core.specs.Term.{arg, binary, choice};
-ghost use Rattle.term_core.specs.declared.action.Effect.TheVariants as effects;
+ghost use Rattle.term_core.specs.declared.action.SingleAction.TheVariants as e;
 ghost use Rattle.term_evaluation.specs.Stating.{put_in, with_state};
 ghost use Rattle.term_evaluation.specs.Unfolding.{act_by, effect_by, unfolded_body, unfolded_term};
 
@@ -13,7 +13,7 @@ use connection_types::ConnectionType;
 use plain_types::{Items, Text};
 use signature_core::Signature;
 use std::alloc::{AllocError, Global};
-use term_core::{Action, Body, Effect, Expr, Node, Operator, Step, Target};
+use term_core::{Action, Body, Expr, Node, Operator, SingleAction, Step, Target};
 use variant_value::Value;
 
 /// The body's actions with the state and the arguments put in: each `Node::State` and each `Node::Arg`, at
@@ -68,10 +68,10 @@ fn put_in_action(
     ensures { IfOk result (λ found. found ≡ act_by (put_in given args.now) action.now) }
 {
     match &action.step {
-        Step::Effect(effect) => {
+        Step::Single(effect) => {
             let effect = put_in_effect(alloc, effect, given, args)?;
             Ok(Action {
-                step: Step::Effect(effect),
+                step: Step::Single(effect),
             })
         }
         Step::When(test, held, failed) => put_in_when(alloc, test, held, failed, given, args),
@@ -102,24 +102,24 @@ fn put_in_when(
 
 fn put_in_effect(
     alloc: Global,
-    effect: &Effect,
+    effect: &SingleAction,
     given: Option<u64>,
     args: &[Value],
-) -> Result<Effect, AllocError>
+) -> Result<SingleAction, AllocError>
     ensures { IfOk result (λ found. found ≡ effect_by (put_in given args.now) effect.now) }
 {
     match effect {
-        Effect::Set {
+        SingleAction::Set {
             of,
             property,
             value,
         } => put_in_set(alloc, of, property, value, given, args),
-        Effect::Emit {
+        SingleAction::Emit {
             of,
             signal,
             args: sent,
         } => put_in_emit(alloc, of, signal, sent.as_slice(), given, args),
-        Effect::Connect {
+        SingleAction::Connect {
             of,
             signal,
             to,
@@ -128,16 +128,16 @@ fn put_in_effect(
             unique,
             single,
         } => copy_connect(alloc, of, signal, to, method, *mode, *unique, *single),
-        Effect::Disconnect {
+        SingleAction::Disconnect {
             of,
             signal,
             to,
             method,
         } => copy_disconnect(alloc, of, signal, to, method),
-        Effect::Delete(target) => target.copy(alloc).map(Effect::Delete),
-        Effect::DeleteLater(target) => target.copy(alloc).map(Effect::DeleteLater),
-        Effect::Block { of, on } => copy_block(alloc, of, *on),
-        Effect::SetParent { of, parent } => copy_set_parent(alloc, of, parent),
+        SingleAction::Delete(target) => target.copy(alloc).map(SingleAction::Delete),
+        SingleAction::DeleteLater(target) => target.copy(alloc).map(SingleAction::DeleteLater),
+        SingleAction::Block { of, on } => copy_block(alloc, of, *on),
+        SingleAction::SetParent { of, parent } => copy_set_parent(alloc, of, parent),
     }
 }
 
@@ -148,12 +148,12 @@ fn put_in_set(
     value: &Expr,
     given: Option<u64>,
     args: &[Value],
-) -> Result<Effect, AllocError>
-    ensures { IfOk result (λ found. found ≡ effects.Set of.now property.now (put_in given args.now value.now)) }
+) -> Result<SingleAction, AllocError>
+    ensures { IfOk result (λ found. found ≡ e.Set of.now property.now (put_in given args.now value.now)) }
 {
     let place = both(of.copy(alloc), property.copy(alloc));
     let ((of, property), value) = both(place, put_in_expr(alloc, value, given, args))?;
-    Ok(Effect::Set {
+    Ok(SingleAction::Set {
         of,
         property,
         value,
@@ -167,12 +167,12 @@ fn put_in_emit(
     sent: &[Expr],
     given: Option<u64>,
     args: &[Value],
-) -> Result<Effect, AllocError>
-    ensures { IfOk result (λ found. found ≡ effects.Emit of.now signal.now (map (put_in given args.now) sent.now)) }
+) -> Result<SingleAction, AllocError>
+    ensures { IfOk result (λ found. found ≡ e.Emit of.now signal.now (map (put_in given args.now) sent.now)) }
 {
     let sender = both(of.copy(alloc), copy_signature(alloc, signal));
     let ((of, signal), args) = both(sender, put_in_exprs(alloc, sent, given, args))?;
-    Ok(Effect::Emit { of, signal, args })
+    Ok(SingleAction::Emit { of, signal, args })
 }
 
 fn copy_connect(
@@ -184,13 +184,13 @@ fn copy_connect(
     mode: ConnectionType,
     unique: bool,
     single: bool,
-) -> Result<Effect, AllocError>
-    ensures { IfOk result (λ copy. copy ≡ effects.Connect of.now signal.now to.now method.now mode unique single) }
+) -> Result<SingleAction, AllocError>
+    ensures { IfOk result (λ copy. copy ≡ e.Connect of.now signal.now to.now method.now mode unique single) }
 {
     let sender = both(of.copy(alloc), copy_signature(alloc, signal));
     let receiver = both(to.copy(alloc), copy_signature(alloc, method));
     let ((of, signal), (to, method)) = both(sender, receiver)?;
-    Ok(Effect::Connect {
+    Ok(SingleAction::Connect {
         of,
         signal,
         to,
@@ -207,8 +207,8 @@ fn copy_disconnect(
     signal: &Option<Signature>,
     to: &Option<Target>,
     method: &Option<Signature>,
-) -> Result<Effect, AllocError>
-    ensures { IfOk result (λ copy. copy ≡ effects.Disconnect of.now signal.now to.now method.now) }
+) -> Result<SingleAction, AllocError>
+    ensures { IfOk result (λ copy. copy ≡ e.Disconnect of.now signal.now to.now method.now) }
 {
     let sender = both(of.copy(alloc), copy_optional_signature(alloc, signal));
     let receiver = both(
@@ -216,7 +216,7 @@ fn copy_disconnect(
         copy_optional_signature(alloc, method),
     );
     let ((of, signal), (to, method)) = both(sender, receiver)?;
-    Ok(Effect::Disconnect {
+    Ok(SingleAction::Disconnect {
         of,
         signal,
         to,
@@ -224,22 +224,22 @@ fn copy_disconnect(
     })
 }
 
-fn copy_block(alloc: Global, of: &Target, on: bool) -> Result<Effect, AllocError>
-    ensures { IfOk result (λ copy. copy ≡ effects.Block of.now on) }
+fn copy_block(alloc: Global, of: &Target, on: bool) -> Result<SingleAction, AllocError>
+    ensures { IfOk result (λ copy. copy ≡ e.Block of.now on) }
 {
     let of = of.copy(alloc)?;
-    Ok(Effect::Block { of, on })
+    Ok(SingleAction::Block { of, on })
 }
 
 fn copy_set_parent(
     alloc: Global,
     of: &Target,
     parent: &Option<Target>,
-) -> Result<Effect, AllocError>
-    ensures { IfOk result (λ copy. copy ≡ effects.SetParent of.now parent.now) }
+) -> Result<SingleAction, AllocError>
+    ensures { IfOk result (λ copy. copy ≡ e.SetParent of.now parent.now) }
 {
     let (of, parent) = both(of.copy(alloc), copy_optional_target(alloc, parent))?;
-    Ok(Effect::SetParent { of, parent })
+    Ok(SingleAction::SetParent { of, parent })
 }
 
 fn put_in_exprs(

@@ -3,7 +3,7 @@ ghost use Rattle.std.specs.Prelude.{◌≡◌, ◌+◌, ◌<◌, [], OnOk, lengt
 ghost use Rattle.binding_graph.specs.Step.{InStep};
 ghost use Rattle.tests_of_bindings.specs.Opened.{AreTwo};
 
-use binding_graph::{Bindings, Change, Told, openings, steps};
+use binding_graph::{Bindings, Change, Message, openings, steps};
 use binding_values::{BindingError, is_bindable};
 use plain_types::{Items, Text};
 use property_store::{Field, Property, Stores};
@@ -275,8 +275,8 @@ fn digit_behind(digits: u64, digit: u64) -> u64 {
 /// A change behind others.
 fn behind(digits: u64, change: &Change) -> u64 {
     let (kind, digit) = match &change.told {
-        Told::Error(error) => (1, digit_of(*error)),
-        Told::Value(value) => (2, told(value)),
+        Message::Error(error) => (1, digit_of(*error)),
+        Message::Value(value) => (2, told(value)),
     };
     let at = change.at;
     let digits = digit_behind(digit_behind(digits, kind), at.object as u64);

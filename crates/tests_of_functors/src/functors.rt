@@ -10,7 +10,7 @@ use refusals::{Code, Fault};
 use std::alloc::{AllocError, Global};
 use std::test::Fail;
 use stored_slots::{Closure, FUNCTORS, Functors};
-use term_core::{Action, Body, Effect, Expr, Node, Step};
+use term_core::{Action, Body, Expr, Node, SingleAction, Step};
 use term_evaluation::{Halt, NoObjects, evaluate};
 use variant_value::Value;
 
@@ -32,13 +32,13 @@ pub fn number_set(alloc: Global, actions: &[Action]) -> Result<Option<i32>, Allo
             return Ok(None);
         };
         match &action.step {
-            Step::Effect(Effect::Set { value, .. }) => {
+            Step::Single(SingleAction::Set { value, .. }) => {
                 return match &value_of(alloc, value)? {
                     Some(Value::Int(number)) => Ok(Some(*number)),
                     _ => Ok(None),
                 };
             }
-            Step::Effect(_) => return Ok(None),
+            Step::Single(_) => return Ok(None),
             Step::When(test, held, failed) => {
                 left = match &value_of(alloc, test)? {
                     Some(Value::Bool(true)) => held,

@@ -1,5 +1,5 @@
 //! Bodies of slots, and the laws of their expressions.
-use term_core::{Action, Effect, Expr, Step};
+use term_core::{Action, Expr, SingleAction, Step};
 use term_evaluation::{
     evaluates_in_place, reads_suffice, state_keeps_limits, unfolding_keeps_limits,
     unfolding_leaves_no_argument, values_are_short,
@@ -8,9 +8,9 @@ use term_evaluation::{
 /// What the first action sets, sends first or tests.
 pub(crate) fn first_value(actions: &[Action]) -> Option<&Expr> {
     match &actions.first()?.step {
-        Step::Effect(Effect::Set { value, .. }) => Some(value),
-        Step::Effect(Effect::Emit { args, .. }) => args.get(0),
-        Step::Effect(_) => None,
+        Step::Single(SingleAction::Set { value, .. }) => Some(value),
+        Step::Single(SingleAction::Emit { args, .. }) => args.get(0),
+        Step::Single(_) => None,
         Step::When(test, _, _) => Some(test),
     }
 }
@@ -21,7 +21,7 @@ pub(crate) fn branch(actions: &[Action]) -> &[Action] {
         return &[];
     };
     match &action.step {
-        Step::Effect(_) => &[],
+        Step::Single(_) => &[],
         Step::When(_, held, _) => held,
     }
 }

@@ -2,7 +2,7 @@
 ghost use Rattle.std.specs.Prelude.{◌≡◌, All, Some, IfOk, OnOk};
 ghost use Rattle.thread_model.specs.Fitting.{IsRightPost};
 ghost use Rattle.session_engine.specs.Core.{place};
-ghost use Rattle.session_engine.specs.Engine.{held};
+ghost use Rattle.session_engine.specs.Engine.{seen_engine};
 ghost use Rattle.session_engine.specs.Items.{IsRightItem};
 
 use crate::fakes::hashing;
@@ -81,7 +81,7 @@ fn items_of(alloc: Global, comings: &[Coming]) -> Result<Vec<Item>, AllocError>
 
 /// The place of a session, which is opened where it is not there.
 fn place_of(engine: &mut Engine, name: &Text) -> Result<usize, AllocError>
-    ensures { IfOk result (λ at. place (held engine.new) name.now ≡ Some at) }
+    ensures { IfOk result (λ at. place (seen_engine engine.new) name.now ≡ Some at) }
 {
     match engine.find(name) {
         Some(place) => Ok(place),

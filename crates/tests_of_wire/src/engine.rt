@@ -1,7 +1,7 @@
 //! The engine.
 ghost use Rattle.std.specs.Prelude.{◌≡◌, Some, IfOk};
 ghost use Rattle.session_engine.specs.Core.{place};
-ghost use Rattle.session_engine.specs.Engine.{held};
+ghost use Rattle.session_engine.specs.Engine.{seen_engine};
 
 use crate::fakes::hashing;
 use crate::lines::{given, lamps};
@@ -20,7 +20,7 @@ fn fresh(alloc: Global) -> Result<Engine, AllocError> {
 
 /// The place of the session that gives a command, which is opened where it is not there.
 fn place_of(engine: &mut Engine, given: &Tagged) -> Result<usize, AllocError>
-    ensures { IfOk result (λ at. place (held engine.new) given.now.session ≡ Some at) }
+    ensures { IfOk result (λ at. place (seen_engine engine.new) given.now.session ≡ Some at) }
 {
     match engine.find(&given.session) {
         Some(place) => Ok(place),

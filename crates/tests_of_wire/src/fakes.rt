@@ -53,7 +53,7 @@ impl<'a> Source for SlowSource<'a> {
 /// Takes a few bytes a call, and fails at one of its calls, or takes nothing at one.
 #[derive(Drop)]
 pub struct SlowSink {
-    pub held: Vec<u8>,
+    pub received: Vec<u8>,
     pub at_once: usize,
     pub calls: u32,
     pub failing: u32,
@@ -64,7 +64,7 @@ pub struct SlowSink {
 impl SlowSink {
     pub fn new(alloc: Global, at_once: usize, failing: u32, idle: u32) -> SlowSink {
         SlowSink {
-            held: Vec::new(alloc),
+            received: Vec::new(alloc),
             at_once,
             calls: 0,
             failing,
@@ -75,7 +75,7 @@ impl SlowSink {
 }
 
 impl Sink for SlowSink {
-    ghost held = { λ s. Some s.held.items };
+    ghost held = { λ s. Some s.received.items };
 
     ghost failures = { λ s. s.failures };
 
@@ -89,7 +89,9 @@ impl Sink for SlowSink {
             return Ok(0);
         }
         let count = buffer.len().min(self.at_once.max(1));
-        if self.calls == self.failing || self.held.extend_from_slice(&buffer[..count]).is_err() {
+        if self.calls == self.failing
+            || self.received.extend_from_slice(&buffer[..count]).is_err()
+        {
             self.failures = self.failures.saturating_add(1);
             return Err(Failed);
         }

@@ -54,7 +54,7 @@ const ODD_LINES_TOLD: [Part; 5] = [
     Part(LAMP_TOLD, 1, 0),
 ];
 
-fn joined(alloc: Global, parts: &[Part]) -> Result<Vec<u8>, AllocError> {
+fn bytes_of(alloc: Global, parts: &[Part]) -> Result<Vec<u8>, AllocError> {
     let mut bytes = Vec::new(alloc);
     for part in parts {
         for _ in 0..part.1 {
@@ -92,11 +92,11 @@ fn is_answered(alloc: Global, input: &[u8], wanted: &[u8], lines: u64) -> Result
 }
 
 fn odd_lines(alloc: Global) -> Result<Vec<u8>, AllocError> {
-    joined(alloc, &ODD_LINES)
+    bytes_of(alloc, &ODD_LINES)
 }
 
 fn odd_lines_told(alloc: Global) -> Result<Vec<u8>, AllocError> {
-    joined(alloc, &ODD_LINES_TOLD)
+    bytes_of(alloc, &ODD_LINES_TOLD)
 }
 
 fn odd_lines_are_answered(alloc: Global) -> Result<bool, AllocError> {

@@ -120,7 +120,7 @@ pub fn outcome_by(
     let (ended, memory_refused) = end_of_fresh_run(alloc, host, &mut reader, &mut writer, way)?;
     Ok(Outcome {
         ended,
-        written: writer.held,
+        written: writer.received,
         failures: reader.failures.saturating_add(writer.failures),
         memory_refused,
     })

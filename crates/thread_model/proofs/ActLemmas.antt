@@ -1,12 +1,12 @@
--- What an action may come to, by the effect that it has.
+-- What a single action may come to.
 use Rattle.std.proofs.Common.{◌≡◌, ℕ, Bool, true, false, cond, List, [], ◌∷◌, Option, Some, None, Ok, Err, refl}
 use Rattle.std.specs.Option.{option_or, unwrap_or}
 use Rattle.std.specs.Result.{result_err}
 use Rattle.refusals.specs.declared.code.Code.{Code}
 use Rattle.refusals.specs.declared.code.Code.TheVariants.{NoSuchObject}
 use Rattle.variant_value.specs.declared.value.Value.{Value}
-use Rattle.term_core.specs.declared.action.Effect.{Effect}
-use Rattle.term_core.specs.declared.action.Effect.TheVariants as e
+use Rattle.term_core.specs.declared.action.SingleAction.{SingleAction}
+use Rattle.term_core.specs.declared.action.SingleAction.TheVariants as e
 use Rattle.object_tree.specs.Refusing.{object_refusal}
 use Rattle.object_tree.specs.Rows.{is_there}
 use Rattle.thread_model.specs.declared.deed.Deed.{Deed}
@@ -54,11 +54,11 @@ module _ (settings : Settings) (doing : Doing) (self sender : ℕ) (args : List 
     found_by (Ok deed) = done_by deed _ refl
     found_by (Err code) = warns code
 
-    abbrev its : Effect → Found Deed
+    abbrev its : SingleAction → Found Deed
     its plain = unwrap_or (act_deed settings doing.state self sender plain) (Err NoSuchObject)
 
     -- an action is refused, or has one of these effects
-    pub acted_cases : (plain : Effect) → P (warns_or (act_refusal settings doing.state self sender args plain) self doing (acted settings doing self sender args depth plain))
+    pub acted_cases : (plain : SingleAction) → P (warns_or (act_refusal settings doing.state self sender args plain) self doing (acted settings doing self sender args depth plain))
     acted_cases (e.Set of property value) =
         written_by (object_of doing.state self sender of) (is_there doing.state.forest.rows (object_of doing.state self sender of)) property (evaluated doing.state self sender args value) refl
     acted_cases (e.Emit of signal sent) = sent_by (object_of doing.state self sender of) (is_there doing.state.forest.rows (object_of doing.state self sender of)) (emission settings doing.state self sender args (object_of doing.state self sender of) signal sent)

@@ -6,10 +6,10 @@ use Rattle.refusals.specs.declared.code.Code.{Code}
 use Rattle.refusals.specs.declared.code.Code.TheVariants.{NoSuchObject}
 use Rattle.signature_core.specs.declared.signature.Signature.{Signature}
 use Rattle.variant_value.specs.declared.value.Value.{Value}
-use Rattle.term_core.specs.declared.action.Effect.{Effect}
-use Rattle.term_core.specs.declared.action.Effect.TheVariants as e
+use Rattle.term_core.specs.declared.action.SingleAction.{SingleAction}
+use Rattle.term_core.specs.declared.action.SingleAction.TheVariants as e
 use Rattle.term_core.specs.declared.target.Target.{Target}
-use Rattle.term_core.specs.Act.{Acts, effect, when}
+use Rattle.term_core.specs.Act.{Acts, single_action, when}
 use Rattle.term_core.specs.Term.{Term}
 use Rattle.thread_model.specs.declared.deed.Deed.{Deed}
 use Rattle.object_tree.specs.Rows.{is_there}
@@ -24,9 +24,9 @@ use Rattle.thread_model.specs.Targets.{object_of, truth_evaluated}
 use Rattle.thread_model.specs.Writing.{Writing, written}
 
 module _ (settings : Settings) (self sender : ℕ) (args : List Value) (depth : ℕ) (doing : Doing) where
-  -- what an action comes to that has one effect
-  abbrev pub comes_to : Effect → Next
-  comes_to plain = step settings (Act (effect plain) args self sender depth) doing
+  -- what a single action comes to
+  abbrev pub comes_to : SingleAction → Next
+  comes_to plain = step settings (Act (single_action plain) args self sender depth) doing
 
   -- what warns of a code for the object whose slot is run
   abbrev pub warned : Code → Next
@@ -83,7 +83,7 @@ module _ (settings : Settings) (self sender : ℕ) (args : List Value) (depth : 
   next_of : Option (Found Deed) → Next
   next_of found = option_map_or found_next found (puts [] doing)
 
-  pub by_deed : (plain : Effect) (found : Found Deed) → act_deed settings doing.state self sender plain ≡ Some found → comes_to plain ≡ found_next found
+  pub by_deed : (plain : SingleAction) (found : Found Deed) → act_deed settings doing.state self sender plain ≡ Some found → comes_to plain ≡ found_next found
   unfolding next_of
   by_deed (e.Connect of signal to method mode unique single) found is = ap next_of is
   by_deed (e.Disconnect of signal to method) found is = ap next_of is
@@ -95,7 +95,7 @@ module _ (settings : Settings) (self sender : ℕ) (args : List Value) (depth : 
   by_deed (e.Delete of) found is = absurd (cc)
 
   -- doing a deed
-  module _ (plain : Effect) where
+  module _ (plain : SingleAction) where
     module _ (deed : Deed) (is : act_deed settings doing.state self sender plain ≡ Some (Ok deed)) where
       pub deed_is_done : deed_refusal doing.state deed ≡ None → comes_to plain ≡ puts [] (deed_done doing deed)
       deed_is_done passed = by_deed plain (Ok deed) is ∙ ap (λ refusal. warns_or refusal self doing (puts [] (deed_done doing deed))) passed

@@ -14,7 +14,7 @@ use Rattle.property_store.specs.Store.{Properties, Store, changed, properties_of
 use Rattle.property_store.proofs.SoundLemmas.{without_others}
 use Rattle.term_core.specs.Term.{Term}
 use Rattle.binding_graph.specs.declared.change.Change.{Change}
-use Rattle.binding_graph.specs.declared.change.Told.TheVariants as told
+use Rattle.binding_graph.specs.declared.change.Message.TheVariants as message
 use Rattle.property_store.specs.declared.property.Property.{Property}
 use Rattle.binding_graph.specs.declared.shown.Shown.{Shown}
 use Rattle.binding_graph.specs.Graph.{all_shown, before, changes, fresh, has_turn, in_turn, is_same_error, notice, shown_as, shown_at, shown_now, warning}
@@ -78,12 +78,12 @@ only_one q (row ∷ rows) rising = by (is_property q row.at) refl (only_one q ro
 
 -- nothing is warned of what stands for no error, and nothing is told of what shows what it showed
 no_warning : (last : List Shown) (shown : Shown) → shown.error ≡ None → warning last shown ≡ None
-no_warning last shown is = ap (λ error. option_and_then (λ error. if option_map_or (is_same_error error) (before last shown).error false then None else Some (let change : Change = record { at = shown.at; told = told.Error error } in change)) error) is
+no_warning last shown is = ap (λ error. option_and_then (λ error. if option_map_or (is_same_error error) (before last shown).error false then None else Some (let change : Change = record { at = shown.at; told = message.Error error } in change)) error) is
 
 no_notice : (last : List Shown) (shown : Shown) → before last shown ≡ shown → notice last shown ≡ None
 no_notice last shown is =
-    ap (λ (stood : Shown). if is_same stood.value shown.value then None else Some (let change : Change = record { at = shown.at; told = told.Value shown.value } in change)) is
-    ∙ ap (λ same. cond same None (Some (let change : Change = record { at = shown.at; told = told.Value shown.value } in change))) (same_value shown.value)
+    ap (λ (stood : Shown). if is_same stood.value shown.value then None else Some (let change : Change = record { at = shown.at; told = message.Value shown.value } in change)) is
+    ∙ ap (λ same. cond same None (Some (let change : Change = record { at = shown.at; told = message.Value shown.value } in change))) (same_value shown.value)
 
 -- where nothing stands for an error, and no other property shows another value than before, one may tell of
 -- its value
@@ -155,7 +155,7 @@ module _ (s : Store) (q : Property) (value : Value) where
 
   -- what is told of the write: the new value, where it is another one
   pub write_told : store.IsSound new → (cell : Cell) → cell_in s q ≡ Some cell
-      → changes (all_shown s []) (all_shown new []) (Some q) ≡ (if is_same cell.value value then [] else (let change : Change = record { at = q; told = told.Value value } in change) ∷ [])
+      → changes (all_shown s []) (all_shown new []) (Some q) ≡ (if is_same cell.value value then [] else (let change : Change = record { at = q; told = message.Value value } in change) ∷ [])
   write_told sound cell is = told_alone last now q row its others (plain_rows new (properties_in new)) ∙ (ap (λ made. cons_option made []) its_notice ∙ by (is_same cell.value value))
     where
       last : List Shown
@@ -188,10 +188,10 @@ module _ (s : Store) (q : Property) (value : Value) where
       stood = ap (λ stood. option_map_or (λ (stood : Shown). stood) stood (fresh q cell.kind))
           (found_in_all s [] q ∙ (stored_shown s q ∙ ap (option_map (λ (cell : Cell). shown_as q cell.kind (Ok cell.value))) is))
 
-      its_notice : notice last row ≡ (if is_same cell.value value then None else Some (let change : Change = record { at = q; told = told.Value value } in change))
-      its_notice = ap (λ (stood : Shown). if is_same stood.value value then None else Some (let change : Change = record { at = q; told = told.Value value } in change)) stood
+      its_notice : notice last row ≡ (if is_same cell.value value then None else Some (let change : Change = record { at = q; told = message.Value value } in change))
+      its_notice = ap (λ (stood : Shown). if is_same stood.value value then None else Some (let change : Change = record { at = q; told = message.Value value } in change)) stood
 
-      by : (equal : Bool) → cons_option (cond equal None (Some (let change : Change = record { at = q; told = told.Value value } in change))) [] ≡ cond equal [] ((let change : Change = record { at = q; told = told.Value value } in change) ∷ [])
+      by : (equal : Bool) → cons_option (cond equal None (Some (let change : Change = record { at = q; told = message.Value value } in change))) [] ≡ cond equal [] ((let change : Change = record { at = q; told = message.Value value } in change) ∷ [])
       by true = refl
       by false = refl
 

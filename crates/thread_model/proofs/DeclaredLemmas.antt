@@ -38,7 +38,7 @@ use Rattle.thread_model.specs.Asked.{Asked, New, Delete, Children, Find, Set, Ge
 use Rattle.thread_model.specs.declared.deed.Deed.{Deed}
 use Rattle.thread_model.specs.declared.deed.Deed.TheVariants as d
 use Rattle.thread_model.specs.Deeds.{deed_done, with_deed}
-use Rattle.thread_model.specs.Doing.{Doing, begun, dying, first_taken, in_state, lost, posted, posting, shot, told, turn_taken, used_up, severed, stepped}
+use Rattle.thread_model.specs.Doing.{Doing, begun, dying, first_taken, in_state, lost, posted, posting, shot, line_told, turn_taken, used_up, severed, stepped}
 use Rattle.thread_model.specs.Effects.{does_next, unless}
 use Rattle.thread_model.specs.Items.{Delete as ToDelete, Emit, Item, Next, Reply, ReplySpun, Run, Spin, puts}
 use Rattle.thread_model.specs.Laws.{KeepsDeclared}
@@ -144,8 +144,8 @@ module _ (classes : List Class) (state : State) (declared : IsDeclared classes s
           ap (option_map (λ of. of.fields)) (added_others state.store (state.forest.last_number + 1) (fields_of classes class) row.number apart) ∙ has
 
 module _ (classes : List Class) (doing : Doing) (declared : IsDeclared classes doing.state) where
-  told_declared : (said : Line) → IsDeclared classes (told doing said).state
-  unfolding told
+  told_declared : (said : Line) → IsDeclared classes (line_told doing said).state
+  unfolding line_told
   told_declared said = declared
 
   posting_declared : (more : List Post) → IsDeclared classes (posting doing more).state
@@ -204,8 +204,8 @@ module _ (classes : List Class) (doing : Doing) (declared : IsDeclared classes d
       (λ number class apart has. ap (option_map (λ of. of.fields)) (without_others doing.state.store target number apart) ∙ has) declared
 
 -- so it is in what an item comes to
-abbrev Keeps : List Class → Next → Type 0
-Keeps classes next = IsDeclared classes next.doing.state
+abbrev LeavesDeclared : List Class → Next → Type 0
+LeavesDeclared classes next = IsDeclared classes next.doing.state
 
 -- with each change
 holds : (classes : List Class) → Holds (λ old new. IsDeclared classes old.state → IsDeclared classes new.state)
@@ -236,7 +236,7 @@ run_declared : (settings : Settings) (agenda : List Item) (doing : Doing) → Is
 run_declared settings agenda doing declared = run_keeps settings (λ items doing. IsDeclared settings.classes doing.state) (λ item agenda doing. item_declared settings item doing) agenda doing declared
 
 module _ (settings : Settings) (state : State) (declared : IsDeclared settings.classes state) where
-  done_declared : (next : Next) (answer : Answer) → Keeps settings.classes next → IsDeclared settings.classes (does_next settings next answer).state
+  done_declared : (next : Next) (answer : Answer) → LeavesDeclared settings.classes next → IsDeclared settings.classes (does_next settings next answer).state
   done_declared next answer kept = run_declared settings (next.items ++ Reply answer ∷ []) next.doing kept
 
   set_declared : (target : ℕ) (found : Found Writing) → IsDeclared settings.classes (sets settings state target found).state
@@ -247,12 +247,12 @@ module _ (settings : Settings) (state : State) (declared : IsDeclared settings.c
   found_declared' (Ok deed) = deed_declared settings.classes (begun settings state) declared deed
   found_declared' (Err code) = declared
 
-  invoked_declared : (target index : ℕ) (values : List Value) → Keeps settings.classes (invoked settings state target index values)
+  invoked_declared : (target index : ℕ) (values : List Value) → LeavesDeclared settings.classes (invoked settings state target index values)
   invoked_declared target index values =
       let doing = begun settings state in
-      cond_both (is_signal_at (methods_of settings state target) index) (puts (Emit target index values 0 ∷ []) doing) (with_turn doing (puts (Run target index 0 values 0 ∷ []))) (Keeps settings.classes)
+      cond_both (is_signal_at (methods_of settings state target) index) (puts (Emit target index values 0 ∷ []) doing) (with_turn doing (puts (Run target index 0 values 0 ∷ []))) (LeavesDeclared settings.classes)
       (λ signal. declared)
-      (λ slot. cond_both (doing.turns == 0) (puts [] (used_up doing)) (puts (Run target index 0 values 0 ∷ []) (turn_taken doing)) (Keeps settings.classes)
+      (λ slot. cond_both (doing.turns == 0) (puts [] (used_up doing)) (puts (Run target index 0 values 0 ∷ []) (turn_taken doing)) (LeavesDeclared settings.classes)
       (λ none. used_up_declared settings.classes doing declared) (λ some. turn_declared settings.classes doing declared))
 
   invokes_declared : (target : ℕ) (args : List Data) (mode : ConnectionType) (priority : Priority) (index : Option ℕ) → IsDeclared settings.classes (invokes settings state target args mode priority index).state

@@ -13,7 +13,7 @@ use Rattle.signature_core.specs.Kinds.{fits}
 use Rattle.object_tree.specs.Rows.{is_there, numbers}
 use Rattle.publish_board.specs.declared.join.Join.{Join}
 use Rattle.publish_board.specs.declared.publication.Publication.{Publication}
-use Rattle.publish_board.specs.Desk.{Desk, IsSound, join_refusal, joined, left, no_desk, publish_refusal, published, unpublished, without_object}
+use Rattle.publish_board.specs.Desk.{Desk, IsSound, join_refusal, with_join, left, no_desk, publish_refusal, published, unpublished, without_object}
 use Rattle.publish_board.specs.Rows.{has_name, is_join}
 use Rattle.thread_model.specs.State.{OfDesk, State}
 use Rattle.thread_model.proofs.ConnectionLemmas.{there_more, there_same, there_without}
@@ -61,10 +61,10 @@ sound_unpublished desk name sound = record {
   distinct = AllPairs-filter Apart (λ row. not (has_name name row)) desk.publications sound.distinct;
 }
 
-pub sound_joined : (own : List ℕ) (desk : Desk) (join : Join) (wanted : List Kind) → join_refusal own desk join wanted ≡ None → IsSound desk → IsSound (joined desk join)
+pub sound_joined : (own : List ℕ) (desk : Desk) (join : Join) (wanted : List Kind) → join_refusal own desk join wanted ≡ None → IsSound desk → IsSound (with_join desk join)
 sound_joined own desk join wanted passed sound = by (not (fits join.kinds wanted)) (bytes_eq join.from own) (nat_le 1024 (length desk.joins)) refl passed
   where
-    by : (unfit own' full : Bool) → nat_le 1024 (length desk.joins) ≡ full → cond unfit (Some DoesNotFit) (cond own' (Some OwnSession) (cond full (Some Limit) None)) ≡ None → IsSound (joined desk join)
+    by : (unfit own' full : Bool) → nat_le 1024 (length desk.joins) ≡ full → cond unfit (Some DoesNotFit) (cond own' (Some OwnSession) (cond full (Some Limit) None)) ≡ None → IsSound (with_join desk join)
     by true own' full room e = absurd (cc)
     by false true full room e = absurd (cc)
     by false false true room e = absurd (cc)
@@ -97,7 +97,7 @@ module _ (P : ℕ → Type 0) (desk : Desk) (all : OfDesk P desk) where
   pub of_published : (row : Publication) → P row.object → OfDesk P (published desk row)
   of_published row new = record { publications = All-push (λ (row : Publication). P row.object) desk.publications row all.publications new; joins = all.joins }
 
-  pub of_joined : (join : Join) → P join.object → OfDesk P (joined desk join)
+  pub of_joined : (join : Join) → P join.object → OfDesk P (with_join desk join)
   of_joined join new = record { publications = all.publications; joins = All-push (λ (join : Join). P join.object) desk.joins join all.joins new }
 
   pub of_unpublished : (name : List ℕ) → OfDesk P (unpublished desk name)

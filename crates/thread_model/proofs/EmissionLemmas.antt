@@ -28,7 +28,7 @@ use Rattle.thread_model.specs.Arriving.{posts_of}
 use Rattle.binding_values.specs.declared.property.BindingError.{BindingError}
 use Rattle.property_store.specs.declared.property.Property.{Property}
 use Rattle.thread_model.specs.Agenda.{binding_line, call_line, callee_called, called, calls_of, connection_of, emitted, functor_called, functor_ran, is_held_back, method_called, method_items, ran, step, with_turn}
-use Rattle.thread_model.specs.Doing.{Doing, in_state, lost, posted, posting, shot, told, turn_taken, used_up}
+use Rattle.thread_model.specs.Doing.{Doing, in_state, lost, posted, posting, shot, line_told, turn_taken, used_up}
 use Rattle.thread_model.specs.Items.{Call, Emit, Run, RunFunctor, Warn, WarnOf, puts}
 use Rattle.thread_model.specs.Functors.{functor_at}
 use Rattle.thread_model.specs.Methods.{method_at}
@@ -177,7 +177,7 @@ module _ (settings : Settings) (number : ℕ) (args : List Value) (depth : ℕ) 
 module _ (settings : Settings) (target index sender : ℕ) (args : List Value) (depth : ℕ) (doing : Doing) where
   -- a slot that is there is told of, and does what its body says, one level deeper
   pub run_slot : (method : Method) → method_at settings doing.state target index ≡ Some method → step settings (Run target index sender args depth) doing
-      ≡ puts (acts (acts_of method.body.actions) args target sender (depth + 1)) (told doing (call_line method target sender args))
+      ≡ puts (acts (acts_of method.body.actions) args target sender (depth + 1)) (line_told doing (call_line method target sender args))
   run_slot method has = ap (λ found. option_map_or (ran doing target sender args depth) found (puts [] doing)) has
 
 module _ (settings : Settings) (target index sender connection : ℕ) (args : List Value) (depth : ℕ) (doing : Doing) where
@@ -191,8 +191,8 @@ module _ (settings : Settings) (target index sender connection : ℕ) (args : Li
 
 module _ (settings : Settings) (doing : Doing) where
   -- a warning and a reply are told
-  pub warn_told : (code : Code) (object : Option ℕ) → step settings (Warn code object) doing ≡ puts [] (told doing (line.Warning code object))
+  pub warn_told : (code : Code) (object : Option ℕ) → step settings (Warn code object) doing ≡ puts [] (line_told doing (line.Warning code object))
   warn_told code object = refl
 
-  pub warn_of_told : (at : Property) (error : BindingError) → step settings (WarnOf at error) doing ≡ puts [] (told doing (binding_line settings doing.state at error))
+  pub warn_of_told : (at : Property) (error : BindingError) → step settings (WarnOf at error) doing ≡ puts [] (line_told doing (binding_line settings doing.state at error))
   warn_of_told at error = refl

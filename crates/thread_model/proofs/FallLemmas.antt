@@ -5,7 +5,7 @@ use Rattle.std.proofs.Math.Nat.{mul-le-mul_right, suc-mul}
 use Rattle.std.proofs.lemmas.Bool.{cond_both}
 use Rattle.refusals.specs.declared.code.Code.TheVariants.{Limit}
 use Rattle.variant_value.specs.declared.value.Value.{Value}
-use Rattle.term_core.specs.Act.{Acts, acts_of, counts, effect, when}
+use Rattle.term_core.specs.Act.{Acts, acts_of, counts, single_action, when}
 use Rattle.class_table.specs.declared.class.Method.{Method}
 use Rattle.connection_types.specs.declared.callee.Callee.{Callee}
 use Rattle.connection_types.specs.declared.callee.Callee.TheVariants as callee
@@ -30,7 +30,7 @@ use Rattle.thread_model.specs.Acts.{acts, chosen}
 use Rattle.thread_model.specs.Arriving.{posts_of}
 use Rattle.thread_model.specs.Agenda.{binding_line, call_items, call_line, callee_called, called, calls_of, connection_of, emitted, event_items, functor_called, functor_line, functor_ran, is_held_back, kins, lives, lives_below, method_called, method_items, queued, ran, spun, step, with_turn}
 use Rattle.thread_model.specs.Deeds.{deed_done}
-use Rattle.thread_model.specs.Doing.{Doing, dying, first_taken, in_state, shot, told, turn_taken, used_up, posting, severed, stepped}
+use Rattle.thread_model.specs.Doing.{Doing, dying, first_taken, in_state, shot, line_told, turn_taken, used_up, posting, severed, stepped}
 use Rattle.thread_model.specs.Items.{Act, Call, Cut, Delete, Emit, Gone, Item, Kin, Next, Reply, ReplySpun, Run, RunFunctor, Spin, Warn, WarnOf, puts}
 use Rattle.thread_model.specs.Functors.{functor_at}
 use Rattle.thread_model.specs.Methods.{Found, method_at}
@@ -217,7 +217,7 @@ functor_ran_falls settings target index sender connection args depth doing (Some
     let size = functor-size settings index functor is in
     let within : counts body ≤ n.actions = omega (arith, size, state_counts functor.body state) in
     let short = mul-le-mul_right (action_weight n) within in
-    let new = told doing (functor_line functor target sender args) in
+    let new = line_told doing (functor_line functor target sender args) in
     let next = after functor.next state args in
     lighter settings (RunFunctor target index sender connection args depth) doing (functor_ran doing target sender connection args depth functor)
     (both doing new (stepped new connection next) (told_shrinks doing (functor_line functor target sender args)) (stepped_shrinks new connection next)) (omega (arith, its, short))
@@ -251,8 +251,8 @@ falls settings (Emit target signal args depth) doing = emitted_falls settings ta
 falls settings (Call number args depth) doing = called_falls settings number args depth doing (connection_of doing number)
 falls settings (Run target index sender args depth) doing = ran_falls settings target index sender args depth doing (method_at settings doing.state target index) refl
 falls settings (RunFunctor target index sender connection args depth) doing = functor_ran_falls settings target index sender connection args depth doing (functor_at settings index) refl
-falls settings (Act (effect plain) args self sender depth) doing =
-    let item = Act (effect plain) args self sender depth in
+falls settings (Act (single_action plain) args self sender depth) doing =
+    let item = Act (single_action plain) args self sender depth in
     acted_cases settings doing self sender args depth (FallsTo settings item doing)
     (λ code. lighter settings item doing (puts (Warn code (Some self) ∷ []) doing) (same doing) (omega arith))
     (λ target signal values. lighter settings item doing (puts (Emit target signal values depth ∷ []) doing) (same doing) (omega arith))
@@ -261,8 +261,8 @@ falls settings (Act (effect plain) args self sender depth) doing =
     (λ deed passed. idle settings item doing (deed_done doing deed) (deed_shrinks doing deed passed))
     plain
 falls settings (Act (when test held failed) args self sender depth) doing = chosen_falls settings test held failed args self sender depth doing (truth_evaluated doing.state self sender args test)
-falls settings (Warn code object) doing = idle settings (Warn code object) doing (told doing (line.Warning code object)) (told_shrinks doing (line.Warning code object))
-falls settings (WarnOf at error) doing = idle settings (WarnOf at error) doing (told doing (binding_line settings doing.state at error)) (told_shrinks doing (binding_line settings doing.state at error))
+falls settings (Warn code object) doing = idle settings (Warn code object) doing (line_told doing (line.Warning code object)) (told_shrinks doing (line.Warning code object))
+falls settings (WarnOf at error) doing = idle settings (WarnOf at error) doing (line_told doing (binding_line settings doing.state at error)) (told_shrinks doing (binding_line settings doing.state at error))
 falls settings (Delete target depth) doing =
     let item = Delete target depth in
     cond_both (lives doing target) (puts (Emit target DESTROYED [] depth ∷ Cut target depth ∷ Gone target depth ∷ []) (dying doing target)) (puts [] doing) (FallsTo settings item doing)
@@ -276,5 +276,5 @@ falls settings (Kin parent child depth) doing =
     (λ other. idle settings item doing doing (same doing))
 falls settings (Gone target depth) doing = telling_falls settings (Gone target depth) doing depth (without_object doing.state target) None (gone_shrinks doing target) (omega arith)
 falls settings Spin doing = spun_falls settings doing doing.state.queue.events
-falls settings (Reply answer) doing = idle settings (Reply answer) doing (told doing (line.Reply answer)) (told_shrinks doing (line.Reply answer))
-falls settings ReplySpun doing = idle settings ReplySpun doing (told doing (line.Reply (a.Spun (spin_of doing)))) (told_shrinks doing (line.Reply (a.Spun (spin_of doing))))
+falls settings (Reply answer) doing = idle settings (Reply answer) doing (line_told doing (line.Reply answer)) (told_shrinks doing (line.Reply answer))
+falls settings ReplySpun doing = idle settings ReplySpun doing (line_told doing (line.Reply (a.Spun (spin_of doing)))) (told_shrinks doing (line.Reply (a.Spun (spin_of doing))))

@@ -19,7 +19,7 @@ use Rattle.property_store.proofs.DynamicLemmas.{with_dynamic_sound, without_dyna
 use Rattle.property_store.proofs.KindLemmas.{with_value_sound}
 use Rattle.thread_model.specs.Methods.{Found, ◌>>=◌}
 use Rattle.thread_model.specs.State.{State}
-use Rattle.thread_model.specs.Writing.{Declared, Dynamic, Nothing, Place, Removed, Writing, acted_writing, asked_place, asked_writing, declared, dynamic_writing, short}
+use Rattle.thread_model.specs.Writing.{Declared, Dynamic, Nothing, DeclaredField, Removed, Writing, acted_writing, asked_place, asked_writing, declared, dynamic_writing, short}
 
 -- what is written keeps the properties of an object sound
 abbrev pub IsFit : State → ℕ → Writing → Type 0
@@ -148,17 +148,17 @@ short_short (v.Text text) new e = (text_short text new e).1
 
 module _ (state : State) (object : ℕ) (name : List ℕ) where
   -- a declared property takes a value of its kind
-  declared_fit : (place : Place) (value : Value) → declared state object name ≡ Some place → IsOfKind place.kind value → IsFit state object (Declared place.number value)
+  declared_fit : (place : DeclaredField) (value : Value) → declared state object name ≡ Some place → IsOfKind place.kind value → IsFit state object (Declared place.number value)
   declared_fit place value e kind of is sound = numbered (field_number name of.fields) (sym (ap (option_and_then (λ of. option_and_then (at of) (field_number name of.fields))) is) ∙ e)
     where
-      at : Properties → ℕ → Option Place
+      at : Properties → ℕ → Option DeclaredField
       at of number = option_map (λ field. record { number = number; kind = field.kind }) (slice_get of.fields number)
 
       found : (number : ℕ) (field : Option Field) → slice_get of.fields number ≡ field → option_map (λ field. record { number = number; kind = field.kind }) field ≡ Some place → AreSound (with_value place.number value of)
       found number None is e = absurd (cc)
       found number (Some field) is e =
           let same : record { number = number; kind = field.kind } ≡ place = cc in
-          subst (λ (place : Place). IsOfKind place.kind value → AreSound (with_value place.number value of)) same (λ kind. with_value_sound of sound number value field is kind.0 kind.1) kind
+          subst (λ (place : DeclaredField). IsOfKind place.kind value → AreSound (with_value place.number value of)) same (λ kind. with_value_sound of sound number value field is kind.0 kind.1) kind
 
       numbered : (number : Option ℕ) → option_and_then (at of) number ≡ Some place → AreSound (with_value place.number value of)
       numbered None e = absurd (cc)
@@ -185,7 +185,7 @@ module _ (state : State) (object : ℕ) (name : List ℕ) where
   dynamic_fit (v.Text text) writing is_short e = set_fit (v.Text text) writing is_short e
 
   -- a value that is found is written
-  placed_fit : (place : Place) (found : Found Value) (writing : Writing) → declared state object name ≡ Some place → ((value : Value) → found ≡ Ok value → IsOfKind place.kind value)
+  placed_fit : (place : DeclaredField) (found : Found Value) (writing : Writing) → declared state object name ≡ Some place → ((value : Value) → found ≡ Ok value → IsOfKind place.kind value)
       → (found >>= λ value. Ok (Declared place.number value)) ≡ Ok writing → IsFit state object writing
   placed_fit place (Err code) writing is kind e = absurd (cc)
   placed_fit place (Ok value) writing is kind e = let same : Declared place.number value ≡ writing = cc in subst (IsFit state object) same (declared_fit place value is (kind value refl))
@@ -198,7 +198,7 @@ module _ (state : State) (object : ℕ) (name : List ℕ) where
   pub asked_fit : (json : Data) (writing : Writing) → asked_writing state object name json ≡ Ok writing → IsFit state object writing
   asked_fit json writing e = by (declared state object name) refl e
     where
-      place_fit : (place : Place) (json : Data) → declared state object name ≡ Some place → asked_place json place ≡ Ok writing → IsFit state object writing
+      place_fit : (place : DeclaredField) (json : Data) → declared state object name ≡ Some place → asked_place json place ≡ Ok writing → IsFit state object writing
       place_fit place d.null is e = let same : Nothing ≡ writing = cc in subst (IsFit state object) same tt
       place_fit place (d.boolean b) is e = placed_fit place (value_of place.kind (d.boolean b)) writing is (read_kind place.kind (d.boolean b)) e
       place_fit place (d.number n) is e = placed_fit place (value_of place.kind (d.number n)) writing is (read_kind place.kind (d.number n)) e
@@ -206,7 +206,7 @@ module _ (state : State) (object : ℕ) (name : List ℕ) where
       place_fit place (d.array items) is e = placed_fit place (value_of place.kind (d.array items)) writing is (read_kind place.kind (d.array items)) e
       place_fit place (d.object fields) is e = placed_fit place (value_of place.kind (d.object fields)) writing is (read_kind place.kind (d.object fields)) e
 
-      by : (found : Option Place) → declared state object name ≡ found → option_map_or (asked_place json) found (inferred json >>= dynamic_writing state object name) ≡ Ok writing → IsFit state object writing
+      by : (found : Option DeclaredField) → declared state object name ≡ found → option_map_or (asked_place json) found (inferred json >>= dynamic_writing state object name) ≡ Ok writing → IsFit state object writing
       by None is e = named_fit (inferred json) writing (inferred_short json) e
       by (Some place) is e = place_fit place json is e
 
@@ -214,7 +214,7 @@ module _ (state : State) (object : ℕ) (name : List ℕ) where
   pub acted_fit : (value : Value) (writing : Writing) → acted_writing state object name value ≡ Ok writing → IsFit state object writing
   acted_fit value writing e = by (declared state object name) refl e
     where
-      by : (found : Option Place) → declared state object name ≡ found
+      by : (found : Option DeclaredField) → declared state object name ≡ found
           → option_map_or (λ place. ok_or (converted place.kind value) BadValue >>= short >>= λ value. Ok (Declared place.number value)) found (short value >>= dynamic_writing state object name) ≡ Ok writing
           → IsFit state object writing
       by None is e = named_fit (short value) writing (short_short value) e

@@ -22,7 +22,7 @@ use Rattle.thread_model.specs.declared.line.Line.TheVariants.{Warning}
 use Rattle.thread_model.specs.declared.post.Post.{Post}
 use Rattle.thread_model.specs.Agenda.{queued}
 use Rattle.thread_model.specs.Deeds.{deed_done, with_deed}
-use Rattle.thread_model.specs.Doing.{Doing, dying, first_taken, in_state, lost, posted, posting, severed, shot, told, turn_taken, used_up, stepped}
+use Rattle.thread_model.specs.Doing.{Doing, dying, first_taken, in_state, lost, posted, posting, severed, shot, line_told, turn_taken, used_up, stepped}
 use Rattle.thread_model.specs.Fitting.{IsConnected, IsFittingDeed, IsFittingEvent, IsFittingItem, IsJoined, IsPublished, IsRightPost}
 use Rattle.thread_model.specs.Items.{Item, Next, puts}
 use Rattle.thread_model.specs.Settings.{Settings}
@@ -79,8 +79,8 @@ module _ (settings : Settings) (rows : List Row) where
   fits_writing state object Nothing fit = fit
 
   module _ (doing : Doing) (on : Carries doing) where
-    pub told_carries : (said : Line) → Carries (told doing said)
-    unfolding told
+    pub told_carries : (said : Line) → Carries (line_told doing said)
+    unfolding line_told
     told_carries said = record { fits = on.fits; posts = on.posts }
 
     pub posting_carries : (more : List Post) → All IsRightPost more → Carries (posting doing more)

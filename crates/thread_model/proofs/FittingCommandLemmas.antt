@@ -60,7 +60,7 @@ use Rattle.thread_model.proofs.FittingFoundLemmas.{connection_fits, deed_fits, f
 use Rattle.thread_model.proofs.FittingClassLemmas.{class_at, fits_moved, fits_own, fits_whole, more_classes, own_classes}
 use Rattle.thread_model.proofs.QueueLemmas.{each_posted}
 use Rattle.thread_model.proofs.FittingLaterLemmas.{deed_classes}
-use Rattle.thread_model.proofs.FittingRunLemmas.{Keeps, bound_fits, done_fits, ended_fits, faulty_fits, first_starts, invokes_fits, kept, no_posts, one_starts, run_fits, set_fits, unbound_fits}
+use Rattle.thread_model.proofs.FittingRunLemmas.{LeavesFitting, bound_fits, done_fits, ended_fits, faulty_fits, first_starts, invokes_fits, kept, no_posts, one_starts, run_fits, set_fits, unbound_fits}
 
 -- before the first command there is nothing that may not fit
 first_fits : (settings : Settings) → IsFitting settings empty
@@ -74,7 +74,7 @@ first_fits settings = record {
 
 module _ (settings : Settings) (are : AreSettings settings) (state : State) (sound : IsSound state) (declared : IsDeclared settings.classes state) (fit : IsFitting settings state) where
   abbrev Keep : Effect State Line Post → Type 0
-  Keep = Keeps settings
+  Keep = LeavesFitting settings
 
   abbrev rows : List Row
   rows = state.forest.rows
@@ -249,7 +249,7 @@ module _ (settings : Settings) (are : AreSettings settings) (state : State) (sou
   unless_fits None effect done = done refl
   unless_fits (Some code) effect done = as_was
 
-command_fits : (settings : Settings) (self : List ℕ) (state : State) (asked : Asked) → AreSettings settings → IsFittingAsked settings state asked → IsSound state → IsDeclared settings.classes state → IsFitting settings state → Keeps settings (does settings self state asked)
+command_fits : (settings : Settings) (self : List ℕ) (state : State) (asked : Asked) → AreSettings settings → IsFittingAsked settings state asked → IsSound state → IsDeclared settings.classes state → IsFitting settings state → LeavesFitting settings (does settings self state asked)
 unfolding does
 command_fits settings self state asked are may sound declared fit =
     unless_fits settings are state sound declared fit (refusal settings self state asked) (performs settings self state asked) (λ passed. performed_fits settings are state sound declared fit self asked passed may)

@@ -9,9 +9,9 @@ use Rattle.refusals.specs.declared.code.Code.{Code}
 use Rattle.signature_core.specs.declared.signature.Signature.{Signature}
 use Rattle.variant_value.specs.declared.value.Value.{Value}
 use Rattle.variant_value.specs.Values.{IsShort}
-use Rattle.term_core.specs.declared.action.Effect.{Effect}
-use Rattle.term_core.specs.declared.action.Effect.TheVariants as e
-use Rattle.term_core.specs.Act.{Acts, acts_of, are_limited, effect, is_effect_limited, more, nothing, when}
+use Rattle.term_core.specs.declared.action.SingleAction.{SingleAction}
+use Rattle.term_core.specs.declared.action.SingleAction.TheVariants as e
+use Rattle.term_core.specs.Act.{Acts, acts_of, are_limited, single_action, is_effect_limited, more, nothing, when}
 use Rattle.term_core.specs.Forms.{is_within_limits}
 use Rattle.term_core.specs.Term.{Term}
 use Rattle.class_table.specs.declared.class.Method.{Method}
@@ -33,7 +33,7 @@ use Rattle.thread_model.specs.Absence.{absence}
 use Rattle.thread_model.specs.Acts.{act_refusal, acted, acts, chosen, connection, emission, pattern, warns_or, with_found, writing}
 use Rattle.thread_model.specs.Agenda.{binding_line, call_line, connection_of, functor_line, functor_ran, kins, lives, lives_below, ran, step}
 use Rattle.thread_model.specs.Deeds.{behind, deed_done, deed_refusal, found_refusal}
-use Rattle.thread_model.specs.Doing.{Doing, dying, severed, told, stepped}
+use Rattle.thread_model.specs.Doing.{Doing, dying, severed, line_told, stepped}
 use Rattle.thread_model.specs.Fitting.{AreSettings, IsCall, IsFittingDeed, IsFittingItem, IsFittingUnderWay, IsSent}
 use Rattle.thread_model.specs.Functors.{functor_at}
 use Rattle.thread_model.specs.Items.{Act, Call, Cut, Delete, Emit, Gone, Item, Kin, Next, Reply, ReplySpun, Run, RunFunctor, Spin, Warn, WarnOf, puts}
@@ -95,7 +95,7 @@ module _ (settings : Settings) (are : AreSettings settings) where
     ran_comes target index sender args depth fit None is = no_item settings rows doing on
     ran_comes target index sender args depth fit (Some method) is = record {
       carries = told_carries settings rows doing on (call_line method target sender args);
-      items = acts_fit settings (told doing (call_line method target sender args)).state (acts_of method.body.actions) args target sender (depth + 1) (body_limited rows target index method is)
+      items = acts_fit settings (line_told doing (call_line method target sender args)).state (acts_of method.body.actions) args target sender (depth + 1) (body_limited rows target index method is)
           (short_arguments _ args (fit (has_method settings.classes rows target index method is)).arguments);
     }
 
@@ -103,7 +103,7 @@ module _ (settings : Settings) (are : AreSettings settings) where
         → Comes settings rows (option_map_or (functor_ran doing target sender connection args depth) found (puts [] doing))
     functor_ran_comes target index sender connection args depth fit None is = no_item settings rows doing on
     functor_ran_comes target index sender connection args depth fit (Some functor) is =
-        let new = told doing (functor_line functor target sender args) in
+        let new = line_told doing (functor_line functor target sender args) in
         let state = functor_state doing.state connection in
         let next = after functor.next state args in
         record {
@@ -173,7 +173,7 @@ module _ (settings : Settings) (are : AreSettings settings) where
               (all_evaluated_short doing.state whole.properties whole.graph self sender args sent values short limited so) _ refl e
 
       -- what an action comes to
-      act_comes : (plain : Effect) → is_effect_limited plain ≡ true → May (warns_or (act_refusal settings doing.state self sender args plain) self doing (acted settings doing self sender args depth plain))
+      act_comes : (plain : SingleAction) → is_effect_limited plain ≡ true → May (warns_or (act_refusal settings doing.state self sender args plain) self doing (acted settings doing self sender args depth plain))
       act_comes (e.Set of property value) limited = written_comes (object_of doing.state self sender of) (absence doing.state (object_of doing.state self sender of)) (writing doing.state self sender args (object_of doing.state self sender of) property value)
       act_comes (e.Emit of signal sent) limited =
           sent_comes (object_of doing.state self sender of) (absence doing.state (object_of doing.state self sender of)) (emission settings doing.state self sender args (object_of doing.state self sender of) signal sent)
@@ -225,7 +225,7 @@ module _ (settings : Settings) (are : AreSettings settings) where
     item_comes whole classes (Call number args depth) fit after declared = connection_comes settings doing on number args depth fit (connection_of doing number) refl
     item_comes whole classes (Run target index sender args depth) fit after declared = ran_comes target index sender args depth fit (method_at settings doing.state target index) refl
     item_comes whole classes (RunFunctor target index sender connection args depth) fit after declared = functor_ran_comes target index sender connection args depth fit (functor_at settings index) refl
-    item_comes whole classes (Act (effect plain) args self sender depth) fit after declared = act_comes whole self sender args fit.1 depth plain fit.0 after declared
+    item_comes whole classes (Act (single_action plain) args self sender depth) fit after declared = act_comes whole self sender args fit.1 depth plain fit.0 after declared
     item_comes whole classes (Act (when test held failed) args self sender depth) fit after declared =
         let both = (and_parts _ _ fit.0).1 in
         chosen_comes (truth_evaluated doing.state self sender args test) held failed args self sender depth (and_parts _ _ both).0 (and_parts _ _ both).1 fit.1

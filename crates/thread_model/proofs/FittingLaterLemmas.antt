@@ -21,7 +21,7 @@ use Rattle.thread_model.specs.declared.post.Post.{Post}
 use Rattle.thread_model.specs.Agenda.{step}
 use Rattle.thread_model.specs.Arriving.{kinds_of}
 use Rattle.thread_model.specs.Deeds.{deed_done, with_deed}
-use Rattle.thread_model.specs.Doing.{Doing, dying, first_taken, in_state, lost, posted, posting, severed, shot, told, turn_taken, used_up, stepped}
+use Rattle.thread_model.specs.Doing.{Doing, dying, first_taken, in_state, lost, posted, posting, severed, shot, line_told, turn_taken, used_up, stepped}
 use Rattle.thread_model.specs.Fitting.{IsCalledBy, IsFittingItem}
 use Rattle.thread_model.specs.Items.{Act, Call, Cut, Delete, Emit, Gone, Item, Kin, Reply, ReplySpun, Run, RunFunctor, Spin, Warn, WarnOf}
 use Rattle.thread_model.specs.Settings.{Settings}
@@ -72,8 +72,8 @@ module _ (G : ℕ → ℕ → Type 0) (number : ℕ) (Q : Connection → Type 0)
   abbrev Stay : Doing → Doing → Type 0
   Stay old new = Stays old.state new.state
 
-  told_stays : (doing : Doing) (said : Line) → Stay doing (told doing said)
-  unfolding told
+  told_stays : (doing : Doing) (said : Line) → Stay doing (line_told doing said)
+  unfolding line_told
   told_stays doing said = record { classes = λ all. all; last = omega arith; calls = λ given all. all }
 
   posting_stays : (doing : Doing) (more : List Post) → Stay doing (posting doing more)

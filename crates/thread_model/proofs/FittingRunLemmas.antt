@@ -57,8 +57,8 @@ use Rattle.thread_model.proofs.StateLemmas.{whole_with_binding, whole_with_bindi
 use Rattle.thread_model.proofs.FittingToldLemmas.{change_fits, ending_fits}
 
 -- what a command leaves fits, and what it posts is right
-abbrev pub Keeps : Settings → Effect State Line Post → Type 0
-Keeps settings effect = IsFitting settings effect.state × All IsRightPost effect.posts
+abbrev pub LeavesFitting : Settings → Effect State Line Post → Type 0
+LeavesFitting settings effect = IsFitting settings effect.state × All IsRightPost effect.posts
 
 -- what a command has to do first, and the session then
 pub record Starts (settings : Settings) (agenda : List Item) (doing : Doing) : Type 0 where
@@ -70,7 +70,7 @@ pub record Starts (settings : Settings) (agenda : List Item) (doing : Doing) : T
   posts : All IsRightPost doing.posts
 
 module _ (settings : Settings) (are : AreSettings settings) where
-  pub run_fits : (agenda : List Item) (doing : Doing) → Starts settings agenda doing → Keeps settings (ended (run settings agenda doing))
+  pub run_fits : (agenda : List Item) (doing : Doing) → Starts settings agenda doing → LeavesFitting settings (ended (run settings agenda doing))
   run_fits agenda doing starts =
       let end = run_keeps settings (IsFittingUnderWay settings) (λ item agenda doing. item_fits settings item agenda doing are) agenda doing (record {
         under_way = keeps_under_way.at_first agenda doing.state starts.none starts.sound;
@@ -81,7 +81,7 @@ module _ (settings : Settings) (are : AreSettings settings) where
       }) in
       (end.fitting, end.posts)
 
-  pub done_fits : (next : Next) (answer : Answer) → Starts settings next.items next.doing → Keeps settings (does_next settings next answer)
+  pub done_fits : (next : Next) (answer : Answer) → Starts settings next.items next.doing → LeavesFitting settings (does_next settings next answer)
   done_fits next answer starts = run_fits (next.items ++ to_do.Reply answer ∷ []) next.doing (record {
     none = replies_stay next.items answer starts.none;
     sound = starts.sound;
@@ -123,7 +123,7 @@ used_up_posts doing = cond_both doing.spent doing _ (λ (new : Doing). new.posts
 
 module _ (settings : Settings) (are : AreSettings settings) (state : State) (sound : IsSound state) (declared : IsDeclared settings.classes state) (fit : IsFitting settings state) where
   abbrev Keep : Effect State Line Post → Type 0
-  Keep = Keeps settings
+  Keep = LeavesFitting settings
 
   abbrev rows : List Row
   rows = state.forest.rows

@@ -25,8 +25,8 @@ use Rattle.property_store.proofs.ListLemmas.{found}
 use Rattle.binding_values.specs.Scene.{Cell}
 use Rattle.binding_values.specs.Stored.{cell_in, cell_of}
 use Rattle.binding_graph.specs.declared.change.Change.{Change}
-use Rattle.binding_graph.specs.declared.change.Told.{Told}
-use Rattle.binding_graph.specs.declared.change.Told.TheVariants as told
+use Rattle.binding_graph.specs.declared.change.Message.{Message}
+use Rattle.binding_graph.specs.declared.change.Message.TheVariants as message
 use Rattle.binding_graph.specs.declared.shown.Shown.{Shown}
 use Rattle.binding_graph.specs.Fitting as graph_fitting
 use Rattle.binding_graph.specs.Graph as graph
@@ -62,7 +62,7 @@ value_there of sound number field is value =
 module _ (settings : Settings) (table : IsTable settings.classes) (state : State) (properties' : stored.IsSound state.store) (declared : IsDeclared settings.classes state) where
   -- a value that is told is one of the property's kind
   told_kind : (at : At) (value : Value) (row : Row) (property : Property) → row_of state.forest.rows at.object ≡ Some row → slice_get (properties settings.classes row.class) at.number ≡ Some property
-      → graph_fitting.IsFitting state.store at (told.Value value) → IsOfKind property.kind value
+      → graph_fitting.IsFitting state.store at (message.Value value) → IsOfKind property.kind value
   told_kind at value row property here is fits = by (properties_of state.store at.object) refl its
     where
       its : option_map (λ (of : Properties). of.fields) (properties_of state.store at.object) ≡ Some (fields_of settings.classes row.class)
@@ -81,9 +81,9 @@ module _ (settings : Settings) (table : IsTable settings.classes) (state : State
           let cell : cell_in state.store at ≡ _ = ap (λ of. option_map_or (cell_of at.number) of None) e ∙ value_there of sound at.number (field_of property) field value in
           subst (λ cell. IfSome cell (λ (cell : Cell). IsOfKind cell.kind value)) cell fits
 
-  told_fits : (depth : ℕ) (at : At) (what : Told) → graph_fitting.IsFitting state.store at what → IfSome (told_as settings state depth at what) (IsFittingItem settings state)
-  told_fits depth at (told.Error error) fits = tt
-  told_fits depth at (told.Value value) fits = by (row_of state.forest.rows at.object) refl
+  told_fits : (depth : ℕ) (at : At) (what : Message) → graph_fitting.IsFitting state.store at what → IfSome (told_as settings state depth at what) (IsFittingItem settings state)
+  told_fits depth at (message.Error error) fits = tt
+  told_fits depth at (message.Value value) fits = by (row_of state.forest.rows at.object) refl
     where
       Sent : Option ℕ → Type 0
       Sent signal = IfSome (option_map (λ signal. Emit at.object signal (told_value settings state at.object value signal) depth) signal) (IsFittingItem settings state)

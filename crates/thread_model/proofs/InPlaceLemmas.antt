@@ -5,10 +5,10 @@ use Rattle.std.specs.Result.{result_err}
 use Rattle.refusals.specs.declared.code.Code.TheVariants.{BadValue}
 use Rattle.variant_value.specs.declared.value.Value.{Value}
 use Rattle.variant_value.specs.Values.{truth_in}
-use Rattle.term_core.specs.declared.action.Effect.{Effect}
-use Rattle.term_core.specs.declared.action.Effect.TheVariants as e
+use Rattle.term_core.specs.declared.action.SingleAction.{SingleAction}
+use Rattle.term_core.specs.declared.action.SingleAction.TheVariants as e
 use Rattle.term_core.specs.Act as term
-use Rattle.term_core.specs.Act.{Acts, effect, more, nothing, when}
+use Rattle.term_core.specs.Act.{Acts, single_action, more, nothing, when}
 use Rattle.term_core.specs.Term.{Term}
 use Rattle.term_evaluation.specs.Unfolding.{unfolded, unfolded_acts, unfolded_effect, unfolded_term}
 use Rattle.term_evaluation.proofs.EvaluationLemmas.{in_place}
@@ -37,8 +37,8 @@ module _ (settings : Settings) (self sender : ℕ) (args : List Value) where
       ap (λ found. found >>= λ value. all_evaluated state self sender args rest >>= λ values. Ok (value ∷ values)) (evaluated-put_in state term)
       ∙ ap (λ found. evaluated state self sender [] (unfolded_term args term) >>= λ value. found >>= λ values. Ok (value ∷ values)) (all_evaluated-put_in state rest)
 
-  -- what an effect comes to
-  effect-put_in : (depth : ℕ) (doing : Doing) (plain : Effect) → step settings (Act (effect plain) args self sender depth) doing ≡ step settings (Act (effect (unfolded_effect args plain)) [] self sender depth) doing
+  -- what a single action comes to
+  effect-put_in : (depth : ℕ) (doing : Doing) (plain : SingleAction) → step settings (Act (single_action plain) args self sender depth) doing ≡ step settings (Act (single_action (unfolded_effect args plain)) [] self sender depth) doing
   effect-put_in depth doing (e.Set of property value) =
       let object = object_of doing.state self sender of in
       ap
@@ -80,10 +80,10 @@ module _ (settings : Settings) (self sender : ℕ) (args : List Value) where
 
   mutual
     pub act-put_in : (action : term.Act) (depth : ℕ) (doing : Doing) → run settings (Act action args self sender depth ∷ []) doing ≡ run settings (Act (unfolded args action) [] self sender depth ∷ []) doing
-    act-put_in (effect plain) depth doing =
-        at_item settings (Act (effect plain) args self sender depth) [] doing
+    act-put_in (single_action plain) depth doing =
+        at_item settings (Act (single_action plain) args self sender depth) [] doing
         ∙ ap (λ (next : Next). run settings (next.items ++ []) next.doing) (effect-put_in depth doing plain)
-        ∙ sym (at_item settings (Act (effect (unfolded_effect args plain)) [] self sender depth) [] doing)
+        ∙ sym (at_item settings (Act (single_action (unfolded_effect args plain)) [] self sender depth) [] doing)
     act-put_in (when test held failed) depth doing = choice-put_in test held failed depth doing (acts-put_in held depth doing) (acts-put_in failed depth doing)
 
     -- and so do all actions of a body

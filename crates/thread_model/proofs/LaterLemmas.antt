@@ -12,13 +12,13 @@ use Rattle.connection_list.specs.declared.pattern.Pattern.{Pattern}
 use Rattle.connection_list.specs.declared.pattern.Receiver.{Receiver}
 use Rattle.connection_list.specs.Ends.{allows, allows_receiver, matches, touches}
 use Rattle.connection_list.specs.Rows.{Rows, has_number, numbered}
-use Rattle.connection_list.proofs.StateLemmas.{Keeps, filter-changed, stepped-same, stepped_row}
+use Rattle.connection_list.proofs.StateLemmas.{IsUnseen, filter-changed, stepped-same, stepped_row}
 use Rattle.thread_model.specs.declared.line.Line.TheVariants.{Warning}
 use Rattle.thread_model.specs.declared.deed.Deed.{Deed}
 use Rattle.thread_model.specs.declared.deed.Deed.TheVariants as d
 use Rattle.thread_model.specs.Agenda.{step}
 use Rattle.thread_model.specs.Deeds.{deed_done}
-use Rattle.thread_model.specs.Doing.{Doing, dying, first_taken, in_state, lost, posted, posting, shot, told, turn_taken, used_up, severed, stepped}
+use Rattle.thread_model.specs.Doing.{Doing, dying, first_taken, in_state, lost, posted, posting, shot, line_told, turn_taken, used_up, severed, stepped}
 use Rattle.thread_model.specs.Items.{Item}
 use Rattle.thread_model.specs.Run.{run}
 use Rattle.thread_model.specs.Settings.{Settings}
@@ -77,12 +77,12 @@ bare_row row = record row { state = 0 }
 abbrev pub bare : Rows → Rows
 bare place = record { rows = map bare_row place.rows; last_number = place.last_number }
 
-bare_without : (test : Connection → Bool) → Keeps bare_row test → (place : Rows) → IsLater (bare place) (bare (record { rows = filter (λ row. not (test row)) place.rows; last_number = place.last_number }))
+bare_without : (test : Connection → Bool) → IsUnseen bare_row test → (place : Rows) → IsLater (bare place) (bare (record { rows = filter (λ row. not (test row)) place.rows; last_number = place.last_number }))
 bare_without test keeps place =
     subst (λ rows. IsLater (bare place) (record { rows = rows; last_number = place.last_number })) (filter-changed bare_row (λ row. not (test row)) (λ row. ap not (keeps row)) place.rows) (later_without test (bare place))
 
 -- a pattern does not ask for them
-bare_matches : (pattern : Pattern) → Keeps bare_row (matches pattern)
+bare_matches : (pattern : Pattern) → IsUnseen bare_row (matches pattern)
 bare_matches pattern row = ap (λ b. pattern.sender == row.sender && allows pattern.signal row.signal && b) (by pattern.receiver)
   where
     by : (wanted : Option Receiver) → allows_receiver wanted (bare_row row) ≡ allows_receiver wanted row
@@ -120,7 +120,7 @@ written_later doing target Nothing = unchanged doing
 
 -- what each change makes of the connections
 holds : Holds Later
-unfolding told posting turn_taken used_up shot posted lost first_taken dying severed stepped
+unfolding line_told posting turn_taken used_up shot posted lost first_taken dying severed stepped
 holds = record {
   same = unchanged;
   both = λ one two three first second. later_both (bare one.state.connections) (bare two.state.connections) (bare three.state.connections) first second;

@@ -14,10 +14,10 @@ use Rattle.serde_json.specs.Data as json
 use Rattle.variant_value.specs.declared.value.Value.{Value}
 use Rattle.variant_value.specs.declared.value.Value.TheVariants as v
 use Rattle.variant_value.specs.Values.{converted, inferred, value_of}
-use Rattle.term_core.specs.declared.action.Effect.{Effect as Plain}
-use Rattle.term_core.specs.declared.action.Effect.TheVariants as e
+use Rattle.term_core.specs.declared.action.SingleAction.{SingleAction as Plain}
+use Rattle.term_core.specs.declared.action.SingleAction.TheVariants as e
 use Rattle.term_core.specs.Act as act
-use Rattle.term_core.specs.Act.{Acts, acts_of, are_named, effect, is_effect_named, is_named, nothing, when}
+use Rattle.term_core.specs.Act.{Acts, acts_of, are_named, single_action, is_effect_named, is_named, nothing, when}
 use Rattle.term_evaluation.specs.Stating.{after, with_state}
 use Rattle.class_table.specs.declared.class.Class.{Class}
 use Rattle.class_table.specs.declared.class.Method.{Method}
@@ -41,8 +41,8 @@ use Rattle.property_store.specs.declared.property.Property.{Property as At}
 use Rattle.property_store.specs.Store as stored
 use Rattle.property_store.specs.Store.{Properties, dynamic_number, dynamic_refusal, fitting, fresh, with_dynamic, with_name, with_value, without_dynamic}
 use Rattle.binding_graph.specs.declared.change.Change.{Change}
-use Rattle.binding_graph.specs.declared.change.Told.{Told}
-use Rattle.binding_graph.specs.declared.change.Told.TheVariants as told
+use Rattle.binding_graph.specs.declared.change.Message.{Message}
+use Rattle.binding_graph.specs.declared.change.Message.TheVariants as message
 use Rattle.binding_graph.specs.Graph as graph
 use Rattle.binding_graph.specs.Graph.{is_bound, is_open, unbound, value_in}
 use Rattle.publish_board.specs.declared.join.Join.{Join}
@@ -62,7 +62,7 @@ use Rattle.thread_model.specs.Arriving.{posts_of}
 use Rattle.thread_model.specs.Asked.{Asked, New, Delete, Children, Find, Set, Get, DynamicNames, Meta, Connect, ConnectFunctor, DisconnectOne, Disconnect, Invoke, Spin, Do, Status, Publish, Unpublish, Join as AsksJoin, Leave, Reset, Bind, Unbind, BindingError, Begin, End}
 use Rattle.thread_model.specs.Binding.{Bound, asked_binding, asked_property, binding_error_found, binds_found, ends, unbinds_found}
 use Rattle.thread_model.specs.Deeds.{deed_done, with_deed}
-use Rattle.thread_model.specs.Doing.{Doing, begun, dying, first_taken, in_state, lost, posted, posting, shot, stepped, told as one_told, turn_taken, used_up, severed}
+use Rattle.thread_model.specs.Doing.{Doing, begun, dying, first_taken, in_state, lost, posted, posting, shot, stepped, line_told as one_told, turn_taken, used_up, severed}
 use Rattle.thread_model.specs.Effects.{does_next, unless}
 use Rattle.thread_model.specs.Fitting.{AreSettings}
 use Rattle.thread_model.specs.Functors.{functor_at}
@@ -82,7 +82,7 @@ use Rattle.thread_model.specs.Signals.{asked_connect, asked_connect_functor, ask
 use Rattle.thread_model.specs.State.{State, fields_of, functor_state, with_binding, with_binding_taken, with_object, with_properties, without_connections, without_group, without_object}
 use Rattle.thread_model.specs.Targets.{evaluated, named_object_of, object_of, truth_evaluated}
 use Rattle.thread_model.specs.Thread.{arrives, does, performs}
-use Rattle.thread_model.specs.Writing.{Declared, Dynamic, Nothing, Place, Removed, Writing, acted_writing, asked_place, asked_writing, declared, dynamic_writing, short, with_writing, written, written_property}
+use Rattle.thread_model.specs.Writing.{Declared, Dynamic, Nothing, DeclaredField, Removed, Writing, acted_writing, asked_place, asked_writing, declared, dynamic_writing, short, with_writing, written, written_property}
 use Rattle.thread_model.proofs.FittingTableLemmas.{functor_named, method_named}
 use Rattle.thread_model.proofs.RunLemmas.{run_keeps}
 use Rattle.thread_model.proofs.ShowingLemmas.{ending, tells}
@@ -118,17 +118,17 @@ module _ (state : State) (object : ℕ) (name : List ℕ) (is : IsTrue (is_name 
   acted_named : (value : Value) → IfOk (acted_writing state object name value) IsNamedWriting
   acted_named value = by (declared state object name)
     where
-      by : (place : Option Place) → IfOk (option_map_or (λ place. ok_or (converted place.kind value) BadValue >>= short >>= λ value. Ok (Declared place.number value)) place (short value >>= dynamic_writing state object name)) IsNamedWriting
+      by : (place : Option DeclaredField) → IfOk (option_map_or (λ place. ok_or (converted place.kind value) BadValue >>= short >>= λ value. Ok (Declared place.number value)) place (short value >>= dynamic_writing state object name)) IsNamedWriting
       by None = found_always IsNamedWriting (short value) (dynamic_writing state object name) dynamic_named
       by (Some place) = found_always IsNamedWriting (ok_or (converted place.kind value) BadValue >>= short) (λ value. Ok (Declared place.number value)) (λ value. tt)
 
   asked_named : (given : Data) → IfOk (asked_writing state object name given) IsNamedWriting
   asked_named given = by (declared state object name)
     where
-      placed : (place : Place) (value : Found Value) → IfOk (value >>= λ value. Ok (Declared place.number value)) IsNamedWriting
+      placed : (place : DeclaredField) (value : Found Value) → IfOk (value >>= λ value. Ok (Declared place.number value)) IsNamedWriting
       placed place value = found_always IsNamedWriting value (λ value. Ok (Declared place.number value)) (λ value. tt)
 
-      at : (given : Data) (place : Place) → IfOk (asked_place given place) IsNamedWriting
+      at : (given : Data) (place : DeclaredField) → IfOk (asked_place given place) IsNamedWriting
       at json.null place = tt
       at (json.boolean b) place = placed place (value_of place.kind (json.boolean b))
       at (json.number n) place = placed place (value_of place.kind (json.number n))
@@ -136,7 +136,7 @@ module _ (state : State) (object : ℕ) (name : List ℕ) (is : IsTrue (is_name 
       at (json.array items) place = placed place (value_of place.kind (json.array items))
       at (json.object fields) place = placed place (value_of place.kind (json.object fields))
 
-      by : (place : Option Place) → IfOk (option_map_or (asked_place given) place (inferred given >>= dynamic_writing state object name)) IsNamedWriting
+      by : (place : Option DeclaredField) → IfOk (option_map_or (asked_place given) place (inferred given >>= dynamic_writing state object name)) IsNamedWriting
       by None = found_always IsNamedWriting (inferred given) (dynamic_writing state object name) dynamic_named
       by (Some place) = at given place
 
@@ -261,43 +261,43 @@ tells_named settings after depth (change ∷ rest) = by change.told (tells_named
     sent None value later = later
     sent (Some signal) value later = All-cons IsNamedItem (Emit change.at.object signal (told_value settings after change.at.object value signal) depth) (tells settings after depth rest) tt later
 
-    by : (what : Told) → All IsNamedItem (tells settings after depth rest) → All IsNamedItem (cons_option (told_as settings after depth change.at what) (tells settings after depth rest))
-    by (told.Error error) later = All-cons IsNamedItem (WarnOf change.at error) (tells settings after depth rest) tt later
-    by (told.Value value) later = sent (option_and_then (λ (property : Property). property.notify) (property_at settings after change.at.object change.at.number)) value later
+    by : (what : Message) → All IsNamedItem (tells settings after depth rest) → All IsNamedItem (cons_option (told_as settings after depth change.at what) (tells settings after depth rest))
+    by (message.Error error) later = All-cons IsNamedItem (WarnOf change.at error) (tells settings after depth rest) tt later
+    by (message.Value value) later = sent (option_and_then (λ (property : Property). property.notify) (property_at settings after change.at.object change.at.number)) value later
 
 -- what is to be done first sets only what has a name, and the session's dynamic properties are called by names
-abbrev Keeps : Next → Type 0
-Keeps next = All IsNamedItem next.items × AreNamed next.doing.state
+abbrev LeavesNamed : Next → Type 0
+LeavesNamed next = All IsNamedItem next.items × AreNamed next.doing.state
 
-comes_to_named : (settings : Settings) (doing : Doing) (depth : ℕ) (after : State) (written : Option At) → AreNamed after → Keeps (comes_to settings doing depth after written)
+comes_to_named : (settings : Settings) (doing : Doing) (depth : ℕ) (after : State) (written : Option At) → AreNamed after → LeavesNamed (comes_to settings doing depth after written)
 comes_to_named settings doing depth after written named = (tells_named settings after depth (changes doing.state after written), named)
 
 module _ (settings : Settings) (are : AreSettings settings) where
   module _ (doing : Doing) (named : AreNamed doing.state) where
-    none : Keeps (puts [] doing)
+    none : LeavesNamed (puts [] doing)
     none = (All-nil IsNamedItem, named)
 
-    one : (item : Item) → IsNamedItem item → Keeps (puts (item ∷ []) doing)
+    one : (item : Item) → IsNamedItem item → LeavesNamed (puts (item ∷ []) doing)
     one item is = (All-cons IsNamedItem item [] is (All-nil IsNamedItem), named)
 
-    calls_named : (target signal : ℕ) (args : List Value) (depth : ℕ) → Keeps (puts (calls_of doing target signal args depth) (posting doing (posts_of settings.classes doing.state target signal args)))
+    calls_named : (target signal : ℕ) (args : List Value) (depth : ℕ) → LeavesNamed (puts (calls_of doing target signal args depth) (posting doing (posts_of settings.classes doing.state target signal args)))
     unfolding calls_of
     calls_named target signal args depth =
         (All-map IsNamedItem (λ (row : Connection). Call row.number args depth) (filter (calls target signal) doing.state.connections.rows) (λ index default within. tt), posting_named doing named _)
 
-    emits : (target signal : ℕ) (args : List Value) (depth : ℕ) (found : Option Row) → Keeps (option_map_or (emitted settings doing target signal args depth) found (puts [] doing))
+    emits : (target signal : ℕ) (args : List Value) (depth : ℕ) (found : Option Row) → LeavesNamed (option_map_or (emitted settings doing target signal args depth) found (puts [] doing))
     emits target signal args depth None = none
     emits target signal args depth (Some row) =
         let sends = puts (calls_of doing target signal args depth) (posting doing (posts_of settings.classes doing.state target signal args)) in
-        cond_both (is_held_back signal row) (puts [] doing) (if nat_le NESTED_SIGNALS depth then puts (Warn Limit (Some target) ∷ []) doing else sends) Keeps
+        cond_both (is_held_back signal row) (puts [] doing) (if nat_le NESTED_SIGNALS depth then puts (Warn Limit (Some target) ∷ []) doing else sends) LeavesNamed
         (λ held. none)
-        (λ free. cond_both (nat_le NESTED_SIGNALS depth) (puts (Warn Limit (Some target) ∷ []) doing) sends Keeps
+        (λ free. cond_both (nat_le NESTED_SIGNALS depth) (puts (Warn Limit (Some target) ∷ []) doing) sends LeavesNamed
         (λ deep. one (Warn Limit (Some target)) tt) (λ shallow. calls_named target signal args depth))
 
     -- a call is posted or lost, or made at once
-    calls_by : (later : Bool) (call : QueuedCall) (items : List Item) → All IsNamedItem items → Keeps (if later then puts [] (queued doing call) else puts items doing)
+    calls_by : (later : Bool) (call : QueuedCall) (items : List Item) → All IsNamedItem items → LeavesNamed (if later then puts [] (queued doing call) else puts items doing)
     calls_by later call items its =
-        cond_both later (puts [] (queued doing call)) (puts items doing) Keeps
+        cond_both later (puts [] (queued doing call)) (puts items doing) LeavesNamed
         (λ queues. (All-nil IsNamedItem, queued_named doing named call)) (λ direct. (its, named))
 
     method_items_named : (target index sender : ℕ) (args : List Value) (sent_at run_at : ℕ) (method : Method) → All IsNamedItem (method_items target index sender args sent_at run_at method)
@@ -306,22 +306,22 @@ module _ (settings : Settings) (are : AreSettings settings) where
         (λ signal. All-cons IsNamedItem (Emit target index args sent_at) [] tt (All-nil IsNamedItem))
         (λ slot. All-cons IsNamedItem (Run target index sender args run_at) [] tt (All-nil IsNamedItem))
 
-    calls_callee : (connection : Connection) (args : List Value) (depth : ℕ) (to : Callee) → Keeps (callee_called settings connection args depth doing to)
+    calls_callee : (connection : Connection) (args : List Value) (depth : ℕ) (to : Callee) → LeavesNamed (callee_called settings connection args depth doing to)
     calls_callee connection args depth (callee.Functor index) = by (functor_at settings index)
       where
-        by : (found : Option Functor) → Keeps (option_map_or (functor_called connection index args depth doing) found (puts [] doing))
+        by : (found : Option Functor) → LeavesNamed (option_map_or (functor_called connection index args depth doing) found (puts [] doing))
         by None = none
         by (Some functor) = calls_by (is_queued connection.mode) _ _ (All-cons IsNamedItem (RunFunctor connection.receiver index connection.sender connection.number (take (length functor.params) args) depth) [] tt (All-nil IsNamedItem))
     calls_callee connection args depth (callee.Method index) = by (method_at settings doing.state connection.receiver index)
       where
-        by : (found : Option Method) → Keeps (option_map_or (method_called connection index args depth doing) found (puts [] doing))
+        by : (found : Option Method) → LeavesNamed (option_map_or (method_called connection index args depth doing) found (puts [] doing))
         by None = none
         by (Some method) = calls_by (is_queued connection.mode) _ _ (method_items_named connection.receiver index connection.sender (take (length method.signature.kinds) args) (depth + 1) depth method)
 
     -- a turn is taken, where one is left
-    turns : (next : Doing → Next) → Keeps (next (turn_taken doing)) → Keeps (with_turn doing next)
+    turns : (next : Doing → Next) → LeavesNamed (next (turn_taken doing)) → LeavesNamed (with_turn doing next)
     turns next goes_on =
-        cond_both (doing.turns == 0) (puts [] (used_up doing)) (next (turn_taken doing)) Keeps
+        cond_both (doing.turns == 0) (puts [] (used_up doing)) (next (turn_taken doing)) LeavesNamed
         (λ spent. (All-nil IsNamedItem, used_up_named doing named)) (λ some. goes_on)
 
     event_items_named : (state : State) (first : Event) → All IsNamedItem (event_items settings state first)
@@ -336,7 +336,7 @@ module _ (settings : Settings) (are : AreSettings settings) where
         by (callee.Method index) = found index (method_at settings state call.object index)
         by (callee.Functor index) = All-cons IsNamedItem (RunFunctor call.object index call.sender call.connection call.args 0) [] tt (All-nil IsNamedItem)
 
-    runs : (target index sender : ℕ) (args : List Value) (depth : ℕ) (found : Option Method) → method_at settings doing.state target index ≡ found → Keeps (option_map_or (ran doing target sender args depth) found (puts [] doing))
+    runs : (target index sender : ℕ) (args : List Value) (depth : ℕ) (found : Option Method) → method_at settings doing.state target index ≡ found → LeavesNamed (option_map_or (ran doing target sender args depth) found (puts [] doing))
     runs target index sender args depth None is = none
     runs target index sender args depth (Some method) is =
         (acts_named (acts_of method.body.actions) args target sender (depth + 1) (by (row_of doing.state.forest.rows target) is), told_named doing named (call_line method target sender args))
@@ -345,7 +345,7 @@ module _ (settings : Settings) (are : AreSettings settings) where
         by None e = absurd (cc)
         by (Some row) e = method_named settings are row.class index method e
 
-    runs_functor : (target index sender connection : ℕ) (args : List Value) (depth : ℕ) (found : Option Functor) → functor_at settings index ≡ found → Keeps (option_map_or (functor_ran doing target sender connection args depth) found (puts [] doing))
+    runs_functor : (target index sender connection : ℕ) (args : List Value) (depth : ℕ) (found : Option Functor) → functor_at settings index ≡ found → LeavesNamed (option_map_or (functor_ran doing target sender connection args depth) found (puts [] doing))
     runs_functor target index sender connection args depth None is = none
     runs_functor target index sender connection args depth (Some functor) is =
         let state = functor_state doing.state connection in
@@ -354,29 +354,29 @@ module _ (settings : Settings) (are : AreSettings settings) where
           stepped_named new (told_named doing named (functor_line functor target sender args)) connection (after functor.next state args),
         )
 
-    chooses : (truth : Found Bool) (held failed : Acts) (args : List Value) (self sender depth : ℕ) → are_named held ≡ true → are_named failed ≡ true → Keeps (chosen truth held failed args self sender depth doing)
+    chooses : (truth : Found Bool) (held failed : Acts) (args : List Value) (self sender depth : ℕ) → are_named held ≡ true → are_named failed ≡ true → LeavesNamed (chosen truth held failed args self sender depth doing)
     chooses (Ok true) held failed args self sender depth is other = (acts_named held args self sender depth is, named)
     chooses (Ok false) held failed args self sender depth is other = (acts_named failed args self sender depth other, named)
     chooses (Err code) held failed args self sender depth is other = one (Warn code (Some self)) tt
 
     module _ (self sender : ℕ) (args : List Value) (depth : ℕ) where
-      warns : (refusal : Option Code) (next : Next) → Keeps next → Keeps (warns_or refusal self doing next)
+      warns : (refusal : Option Code) (next : Next) → LeavesNamed next → LeavesNamed (warns_or refusal self doing next)
       warns (Some code) next kept = one (Warn code (Some self)) tt
       warns None next kept = kept
 
-      sets_found : (of : ℕ) (found : Found Writing) → IfOk found IsNamedWriting → Keeps (with_found found (λ writing. written settings doing of depth writing) doing)
+      sets_found : (of : ℕ) (found : Found Writing) → IfOk found IsNamedWriting → LeavesNamed (with_found found (λ writing. written settings doing of depth writing) doing)
       sets_found of (Ok writing) is = comes_to_named settings doing depth (with_writing doing.state of writing) (written_property of writing) (named_with_writing doing.state named of writing is)
       sets_found of (Err code) is = none
 
-      sends_found : (of : ℕ) (found : Found (ℕ × List Value)) → Keeps (with_found found (λ emitted. puts (Emit of emitted.0 emitted.1 depth ∷ []) doing) doing)
+      sends_found : (of : ℕ) (found : Found (ℕ × List Value)) → LeavesNamed (with_found found (λ emitted. puts (Emit of emitted.0 emitted.1 depth ∷ []) doing) doing)
       sends_found of (Ok emitted) = one (Emit of emitted.0 emitted.1 depth) tt
       sends_found of (Err code) = none
 
-      does_deed : (found : Found Deed) → Keeps (with_found found (λ deed. puts [] (deed_done doing deed)) doing)
+      does_deed : (found : Found Deed) → LeavesNamed (with_found found (λ deed. puts [] (deed_done doing deed)) doing)
       does_deed (Ok deed) = (All-nil IsNamedItem, deed_done_named doing named deed)
       does_deed (Err code) = none
 
-      acts_out : (plain : Plain) → is_effect_named plain ≡ true → Keeps (acted settings doing self sender args depth plain)
+      acts_out : (plain : Plain) → is_effect_named plain ≡ true → LeavesNamed (acted settings doing self sender args depth plain)
       acts_out (e.Set of property value) is =
           sets_found (object_of doing.state self sender of) (writing doing.state self sender args (object_of doing.state self sender of) property value)
           (found_always IsNamedWriting (evaluated doing.state self sender args value) (acted_writing doing.state (object_of doing.state self sender of) property) (acted_named doing.state (object_of doing.state self sender of) property is))
@@ -388,39 +388,39 @@ module _ (settings : Settings) (are : AreSettings settings) where
       acts_out (e.Block of on) is = does_deed (Ok (d.Block (object_of doing.state self sender of) on))
       acts_out (e.SetParent of parent) is = does_deed (Ok (d.SetParent (object_of doing.state self sender of) (named_object_of doing.state self sender parent)))
 
-    kins_named : (target depth : ℕ) → Keeps (puts (kins doing target depth) (severed doing target))
+    kins_named : (target depth : ℕ) → LeavesNamed (puts (kins doing target depth) (severed doing target))
     unfolding kins
     kins_named target depth = (All-map IsNamedItem (λ child. Kin target child depth) (children doing.state.forest.rows (Some target)) (λ index default within. tt), severed_named doing named target)
 
-  calls_found : (args : List Value) (depth : ℕ) (doing : Doing) → AreNamed doing.state → (found : Option Connection) → Keeps (option_map_or (λ connection. with_turn doing (called settings connection args depth)) found (puts [] doing))
+  calls_found : (args : List Value) (depth : ℕ) (doing : Doing) → AreNamed doing.state → (found : Option Connection) → LeavesNamed (option_map_or (λ connection. with_turn doing (called settings connection args depth)) found (puts [] doing))
   calls_found args depth doing named None = none doing named
   calls_found args depth doing named (Some connection) =
       turns doing named (called settings connection args depth)
       (calls_callee (shot (turn_taken doing) connection) (shot_named (turn_taken doing) (turn_named doing named) connection) connection args depth connection.callee)
 
-  spins : (doing : Doing) → AreNamed doing.state → (events : List Event) → Keeps (spun settings doing events)
+  spins : (doing : Doing) → AreNamed doing.state → (events : List Event) → LeavesNamed (spun settings doing events)
   spins doing named [] = none doing named
   spins doing named (first ∷ later) =
       let new = turn_taken doing in
       turns doing named (λ doing. puts (event_items settings doing.state first ++ to_do.Spin ∷ []) (first_taken doing))
       (All-append IsNamedItem (event_items settings new.state first) (to_do.Spin ∷ []) (event_items_named doing named new.state first) (All-cons IsNamedItem to_do.Spin [] tt (All-nil IsNamedItem)), first_named new (turn_named doing named))
 
-  item_named : (item : Item) (doing : Doing) → IsNamedItem item → AreNamed doing.state → Keeps (step settings item doing)
+  item_named : (item : Item) (doing : Doing) → IsNamedItem item → AreNamed doing.state → LeavesNamed (step settings item doing)
   item_named (Emit target signal args depth) doing is named = emits doing named target signal args depth (row_of doing.state.forest.rows target)
   item_named (Call number args depth) doing is named = calls_found args depth doing named (connection_of doing number)
   item_named (Run target index sender args depth) doing is named = runs doing named target index sender args depth (method_at settings doing.state target index) refl
   item_named (RunFunctor target index sender connection args depth) doing is named = runs_functor doing named target index sender connection args depth (functor_at settings index) refl
-  item_named (Act (effect plain) args self sender depth) doing is named = warns doing named self sender args depth (act_refusal settings doing.state self sender args plain) _ (acts_out doing named self sender args depth plain is)
+  item_named (Act (single_action plain) args self sender depth) doing is named = warns doing named self sender args depth (act_refusal settings doing.state self sender args plain) _ (acts_out doing named self sender args depth plain is)
   item_named (Act (when test held failed) args self sender depth) doing is named = chooses doing named (truth_evaluated doing.state self sender args test) held failed args self sender depth (and_parts _ _ is).0 (and_parts _ _ is).1
   item_named (Warn code object) doing is named = (All-nil IsNamedItem, told_named doing named (line.Warning code object))
   item_named (WarnOf at error) doing is named = (All-nil IsNamedItem, told_named doing named (binding_line settings doing.state at error))
   item_named (to_do.Delete target depth) doing is named =
-      cond_both (lives doing target) (puts (Emit target DESTROYED [] depth ∷ Cut target depth ∷ Gone target depth ∷ []) (dying doing target)) (puts [] doing) Keeps
+      cond_both (lives doing target) (puts (Emit target DESTROYED [] depth ∷ Cut target depth ∷ Gone target depth ∷ []) (dying doing target)) (puts [] doing) LeavesNamed
       (λ living. (All-cons IsNamedItem (Emit target DESTROYED [] depth) (Cut target depth ∷ Gone target depth ∷ []) tt (All-cons IsNamedItem (Cut target depth) (Gone target depth ∷ []) tt (All-cons IsNamedItem (Gone target depth) [] tt (All-nil IsNamedItem))), dying_named doing named target))
       (λ absent. none doing named)
   item_named (Cut target depth) doing is named = kins_named doing named target depth
   item_named (Kin parent child depth) doing is named =
-      cond_both (lives_below doing parent child) (puts (to_do.Delete child depth ∷ []) doing) (puts [] doing) Keeps
+      cond_both (lives_below doing parent child) (puts (to_do.Delete child depth ∷ []) doing) (puts [] doing) LeavesNamed
       (λ living. one doing named (to_do.Delete child depth) tt) (λ other. none doing named)
   item_named (Gone target depth) doing is named = comes_to_named settings doing depth (without_object doing.state target) None (named_without_object doing.state named target)
   item_named to_do.Spin doing is named = spins doing named doing.state.queue.events
@@ -433,10 +433,10 @@ module _ (settings : Settings) (are : AreSettings settings) where
       (All-append IsNamedItem (step settings item doing).items agenda next.0 (All-tail IsNamedItem item agenda items), next.1)
 
   -- after an agenda is done
-  run_named : (agenda : List Item) (doing : Doing) → Keeps (puts agenda doing) → AreNamed (run settings agenda doing).state
-  run_named agenda doing kept = (run_keeps settings (λ agenda doing. Keeps (puts agenda doing)) (λ item agenda doing its. by_item item agenda doing its.0 its.1) agenda doing kept).1
+  run_named : (agenda : List Item) (doing : Doing) → LeavesNamed (puts agenda doing) → AreNamed (run settings agenda doing).state
+  run_named agenda doing kept = (run_keeps settings (λ agenda doing. LeavesNamed (puts agenda doing)) (λ item agenda doing its. by_item item agenda doing its.0 its.1) agenda doing kept).1
 
-  done_named : (next : Next) (answer : Answer) → Keeps next → AreNamed (does_next settings next answer).state
+  done_named : (next : Next) (answer : Answer) → LeavesNamed next → AreNamed (does_next settings next answer).state
   done_named next answer kept = run_named (next.items ++ Reply answer ∷ []) next.doing (All-append IsNamedItem next.items (Reply answer ∷ []) kept.0 (All-cons IsNamedItem (Reply answer) [] tt (All-nil IsNamedItem)), kept.1)
 
   -- what a command leaves of a session
@@ -451,10 +451,10 @@ module _ (settings : Settings) (are : AreSettings settings) where
     does_found_named (Ok deed) = deed_named (begun settings state) named deed
     does_found_named (Err code) = named
 
-    invoked_named : (target index : ℕ) (values : List Value) → Keeps (invoked settings state target index values)
+    invoked_named : (target index : ℕ) (values : List Value) → LeavesNamed (invoked settings state target index values)
     invoked_named target index values =
         let doing = begun settings state in
-        cond_both (is_signal_at (methods_of settings state target) index) (puts (Emit target index values 0 ∷ []) doing) (with_turn doing (puts (Run target index 0 values 0 ∷ []))) Keeps
+        cond_both (is_signal_at (methods_of settings state target) index) (puts (Emit target index values 0 ∷ []) doing) (with_turn doing (puts (Run target index 0 values 0 ∷ []))) LeavesNamed
         (λ signal. one doing named (Emit target index values 0) tt)
         (λ slot. turns doing named (puts (Run target index 0 values 0 ∷ [])) (one (turn_taken doing) (turn_named doing named) (Run target index 0 values 0) tt))
 

@@ -10,7 +10,7 @@ use Rattle.property_store.proofs.SoundLemmas.{changed_fields}
 use Rattle.term_core.specs.declared.target.Target.{Target}
 use Rattle.binding_values.specs.declared.binding.Binding.{Binding}
 use Rattle.binding_graph.specs.declared.change.Change.{Change}
-use Rattle.binding_graph.specs.declared.change.Told.TheVariants as told
+use Rattle.binding_graph.specs.declared.change.Message.TheVariants as message
 use Rattle.binding_values.specs.declared.property.BindingError.{BindingError}
 use Rattle.binding_values.specs.declared.property.BindingError.TheVariants.{BindingLoop, EvaluationError}
 use Rattle.property_store.specs.declared.property.Property.{Property}
@@ -48,7 +48,7 @@ all_in_turn P written now all = All-append P (filter (has_turn written true) now
 pub changes_by_before : (last other now : List Shown) (written : Option Property) → All (λ (shown : Shown). before last shown ≡ before other shown) now → changes last now written ≡ changes other now written
 changes_by_before last other now written same =
     ap (λ warned. warned ++ filter_map (notice last) rows) (made_same (warning last) (warning other) rows (λ index default within. warns (get_or rows index default) (turned index default within)))
-    ∙ ap (λ noticed. filter_map (warning other) rows ++ noticed) (made_same (notice last) (notice other) rows (λ index default within. ap (λ (stood : Shown). if is_same stood.value (get_or rows index default).value then None else Some (let change : Change = record { at = (get_or rows index default).at; told = told.Value (get_or rows index default).value } in change)) (turned index default within)))
+    ∙ ap (λ noticed. filter_map (warning other) rows ++ noticed) (made_same (notice last) (notice other) rows (λ index default within. ap (λ (stood : Shown). if is_same stood.value (get_or rows index default).value then None else Some (let change : Change = record { at = (get_or rows index default).at; told = message.Value (get_or rows index default).value } in change)) (turned index default within)))
   where
     rows : List Shown
     rows = in_turn written now
@@ -57,7 +57,7 @@ changes_by_before last other now written same =
     turned = all_in_turn (λ shown. before last shown ≡ before other shown) written now same
 
     warns : (shown : Shown) → before last shown ≡ before other shown → warning last shown ≡ warning other shown
-    warns shown is = ap (λ (stood : Shown). option_and_then (λ error. if option_map_or (is_same_error error) stood.error false then None else Some (let change : Change = record { at = shown.at; told = told.Error error } in change)) shown.error) is
+    warns shown is = ap (λ (stood : Shown). option_and_then (λ error. if option_map_or (is_same_error error) stood.error false then None else Some (let change : Change = record { at = shown.at; told = message.Error error } in change)) shown.error) is
 
 -- nothing is told where each property shows what it showed
 pub quiet : (last now : List Shown) (written : Option Property) → All (λ (shown : Shown). before last shown ≡ shown) now → changes last now written ≡ []
@@ -71,19 +71,19 @@ quiet last now written same =
     turned : All (λ (shown : Shown). before last shown ≡ shown) rows
     turned = all_in_turn (λ shown. before last shown ≡ shown) written now same
 
-    by_error : (shown : Shown) (error : Option BindingError) → option_and_then (λ error'. if option_map_or (is_same_error error') error false then None else Some (let change : Change = record { at = shown.at; told = told.Error error' } in change)) error ≡ None
+    by_error : (shown : Shown) (error : Option BindingError) → option_and_then (λ error'. if option_map_or (is_same_error error') error false then None else Some (let change : Change = record { at = shown.at; told = message.Error error' } in change)) error ≡ None
     by_error shown None = refl
-    by_error shown (Some error) = ap (λ same. cond same None (Some (let change : Change = record { at = shown.at; told = told.Error error } in change))) (same_error_itself error)
+    by_error shown (Some error) = ap (λ same. cond same None (Some (let change : Change = record { at = shown.at; told = message.Error error } in change))) (same_error_itself error)
 
     warns : (shown : Shown) → before last shown ≡ shown → warning last shown ≡ None
     warns shown is =
-        ap (λ (stood : Shown). option_and_then (λ error. if option_map_or (is_same_error error) stood.error false then None else Some (let change : Change = record { at = shown.at; told = told.Error error } in change)) shown.error) is
+        ap (λ (stood : Shown). option_and_then (λ error. if option_map_or (is_same_error error) stood.error false then None else Some (let change : Change = record { at = shown.at; told = message.Error error } in change)) shown.error) is
         ∙ by_error shown shown.error
 
     notices : (shown : Shown) → before last shown ≡ shown → notice last shown ≡ None
     notices shown is =
-        ap (λ (stood : Shown). if is_same stood.value shown.value then None else Some (let change : Change = record { at = shown.at; told = told.Value shown.value } in change)) is
-        ∙ ap (λ same. cond same None (Some (let change : Change = record { at = shown.at; told = told.Value shown.value } in change))) (same_value shown.value)
+        ap (λ (stood : Shown). if is_same stood.value shown.value then None else Some (let change : Change = record { at = shown.at; told = message.Value shown.value } in change)) is
+        ∙ ap (λ same. cond same None (Some (let change : Change = record { at = shown.at; told = message.Value shown.value } in change))) (same_value shown.value)
 
 module _ (s : Store) (bindings : List Binding) where
   -- each row shows what its property shows

@@ -10,8 +10,8 @@ use Rattle.std.proofs.lemmas.List.Filters.{length-filter_both}
 use Rattle.variant_value.specs.declared.value.Value.{Value}
 use Rattle.variant_value.specs.Values.{is_same}
 use Rattle.binding_graph.specs.declared.change.Change.{Change}
-use Rattle.binding_graph.specs.declared.change.Told.{Told}
-use Rattle.binding_graph.specs.declared.change.Told.TheVariants as told
+use Rattle.binding_graph.specs.declared.change.Message.{Message}
+use Rattle.binding_graph.specs.declared.change.Message.TheVariants as message
 use Rattle.binding_values.specs.declared.property.BindingError.{BindingError}
 use Rattle.property_store.specs.declared.property.Property.{Property as At}
 use Rattle.binding_graph.specs.declared.shown.Shown.{Shown}
@@ -43,12 +43,12 @@ module _ (settings : Settings) (after : State) (depth : ℕ) where
       sent None value later = later
       sent (Some signal) value later = later
 
-      by : (what : Told) → list_any is_gone (tells settings after depth rest) ≡ false → list_any is_gone (cons_option (told_as settings after depth change.at what) (tells settings after depth rest)) ≡ false
-      by (told.Error error) later = later
-      by (told.Value value) later = sent (option_and_then (λ (property : Property). property.notify) (property_at settings after change.at.object change.at.number)) value later
+      by : (what : Message) → list_any is_gone (tells settings after depth rest) ≡ false → list_any is_gone (cons_option (told_as settings after depth change.at what) (tells settings after depth rest)) ≡ false
+      by (message.Error error) later = later
+      by (message.Value value) later = sent (option_and_then (λ (property : Property). property.notify) (property_at settings after change.at.object change.at.number)) value later
 
   -- a warning weighs one, and a signal what it may call
-  one_value : (n : Most) (at : At) (value : Value) (rest : List Item) → weights n (cons_option (told_as settings after depth at (told.Value value)) rest) ≤ n.connections + 2 + weights n rest
+  one_value : (n : Most) (at : At) (value : Value) (rest : List Item) → weights n (cons_option (told_as settings after depth at (message.Value value)) rest) ≤ n.connections + 2 + weights n rest
   one_value n at value rest = by (option_and_then (λ (property : Property). property.notify) (property_at settings after at.object at.number))
     where
       by : (signal : Option ℕ) → weights n (cons_option (option_map (λ signal. Emit at.object signal (told_value settings after at.object value signal) depth) signal) rest) ≤ n.connections + 2 + weights n rest
@@ -63,12 +63,12 @@ module _ (settings : Settings) (after : State) (depth : ℕ) where
       rest = filter_map (warning last) rows
 
       one : (error : BindingError) (stood : Bool) → weights n (tells settings after depth rest) ≤ length rows
-          → weights n (tells settings after depth (cons_option (cond stood None (Some (let change : Change = record { at = shown.at; told = told.Error error } in change))) rest)) ≤ suc (length rows)
+          → weights n (tells settings after depth (cons_option (cond stood None (Some (let change : Change = record { at = shown.at; told = message.Error error } in change))) rest)) ≤ suc (length rows)
       one error true le = omega (arith, le)
       one error false le = omega (arith, le)
 
       by : (error : Option BindingError) → weights n (tells settings after depth rest) ≤ length rows
-          → weights n (tells settings after depth (cons_option (option_and_then (λ error. if option_map_or (is_same_error error) (before last shown).error false then None else Some (let change : Change = record { at = shown.at; told = told.Error error } in change)) error) rest)) ≤ suc (length rows)
+          → weights n (tells settings after depth (cons_option (option_and_then (λ error. if option_map_or (is_same_error error) (before last shown).error false then None else Some (let change : Change = record { at = shown.at; told = message.Error error } in change)) error) rest)) ≤ suc (length rows)
       by None le = omega (arith, le)
       by (Some error) le = one error (option_map_or (is_same_error error) (before last shown).error false) le
 
@@ -80,7 +80,7 @@ module _ (settings : Settings) (after : State) (depth : ℕ) where
       rest = filter_map (notice last) rows
 
       by : (same : Bool) → weights n (tells settings after depth rest) ≤ length rows * (n.connections + 2)
-          → weights n (tells settings after depth (cons_option (cond same None (Some (let change : Change = record { at = shown.at; told = told.Value shown.value } in change))) rest)) ≤ suc (length rows) * (n.connections + 2)
+          → weights n (tells settings after depth (cons_option (cond same None (Some (let change : Change = record { at = shown.at; told = message.Value shown.value } in change))) rest)) ≤ suc (length rows) * (n.connections + 2)
       by true le = omega (arith, le, suc-mul (length rows) (n.connections + 2))
       by false le = let one = one_value n shown.at shown.value (tells settings after depth rest) in omega (arith, le, one, suc-mul (length rows) (n.connections + 2))
 

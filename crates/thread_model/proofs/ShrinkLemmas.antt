@@ -25,7 +25,7 @@ use Rattle.thread_model.specs.Agenda.{lives, queued}
 use Rattle.thread_model.specs.declared.deed.Deed.{Deed}
 use Rattle.thread_model.specs.declared.deed.Deed.TheVariants as d
 use Rattle.thread_model.specs.Deeds.{deed_done, deed_refusal}
-use Rattle.thread_model.specs.Doing.{Doing, dying, first_taken, in_state, lost, posted, shot, stepped, told, turn_taken, used_up, posting, severed}
+use Rattle.thread_model.specs.Doing.{Doing, dying, first_taken, in_state, lost, posted, shot, stepped, line_told, turn_taken, used_up, posting, severed}
 use Rattle.binding_values.specs.Stored.{properties_in}
 use Rattle.property_store.specs.Store.{with_dynamic, with_value, without_dynamic}
 use Rattle.thread_model.specs.State.{without_connections, without_object}
@@ -65,8 +65,8 @@ both one two three first second = record {
 kept : (n : ℕ) (test : Connection → Bool) (rows : List Connection) → max n (length (filter test rows)) ≤ max n (length rows)
 kept n test rows = let fewer = filter-fewer test rows in omega (arith, fewer)
 
-pub told_shrinks : (doing : Doing) (said : Line) → Shrinks doing (told doing said)
-unfolding told
+pub told_shrinks : (doing : Doing) (said : Line) → Shrinks doing (line_told doing said)
+unfolding line_told
 told_shrinks doing said = record { turns = omega arith; taken = omega arith; living = omega arith; objects = omega arith; connections = omega arith; properties = omega arith; joins = λ test held. held }
 
 pub posting_shrinks : (doing : Doing) (more : List Post) → Shrinks doing (posting doing more)

@@ -5,7 +5,7 @@ use Rattle.std.specs.Option.{option_map_or}
 use Rattle.std.proofs.lemmas.Bool.{cond_both}
 use Rattle.refusals.specs.declared.code.Code.TheVariants.{Limit}
 use Rattle.variant_value.specs.declared.value.Value.{Value}
-use Rattle.term_core.specs.Act.{Acts, effect, when}
+use Rattle.term_core.specs.Act.{Acts, single_action, when}
 use Rattle.term_evaluation.specs.Stating.{after}
 use Rattle.class_table.specs.declared.class.Method.{Method}
 use Rattle.connection_types.specs.declared.callee.Callee.{Callee}
@@ -28,7 +28,7 @@ use Rattle.thread_model.specs.Acts.{chosen}
 use Rattle.thread_model.specs.Arriving.{posts_of}
 use Rattle.thread_model.specs.Deeds.{deed_done}
 use Rattle.thread_model.specs.Agenda.{binding_line, call_line, callee_called, called, calls_of, connection_of, emitted, event_items, functor_called, functor_line, functor_ran, is_held_back, lives, lives_below, method_called, queued, ran, spun, step, with_turn}
-use Rattle.thread_model.specs.Doing.{Doing, dying, first_taken, in_state, lost, posted, posting, shot, stepped, told, turn_taken, used_up, severed}
+use Rattle.thread_model.specs.Doing.{Doing, dying, first_taken, in_state, lost, posted, posting, shot, stepped, line_told, turn_taken, used_up, severed}
 use Rattle.thread_model.specs.Items.{Act, Call, Cut, Delete, Emit, Gone, Item, Kin, Next, Reply, ReplySpun, Run, RunFunctor, Spin, Warn, WarnOf, puts}
 use Rattle.thread_model.specs.Functors.{functor_at}
 use Rattle.thread_model.specs.Methods.{Found, method_at}
@@ -43,7 +43,7 @@ use Rattle.thread_model.proofs.ActLemmas.{acted_cases}
 pub record Holds (R : Doing → Doing → Type 0) : Type 0 where
   pub same : (doing : Doing) → R doing doing
   pub both : (one two three : Doing) → R one two → R two three → R one three
-  pub tells : (doing : Doing) (said : Line) → R doing (told doing said)
+  pub tells : (doing : Doing) (said : Line) → R doing (line_told doing said)
   pub publishes : (doing : Doing) (more : List Post) → R doing (posting doing more)
   pub takes_turn : (doing : Doing) → R doing (turn_taken doing)
   pub uses_up : (doing : Doing) → R doing (used_up doing)
@@ -113,7 +113,7 @@ module _ (settings : Settings) (R : Doing → Doing → Type 0) (holds : Holds R
   runs_functor : (target sender connection : ℕ) (args : List Value) (depth : ℕ) (doing : Doing) (found : Option Functor) → To doing (option_map_or (functor_ran doing target sender connection args depth) found (puts [] doing))
   runs_functor target sender connection args depth doing None = holds.same doing
   runs_functor target sender connection args depth doing (Some functor) =
-      let new = told doing (functor_line functor target sender args) in
+      let new = line_told doing (functor_line functor target sender args) in
       let next = after functor.next (functor_state doing.state connection) args in
       holds.both doing new (stepped new connection next) (holds.tells doing (functor_line functor target sender args)) (holds.steps new connection next)
 
@@ -126,7 +126,7 @@ module _ (settings : Settings) (R : Doing → Doing → Type 0) (holds : Holds R
   step_holds (Call number args depth) doing = calls_found args depth doing (connection_of doing number)
   step_holds (Run target index sender args depth) doing = runs target sender args depth doing (method_at settings doing.state target index)
   step_holds (RunFunctor target index sender connection args depth) doing = runs_functor target sender connection args depth doing (functor_at settings index)
-  step_holds (Act (effect plain) args self sender depth) doing =
+  step_holds (Act (single_action plain) args self sender depth) doing =
       acted_cases settings doing self sender args depth (To doing)
       (λ code. holds.same doing)
       (λ target signal values. holds.same doing)

@@ -23,7 +23,7 @@ use Rattle.thread_model.specs.Agenda.{queued}
 use Rattle.thread_model.specs.declared.deed.Deed.{Deed}
 use Rattle.thread_model.specs.declared.deed.Deed.TheVariants as d
 use Rattle.thread_model.specs.Deeds.{deed_done, deed_refusal}
-use Rattle.thread_model.specs.Doing.{Doing, dying, first_taken, in_state, lost, posted, shot, stepped, told, turn_taken, used_up, posting, severed}
+use Rattle.thread_model.specs.Doing.{Doing, dying, first_taken, in_state, lost, posted, shot, stepped, line_told, turn_taken, used_up, posting, severed}
 use Rattle.thread_model.specs.Items.{Cut, Gone, Item}
 use Rattle.thread_model.specs.State.{IsTied, IsWhole, State, without_connections, without_events, without_object}
 use Rattle.thread_model.specs.Writing.{Declared, Dynamic, Nothing, Removed, Writing, with_writing}
@@ -108,8 +108,8 @@ behind item agenda state stays ties under = record {
     rest number untied = ap (λ b. b || is_untied_first agenda number) (sym (ties number)) ∙ ap (λ b. unties number item || (not b && is_untied_first agenda number)) (sym (stays number)) ∙ untied
 
 module _ (agenda : List Item) (doing : Doing) (under : IsUnderWay agenda doing.state) where
-  pub told_under : (said : Line) → IsUnderWay agenda (told doing said).state
-  unfolding told
+  pub told_under : (said : Line) → IsUnderWay agenda (line_told doing said).state
+  unfolding line_told
   told_under said = under
 
   pub posting_under : (more : List Post) → IsUnderWay agenda (posting doing more).state

@@ -8,7 +8,7 @@ use Rattle.std.proofs.lemmas.List.Sorted.{All-permutation, IsPermutation-reverse
 use Rattle.std.proofs.lemmas.Option.{get_or_from_slice_get, slice_get_within}
 use Rattle.variant_value.specs.declared.value.Value.{Value}
 use Rattle.term_core.specs.Act as term
-use Rattle.term_core.specs.Act.{Acts, acts_of, count, counts, effect, more, nothing, when}
+use Rattle.term_core.specs.Act.{Acts, acts_of, count, counts, single_action, more, nothing, when}
 use Rattle.class_table.specs.declared.class.Class.{Class}
 use Rattle.class_table.specs.declared.class.Method.{Method}
 use Rattle.class_table.specs.Lookup.{gathered, methods}
@@ -75,9 +75,9 @@ pub weights-append : (n : Most) (a b : List Item) → weights n (a ++ b) ≡ wei
 weights-append n [] b = omega arith
 weights-append n (item ∷ a) b = let rest = weights-append n a b in omega (arith, rest)
 
--- an action weighs as much as an effect for each action in it
+-- an action weighs as much as a single one for each action in it
 pub count-some : (action : term.Act) → 1 ≤ count action
-count-some (effect plain) = omega arith
+count-some (single_action plain) = omega arith
 count-some (when test held failed) = omega arith
 
 pub act-some : (n : Most) (action : term.Act) → action_weight n ≤ count action * action_weight n

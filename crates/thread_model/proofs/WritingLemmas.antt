@@ -7,7 +7,7 @@ use Rattle.property_store.specs.Store.{Store, changed, with_dynamic, with_value,
 use Rattle.property_store.proofs.SoundLemmas.{sound_changed}
 use Rattle.binding_values.specs.declared.binding.Binding.{Binding}
 use Rattle.binding_graph.specs.declared.change.Change.{Change}
-use Rattle.binding_graph.specs.declared.change.Told.TheVariants as told
+use Rattle.binding_graph.specs.declared.change.Message.TheVariants as message
 use Rattle.binding_values.specs.Scene.{Cell}
 use Rattle.property_store.specs.Property.{is_property}
 use Rattle.binding_values.specs.Stored.{cell_in}
@@ -68,7 +68,7 @@ module _ (settings : Settings) (doing : Doing) (object depth : ℕ) where
   -- another one
   module _ (none : doing.state.graph.bindings ≡ []) (shut : is_open doing.state.graph ≡ false) (whole : IsWhole doing.state) where
     pub declared_written : (number : ℕ) (value : Value) → IsFit doing.state object (Declared number value) → (cell : Cell) → cell_in doing.state.store (record { object = object; number = number }) ≡ Some cell
-        → comes_to (Declared number value) ≡ puts (tells settings (after doing object (Declared number value)).state depth (if is_same cell.value value then [] else (let change : Change = record { at = record { object = object; number = number }; told = told.Value value } in change) ∷ [])) (after doing object (Declared number value))
+        → comes_to (Declared number value) ≡ puts (tells settings (after doing object (Declared number value)).state depth (if is_same cell.value value then [] else (let change : Change = record { at = record { object = object; number = number }; told = message.Value value } in change) ∷ [])) (after doing object (Declared number value))
     declared_written number value fit cell there = ap (λ changes. puts (tells settings (after doing object (Declared number value)).state depth changes) (after doing object (Declared number value))) all
       where
         at : At
@@ -80,7 +80,7 @@ module _ (settings : Settings) (doing : Doing) (object depth : ℕ) where
         sound : store.IsSound new
         sound = sound_changed (with_value number value) object (λ of. refl) doing.state.store fit whole.properties
 
-        all : changes doing.state (with_writing doing.state object (Declared number value)) (Some at) ≡ (if is_same cell.value value then [] else (let change : Change = record { at = at; told = told.Value value } in change) ∷ [])
+        all : changes doing.state (with_writing doing.state object (Declared number value)) (Some at) ≡ (if is_same cell.value value then [] else (let change : Change = record { at = at; told = message.Value value } in change) ∷ [])
         all =
             ap (λ deep. cond deep [] (graph.changes (showing doing.state) (showing (with_writing doing.state object (Declared number value))) (Some at))) shut
             ∙ (ap (λ bindings. graph.changes (all_shown doing.state.store bindings) (all_shown new (filter (λ (binding : Binding). not (is_property at binding.at)) bindings)) (Some at)) none

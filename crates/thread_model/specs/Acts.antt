@@ -5,8 +5,8 @@ use Rattle.std.specs.Result.{result_err}
 use Rattle.refusals.specs.declared.code.Code.{Code}
 use Rattle.signature_core.specs.declared.signature.Signature.{Signature}
 use Rattle.variant_value.specs.declared.value.Value.{Value}
-use Rattle.term_core.specs.declared.action.Effect.{Effect}
-use Rattle.term_core.specs.declared.action.Effect.TheVariants as e
+use Rattle.term_core.specs.declared.action.SingleAction.{SingleAction}
+use Rattle.term_core.specs.declared.action.SingleAction.TheVariants as e
 use Rattle.term_core.specs.declared.target.Target.{Target}
 use Rattle.term_core.specs.Act.{Acts, more, nothing}
 use Rattle.term_core.specs.Term.{Term}
@@ -59,7 +59,7 @@ abbrev pub writing : State → ℕ → ℕ → List Value → ℕ → List ℕ �
 writing state self sender args object name value = evaluated state self sender args value >>= acted_writing state object name
 
 -- the deed that an action of the slot of `self` is, or why it is none; no other action is a deed
-abbrev pub act_deed : Settings → State → ℕ → ℕ → Effect → Option (Found Deed)
+abbrev pub act_deed : Settings → State → ℕ → ℕ → SingleAction → Option (Found Deed)
 act_deed settings state self sender (e.Connect of signal to method mode unique single) = Some (
     behind (object_refusal state.forest.rows (object_of state self sender of)) (
     behind (object_refusal state.forest.rows (object_of state self sender to))
@@ -79,7 +79,7 @@ module _ (settings : Settings) (state : State) (self sender : ℕ) (args : List 
   object target = object_of state self sender target
 
   -- why an action of the slot of `self` is refused: the first of these
-  abbrev pub act_refusal : Effect → Option Code
+  abbrev pub act_refusal : SingleAction → Option Code
   act_refusal (e.Set of property value) =
       option_or (absence state (object of))
       (result_err (writing state self sender args (object of) property value))
@@ -100,7 +100,7 @@ module _ (settings : Settings) (doing : Doing) (self sender : ℕ) (args : List 
   acted_object target = object_of doing.state self sender target
 
   -- what an action comes to that is not refused
-  abbrev pub acted : Effect → Next
+  abbrev pub acted : SingleAction → Next
   acted (e.Set of property value) =
       with_found (writing doing.state self sender args (acted_object of) property value)
       (λ writing. written settings doing (acted_object of) depth writing) doing

@@ -5,7 +5,7 @@ use Rattle.refusals.specs.declared.code.Code.TheVariants.{Limit}
 use Rattle.variant_value.specs.declared.value.Value.{Value}
 use Rattle.binding_values.specs.declared.property.BindingError.{BindingError}
 use Rattle.property_store.specs.declared.property.Property.{Property}
-use Rattle.term_core.specs.Act.{acts_of, effect, when}
+use Rattle.term_core.specs.Act.{acts_of, single_action, when}
 use Rattle.term_evaluation.specs.Stating.{after, with_state}
 use Rattle.class_table.specs.declared.class.Method.{Method}
 use Rattle.class_table.specs.Lookup.{method_text}
@@ -28,7 +28,7 @@ use Rattle.thread_model.specs.declared.line.Line.{Line}
 use Rattle.thread_model.specs.declared.line.Line.TheVariants as line
 use Rattle.thread_model.specs.Arriving.{posts_of}
 use Rattle.thread_model.specs.Acts.{act_refusal, acted, acts, chosen, warns_or}
-use Rattle.thread_model.specs.Doing.{Doing, dying, first_taken, lost, posted, posting, severed, shot, stepped, told, turn_taken, used_up}
+use Rattle.thread_model.specs.Doing.{Doing, dying, first_taken, lost, posted, posting, severed, shot, stepped, line_told, turn_taken, used_up}
 use Rattle.thread_model.specs.Items.{Act, Call, Cut, Delete, Emit, Gone, Item, Kin, Next, Reply, ReplySpun, Run, RunFunctor, Spin, Warn, WarnOf, puts}
 use Rattle.thread_model.specs.Functors.{functor_at}
 use Rattle.thread_model.specs.Methods.{method_at}
@@ -138,7 +138,7 @@ functor_line functor target sender args = line.Call (record { method = functor.n
 
 -- a slot is told of, and then does what its body says, one level deeper
 abbrev pub ran : Doing → ℕ → ℕ → List Value → ℕ → Method → Next
-ran doing target sender args depth method = puts (acts (acts_of method.body.actions) args target sender (depth + 1)) (told doing (call_line method target sender args))
+ran doing target sender args depth method = puts (acts (acts_of method.body.actions) args target sender (depth + 1)) (line_told doing (call_line method target sender args))
 
 -- and so does a functor for its context object, over the state that its connection keeps; the state that
 -- follows is kept there before that
@@ -146,7 +146,7 @@ abbrev pub functor_ran : Doing → ℕ → ℕ → ℕ → List Value → ℕ �
 functor_ran doing target sender connection args depth functor =
     let state = functor_state doing.state connection in
     puts (acts (acts_of (with_state state functor.body).actions) args target sender (depth + 1))
-    (stepped (told doing (functor_line functor target sender args)) connection (after functor.next state args))
+    (stepped (line_told doing (functor_line functor target sender args)) connection (after functor.next state args))
 
 -- the line that warns of the error of a bound property, by its name
 abbrev pub binding_line : Settings → State → Property → BindingError → Line
@@ -158,14 +158,14 @@ step settings (Emit target signal args depth) doing = option_map_or (emitted set
 step settings (Call number args depth) doing = option_map_or (λ connection. with_turn doing (called settings connection args depth)) (connection_of doing number) (puts [] doing)
 step settings (Run target method sender args depth) doing = option_map_or (ran doing target sender args depth) (method_at settings doing.state target method) (puts [] doing)
 step settings (RunFunctor target functor sender connection args depth) doing = option_map_or (functor_ran doing target sender connection args depth) (functor_at settings functor) (puts [] doing)
-step settings (Act (effect plain) args self sender depth) doing = warns_or (act_refusal settings doing.state self sender args plain) self doing (acted settings doing self sender args depth plain)
+step settings (Act (single_action plain) args self sender depth) doing = warns_or (act_refusal settings doing.state self sender args plain) self doing (acted settings doing self sender args depth plain)
 step settings (Act (when test held failed) args self sender depth) doing = chosen (truth_evaluated doing.state self sender args test) held failed args self sender depth doing
-step settings (Warn code object) doing = puts [] (told doing (line.Warning code object))
-step settings (WarnOf at error) doing = puts [] (told doing (binding_line settings doing.state at error))
+step settings (Warn code object) doing = puts [] (line_told doing (line.Warning code object))
+step settings (WarnOf at error) doing = puts [] (line_told doing (binding_line settings doing.state at error))
 step settings (Delete target depth) doing = if lives doing target then puts (Emit target DESTROYED [] depth ∷ Cut target depth ∷ Gone target depth ∷ []) (dying doing target) else puts [] doing
 step settings (Cut target depth) doing = puts (kins doing target depth) (severed doing target)
 step settings (Kin parent child depth) doing = if lives_below doing parent child then puts (Delete child depth ∷ []) doing else puts [] doing
 step settings (Gone target depth) doing = comes_to settings doing depth (without_object doing.state target) None
 step settings Spin doing = spun settings doing doing.state.queue.events
-step settings (Reply answer) doing = puts [] (told doing (line.Reply answer))
-step settings ReplySpun doing = puts [] (told doing (line.Reply (a.Spun (spin_of doing))))
+step settings (Reply answer) doing = puts [] (line_told doing (line.Reply answer))
+step settings ReplySpun doing = puts [] (line_told doing (line.Reply (a.Spun (spin_of doing))))

@@ -32,8 +32,8 @@ abbrev pub in_state : Doing → State → Doing
 in_state doing state = record doing { state = state }
 
 -- one more line is told
-unfoldable pub told : Doing → Line → Doing
-told doing said = record doing { lines = doing.lines ++ said ∷ [] }
+unfoldable pub line_told : Doing → Line → Doing
+line_told doing said = record doing { lines = doing.lines ++ said ∷ [] }
 
 -- more is posted to the others
 unfoldable pub posting : Doing → List Post → Doing

@@ -9,7 +9,7 @@ use Rattle.signature_core.specs.declared.kind.Kind.{Kind}
 use Rattle.signature_core.specs.Kinds.{kind_named}
 use Rattle.publish_board.specs.declared.join.Join.{Join}
 use Rattle.publish_board.specs.declared.publication.Publication.{Publication}
-use Rattle.publish_board.specs.Desk.{join_refusal, joined, left, publish_refusal, published, unpublished}
+use Rattle.publish_board.specs.Desk.{join_refusal, with_join, left, publish_refusal, published, unpublished}
 use Rattle.publish_board.specs.Rows.{has_name, is_join}
 use Rattle.thread_model.specs.declared.line.Answer.TheVariants.{Truth}
 use Rattle.thread_model.specs.declared.line.Line.{Line}
@@ -67,7 +67,7 @@ abbrev pub unpublishes : State → List ℕ → Effect State Line Post
 unpublishes state name = replies (with_desk state (unpublished state.desk name)) (Truth (list_any (has_name name) state.desk.publications))
 
 abbrev pub joins_found : State → Found Join → Effect State Line Post
-joins_found state (Ok join) = replies (with_desk state (joined state.desk join)) (Truth true)
+joins_found state (Ok join) = replies (with_desk state (with_join state.desk join)) (Truth true)
 joins_found state (Err code) = refuses state code
 
 -- it replies whether there was one

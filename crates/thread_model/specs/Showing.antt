@@ -4,8 +4,8 @@ use Rattle.std.specs.List.{filter_map}
 use Rattle.std.specs.Option.{option_map_or}
 use Rattle.variant_value.specs.declared.value.Value.{Value}
 use Rattle.binding_graph.specs.declared.change.Change.{Change}
-use Rattle.binding_graph.specs.declared.change.Told.{Told}
-use Rattle.binding_graph.specs.declared.change.Told.TheVariants as told
+use Rattle.binding_graph.specs.declared.change.Message.{Message}
+use Rattle.binding_graph.specs.declared.change.Message.TheVariants as message
 use Rattle.property_store.specs.declared.property.Property.{Property as At}
 use Rattle.binding_graph.specs.declared.shown.Shown.{Shown}
 use Rattle.binding_graph.specs.Graph as graph
@@ -44,9 +44,9 @@ abbrev pub told_value : Settings → State → ℕ → Value → ℕ → List Va
 told_value settings state object value signal = take (length (kinds_at (methods_of settings state object) signal)) (value ∷ [])
 
 -- an error is warned of, and a value told by the property's signal for it (NOTIFY), where it has one
-abbrev pub told_as : Settings → State → ℕ → At → Told → Option Item
-told_as settings state depth at (told.Error error) = Some (WarnOf at error)
-told_as settings state depth at (told.Value value) =
+abbrev pub told_as : Settings → State → ℕ → At → Message → Option Item
+told_as settings state depth at (message.Error error) = Some (WarnOf at error)
+told_as settings state depth at (message.Value value) =
     option_map (λ signal. Emit at.object signal (told_value settings state at.object value signal) depth)
     (option_and_then (λ property. property.notify) (property_at settings state at.object at.number))
 

@@ -27,12 +27,12 @@ pub data Writing : Type 0 where
   Nothing : Writing
 
 -- a property that an object's class declares
-pub record Place : Type 0 where
+pub record DeclaredField : Type 0 where
   pub number : ℕ
   pub kind : Kind
 
 -- where the property of this name stands that the class of an object declares
-abbrev pub declared : State → ℕ → List ℕ → Option Place
+abbrev pub declared : State → ℕ → List ℕ → Option DeclaredField
 declared state object name =
     option_and_then (λ of.
     option_and_then (λ number.
@@ -50,7 +50,7 @@ dynamic_writing state object name v.Invalid = Ok (Removed name)
 dynamic_writing state object name value = option_map_or Err (dynamic_refusal state.store object name) (Ok (Dynamic name value))
 
 -- null leaves a declared property as it is
-abbrev pub asked_place : Data → Place → Found Writing
+abbrev pub asked_place : Data → DeclaredField → Found Writing
 asked_place null place = Ok Nothing
 asked_place json place = value_of place.kind json >>= λ value. Ok (Declared place.number value)
 

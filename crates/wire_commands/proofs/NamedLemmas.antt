@@ -35,18 +35,18 @@ mapped made None each = tt
 mapped made (Some x) each = each x
 
 -- a text that is read as a name is one
-abbrev Keeps : Holds → Held → Type 0
-Keeps h.Name (text name) = IsTrue (is_name name)
-Keeps holds held = Unit {0}
+abbrev HoldsName : Holds → Held → Type 0
+HoldsName h.Name (text name) = IsTrue (is_name name)
+HoldsName holds held = Unit {0}
 
 anything : (o : Option Held) → IfSome o (λ held. Unit {0})
 anything None = tt
 anything (Some held) = tt
 
-reads_keep : (holds : Holds) (json : Data) → IfSome (reads holds json) (Keeps holds)
-reads_keep h.Name json = found (Keeps h.Name) (as_str json) (λ name. when (is_name name) (text name)) (λ name. by name (is_name name) (λ is. is))
+reads_keep : (holds : Holds) (json : Data) → IfSome (reads holds json) (HoldsName holds)
+reads_keep h.Name json = found (HoldsName h.Name) (as_str json) (λ name. when (is_name name) (text name)) (λ name. by name (is_name name) (λ is. is))
   where
-    by : (name : List ℕ) (is : Bool) → (IsTrue is → IsTrue (is_name name)) → IfSome (when is (text name)) (Keeps h.Name)
+    by : (name : List ℕ) (is : Bool) → (IsTrue is → IsTrue (is_name name)) → IfSome (when is (text name)) (HoldsName h.Name)
     by name true named = named refl
     by name false named = tt
 reads_keep h.Text json = anything (reads h.Text json)
@@ -60,11 +60,11 @@ reads_keep h.Any json = anything (reads h.Any json)
 
 -- so it is at a key that must be there
 abbrev IsAt : Key → Held → Type 0
-IsAt (needed word holds) held = Keeps holds held
+IsAt (needed word holds) held = HoldsName holds held
 IsAt (optional word holds) held = Unit {0}
 
 at_key : (json : Data) (key : Key) → IfSome (held_at json key) (IsAt key)
-at_key json (needed word holds) = found (Keeps holds) (get word json) (reads holds) (reads_keep holds)
+at_key json (needed word holds) = found (HoldsName holds) (get word json) (reads holds) (reads_keep holds)
 at_key json (optional word holds) = anything (held_at json (optional word holds))
 
 -- what is asked with what is held at these keys sets only what has a name
@@ -99,7 +99,7 @@ form_named w.Children = λ target a. tt
 form_named w.Find = λ target a name b class c. mapped _ (number_of target) (λ number. tt)
 form_named w.Set = λ target a property is value c. asks (number_of target) _ (λ n. by n property is value)
   where
-    by : (n : ℕ) (property : Held) → Keeps h.Name property → (value : Held) → IsNamed (text_of property >>= λ name. json_of value >>= λ json. Some (Set n name json))
+    by : (n : ℕ) (property : Held) → HoldsName h.Name property → (value : Held) → IsNamed (text_of property >>= λ name. json_of value >>= λ json. Some (Set n name json))
     by n (text name) is value = asks (json_of value) _ (λ json. is)
     by n _ is value = tt
 form_named w.Get = λ target a property b. asks (number_of target) _ (λ number. asks (text_of property) _ (λ name. tt))

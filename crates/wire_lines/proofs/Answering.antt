@@ -7,7 +7,7 @@ use Rattle.std.proofs.lemmas.List.Elements.{All-head, All-map, All-tail}
 use Rattle.std.proofs.lemmas.Bool.{both_ways, false_from_ne_true}
 use Rattle.isolation.specs.Pieces.{Given, Faulty}
 use Rattle.server_world.proofs.RunLemmas.{entry_is}
-use Rattle.server_world.specs.Server.{OnlyRefused, Server, seen, states, was_refused, settings}
+use Rattle.server_world.specs.Server.{OnlyRefused, Server, seen_by_name, states, was_refused, settings}
 use Rattle.session_engine.specs.Sessions.{AllAreNamed}
 use Rattle.session_tables.specs.Session.{Session}
 use Rattle.thread_model.specs.Named.{AreNamed, IsNamedAsked}
@@ -23,10 +23,10 @@ pub Later-trans : (a b c : Server) → Later a b → Later b c → Later a c
 Later-trans a b c first second = record { settings = second.settings ∙ first.settings; refused = λ refused. second.refused (first.refused refused); named = λ named. second.named (first.named named) }
 
 pub Later-same : (a b : Server) → b ≡ a → Later a b
-Later-same a b same = record { settings = ap settings same; refused = λ refused. subst (λ server. IsTrue (was_refused server)) (sym same) refused; named = λ named. subst (λ server. AllAreNamed (seen server)) (sym same) named }
+Later-same a b same = record { settings = ap settings same; refused = λ refused. subst (λ server. IsTrue (was_refused server)) (sym same) refused; named = λ named. subst (λ server. AllAreNamed (seen_by_name server)) (sym same) named }
 
 -- where nothing has changed but that memory was refused, dynamic properties are called as before
-pub only_named : (a b : Server) → OnlyRefused a b → AllAreNamed (seen a) → AllAreNamed (seen b)
+pub only_named : (a b : Server) → OnlyRefused a b → AllAreNamed (seen_by_name a) → AllAreNamed (seen_by_name b)
 only_named a b only named = subst (λ (sessions : List ℕ → Session). (name : List ℕ) → AreNamed (sessions name).state) (sym only.sessions) named
 
 -- the settings stay, and so does that memory was refused, and where so much holds of lines, dynamic properties stay
@@ -34,7 +34,7 @@ only_named a b only named = subst (λ (sessions : List ℕ → Session). (name :
 record Stays (named : Type 0) (a b : Server) : Type 0 where
   settings : settings b ≡ settings a
   refused : IsTrue (was_refused a) → IsTrue (was_refused b)
-  names : named → AllAreNamed (seen a) → AllAreNamed (seen b)
+  names : named → AllAreNamed (seen_by_name a) → AllAreNamed (seen_by_name b)
 
 same_stays : (named : Type 0) (a b : Server) → b ≡ a → Stays named a b
 same_stays named a b same = let later = Later-same a b same in record { settings = later.settings; refused = later.refused; names = λ is. later.named }

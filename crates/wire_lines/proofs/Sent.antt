@@ -10,11 +10,11 @@ use Rattle.wire_devices.specs.Bytes.{AppendsFront, AppendsAll}
 use Rattle.wire_lines.specs.Sending.{Out, out, Sent, SentFront, SentAll}
 
 -- what is gathered is written, and then the text is gathered
-pub Sent-flushed : (old new : Option (List ℕ)) (gathered text : List ℕ) → Appends old new gathered → Sent (record { held = old; gathered = gathered }) (record { held = new; gathered = text }) text
+pub Sent-flushed : (old new : Option (List ℕ)) (gathered text : List ℕ) → Appends old new gathered → Sent (record { received = old; gathered = gathered }) (record { received = new; gathered = text }) text
 Sent-flushed old new gathered text bytes = (gathered, bytes, refl)
 
 -- a sink that failed took a front of what was gathered
-pub SentFront-flushed : (old new : Option (List ℕ)) (gathered text : List ℕ) → AppendsFront old new gathered → SentFront (record { held = old; gathered = gathered }) (record { held = new; gathered = [] }) text
+pub SentFront-flushed : (old new : Option (List ℕ)) (gathered text : List ℕ) → AppendsFront old new gathered → SentFront (record { received = old; gathered = gathered }) (record { received = new; gathered = [] }) text
 SentFront-flushed old new gathered text front =
     let (n, below, bytes) = front in
     let whole : gathered ++ text ≡ (take n gathered ++ []) ++ (drop n gathered ++ text) =
@@ -22,7 +22,7 @@ SentFront-flushed old new gathered text front =
     (take n gathered, bytes, (drop n gathered ++ text, whole))
 
 -- what is gathered is written, and then the text itself, as far as the sink takes it
-pub SentAll-written : {T E : Type 0} (old mid new : Option (List ℕ)) (gathered text : List ℕ) (r : Result T E) → Appends old mid gathered → AppendsAll mid new r text → SentAll (record { held = old; gathered = gathered }) (record { held = new; gathered = [] }) r text
+pub SentAll-written : {T E : Type 0} (old mid new : Option (List ℕ)) (gathered text : List ℕ) (r : Result T E) → Appends old mid gathered → AppendsAll mid new r text → SentAll (record { received = old; gathered = gathered }) (record { received = new; gathered = [] }) r text
 SentAll-written old mid new gathered text (Ok v) before now = (gathered ++ text, Appends-trans old mid new gathered text before now, sym (append-nil (gathered ++ text)))
 SentAll-written old mid new gathered text (Err e) before now =
     let (n, below, bytes) = now in
@@ -31,13 +31,13 @@ SentAll-written old mid new gathered text (Err e) before now =
     (gathered ++ take n text, Appends-trans old mid new gathered (take n text) before bytes, (drop n text, whole))
 
 -- the same where it is known that nothing is gathered afterwards
-pub SentFront-emptied : (old new : Option (List ℕ)) (gathered left text : List ℕ) → left ≡ [] → AppendsFront old new gathered → SentFront (record { held = old; gathered = gathered }) (record { held = new; gathered = left }) text
+pub SentFront-emptied : (old new : Option (List ℕ)) (gathered left text : List ℕ) → left ≡ [] → AppendsFront old new gathered → SentFront (record { received = old; gathered = gathered }) (record { received = new; gathered = left }) text
 SentFront-emptied old new gathered left text none front =
-    subst (λ l. SentFront (record { held = old; gathered = gathered }) (record { held = new; gathered = l }) text) (sym none) (SentFront-flushed old new gathered text front)
+    subst (λ l. SentFront (record { received = old; gathered = gathered }) (record { received = new; gathered = l }) text) (sym none) (SentFront-flushed old new gathered text front)
 
-pub SentAll-passed : {T E : Type 0} (old mid new : Option (List ℕ)) (gathered left text : List ℕ) (r : Result T E) → left ≡ [] → Appends old mid gathered → AppendsAll mid new r text → SentAll (record { held = old; gathered = gathered }) (record { held = new; gathered = left }) r text
+pub SentAll-passed : {T E : Type 0} (old mid new : Option (List ℕ)) (gathered left text : List ℕ) (r : Result T E) → left ≡ [] → Appends old mid gathered → AppendsAll mid new r text → SentAll (record { received = old; gathered = gathered }) (record { received = new; gathered = left }) r text
 SentAll-passed old mid new gathered left text r none before now =
-    subst (λ l. SentAll (record { held = old; gathered = gathered }) (record { held = new; gathered = l }) r text) (sym none) (SentAll-written old mid new gathered text r before now)
+    subst (λ l. SentAll (record { received = old; gathered = gathered }) (record { received = new; gathered = l }) r text) (sym none) (SentAll-written old mid new gathered text r before now)
 
 -- at an `Err` a front is sent
 pub SentAll-failed : {T E : Type 0} (a b : Out) (r : Result T E) (text : List ℕ) → IsErr r → SentFront a b text → SentAll a b r text
@@ -53,7 +53,7 @@ take-append-room room n kept xs ys fits least =
 
 -- nothing is sent where nothing changes
 pub Sent-nothing : (out : Out) → Sent out out []
-Sent-nothing out = ([], Appends-nil out.held, append-nil out.gathered)
+Sent-nothing out = ([], Appends-nil out.received, append-nil out.gathered)
 
 -- one text after another
 pub Sent-trans : (a b c : Out) (xs ys : List ℕ) → Sent a b xs → Sent b c ys → Sent a c (xs ++ ys)
@@ -62,7 +62,7 @@ Sent-trans a b c xs ys before now =
     let (v, more, then_sent) = now in
     let whole : a.gathered ++ (xs ++ ys) ≡ (w ++ v) ++ c.gathered =
     sym (append_assoc a.gathered xs ys) ∙ ap (λ l. l ++ ys) sent ∙ append_assoc w b.gathered ys ∙ ap (λ l. w ++ l) then_sent ∙ sym (append_assoc w v c.gathered) in
-    (w ++ v, Appends-trans a.held b.held c.held w v held more, whole)
+    (w ++ v, Appends-trans a.received b.received c.received w v held more, whole)
 
 -- a text, and then a front of the next
 pub SentFront-after : (a b c : Out) (xs ys : List ℕ) → Sent a b xs → SentFront b c ys → SentFront a c (xs ++ ys)
@@ -72,7 +72,7 @@ SentFront-after a b c xs ys before now =
     let whole : a.gathered ++ (xs ++ ys) ≡ ((w ++ v) ++ c.gathered) ++ rest =
     sym (append_assoc a.gathered xs ys) ∙ ap (λ l. l ++ ys) sent ∙ append_assoc w b.gathered ys ∙ ap (λ l. w ++ l) then_sent
     ∙ ap (λ l. w ++ l) (append_assoc v c.gathered rest) ∙ sym (append_assoc w v (c.gathered ++ rest)) ∙ sym (append_assoc (w ++ v) c.gathered rest) in
-    (w ++ v, Appends-trans a.held b.held c.held w v held more, (rest, whole))
+    (w ++ v, Appends-trans a.received b.received c.received w v held more, (rest, whole))
 
 -- a front of a text is one of a longer text
 pub SentFront-more : (a b : Out) (xs ys : List ℕ) → SentFront a b xs → SentFront a b (xs ++ ys)
@@ -124,7 +124,7 @@ pub SentFront-then : (a : Out) (old new : Option (List ℕ)) (gathered left text
 SentFront-then a old new gathered left text none front bytes =
     let (w, held, (rest, sent)) = front in
     let whole : a.gathered ++ text ≡ ((w ++ gathered) ++ left) ++ rest = sent ∙ ap (λ l. l ++ rest) (sym (append-nil (w ++ gathered)) ∙ ap (λ l. (w ++ gathered) ++ l) (sym none)) in
-    (w ++ gathered, Appends-trans a.held old new w gathered held bytes, (rest, whole))
+    (w ++ gathered, Appends-trans a.received old new w gathered held bytes, (rest, whole))
 
 pub SentFront-then_front : (a : Out) (old new : Option (List ℕ)) (gathered left text : List ℕ) → left ≡ [] → SentFront a (out old gathered) text → AppendsFront old new gathered → SentFront a (out new left) text
 SentFront-then_front a old new gathered left text none front bytes =
@@ -134,14 +134,14 @@ SentFront-then_front a old new gathered left text none front bytes =
     sent ∙ ap (λ l. (w ++ l) ++ rest) (sym (take-append-drop n gathered)) ∙ ap (λ l. l ++ rest) (sym (append_assoc w (take n gathered) (drop n gathered)))
     ∙ append_assoc (w ++ take n gathered) (drop n gathered) rest
     ∙ ap (λ l. l ++ (drop n gathered ++ rest)) (sym (append-nil (w ++ take n gathered)) ∙ ap (λ l. (w ++ take n gathered) ++ l) (sym none)) in
-    (w ++ take n gathered, Appends-trans a.held old new w (take n gathered) held taken, (drop n gathered ++ rest, whole))
+    (w ++ take n gathered, Appends-trans a.received old new w (take n gathered) held taken, (drop n gathered ++ rest, whole))
 
 -- a text is sent, and what is gathered is written
 pub Sent-then : (a : Out) (old new : Option (List ℕ)) (gathered left text : List ℕ) → left ≡ [] → Sent a (out old gathered) text → Appends old new gathered → Sent a (out new left) text
 Sent-then a old new gathered left text none sent bytes =
     let (w, held, is) = sent in
     let whole : a.gathered ++ text ≡ (w ++ gathered) ++ left = is ∙ sym (append-nil (w ++ gathered)) ∙ ap (λ l. (w ++ gathered) ++ l) (sym none) in
-    (w ++ gathered, Appends-trans a.held old new w gathered held bytes, whole)
+    (w ++ gathered, Appends-trans a.received old new w gathered held bytes, whole)
 
 -- the same, as far as the sink takes it
 pub SentAll-then : {T E : Type 0} (a : Out) (old new : Option (List ℕ)) (gathered left text : List ℕ) (r : Result T E) → left ≡ [] → Sent a (out old gathered) text → AppendsAll old new r gathered → SentAll a (out new left) r text

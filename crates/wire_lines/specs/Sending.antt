@@ -8,21 +8,21 @@ IsFront front whole = (rest : List ℕ) × (whole ≡ front ++ rest)
 
 -- what the sink has taken, where that is known, and what is gathered for it
 pub record Out : Type 0 where
-  pub held : Option (List ℕ)
+  pub received : Option (List ℕ)
   pub gathered : List ℕ
 
 abbrev pub out : Option (List ℕ) → List ℕ → Out
-out held gathered = record { held = held; gathered = gathered }
+out held gathered = record { received = held; gathered = gathered }
 
 -- the text is behind what was gathered: written or gathered itself
 abbrev pub Sent : Out → Out → List ℕ → Type 0
 Sent old new text =
-    (written : List ℕ) × Appends old.held new.held written × (old.gathered ++ text ≡ written ++ new.gathered)
+    (written : List ℕ) × Appends old.received new.received written × (old.gathered ++ text ≡ written ++ new.gathered)
 
 -- so far only a front of all that, at the most
 abbrev pub SentFront : Out → Out → List ℕ → Type 0
 SentFront old new text =
-    (written : List ℕ) × Appends old.held new.held written × IsFront (written ++ new.gathered) (old.gathered ++ text)
+    (written : List ℕ) × Appends old.received new.received written × IsFront (written ++ new.gathered) (old.gathered ++ text)
 
 -- all is sent at `Ok`, and some front at `Err`
 abbrev pub SentAll : {T E : Type 0} → Out → Out → Result T E → List ℕ → Type 0

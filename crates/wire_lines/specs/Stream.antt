@@ -1,7 +1,7 @@
 -- A run under way: what a server does with the lines of an input that comes in pieces.
 use Rattle.std.specs.Prelude.{◌≡◌, ℕ, ◌+◌, ◌<◌, List, [], ◌++◌, length, Option, Result, IsTrue, Ok, Err}
 use Rattle.session_engine.specs.Sessions.{AllAreNamed}
-use Rattle.server_world.specs.Server.{Server, seen, settings, was_refused}
+use Rattle.server_world.specs.Server.{Server, seen_by_name, settings, was_refused}
 use Rattle.wire_format.specs.Input.{Piece}
 use Rattle.wire_devices.specs.Counts.{FailsOnce}
 use Rattle.wire_lines.specs.declared.fault.RunFault.{RunFault}
@@ -14,7 +14,7 @@ use Rattle.wire_lines.specs.Steps.{AreAnswered, read_lines}
 pub record Later (old new : Server) : Type 0 where
   pub settings : settings new ≡ settings old
   pub refused : IsTrue (was_refused old) → IsTrue (was_refused new)
-  pub named : AllAreNamed (seen old) → AllAreNamed (seen new)
+  pub named : AllAreNamed (seen_by_name old) → AllAreNamed (seen_by_name new)
 
 -- where a run stands
 pub record Point : Type 0 where

@@ -99,7 +99,7 @@ impl Buffer {
     /// with the rest where there is no room for it.
     #[inline(always)]
     pub fn send<W: Sink>(&mut self, writer: &mut W, text: &[u8]) -> Result<(), Failed>
-        ensures bytes { SentAll (record { held = W.held writer.old; gathered = self.old }) (record { held = W.held writer.new; gathered = self.new }) result text.now }
+        ensures bytes { SentAll (record { received = W.held writer.old; gathered = self.old }) (record { received = W.held writer.new; gathered = self.new }) result text.now }
         ensures counted { CountsErrors (W.failures writer.old) (W.failures writer.new) result }
     {
         if text.len() <= self.room() {
@@ -113,7 +113,7 @@ impl Buffer {
     #[cold]
     #[inline(never)]
     fn send_past<W: Sink>(&mut self, writer: &mut W, text: &[u8]) -> Result<(), Failed>
-        ensures bytes { SentAll (record { held = W.held writer.old; gathered = self.old }) (record { held = W.held writer.new; gathered = self.new }) result text.now }
+        ensures bytes { SentAll (record { received = W.held writer.old; gathered = self.old }) (record { received = W.held writer.new; gathered = self.new }) result text.now }
         ensures counted { CountsErrors (W.failures writer.old) (W.failures writer.new) result }
     {
         self.flush(writer)?;

@@ -5,7 +5,7 @@ ghost use Rattle.isolation.specs.Pieces.{Given};
 ghost use Rattle.isolation.specs.Slice.{Note};
 ghost use Rattle.session_engine.specs.Sessions.{AreSound};
 ghost use Rattle.server_world.specs.Noting.{IsNoted};
-ghost use Rattle.server_world.specs.Server.{KnowsItsSessions, seen, seen_as};
+ghost use Rattle.server_world.specs.Server.{KnowsItsSessions, seen_by_name, seen_as};
 ghost use Rattle.thread_model.specs.Asked.{asked, tag};
 ghost use Rattle.thread_model.specs.Named.{IsNamedAsked};
 ghost use Rattle.wire_devices.specs.Counts.{CountsErrors};
@@ -233,7 +233,7 @@ pub fn run_slice<R: Source, W: Sink>(
     ensures memory { IfOk result (λ summary. summary.memory_refused ≡ false) }
     ensures later { Later (seen_as server.old) (seen_as server.new) }
     ensures knows { KnowsItsSessions (seen_as server.new) }
-    ensures sound { AreSound (seen (seen_as server.new)) }
+    ensures sound { AreSound (seen_by_name (seen_as server.new)) }
 {
     let ended = slice_input(alloc, reader, writer, server, session);
     server.sound();

@@ -1,7 +1,7 @@
 //! Runs over whole inputs.
 ghost use Rattle.std.specs.Prelude.{◌≡◌, ◌+◌, ◌<◌, ◌≤◌, ◌^◌, ◌++◌, ◌∷◌, ℕ, List, [], length, Some, None, IfSome, IsOk, IfOk, Err};
 ghost use Rattle.session_engine.specs.Sessions.{AreSound};
-ghost use Rattle.server_world.specs.Server.{KnowsItsSessions, seen, seen_as, was_refused};
+ghost use Rattle.server_world.specs.Server.{KnowsItsSessions, seen_by_name, seen_as, was_refused};
 ghost use Rattle.wire_format.specs.Input.{NoEnd};
 ghost use Rattle.wire_lines.specs.Run.{RunsOver, UsesDevices, IsWrittenOut, DevicesFail, Ends, Runs, device_failed};
 ghost use Rattle.wire_lines.specs.Stream.{Later, SinkFails, Feeds, Finishes};
@@ -224,7 +224,7 @@ pub fn run<R: Source, W: Sink>(
     ensures memory { IfOk result (λ summary. summary.memory_refused ≡ was_refused (seen_as server.new)) }
     ensures later { Later (seen_as server.old) (seen_as server.new) }
     ensures knows { KnowsItsSessions (seen_as server.new) }
-    ensures sound { AreSound (seen (seen_as server.new)) }
+    ensures sound { AreSound (seen_by_name (seen_as server.new)) }
 {
     run_bounded(alloc, reader, writer, server, MOST_LINES, MOST_READS)
 }
@@ -253,7 +253,7 @@ pub fn run_bounded<R: Source, W: Sink>(
     ensures later { Later (seen_as server.old) (seen_as server.new) }
     // The names of the server are those of all sessions that may have a join, so a later run has its influence too.
     ensures knows { KnowsItsSessions (seen_as server.new) }
-    ensures sound { AreSound (seen (seen_as server.new)) }
+    ensures sound { AreSound (seen_by_name (seen_as server.new)) }
 {
     let ended = run_buffered(alloc, reader, writer, server, max_lines, max_reads);
     server.sound();

@@ -1,10 +1,10 @@
 use Rattle.std.proofs.Common.{◌≡◌, ◌≤◌, ◌+◌, ◌*◌, ◌∷◌, [], ℕ, find, is_some, take, true, false, Ok, List, Some, ◌++◌, refl, sym, ap, subst, ◌∙◌, arith, drop}
 use Rattle.connection_list.specs.Rows.{is_next}
-use Rattle.term_core.specs.Act.{Act, acts_of, count, counts, effect, when}
+use Rattle.term_core.specs.Act.{Act, acts_of, count, counts, single_action, when}
 use Rattle.term_core.specs.Steps.{act_at}
 use Rattle.term_core.proofs.Counts.{count_within}
 use Rattle.refusals.specs.declared.code.Code.TheVariants.{Limit}
-use Rattle.term_core.specs.declared.action.Effect.TheVariants as e
+use Rattle.term_core.specs.declared.action.SingleAction.TheVariants as e
 use Rattle.thread_model.specs.Acts as model
 use Rattle.thread_model.specs.declared.call.TheConstants.{DESTROYED}
 use Rattle.publish_board.specs.Rows.{publishes}
@@ -183,8 +183,8 @@ agenda::call-returns t g c =
     c.in-Some.method.now c.in-Some.ensures.value c.first-given.result.now (c.first-given.ensures ∙ ap (λ n. take n c.args.args.now) c.len.ensures) done (sym c.if-is_queued.ensures) c.if-method.false)
     c.run_slot.ensures
 
-pub agenda::effect-returns-in-Ok : goal.agenda::effect-returns-in-Ok
-agenda::effect-returns-in-Ok t g c =
+pub agenda::single_action-returns-in-Ok : goal.agenda::single_action-returns-in-Ok
+agenda::single_action-returns-in-Ok t g c =
     let caller = c.args.actor.now.caller in
     let slot = c.args.slot.now in
     let old = c.args.tables.now in
@@ -194,8 +194,8 @@ agenda::effect-returns-in-Ok t g c =
     (λ earlier done. effect_done caller slot (e.Emit c.in-Emit.of c.in-Emit.signal c.in-Emit.args) old (Emit c.in-Ok.sent.object c.in-Ok.sent.signal c.in-Ok.sent.args slot.depth ∷ []) old before earlier done (tried (doing_at caller.place old before earlier)))
     (rw c.as_slice-in-Ok.ensures at c.emit.ensures))
 
-pub agenda::effect-returns-in-Err : goal.agenda::effect-returns-in-Err
-agenda::effect-returns-in-Err t g c =
+pub agenda::single_action-returns-in-Err : goal.agenda::single_action-returns-in-Err
+agenda::single_action-returns-in-Err t g c =
     let caller = c.args.actor.now.caller in
     let slot = c.args.slot.now in
     let old = c.args.tables.now in
@@ -204,8 +204,8 @@ agenda::effect-returns-in-Err t g c =
     (λ warns earlier. effect_warned {T = Emission} caller slot (e.Emit c.in-Emit.of c.in-Emit.signal c.as_slice.result.now) old (λ sent. Emit sent.object sent.signal sent.args slot.depth ∷ []) old before c.warn_of.new.self earlier c.in-Err.fault c.in-Err.ensures warns)
     c.warn_of.ensures.told))
 
-pub agenda::effect-returns-in-Ok-deleted : goal.agenda::effect-returns-in-Ok-deleted
-agenda::effect-returns-in-Ok-deleted t g c =
+pub agenda::single_action-returns-in-Ok-deleted : goal.agenda::single_action-returns-in-Ok-deleted
+agenda::single_action-returns-in-Ok-deleted t g c =
     let caller = c.args.actor.now.caller in
     let slot = c.args.slot.now in
     let old = c.args.tables.now in
@@ -214,8 +214,8 @@ agenda::effect-returns-in-Ok-deleted t g c =
     (λ earlier done. effect_done caller slot (e.Delete c.in-Delete.target) old (Delete c.in-Ok-deleted.object slot.depth ∷ []) old before earlier done (c.in-Ok-deleted.ensures (doing_at caller.place old before earlier)))
     c.delete.ensures)
 
-pub agenda::effect-returns-in-Err-deleted : goal.agenda::effect-returns-in-Err-deleted
-agenda::effect-returns-in-Err-deleted t g c =
+pub agenda::single_action-returns-in-Err-deleted : goal.agenda::single_action-returns-in-Err-deleted
+agenda::single_action-returns-in-Err-deleted t g c =
     let caller = c.args.actor.now.caller in
     let slot = c.args.slot.now in
     let old = c.args.tables.now in
@@ -224,17 +224,17 @@ agenda::effect-returns-in-Err-deleted t g c =
     (λ warns earlier. effect_warned {T = ℕ} caller slot (e.Delete c.in-Delete.target) old (λ object. Delete object slot.depth ∷ []) old before c.warn_of-in-Err-deleted.new.self earlier c.in-Err-deleted.fault c.in-Err-deleted.ensures warns)
     c.warn_of-in-Err-deleted.ensures.told))
 
-pub agenda::effect-notify-requires : goal.agenda::effect-notify-requires
-agenda::effect-notify-requires t g c = λ κs outlives.
+pub agenda::single_action-notify-requires : goal.agenda::single_action-notify-requires
+agenda::single_action-notify-requires t g c = λ κs outlives.
     let settings = settings_of c.args.actor.now.caller.setup.now in
     let place = c.args.actor.now.caller.place in
     let slot = c.args.slot.now in
-    let less = left_stepped settings (act_of slot (effect (e.Set c.in-Set.of c.in-Set.property c.in-Set.value))) _ place c.args.tables.now c.set.new.tables c.args.telling.now [] (c.in-Ok-set.ensures.tries (doing_at place c.args.tables.now c.args.telling.now [])) in
+    let less = left_stepped settings (act_of slot (single_action (e.Set c.in-Set.of c.in-Set.property c.in-Set.value))) _ place c.args.tables.now c.set.new.tables c.args.telling.now [] (c.in-Ok-set.ensures.tries (doing_at place c.args.tables.now c.args.telling.now [])) in
     let falls = rank_falls c.args.actor.now.caller c.args.tables.now c.set.new.tables c.args.telling.now c.args.telling.now 5 4 less (omega arith) in
     (grind (arith, falls), (outlives, (placed_kept _ _ _ c.in-Ok-set.ensures.keeps c.requires.placed, c.requires.depth)))
 
-pub agenda::effect-returns-in-Ok-set : goal.agenda::effect-returns-in-Ok-set
-agenda::effect-returns-in-Ok-set t g c =
+pub agenda::single_action-returns-in-Ok-set : goal.agenda::single_action-returns-in-Ok-set
+agenda::single_action-returns-in-Ok-set t g c =
     let caller = c.args.actor.now.caller in
     let settings = settings_of caller.setup.now in
     let slot = c.args.slot.now in
@@ -244,8 +244,8 @@ agenda::effect-returns-in-Ok-set t g c =
     (λ earlier done. effect_done caller slot (e.Set c.in-Set.of c.in-Set.property c.in-Set.value) old (items_of settings (state_at c.set.new.tables caller.place) slot.depth c.in-Ok-set.told) c.set.new.tables before earlier done (c.in-Ok-set.ensures.tries (doing_at caller.place old before earlier)))
     c.notify.ensures)
 
-pub agenda::effect-returns-in-Err-set : goal.agenda::effect-returns-in-Err-set
-agenda::effect-returns-in-Err-set t g c =
+pub agenda::single_action-returns-in-Err-set : goal.agenda::single_action-returns-in-Err-set
+agenda::single_action-returns-in-Err-set t g c =
     let caller = c.args.actor.now.caller in
     let settings = settings_of caller.setup.now in
     let slot = c.args.slot.now in
@@ -255,17 +255,17 @@ agenda::effect-returns-in-Err-set t g c =
     (λ warns earlier. effect_refused {T = News} caller slot (e.Set c.in-Set.of c.in-Set.property c.in-Set.value) old (items_of settings (state_at c.set.new.tables caller.place) slot.depth) c.set.new.tables before c.warn_of-in-Err-set.new.self earlier c.in-Err-set.fault c.in-Err-set.ensures.tries c.in-Err-set.ensures.refused warns)
     c.warn_of-in-Err-set.ensures.told))
 
-pub agenda::effect-returns-in-Ok-change : goal.agenda::effect-returns-in-Ok-change
-agenda::effect-returns-in-Ok-change t g c =
+pub agenda::single_action-returns-in-Ok-change : goal.agenda::single_action-returns-in-Ok-change
+agenda::single_action-returns-in-Ok-change t g c =
     let caller = c.args.actor.now.caller in
     let settings = settings_of caller.setup.now in
     let old = c.args.tables.now in
     let before = c.args.telling.now in
     does_none caller _ old before c.change.new.tables before _ c.change.ensures.keeps refl
-    (λ earlier. by_change settings (act_of c.args.slot.now (effect c.args.plain.now)) (doing_at caller.place old before earlier) _ (c.in-Ok-change.ensures.tries (doing_at caller.place old before earlier)))
+    (λ earlier. by_change settings (act_of c.args.slot.now (single_action c.args.plain.now)) (doing_at caller.place old before earlier) _ (c.in-Ok-change.ensures.tries (doing_at caller.place old before earlier)))
 
-pub agenda::effect-returns-in-Err-change : goal.agenda::effect-returns-in-Err-change
-agenda::effect-returns-in-Err-change t g c =
+pub agenda::single_action-returns-in-Err-change : goal.agenda::single_action-returns-in-Err-change
+agenda::single_action-returns-in-Err-change t g c =
     let caller = c.args.actor.now.caller in
     let settings = settings_of caller.setup.now in
     let slot = c.args.slot.now in

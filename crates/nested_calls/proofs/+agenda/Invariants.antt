@@ -42,8 +42,8 @@ invariant-news::tell-told g l = record {
   left : left_at l.actor.caller.place l.tables l.telling ≤ left_at l.actor.caller.place l.fn.tables l.fn.telling;
 }
 
-abbrev pub decreases-agenda::effect : goal.decreases-agenda::effect
-decreases-agenda::effect g l = left_to_do l.actor.now.caller l.tables.now l.telling.now 5
+abbrev pub decreases-agenda::single_action : goal.decreases-agenda::single_action
+decreases-agenda::single_action g l = left_to_do l.actor.now.caller l.tables.now l.telling.now 5
 
 abbrev pub decreases-agenda::act : goal.decreases-agenda::act
 decreases-agenda::act g l = left_to_do l.actor.now.caller l.tables.now l.telling.now (2 * count l.action.now + 5)
@@ -88,7 +88,7 @@ invariant-agenda::emit-calls g l = record {
 abbrev pub decreases-agenda::emit-calls : goal.decreases-agenda::emit-calls
 decreases-agenda::emit-calls g l = l.up_to - l.after
 
--- an effect comes before a deletion, and that before an emission
+-- a single action comes before a deletion, and that before an emission
 abbrev pub decreases-deletion::delete : goal.decreases-deletion::delete
 decreases-deletion::delete g l = left_to_do l.actor.now.caller l.tables.now l.telling.now 4
 

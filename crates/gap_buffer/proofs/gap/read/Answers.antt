@@ -2,16 +2,16 @@ use Rattle.std.proofs.Common.{◌∙◌, arith}
 use Rattle.gap_buffer.proofs.GapLemmas.{length-without, place_read, place_within}
 use Rattle.gap_buffer.proofs.gap.read.Goals as goal
 
-pub place-requires : goal.place-requires
-place-requires g c = omega (arith, length-without c.args.places.now.items c.args.gap.start c.args.gap.gone c.requires.gap.0)
+pub position-requires : goal.position-requires
+position-requires g c = omega (arith, length-without c.args.places.now.items c.args.gap.start c.args.gap.gone c.requires.gap.0)
 
 pub index-requires : goal.index-requires
 index-requires g c =
     omega (
       arith,
       c.args.places.now.ok.0,
-      place_within c.args.places.now.items c.args.gap.start c.args.gap.gone c.args.at c.place.result c.requires.gap.0 c.requires.within c.place.ensures,
+      place_within c.args.places.now.items c.args.gap.start c.args.gap.gone c.args.at c.position.result c.requires.gap.0 c.requires.within c.position.ensures,
     )
 
 pub returns : goal.returns
-returns g c = c.index.ensures ∙ place_read c.args.places.now.items c.args.gap.start c.args.gap.gone c.args.at c.place.result c.index.result.now c.requires.gap.0 c.place.ensures
+returns g c = c.index.ensures ∙ place_read c.args.places.now.items c.args.gap.start c.args.gap.gone c.args.at c.position.result c.index.result.now c.requires.gap.0 c.position.ensures

@@ -2,16 +2,16 @@ use Rattle.std.proofs.Common.{arith}
 use Rattle.gap_buffer.proofs.GapLemmas.{length-without, place_set, place_within}
 use Rattle.gap_buffer.proofs.gap.write.Goals as goal
 
-pub place-requires : goal.place-requires
-place-requires g c = omega (arith, length-without c.args.places.now.items c.args.gap.start c.args.gap.gone c.requires.gap.0)
+pub position-requires : goal.position-requires
+position-requires g c = omega (arith, length-without c.args.places.now.items c.args.gap.start c.args.gap.gone c.requires.gap.0)
 
 pub index_mut-requires : goal.index_mut-requires
 index_mut-requires g c =
     omega (
       arith,
       c.args.places.now.ok.0,
-      place_within c.args.places.now.items c.args.gap.start c.args.gap.gone c.args.at c.place.result c.requires.gap.0 c.requires.within c.place.ensures,
+      place_within c.args.places.now.items c.args.gap.start c.args.gap.gone c.args.at c.position.result c.requires.gap.0 c.requires.within c.position.ensures,
     )
 
 pub returns-clause-items : goal.returns-clause-items
-returns-clause-items g c = place_set c.args.places.now.items c.args.gap.start c.args.gap.gone c.args.at c.place.result c.args.element c.requires.gap.0 c.requires.within c.place.ensures
+returns-clause-items g c = place_set c.args.places.now.items c.args.gap.start c.args.gap.gone c.args.at c.position.result c.args.element c.requires.gap.0 c.requires.within c.position.ensures

@@ -5,7 +5,7 @@ use Rattle.serde_json.specs.View.{view, items_view}
 use Rattle.std.proofs.lemmas.Grind.{common_steps}
 use Rattle.term_core.specs.Bodies.{action_in, acts_in}
 use Rattle.term_core.proofs.Branches.{get_falls, item_within, acts_in_reads}
-use Rattle.term_core.proofs.Joined.{joined_step, joined_refused}
+use Rattle.term_core.proofs.Concatenated.{concatenated_step, concatenated_refused}
 use Rattle.term_core.proofs.body.+bodies.Goals as goal
 
 pub action-actions-requires : goal.action-actions-requires
@@ -30,7 +30,7 @@ actions_of-returns-in_err-action t c =
     let xs = c.args.list.now in
     let x = c.json-item.result in
     let here : drop l.json-index xs ≡ x ∷ drop (l.json-index + 1) xs = drop_more xs l.json-index x (omega arith) ∙ ap (λ y. y ∷ drop (l.json-index + 1) xs) (sym c.json-item.is) in
-    let refused = joined_refused (action_in c.args.scope) (acts_in c.args.scope) (acts_in_reads c.args.scope) l.found.items x _ _ _ here l.invariant c.in_err-action.field-0.0 c.in_err-action.ensures in
+    let refused = concatenated_refused (action_in c.args.scope) (acts_in c.args.scope) (acts_in_reads c.args.scope) l.found.items x _ _ _ here l.invariant c.in_err-action.field-0.0 c.in_err-action.ensures in
     search rules
 
 pub actions_of-loop-json-preserved : goal.actions_of-loop-json-preserved
@@ -39,7 +39,7 @@ actions_of-loop-json-preserved t c =
     let xs = c.args.list.now in
     let x = c.json-item.result in
     let here : drop l.json-index xs ≡ x ∷ drop (l.json-index + 1) xs = drop_more xs l.json-index x (omega arith) ∙ ap (λ y. y ∷ drop (l.json-index + 1) xs) (sym c.json-item.is) in
-    rw c.in_ok-push.ensures.items (joined_step (action_in c.args.scope) (acts_in c.args.scope) (acts_in_reads c.args.scope) _ _ x _ _ here c.in_ok-action.ensures ∙ l.invariant)
+    rw c.in_ok-push.ensures.items (concatenated_step (action_in c.args.scope) (acts_in c.args.scope) (acts_in_reads c.args.scope) _ _ x _ _ here c.in_ok-action.ensures ∙ l.invariant)
 
 pub actions_of-returns : goal.actions_of-returns
 actions_of-returns t c = grind (arith, common_steps)

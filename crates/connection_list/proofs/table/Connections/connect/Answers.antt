@@ -1,5 +1,5 @@
 use Rattle.std.proofs.Common.{arith, ◌∙◌, ◌+◌, ◌<◌, ap, rules}
-use Rattle.places.specs.Joined.{joined_tables}
+use Rattle.places.specs.Paired.{paired_tables}
 use Rattle.places.specs.Table.{with_place}
 use Rattle.connection_list.specs.Rows.{numbered}
 use Rattle.connection_list.specs.Routes.{place_of}
@@ -35,7 +35,7 @@ invariant_of-self-in_err-key c = rw c.in_err-key.ensures.err (reserved_kept (see
 
 pub returns-in_err-key-clause-err : goal.returns-in_err-key-clause-err
 returns-in_err-key-clause-err c =
-    let same = ap (λ rows. joined_tables place_of rows (with_place c.self.inside.routes c.args.place c.reserve.new.self)) c.in_err-key.ensures.err ∙ reserved_view (seen c.self.invariant c.self.view_is c.requires c.get_mut-routes.ensures.value) c.reserve.ensures.same in
+    let same = ap (λ rows. paired_tables place_of rows (with_place c.self.inside.routes c.args.place c.reserve.new.self)) c.in_err-key.ensures.err ∙ reserved_view (seen c.self.invariant c.self.view_is c.requires c.get_mut-routes.ensures.value) c.reserve.ensures.same in
     search rules
 
 pub invariant_of-self-2 : goal.invariant_of-self-2

@@ -1,6 +1,6 @@
 use Rattle.std.proofs.Common.{ap}
 use Rattle.thread_model.proofs.FittingAskedLemmas.{asked_fits}
-use Rattle.session_engine.specs.Engine.{held}
+use Rattle.session_engine.specs.Engine.{seen_engine}
 use Rattle.session_engine.proofs.CommandsLemmas.{done_answered, done_step, done_whole}
 use Rattle.session_engine.proofs.engine.Engine.command.Goals as goal
 
@@ -10,14 +10,14 @@ obey-requires-clause-known g c = record { laid = c.self.invariant.laid; stored =
 pub invariant_of-self : goal.invariant_of-self
 invariant_of-self g c =
     done_whole _ _ c.self.inside.0.0.tables c.obey.new.tables _ _ c.obey.result c.obey.ensures _
-    c.args.self.now.core c.self.invariant (λ state. asked_fits _ state c.args.command.now) (ap held c.self.view_is) c.in-Some.ensures.key c.requires.0 c.requires.1
+    c.args.self.now.core c.self.invariant (λ state. asked_fits _ state c.args.command.now) (ap seen_engine c.self.view_is) c.in-Some.ensures.key c.requires.0 c.requires.1
 
 pub returns-clause-step : goal.returns-clause-step
 returns-clause-step g c = λ name there.
     done_step _ _ c.self.inside.0.0.tables c.obey.new.tables _ _ c.obey.result c.obey.ensures _
-    c.args.self.now.core c.self.invariant (λ state. asked_fits _ state c.args.command.now) (ap held c.self.view_is) c.in-Some.ensures.key name there
+    c.args.self.now.core c.self.invariant (λ state. asked_fits _ state c.args.command.now) (ap seen_engine c.self.view_is) c.in-Some.ensures.key name there
 
 pub returns-clause-answered : goal.returns-clause-answered
 returns-clause-answered g c = λ name there.
     done_answered _ _ c.self.inside.0.0.tables c.obey.new.tables _ _ c.obey.result c.obey.ensures _
-    c.args.self.now.core c.self.invariant (λ state. asked_fits _ state c.args.command.now) (ap held c.self.view_is) c.in-Some.ensures.key name there
+    c.args.self.now.core c.self.invariant (λ state. asked_fits _ state c.args.command.now) (ap seen_engine c.self.view_is) c.in-Some.ensures.key name there

@@ -1,15 +1,15 @@
 use Rattle.std.proofs.Common.{Some, ap, position, sym, subst, ◌∙◌}
 use Rattle.std.specs.Prelude.{bytes_eq}
 use Rattle.thread_model.specs.Asked.{asked}
-use Rattle.session_engine.specs.Core.{seen}
-use Rattle.session_engine.specs.Engine.{held}
+use Rattle.session_engine.specs.Core.{seen_by_name}
+use Rattle.session_engine.specs.Engine.{seen_engine}
 use Rattle.session_engine.specs.Sessions.{IsStep}
 use Rattle.session_engine.proofs.StepLemmas.{step_fails}
 use Rattle.session_engine.proofs.engine.Engine.told.Goals as goal
 
 pub returns-in-Ok-one_line-clause-step : goal.returns-in-Ok-one_line-clause-step
 returns-in-Ok-one_line-clause-step g c = λ name there.
-    subst (λ lines. IsStep (seen (held c.args.self.now)) (seen (held c.command.new.self)) name (asked c.args.command.now) (Some lines)) (sym c.in-Ok-one_line.ensures)
+    subst (λ lines. IsStep (seen_by_name (seen_engine c.args.self.now)) (seen_by_name (seen_engine c.command.new.self)) name (asked c.args.command.now) (Some lines)) (sym c.in-Ok-one_line.ensures)
     (rw c.in-Err-Refused.field-0-is at (c.in-Err-Refused.ensures.step name there))
 
 pub returns-in_default-clause-step : goal.returns-in_default-clause-step
