@@ -1,5 +1,6 @@
 -- The queues in rows and logs.
-use Rattle.std.proofs.Common.{◌≡◌, ◌≢◌, ◌∙◌, ℕ, ◌+◌, ◌-◌, ◌*◌, ◌^◌, ◌<◌, ◌≤◌, ◌==◌, ◌||◌, List, [], ◌∷◌, ◌++◌, length, drop, true, false, cond, None, Some, min, get_or, set, refl, sym, ap, subst, arith, ⊎_elim}
+use Rattle.std.proofs.Common.{◌≡◌, ◌≢◌, ◌∙◌, ℕ, ◌+◌, ◌-◌, ◌*◌, ◌^◌, ◌<◌, ◌≤◌, ◌==◌, ◌||◌, List, [], ◌∷◌, ◌++◌, length, drop, true, false, cond, None, Some, min, get_or, set, refl, sym, ap, subst, arith, ⊎_elim, rules}
+use Rattle.std.proofs.lemmas.Grind.{common_steps}
 use Rattle.std.specs.List.{slice_get}
 use Rattle.std.proofs.lemmas.Bool.{cases_eq, cases_lt}
 use Rattle.std.proofs.lemmas.Bool.Decides.{nat_tests}
@@ -11,7 +12,6 @@ use Rattle.places.proofs.TableLemmas.{changes_length, changes_same, changes_twic
 use Rattle.shared_rows.specs.Rows.{Keyed, rows_at}
 use Rattle.event_queue.specs.declared.event.Event.{Event}
 use Rattle.event_queue.specs.declared.event.Posted.{Posted}
-use Rattle.event_queue.specs.declared.object_counts.Count.{Count}
 use Rattle.event_queue.specs.declared.object_counts.ObjectCounts.{ObjectCounts}
 use Rattle.event_queue.specs.declared.table.Log.{Log}
 use Rattle.event_queue.specs.declared.table.TheConstants.{EVENTS}
@@ -25,29 +25,16 @@ use Rattle.event_queue.proofs.WaitLemmas.{back_going, counted_yet, dropped_lengt
 -- one change of a place after another
 module _ {old middle : Table (List (Keyed Posted))} {place : ℕ} {before between : ObjectCounts} {events : List Event} (one : HasWaiting old middle place before between events) where
   pub waits_twice : {new : Table (List (Keyed Posted))} {after : ObjectCounts} {events' : List Event} → HasWaiting middle new place between after events' → HasWaiting old new place before after events'
-  waits_twice {new} two = record {
-    changed = changes_twice [] old middle new place one.changed two.changed;
-    counted = two.counted;
-    waits = two.waits;
-    fewer = omega (arith, one.fewer, two.fewer, ap length one.waits);
-  }
+  waits_twice {new} two = search (rules, changes_twice)
 
   -- no more is counted, as memory was short
   pub waits_same : (after : ObjectCounts) → ((other : ℕ) → count_at after other ≡ count_at between other) → HasWaiting old middle place before after events
-  waits_same after same =
-      waits_twice (has_waiting middle middle place between after events (changes_same [] middle middle place refl)
-      (record { counted = λ other. ap (λ (count : Count). count.rows) (same other) ∙ one.counted other; marks = λ other some. ap (λ (count : Count). count.is_dropped) (same other) })
-      one.waits (omega (arith, ap length one.waits)))
+  waits_same after same = search (rules, waits_twice, has_waiting, changes_same)
 
   -- one more event has its place
   module _ (after : ObjectCounts) (object : ℕ) (way : 0 < count_of between object → is_dropped between object ≡ false) (added : IsCounted between after object (count_of between object + 1)) (marks : (other : ℕ) → is_dropped after other ≡ cond (object == other) false (is_dropped between other)) where
-    pub waits_placed : (new : Table (List (Keyed Posted))) (event : Event) → object_of event ≡ object → HasEvents middle new place (placed event (events_at middle place)) → HasWaiting old new place before after (placed event events)
-    waits_placed new event is has = record {
-      changed = changes_twice [] old middle new place one.changed has.changed;
-      counted = subst (AreCounted after) (sym has.now) (placed_counted between after (events_at middle place) one.counted object way added marks event is);
-      waits = ap (waiting after) has.now ∙ (placed_waiting between after (events_at middle place) one.counted object way added marks event is ∙ ap (placed event) one.waits);
-      fewer = omega (arith, one.fewer, ap length has.now, length_placed event (events_at middle place), length_placed event events);
-    }
+    pub waits_placed : {new : Table (List (Keyed Posted))} (event : Event) → object_of event ≡ object → HasEvents middle new place (placed event (events_at middle place)) → HasWaiting old new place before after (placed event events)
+    waits_placed {new} event is has = grind (arith, nat_tests, changes_twice, placed_counted between after (events_at middle place) one.counted object way added marks event is, placed_waiting between after (events_at middle place) one.counted object way added marks event is, length_placed event (events_at middle place), length_placed event events)
 
     -- or there is no memory for it, and one fewer is counted again
     pub waits_back : (back : ObjectCounts) → IsCounted after back object (count_of after object - 1) → KeepsMarks after back → HasWaiting old middle place before back events
@@ -55,27 +42,27 @@ module _ {old middle : Table (List (Keyed Posted))} {place : ℕ} {before betwee
         waits_twice (has_waiting middle middle place between back events (changes_same [] middle middle place refl)
         (back_going between after (events_at middle place) one.counted object way added marks back subtracted keeps) one.waits (omega (arith, ap length one.waits)))
 
-module _ {rows : Table (List (Keyed Posted))} {logs : Table Log} (are : AreLogged rows logs) (table : Table Queue) (view_is : paired_tables queue_of rows logs ≡ table) (place : ℕ) (is_place : IsPlace table place) where
+module _ {rows : Table (List (Keyed Posted))} {logs : Table Log} (are : AreLogged rows logs) {table : Table Queue} (view_is : paired_tables queue_of rows logs ≡ table) {place : ℕ} (is_place : IsPlace table place) where
   pub of_rows : IsPlace rows place
-  of_rows = omega (arith, is_place, ap (λ (t : Table Queue). length t.places) view_is, length-paired queue_of rows.places logs.places are.same)
+  of_rows = search (rules, length-paired)
 
   pub of_logs : IsPlace logs place
   of_logs = omega (arith, of_rows, are.same)
 
   -- what contracts see of the place
-  pub seen : (log : Log) → ((d : Log) → log ≡ get_or logs.places place d) → queue_at table place ≡ queue_of (rows_at rows place) log
-  seen log is =
+  pub seen : {log : Log} → ((d : Log) → log ≡ get_or logs.places place d) → queue_at table place ≡ queue_of (rows_at rows place) log
+  seen {log} is =
       ap (λ (t : Table Queue). queue_at t place) (sym view_is)
       ∙ (paired_at queue_of rows.places logs.places place [] log (record { events = []; lost = 0; mismatched = 0 }) are.same of_rows
       ∙ ap (queue_of (rows_at rows place)) (sym (is log)))
 
   -- and what holds of it
-  pub logged : (log : Log) → ((d : Log) → log ≡ get_or logs.places place d) → IsLogged (events_at rows place) log
-  logged log is = subst (IsLogged (events_at rows place)) (sym (is log)) (are.each place log of_rows)
+  pub logged : {log : Log} → ((d : Log) → log ≡ get_or logs.places place d) → IsLogged (events_at rows place) log
+  logged {log} is = subst (IsLogged (events_at rows place)) (sym (is log)) (are.each place log of_rows)
 
   -- the events stand as they stood
   pub same_events : HasEvents rows rows place (events_at rows place)
-  same_events = record { changed = changes_same [] rows rows place refl; now = refl }
+  same_events = grind (arith, common_steps)
 
   -- rows and logs after a change at the place
   pub record IsAfter (rows' : Table (List (Keyed Posted))) (logs' : Table Log) (queue : Queue) : Type 0 where
@@ -105,32 +92,32 @@ module _ {rows : Table (List (Keyed Posted))} {logs : Table Log} (are : AreLogge
             ∙ (ap (λ t. with_queue t place (queue_of (rows_at rows' place) log)) view_is
             ∙ ap (with_queue table place) (ap (λ list. record { events = waiting log.objects list; lost = log.lost; mismatched = log.mismatched }) has.now ∙ is)))
 
-  module _ (log : Log) (stood : (d : Log) → log ≡ get_or logs.places place d) where
-    pub lost_noted : (count : ℕ) → count ≡ noted log.lost → IsAfter rows (with_place logs place (record log { lost = count })) (with_lost (queue_at table place))
-    lost_noted count is =
-        let holds = logged log stood in
+  module _ {log : Log} (stood : (d : Log) → log ≡ get_or logs.places place d) where
+    pub lost_noted : {count : ℕ} → count ≡ noted log.lost → IsAfter rows (with_place logs place (record log { lost = count })) (with_lost (queue_at table place))
+    lost_noted {count} is =
+        let holds = logged stood in
         after rows (events_at rows place) same_events (record log { lost = count })
         (record { few = holds.few; queued = holds.queued; few_rows = holds.few_rows; counted = holds.counted; lost = omega (arith, is); mismatched = holds.mismatched })
         (with_lost (queue_at table place))
-        (ap (λ n. record { events = waiting log.objects (events_at rows place); lost = n; mismatched = log.mismatched }) is ∙ ap with_lost (sym (seen log stood)))
+        (ap (λ n. record { events = waiting log.objects (events_at rows place); lost = n; mismatched = log.mismatched }) is ∙ ap with_lost (sym (seen stood)))
 
-    pub mismatched_noted : (count : ℕ) → count ≡ noted log.mismatched → IsAfter rows (with_place logs place (record log { mismatched = count })) (with_mismatched (queue_at table place))
-    mismatched_noted count is =
-        let holds = logged log stood in
+    pub mismatched_noted : {count : ℕ} → count ≡ noted log.mismatched → IsAfter rows (with_place logs place (record log { mismatched = count })) (with_mismatched (queue_at table place))
+    mismatched_noted {count} is =
+        let holds = logged stood in
         after rows (events_at rows place) same_events (record log { mismatched = count })
         (record { few = holds.few; queued = holds.queued; few_rows = holds.few_rows; counted = holds.counted; lost = holds.lost; mismatched = omega (arith, is) })
         (with_mismatched (queue_at table place))
-        (ap (λ n. record { events = waiting log.objects (events_at rows place); lost = log.lost; mismatched = n }) is ∙ ap with_mismatched (sym (seen log stood)))
+        (ap (λ n. record { events = waiting log.objects (events_at rows place); lost = log.lost; mismatched = n }) is ∙ ap with_mismatched (sym (seen stood)))
 
-    pub all_cleared : (rows' : Table (List (Keyed Posted))) → HasEvents rows rows' place [] → (new : Log) → new.lost ≡ 0 → new.mismatched ≡ 0 → IsLogged [] new → IsAfter rows' (with_place logs place new) empty_queue
-    all_cleared rows' has new lost mismatched holds = after rows' [] has new holds empty_queue (rw (lost, mismatched) refl)
+    pub all_cleared : {rows' : Table (List (Keyed Posted))} → HasEvents rows rows' place [] → {new : Log} → new.lost ≡ 0 → new.mismatched ≡ 0 → IsLogged [] new → IsAfter rows' (with_place logs place new) empty_queue
+    all_cleared {rows'} has {new} lost mismatched holds = after rows' [] has new holds empty_queue (rw (lost, mismatched) refl)
 
     -- a log of other counts, by which these events wait
     module _ (rows' : Table (List (Keyed Posted))) (changed : ChangesAt [] place rows rows') (objects : ObjectCounts) (counted : AreCounted objects (events_at rows' place)) (events : List Event) (waits : waiting objects (events_at rows' place) ≡ events) where
       after_counts : (queued : ℕ) → queued ≡ length events → queued ≤ EVENTS → length (events_at rows' place) ≤ queued + EVENTS → (queue : Queue) → record { events = events; lost = log.lost; mismatched = log.mismatched } ≡ queue
           → IsAfter rows' (with_place logs place (record log { queued = queued; objects = objects })) queue
       after_counts queued is few few_rows queue same =
-          let holds = logged log stood in
+          let holds = logged stood in
           after rows' (events_at rows' place) (record { changed = changed; now = refl }) (record log { queued = queued; objects = objects })
           (record { few = few; queued = is ∙ sym (ap length waits); few_rows = few_rows; counted = counted; lost = holds.lost; mismatched = holds.mismatched })
           queue (ap (λ list. record { events = list; lost = log.lost; mismatched = log.mismatched }) waits ∙ same)
@@ -141,17 +128,15 @@ module _ {rows : Table (List (Keyed Posted))} {logs : Table Log} (are : AreLogge
     module _ (rows' : Table (List (Keyed Posted))) (objects : ObjectCounts) (events : List Event) (has : HasWaiting rows rows' place log.objects objects events) where
       after_waiting : (queued : ℕ) → queued ≡ length events → queued ≤ EVENTS → (queue : Queue) → record { events = events; lost = log.lost; mismatched = log.mismatched } ≡ queue
           → IsAfter rows' (with_place logs place (record log { queued = queued; objects = objects })) queue
-      after_waiting queued is few =
-          let holds = logged log stood in
-          after_counts rows' has.changed objects has.counted events has.waits queued is few (omega (arith, is, has.fewer, holds.few_rows, holds.queued))
+      after_waiting queued is few = search (rules, logged, after_counts)
 
     -- the first event that waits is taken, if there is any
-    module _ (rows' : Table (List (Keyed Posted))) (objects : ObjectCounts) (has : HasWaiting rows rows' place log.objects objects (drop 1 now_waiting)) where
-      pub first_taken : (event : Event) → Some event ≡ slice_get now_waiting 0 → (0 < log.queued) × IsAfter rows' (with_place logs place (record log { queued = log.queued - 1; objects = objects })) (taken (queue_at table place))
-      first_taken event first =
-          let holds = logged log stood in (
+    module _ {rows' : Table (List (Keyed Posted))} {objects : ObjectCounts} (has : HasWaiting rows rows' place log.objects objects (drop 1 now_waiting)) where
+      pub first_taken : {event : Event} → Some event ≡ slice_get now_waiting 0 → (0 < log.queued) × IsAfter rows' (with_place logs place (record log { queued = log.queued - 1; objects = objects })) (taken (queue_at table place))
+      first_taken {event} first =
+          let holds = logged stood in (
             some now_waiting first holds.queued,
-            after_waiting rows' objects (drop 1 now_waiting) has (log.queued - 1) (omega (arith, holds.queued, length-drop 1 now_waiting)) (omega (arith, holds.few)) (taken (queue_at table place)) (ap taken (sym (seen log stood))),
+            after_waiting rows' objects (drop 1 now_waiting) has (log.queued - 1) (omega (arith, holds.queued, length-drop 1 now_waiting)) (omega (arith, holds.few)) (taken (queue_at table place)) (ap taken (sym (seen stood))),
           )
         where
           some : (list : List Event) → Some event ≡ slice_get list 0 → log.queued ≡ length list → 0 < log.queued
@@ -160,8 +145,8 @@ module _ {rows : Table (List (Keyed Posted))} {logs : Table Log} (are : AreLogge
 
       pub none_taken : None ≡ slice_get now_waiting 0 → IsAfter rows' (with_place logs place (record log { objects = objects })) (taken (queue_at table place))
       none_taken first =
-          let holds = logged log stood in
-          after_waiting rows' objects (drop 1 now_waiting) has log.queued (stays now_waiting first holds.queued) holds.few (taken (queue_at table place)) (ap taken (sym (seen log stood)))
+          let holds = logged stood in
+          after_waiting rows' objects (drop 1 now_waiting) has log.queued (stays now_waiting first holds.queued) holds.few (taken (queue_at table place)) (ap taken (sym (seen stood)))
         where
           stays : (list : List Event) → None ≡ slice_get list 0 → log.queued ≡ length list → log.queued ≡ length (drop 1 list)
           stays [] none is = is
@@ -169,49 +154,47 @@ module _ {rows : Table (List (Keyed Posted))} {logs : Table Log} (are : AreLogge
 
     -- the events of an object are dropped
     module _ (objects : ObjectCounts) (object : ℕ) (same : (other : ℕ) → count_of objects other ≡ count_of log.objects other) (marks : (other : ℕ) → 0 < count_of objects other → is_dropped objects other ≡ (is_dropped log.objects other || (other == object)))
-        (waited : ℕ) (is : waited ≡ cond (is_dropped log.objects object) 0 (count_of log.objects object)) where
+        {waited : ℕ} (is : waited ≡ cond (is_dropped log.objects object) 0 (count_of log.objects object)) where
       left : length (others object now_waiting) + waited ≡ log.queued
-      left = let holds = logged log stood in dropped_length log.objects objects (events_at rows place) holds.counted object same waited is ∙ sym holds.queued
+      left = search (rules, logged, dropped_length)
 
       pub fewer_queued : waited ≤ log.queued
       fewer_queued = omega (arith, left)
 
       pub left_counted : AreCounted objects (events_at rows place)
-      left_counted = counted_yet log.objects objects (events_at rows place) (logged log stood).counted object same
+      left_counted = counted_yet log.objects objects (events_at rows place) (logged stood).counted object same
 
       left_waiting : waiting objects (events_at rows place) ≡ others object now_waiting
-      left_waiting = dropped_waiting log.objects objects (events_at rows place) (logged log stood).counted object same marks
+      left_waiting = dropped_waiting log.objects objects (events_at rows place) (logged stood).counted object same marks
 
       -- their rows stand
       pub all_dropped : length (rows_at rows place) ≤ 2 * (log.queued - waited) → IsAfter rows (with_place logs place (record log { queued = log.queued - waited; objects = objects })) (dropped object (queue_at table place))
       all_dropped most =
-          after_counts rows (changes_same [] rows rows place refl) objects left_counted (others object now_waiting) left_waiting (log.queued - waited) (omega (arith, left)) (omega (arith, (logged log stood).few))
-          (omega (arith, most, (logged log stood).few, length-map (rows_at rows place) (λ keyed. keyed.row.event))) (dropped object (queue_at table place)) (ap (dropped object) (sym (seen log stood)))
+          after_counts rows (changes_same [] rows rows place refl) objects left_counted (others object now_waiting) left_waiting (log.queued - waited) (omega (arith, left)) (omega (arith, (logged stood).few))
+          (omega (arith, most, (logged stood).few, length-map (rows_at rows place) (λ keyed. keyed.row.event))) (dropped object (queue_at table place)) (ap (dropped object) (sym (seen stood)))
 
       -- or were swept out
-      pub all_swept : (rows' : Table (List (Keyed Posted))) (objects' : ObjectCounts) → HasWaiting rows rows' place objects objects' (waiting objects (events_at rows place)) → events_at rows' place ≡ waiting objects (events_at rows place)
+      pub all_swept : {rows' : Table (List (Keyed Posted))} {objects' : ObjectCounts} → HasWaiting rows rows' place objects objects' (waiting objects (events_at rows place)) → events_at rows' place ≡ waiting objects (events_at rows place)
           → IsAfter rows' (with_place logs place (record log { queued = log.queued - waited; objects = objects' })) (dropped object (queue_at table place))
-      all_swept rows' objects' has all =
-          after_counts rows' has.changed objects' has.counted (others object now_waiting) (has.waits ∙ left_waiting) (log.queued - waited) (omega (arith, left)) (omega (arith, (logged log stood).few))
-          (omega (arith, ap length all, ap length left_waiting, left)) (dropped object (queue_at table place)) (ap (dropped object) (sym (seen log stood)))
+      all_swept {rows'} {objects'} has all =
+          after_counts rows' has.changed objects' has.counted (others object now_waiting) (has.waits ∙ left_waiting) (log.queued - waited) (omega (arith, left)) (omega (arith, (logged stood).few))
+          (omega (arith, ap length all, ap length left_waiting, left)) (dropped object (queue_at table place)) (ap (dropped object) (sym (seen stood)))
 
     -- there is a way for one more event
-    module _ (rows' : Table (List (Keyed Posted))) (objects : ObjectCounts) (has : HasWaiting rows rows' place log.objects objects now_waiting) where
+    module _ {rows' : Table (List (Keyed Posted))} {objects : ObjectCounts} (has : HasWaiting rows rows' place log.objects objects now_waiting) where
       pub unposted : IsAfter rows' (with_place logs place (record log { objects = objects })) (queue_at table place)
-      unposted = let holds = logged log stood in after_waiting rows' objects now_waiting has log.queued holds.queued holds.few (queue_at table place) (sym (seen log stood))
+      unposted = search (rules, logged, after_waiting, seen)
 
       -- another count of what is counted already fits
       pub count_fits : (object : ℕ) → count_of objects object < 2 ^ 32 - 1
-      count_fits object = let holds = logged log stood in omega (arith, few_counted objects (events_at rows' place) has.counted object, has.fewer, holds.few_rows, holds.few)
+      count_fits object = search (rules, logged, few_counted)
 
     pub takes_more : log.queued < EVENTS → has_room (queue_at table place) ≡ true
-    takes_more room = ap has_room (seen log stood) ∙ (let long = (logged log stood).queued in grind (arith, nat_tests, long, room))
+    takes_more room = grind (arith, common_steps, seen, logged)
 
-    pub one_posted : (rows' : Table (List (Keyed Posted))) (objects : ObjectCounts) (event : Event) → log.queued < EVENTS → HasWaiting rows rows' place log.objects objects (placed event now_waiting)
+    pub one_posted : {rows' : Table (List (Keyed Posted))} {objects : ObjectCounts} (event : Event) → log.queued < EVENTS → HasWaiting rows rows' place log.objects objects (placed event now_waiting)
         → IsAfter rows' (with_place logs place (record log { queued = log.queued + 1; objects = objects })) (posted (queue_at table place) event)
-    one_posted rows' objects event room has =
-        after_waiting rows' objects (placed event now_waiting) has (log.queued + 1) (omega (arith, (logged log stood).queued, length_placed event now_waiting)) (omega (arith, room)) (posted (queue_at table place) event)
-        (rw (takes_more room) (ap (λ (queue : Queue). record { events = placed event queue.events; lost = queue.lost; mismatched = queue.mismatched }) (sym (seen log stood))))
+    one_posted {rows'} {objects} event room has = search (rules, after_waiting, logged, length_placed, takes_more, seen)
 
     pub back_again : with_queue table place (queue_at table place) ≡ table
     back_again = with_same empty_queue table place
@@ -219,20 +202,16 @@ module _ {rows : Table (List (Keyed Posted))} {logs : Table Log} (are : AreLogge
     -- where the place is full all stays
     pub full_stays : (event : Event) → EVENTS ≤ log.queued → (has_room (queue_at table place) ≡ false) × (paired_tables queue_of rows (with_place logs place log) ≡ with_queue table place (posted (queue_at table place) event))
     full_stays event full =
-        let long = (logged log stood).queued in
-        let none : has_room (queue_at table place) ≡ false = ap has_room (seen log stood) ∙ grind (arith, nat_tests, long, full) in
+        let long = (logged stood).queued in
+        let none : has_room (queue_at table place) ≡ false = ap has_room (seen stood) ∙ grind (arith, nat_tests, long, full) in
         let whole : with_place logs place log ≡ logs = ap (with_place logs place) (stood log) ∙ with_same log logs place in
         (none, ap (paired_tables queue_of rows) whole ∙ (view_is ∙ rw none (sym back_again)))
 
     pub counts_told : record { queued = log.queued; lost = log.lost; mismatched = log.mismatched } ≡ counts_of (queue_at table place)
-    counts_told =
-        ap (λ n. record { queued = n; lost = log.lost; mismatched = log.mismatched }) (logged log stood).queued
-        ∙ ap counts_of (sym (seen log stood))
+    counts_told = grind (arith, common_steps, logged, seen)
 
     pub sound_at : IsSound (queue_at table place)
-    sound_at =
-        let holds = logged log stood in
-        subst IsSound (sym (seen log stood)) (record { few = omega (arith, holds.few, holds.queued); lost = holds.lost; mismatched = holds.mismatched })
+    sound_at = grind (arith, nat_tests, logged stood, seen stood)
 
 -- one more place, with no event
 pub record IsOpened (rows rows' : Table (List (Keyed Posted))) (logs' : Table Log) (table : Table Queue) : Type 0 where

@@ -1,5 +1,6 @@
 -- Where the row of an event stands among the rows of its place.
-use Rattle.std.proofs.Common.{◌≡◌, ◌≢◌, ◌∙◌, ℕ, suc, ◌+◌, ◌-◌, ◌*◌, ◌/◌, ◌^◌, ◌<◌, ◌≤◌, ◌==◌, Bool, true, false, not, cond, nat_lt, nat_le, List, [], ◌∷◌, ◌++◌, None, length, filter, get_or, refl, sym, ap, inl, inr, subst, arith, ⊎_elim}
+use Rattle.std.proofs.Common.{◌≡◌, ◌≢◌, ◌∙◌, ℕ, suc, ◌+◌, ◌-◌, ◌*◌, ◌/◌, ◌^◌, ◌<◌, ◌≤◌, ◌==◌, Bool, true, false, not, nat_lt, List, [], ◌∷◌, ◌++◌, None, length, filter, get_or, refl, sym, ap, arith, rules}
+use Rattle.std.proofs.lemmas.Grind.{common_steps}
 use Rattle.std.specs.List.{All, AllWithin}
 use Rattle.std.proofs.lemmas.Bool.{cases_lt, ne_eqb}
 use Rattle.std.proofs.lemmas.Bool.Decides.{nat_tests}
@@ -19,27 +20,10 @@ below_end posted rank below = omega (arith, below)
 behind_end : (posted : Posted) (rank : ℕ) → rank * 2 ^ 62 + 2 ^ 62 ≤ number_of posted → rank < rank_of (priority_of posted.event)
 behind_end posted rank behind = omega (arith, behind)
 
--- tests that agree
-both_pass : (a b c d : ℕ) → a < b → c ≤ d → nat_lt a b ≡ nat_le c d
-both_pass a b c d low le = grind (arith, nat_tests)
-
-both_fail : (a b c d : ℕ) → b ≤ a → d < c → nat_lt a b ≡ nat_le c d
-both_fail a b c d high gt = grind (arith, nat_tests)
-
-other_fail : (a b c d : ℕ) → a < b → c ≤ d → nat_lt b a ≡ not (nat_le c d)
-other_fail a b c d low le = grind (arith, nat_tests)
-
-other_pass : (a b c d : ℕ) → b < a → d < c → nat_lt b a ≡ not (nat_le c d)
-other_pass a b c d high gt = grind (arith, nat_tests)
-
 -- of rows that pass a test the events are those that pass one that agrees
 shown_filter : (test : Keyed Posted → Bool) (keep : Event → Bool) (rows : List (Keyed Posted)) → All (λ keyed. test keyed ≡ keep keyed.row.event) rows → events_of (filter test rows) ≡ filter keep (events_of rows)
 shown_filter test keep [] agree = refl
-shown_filter test keep (first ∷ rows) agree = rw (agree 0 first (omega arith)) (by (keep first.row.event) (shown_filter test keep rows (λ k d within. agree (suc k) d (omega arith))))
-  where
-    by : (b : Bool) → events_of (filter test rows) ≡ filter keep (events_of rows) → events_of (cond b (first ∷ filter test rows) (filter test rows)) ≡ cond b (first.row.event ∷ filter keep (events_of rows)) (filter keep (events_of rows))
-    by true later = ap (λ rest. first.row.event ∷ rest) later
-    by false later = later
+shown_filter test keep (first ∷ rows) agree = grind (arith, nat_tests, agree 0 first (omega arith), shown_filter test keep rows (λ k d within. agree (suc k) d (omega arith)))
 
 key_absent : (rows : List (Keyed Posted)) (number : ℕ) → All (λ keyed. number_of keyed.row ≢ number) rows → key_of number_of rows number ≡ None
 key_absent [] number apart = refl
@@ -56,27 +40,14 @@ module _ (rows : List (Keyed Posted)) (row : Posted) (start : ℕ) (is : start �
       ∙ ap (λ rest. filter (λ earlier. is_before earlier row.event) (events_of rows) ++ row.event ∷ rest) (shown_filter (λ keyed. nat_lt (number_of row) (number_of keyed.row)) (λ earlier. not (is_before earlier row.event)) rows back))
     where
       front : All (λ keyed. nat_lt (number_of keyed.row) (number_of row) ≡ is_before keyed.row.event row.event) rows
-      front k d within =
-          let other = (get_or rows k d).row in
-          ⊎_elim
-          (λ (below : number_of other < number_of row). both_pass (number_of other) (number_of row) (rank_of (priority_of other.event)) (rank_of (priority_of row.event)) below (below_end other (rank_of (priority_of row.event)) (omega (arith, below, low, is))))
-          (λ (behind : start + 2 ^ 62 ≤ number_of other). both_fail (number_of other) (number_of row) (rank_of (priority_of other.event)) (rank_of (priority_of row.event)) (omega (arith, behind, low)) (behind_end other (rank_of (priority_of row.event)) (omega (arith, behind, is))))
-          (seat k d within)
+      front k d within = let lower = below_end (get_or rows k d).row in let higher = behind_end (get_or rows k d).row in grind (arith, nat_tests, is, low, seat k d within, lower (rank_of (priority_of row.event)), higher (rank_of (priority_of row.event)))
 
       back : All (λ keyed. nat_lt (number_of row) (number_of keyed.row) ≡ not (is_before keyed.row.event row.event)) rows
-      back k d within =
-          let other = (get_or rows k d).row in
-          ⊎_elim
-          (λ (below : number_of other < number_of row). other_fail (number_of other) (number_of row) (rank_of (priority_of other.event)) (rank_of (priority_of row.event)) below (below_end other (rank_of (priority_of row.event)) (omega (arith, below, low, is))))
-          (λ (behind : start + 2 ^ 62 ≤ number_of other). other_pass (number_of other) (number_of row) (rank_of (priority_of other.event)) (rank_of (priority_of row.event)) (omega (arith, behind, low)) (behind_end other (rank_of (priority_of row.event)) (omega (arith, behind, is))))
-          (seat k d within)
+      back k d within = let lower = below_end (get_or rows k d).row in let higher = behind_end (get_or rows k d).row in grind (arith, nat_tests, is, low, seat k d within, lower (rank_of (priority_of row.event)), higher (rank_of (priority_of row.event)))
 
   -- no row has the number yet
   pub number_absent : key_of number_of rows (number_of row) ≡ None
-  number_absent = key_absent rows (number_of row) apart
-    where
-      apart : All (λ keyed. number_of keyed.row ≢ number_of row) rows
-      apart k d within same = ⊎_elim (λ (below : number_of (get_or rows k d).row < number_of row). omega (arith, below, same)) (λ (behind : start + 2 ^ 62 ≤ number_of (get_or rows k d).row). omega (arith, behind, low, same)) (seat k d within)
+  number_absent = search (rules, key_absent)
 
   module _ (count : IsCountBelow rows (start + 2 ^ 62) (length rows)) where
     -- where no row is of a lower priority the event stands behind all others
@@ -102,7 +73,7 @@ module _ (rows : List (Keyed Posted)) (event : Event) (number start : ℕ) (is :
   in_end = omega (arith, few, numbered)
 
   seated : IsSeat rows (number_of made) (start + 2 ^ 62)
-  seated = subst (λ n. IsSeat rows n (start + 2 ^ 62)) (sym numbered) seat
+  seated = grind (arith, common_steps)
 
   pub made_absent : key_of number_of rows (number_of made) ≡ None
   made_absent = number_absent rows made start is in_end seated
@@ -121,21 +92,9 @@ module _ (rows : List (Keyed Posted)) (end : ℕ) where
       let same : number_of (get_or rows at d).row ≡ number_of row = ap (λ (keyed : Keyed Posted). number_of keyed.row) (stands d) in
       omega (arith, under, same)
 
-  -- where all rows are behind the end, any number does
-  pub seat_first : (count number : ℕ) → IsCountBelow rows end count → count ≡ 0 → IsSeat rows number end
-  seat_first count number below none k d within = inr (below.above k d (omega (arith, none)) within)
-
   -- a number above that of the last row below the end
   pub seat_behind : IsSound number_of rows → (count at number key : ℕ) (row : Posted) → IsCountBelow rows end count → count ≡ at + 1 → IsAtPosition rows at key row → number_of row < number → IsSeat rows number end
-  seat_behind sound count at number key row below is stands above k d within = ⊎_elim
-      (λ (before : k < count).
-      let last : number_of (get_or rows at d).row ≡ number_of row = ap (λ (keyed : Keyed Posted). number_of keyed.row) (stands d) in
-      inl (⊎_elim
-      (λ (lower : k < at). let rises = sound.rising k at d lower (omega (arith, below.in_range, is)) in omega (arith, rises, last, above))
-      (λ (upper : at ≤ k). let same : k ≡ at = omega (arith, before, is, upper) in let here : number_of (get_or rows k d).row ≡ number_of row = ap (λ i. number_of (get_or rows i d).row) same ∙ last in omega (arith, here, above))
-      (cases_lt k at)))
-      (λ (behind : count ≤ k). inr (below.above k d behind within))
-      (cases_lt k count)
+  seat_behind sound count at number key row below is stands above k d within = grind (arith, nat_tests, stands d, sound.rising k, below.in_range, below.above k d)
 
 -- all rows before `low` are below the number, all from `high` on are not, and the next look is between
 pub record IsLooking (rows : List (Keyed Posted)) (number low high at : ℕ) : Type 0 where
@@ -145,21 +104,6 @@ pub record IsLooking (rows : List (Keyed Posted)) (number low high at : ℕ) : T
   pub above : AllWithin (λ keyed. number ≤ number_of keyed.row) rows high (length rows)
 
 module _ (rows : List (Keyed Posted)) (sound : IsSound number_of rows) (number : ℕ) where
-  pub look_begins : (high at : ℕ) → high ≡ length rows → at ≡ high - 1 → IsLooking rows number 0 high at
-  look_begins high at is last = record {
-    in_range = (omega arith, omega (arith, is));
-    between = λ some. (omega arith, omega (arith, some, last));
-    below = λ k d from until. absurd (omega (arith, from, until));
-    above = λ k d from until. absurd (omega (arith, from, until, is));
-  }
-
-  pub look_ends : (low high at : ℕ) → IsLooking rows number low high at → high ≤ low → IsCountBelow rows number low
-  look_ends low high at looking end = record {
-    in_range = omega (arith, looking.in_range.0, looking.in_range.1);
-    below = looking.below;
-    above = λ k d from until. looking.above k d (omega (arith, from, end)) until;
-  }
-
   module _ (low high at next key : ℕ) (row : Posted) (looking : IsLooking rows number low high at) (some : low < high) (stands : IsAtPosition rows at key row) where
     within : at < length rows
     within = omega (arith, (looking.between some).1, looking.in_range.1)
@@ -169,12 +113,7 @@ module _ (rows : List (Keyed Posted)) (sound : IsSound number_of rows) (number :
     look_right under is = record {
       in_range = (omega (arith, (looking.between some).1), looking.in_range.1);
       between = λ left. (omega (arith, is), omega (arith, is, left));
-      below = λ k d from until.
-          let last : number_of (get_or rows at d).row ≡ number_of row = ap (λ (keyed : Keyed Posted). number_of keyed.row) (stands d) in
-          ⊎_elim
-          (λ (lower : k < at). let rises = sound.rising k at d lower within in omega (arith, rises, last, under))
-          (λ (upper : at ≤ k). let same : k ≡ at = omega (arith, until, upper) in let here : number_of (get_or rows k d).row ≡ number_of row = ap (λ i. number_of (get_or rows i d).row) same ∙ last in omega (arith, here, under))
-          (cases_lt k at);
+      below = λ k d from until. grind (arith, nat_tests, stands d, sound.rising k at d, within, cases_lt k at);
       above = looking.above;
     }
 
@@ -184,10 +123,5 @@ module _ (rows : List (Keyed Posted)) (sound : IsSound number_of rows) (number :
       in_range = ((looking.between some).0, omega (arith, within));
       between = λ left. (omega (arith, is), omega (arith, is, left));
       below = looking.below;
-      above = λ k d from until.
-          let first : number_of (get_or rows at d).row ≡ number_of row = ap (λ (keyed : Keyed Posted). number_of keyed.row) (stands d) in
-          ⊎_elim
-          (λ (upper : at < k). let rises = sound.rising at k d upper until in omega (arith, rises, first, over))
-          (λ (lower : k ≤ at). let same : k ≡ at = omega (arith, from, lower) in let here : number_of (get_or rows k d).row ≡ number_of row = ap (λ i. number_of (get_or rows i d).row) same ∙ first in omega (arith, here, over))
-          (cases_lt at k);
+      above = λ k d from until. grind (arith, nat_tests, stands d, sound.rising at k d, within, cases_lt at k);
     }

@@ -1,9 +1,10 @@
 -- A search by halves.
-use Rattle.std.proofs.Common.{◌≡◌, ◌⊎◌, ⊎_elim, inl, inr, ℕ, ◌+◌, ◌<◌, ◌≤◌, Bool, true, false, List, [], ◌∷◌, length, get_or, refl, subst, arith}
+use Rattle.std.proofs.Common.{◌≡◌, ◌⊎◌, ⊎_elim, ℕ, ◌+◌, ◌<◌, ◌≤◌, Bool, true, false, List, [], ◌∷◌, length, get_or, refl, arith, rules}
+use Rattle.std.proofs.lemmas.Grind.{common_steps}
+use Rattle.std.proofs.lemmas.Bool.Decides.{nat_tests}
 use Rattle.std.specs.Fn.{AlwaysReturns, Called}
 use Rattle.std.specs.List.{AllWithin, HoldsAt}
 use Rattle.std.specs.List.Sorted.{IsPartitionPoint, IsPartitionedBy}
-use Rattle.std.proofs.lemmas.List.{get_or_read}
 use denote.Param.Members.{Mut}
 
 module _ {T : Type 0} (p : T → Bool) (xs : List T) where
@@ -20,17 +21,14 @@ module _ {T : Type 0} (p : T → Bool) (xs : List T) where
   from_failing at low h q first k d a b =
       not_true (p (get_or xs k d)) (λ passes. let here : p (get_or xs at d) ≡ true = first at k d (omega arith) b passes in let there : p (get_or xs at d) ≡ false = q d in absurd (cc))
 
-  pub unhalved : (size : ℕ) → length xs ≤ size → Halved 0 size
-  unhalved size whole = record { low = inl refl; high = λ first k d a b. absurd (omega arith) }
-
   pub failed : (base size middle left : ℕ) → middle ≤ base + left → Halved base size → HoldsAt (λ y. p y ≡ false) xs middle → Halved base left
-  failed base size middle left h n q = record { low = n.low; high = from_failing middle (base + left) h q }
+  failed base size middle left h n q = search (rules, from_failing)
 
   pub passed : (base size middle left : ℕ) → base + size ≤ middle + left → Halved base size → HoldsAt (λ y. p y ≡ true) xs middle → Halved middle left
-  passed base size middle left h n q = record { low = inr q; high = λ first k d a b. n.high first k d (omega arith) b }
+  passed base size middle left h n q = grind (arith, common_steps)
 
   pub after_passing : (base size : ℕ) → size ≤ 1 → base < length xs → Halved base size → HoldsAt (λ y. p y ≡ true) xs base → IsPartitionedBy p xs → IsPartitionPoint (λ y. p y ≡ true) (λ y. p y ≡ false) xs (base + 1)
-  after_passing base size one within n q first = (λ k d a b. first k base d (omega arith) within (q d), λ k d a b. n.high first k d (omega arith) b)
+  after_passing base size one within n q first = grind (arith, nat_tests, n.high first)
 
   pub at_failing : (base size : ℕ) → Halved base size → HoldsAt (λ y. p y ≡ false) xs base → IsPartitionedBy p xs → IsPartitionPoint (λ y. p y ≡ true) (λ y. p y ≡ false) xs base
   at_failing base size n q first = (
@@ -44,4 +42,4 @@ answers_next g P f a r f' c h = ((h.at (a ∷ []) r f' c).0, record { at = λ xs
 
 -- what was read holds there
 pub at_read : {T : Type 0} (xs : List T) (P : T → Type 0) (at : ℕ) (x : T) → at < length xs → x ≡ get_or xs at x → P x → HoldsAt P xs at
-at_read xs P at x within read holds d = subst P (get_or_read xs at x within read d) holds
+at_read xs P at x within read holds d = grind (arith, common_steps)

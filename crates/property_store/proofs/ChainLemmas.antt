@@ -1,6 +1,7 @@
 -- Properties that are linked.
-use Rattle.std.proofs.Common.{◌≡◌, ◌∙◌, ◌==◌, true, false, List, [], ◌∷◌, Option, Some, None, refl, sym, ap, subst, ⊎_elim, eqb-true}
-use Rattle.std.proofs.lemmas.Bool.{and_from, and_parts, both_ways, cases_Bool, eq-eqb, false_from_ne_true, or_cases, or_left, or_right}
+use Rattle.std.proofs.Common.{◌≡◌, ◌∙◌, true, false, List, [], ◌∷◌, Option, Some, None, refl, sym, ap, subst, ⊎_elim, arith, rules}
+use Rattle.std.proofs.lemmas.Grind.{common_steps}
+use Rattle.std.proofs.lemmas.Bool.{and_parts, both_ways, cases_Bool, false_from_ne_true, or_cases, or_left, or_right}
 use Rattle.property_store.specs.declared.link.Link.{Link}
 use Rattle.property_store.specs.declared.property.Property.{Property}
 use Rattle.property_store.specs.Property.{among, is_property}
@@ -8,17 +9,13 @@ use Rattle.property_store.specs.Chain.{AreLinked, IsChain, is_linked, link_to, n
 
 -- which property is meant
 pub same_property : (p q : Property) → is_property p q ≡ true → p ≡ q
-same_property p q is =
-    let parts = and_parts (p.object == q.object) (p.number == q.number) is in
-    let object = eqb-true p.object q.object parts.0 in
-    let number = eqb-true p.number q.number parts.1 in
-    (λ i. record { object = object i; number = number i })
+same_property p q is = search (rules, and_parts)
 
 pub itself : (p : Property) → is_property p p ≡ true
-itself p = and_from _ _ (eq-eqb p.object p.object refl) (eq-eqb p.number p.number refl)
+itself p = grind (arith, common_steps)
 
 pub turned : (p q : Property) → is_property p q ≡ false → is_property q p ≡ false
-turned p q differ = false_from_ne_true (is_property q p) (λ same. both_ways (is_property p q) differ (ap (is_property p) (same_property q p same) ∙ itself p))
+turned p q differ = grind (arith, common_steps)
 
 linked_end : (link : Option Property) → is_linked (Some (link_to link)) ≡ true
 linked_end None = refl
@@ -59,7 +56,7 @@ linked_kept at after first same no_more linked = record {
 }
 
 pub linked_same : (at after : Property → Option Link) (first : Option Property) → ((q : Property) → after q ≡ at q) → AreLinked at first → AreLinked after first
-linked_same at after first same linked = linked_kept at after first (λ q is. same q) (λ q is. ap is_linked (sym (same q)) ∙ is) linked
+linked_same at after first same linked = grind (arith, common_steps)
 
 -- one more property is linked
 pub linked_more : (at after : Property → Option Link) (first : Option Property) (p : Property)
@@ -123,4 +120,4 @@ nothing_linked at linked q = false_from_ne_true (is_linked (at q)) (λ is. by li
     by (property ∷ rest) chain stands = absurd (let e = chain.0 in cc)
 
 pub linked_nothing : (at : Property → Option Link) → ((q : Property) → is_linked (at q) ≡ false) → AreLinked at None
-linked_nothing at none = record { list = []; chain = refl; all = λ q is. absurd (both_ways (is_linked (at q)) (none q) is) }
+linked_nothing at none = search (rules, both_ways)

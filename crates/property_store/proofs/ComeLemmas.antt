@@ -1,7 +1,9 @@
 -- Objects and places that come, and objects that go.
-use Rattle.std.proofs.Common.{◌≡◌, ◌∙◌, ℕ, ◌+◌, ◌<◌, ◌≤◌, ◌==◌, ◌&&◌, ◌||◌, ◌++◌, nat_lt, not, Bool, true, false, cond, List, [], ◌∷◌, Some, None, length, get_or, refl, sym, ap, subst, arith, ⊎_elim}
+use Rattle.std.proofs.Common.{◌≡◌, ◌∙◌, ℕ, ◌<◌, ◌==◌, ◌&&◌, ◌||◌, ◌++◌, nat_lt, not, Bool, true, false, cond, List, [], ◌∷◌, Some, None, length, get_or, refl, sym, ap, subst, arith, ⊎_elim, rules}
+use Rattle.std.proofs.lemmas.Grind.{common_steps}
+use Rattle.std.proofs.lemmas.Bool.Decides.{nat_tests}
 use Rattle.std.specs.List.{All, slice_get}
-use Rattle.std.proofs.lemmas.Bool.{and_right, both_ways, cases_Bool, cases_eq, cases_lt, eq-eqb, le-ltb, lt-ltb, ne_eqb, or_left, or_right}
+use Rattle.std.proofs.lemmas.Bool.{and_right, cases_Bool, cases_eq, eq-eqb, le-ltb, lt-ltb, ne_eqb, or_left, or_right}
 use Rattle.std.proofs.lemmas.List.Elements.{All-append, All-filter}
 use Rattle.std.proofs.lemmas.List.{length_push}
 use Rattle.places.specs.Paired.{paired}
@@ -12,22 +14,19 @@ use Rattle.shared_rows.specs.Rows.{Keyed, inserted, key_of, rows_at, without}
 use Rattle.property_store.specs.declared.field.Field.{Field}
 use Rattle.property_store.specs.declared.link.Head.{Head}
 use Rattle.property_store.specs.declared.link.Head.TheVariants as head
-use Rattle.property_store.specs.declared.link.Link.{Link}
-use Rattle.property_store.specs.declared.link.Link.TheVariants as link
 use Rattle.property_store.specs.declared.property.Property.{Property}
 use Rattle.property_store.specs.declared.row.Row.{Row}
-use Rattle.property_store.specs.Property.{among}
-use Rattle.property_store.specs.Chain.{AreLinked, AreNew, first_of, is_all, is_linked, new_link}
+use Rattle.property_store.specs.Chain.{AreLinked, AreNew, first_of, is_all, is_linked}
 use Rattle.property_store.specs.Inside.{AreChained, AreKept, AreRows, IsKept, head_at, limited, link_at, marks_of, shelves_of, stock_of, store_of}
 use Rattle.property_store.specs.Marks.{AreMarked, HasMarks, Marks, all_marks, is_marked, is_new, marks_at, no_marks}
 use Rattle.property_store.specs.Store.{AreSound, Properties, Store, fields_in}
 use Rattle.property_store.specs.Store as store
-use Rattle.property_store.specs.Table.{Shelves, Stock, fields_of, store_at, with_store}
+use Rattle.property_store.specs.Table.{Stock, fields_of, store_at, with_store}
 use Rattle.property_store.proofs.ChainLemmas.{linked_nothing}
 use Rattle.property_store.proofs.HeadLemmas.{AreMoved, has_moved, kept_moved, limited_moved, marked_moved, marks_there}
 use Rattle.property_store.proofs.LinkLemmas.{link_absent, link_before, link_new, link_past, new_linked, new_unlinked, unlinked_without}
 use Rattle.property_store.proofs.MarkLemmas.{among_linked, each_none, marked_linked}
-use Rattle.property_store.proofs.PlaceLemmas.{after, inserted_all, kept_with, marks_seen, rows_open, shelves_seen, store_there, without_sound}
+use Rattle.property_store.proofs.PlaceLemmas.{after, inserted_all, kept_with, marks_seen, shelves_seen, without_sound}
 use Rattle.property_store.proofs.StoreLemmas.{IsRowOf, absent_kept, number, removed_shown}
 
 module _ {layouts : List (List Field)} {rows : Table (List (Keyed Row))} {heads : Table Head} (kept : IsKept layouts rows heads) {seen : Stock} (view_is : stock_of layouts rows heads ≡ seen) where
@@ -42,15 +41,10 @@ module _ {layouts : List (List Field)} {rows : Table (List (Keyed Row))} {heads 
   }
     where
       nothing : (k : ℕ) (d : List (Keyed Row)) → k < 1 → (i : ℕ) → i < length (get_or ([] ∷ []) k d) → ⊥
-      nothing k d within i inside =
-          let first : k ≡ 0 = omega (arith, within) in
-          let never : i < 0 = rw first at inside in
-          omega (arith, never)
+      nothing k d within i inside = grind (arith, common_steps)
 
   pub opened_marks : (rows' : Table (List (Keyed Row))) (heads' : Table Head) → rows' ≡ opened rows [] → heads' ≡ opened heads head.None → paired marks_of rows'.places heads'.places ≡ seen.marks ++ no_marks ∷ []
-  opened_marks rows' heads' rows_are heads_are =
-      (λ i. paired marks_of (rows_are i).places (heads_are i).places)
-      ∙ (paired_push marks_of rows.places heads.places [] head.None (sym kept.same) ∙ ap (λ marks. marks ++ no_marks ∷ []) (marks_seen view_is))
+  opened_marks rows' heads' rows_are heads_are = search (rules, paired_push, marks_seen)
 
   module _ (place : ℕ) (is_place : IsPlace seen.shelves.table place) where
     abbrev here : List (Keyed Row)
@@ -60,7 +54,7 @@ module _ {layouts : List (List Field)} {rows : Table (List (Keyed Row))} {heads 
     before = head_at heads place
 
     in_rows : IsPlace rows place
-    in_rows = rows_open (limited rows heads.room) (shelves_seen view_is) place is_place
+    in_rows = grind (arith, common_steps)
 
     -- rows go where nothing is linked, and all is marked
     pub record AreGone (rows' : Table (List (Keyed Row))) (heads' : Table Head) (left : Store) : Type 0 where
@@ -83,12 +77,12 @@ module _ {layouts : List (List Field)} {rows : Table (List (Keyed Row))} {heads 
     all_gone rows' rows_are = gone rows' [] [] rows_are (λ k d within. absurd (omega (arith, within))) (λ k d within. absurd (omega (arith, within))) (λ q. refl) refl
 
     pub none_linked : marks_at seen.marks place ≡ no_marks → (q : Property) → is_linked (link_at here q) ≡ false
-    none_linked unmarked q = sym (among_linked here before q) ∙ ap (λ (marks : Marks). among q marks.each) (sym (marks_there kept view_is place) ∙ unmarked)
+    none_linked unmarked q = grind (arith, nat_tests, among_linked here before q, marks_there kept view_is place)
 
     -- an object goes
     module _ (unmarked : marks_at seen.marks place ≡ no_marks) (n : ℕ) (rows' : Table (List (Keyed Row))) where
       store_here : store.without n (store_of layouts here) ≡ store.without n (store_at seen.shelves place)
-      store_here = ap (store.without n) (sym (store_there (limited rows heads.room) (shelves_seen view_is) place is_place))
+      store_here = grind (arith, common_steps)
 
       pub object_gone : (key : ℕ) (row : Row) → IsRowOf here key n row → rows' ≡ with_place rows place (without here key) → AreGone rows' (with_place heads place head.All) (store.without n (store_at seen.shelves place))
       object_gone key row is rows_are =
@@ -142,19 +136,7 @@ module _ {layouts : List (List Field)} {rows : Table (List (Keyed Row))} {heads 
           either false = refl
 
       fresh_linked : is_all before ≡ false → (k : ℕ) → is_linked (slice_get row.links k) ≡ nat_lt k count
-      fresh_linked some k = ⊎_elim
-          (λ (within : k < count). ap is_linked (new.each k within) ∙ (is_one before some ∙ sym (lt-ltb _ _ within)))
-          (λ (past : count ≤ k). ap is_linked (link_past row.links k (omega (arith, past, new.many))) ∙ sym (le-ltb _ _ past))
-          (cases_lt k count)
-        where
-          one_of : (b : Bool) (p : Property) (l : Link) → is_linked (Some l) ≡ true → is_linked (Some (cond b (link.Before p) l)) ≡ true
-          one_of true p l is = refl
-          one_of false p l is = is
-
-          is_one : (first : Head) → is_all first ≡ false → is_linked (Some (new_link n count first k)) ≡ true
-          is_one head.None some = one_of (nat_lt (k + 1) count) (record { object = n; number = k + 1 }) link.Last refl
-          is_one (head.First at) some = one_of (nat_lt (k + 1) count) (record { object = n; number = k + 1 }) (link.Before at) refl
-          is_one head.All some = absurd (both_ways true some refl)
+      fresh_linked some k = search (rules, count, lt-ltb, link_past, le-ltb)
 
       come_marked : (q : Property) → is_marked (marks_of list then) q ≡ (is_new n (fields_in layouts class) q || is_marked (marks_of here before) q)
       come_marked q = marked_linked list then q ∙ (⊎_elim on_all on_some (cases_Bool (is_all before)) ∙ ap (λ b. is_new n (fields_in layouts class) q || b) (sym (marked_linked here before q)))
@@ -195,10 +177,5 @@ module _ {layouts : List (List Field)} {rows : Table (List (Keyed Row))} {heads 
         pub come_kept : AreKept layouts rows' → IsKept layouts rows' heads'
         come_kept sound = kept_moved kept view_is place in_rows come_moved sound come_chained
 
-        pub come_limited : limited rows' heads'.room ≡ with_place (limited rows heads.room) place list
-        come_limited = limited_moved kept view_is place in_rows come_moved
-
         pub come_marks : AreMarked place (is_new n (fields_of seen.shelves class)) seen.marks (paired marks_of rows'.places heads'.places)
-        come_marks =
-            subst (λ fields. AreMarked place (is_new n fields) seen.marks (paired marks_of rows'.places heads'.places)) (ap (λ (s : Shelves). fields_in s.layouts class) (shelves_seen view_is))
-            (marked_moved kept view_is place in_rows come_moved (is_new n (fields_in layouts class)) come_marked)
+        come_marks = grind (arith, nat_tests, shelves_seen view_is, marked_moved kept view_is place in_rows come_moved (is_new n (fields_in layouts class)) come_marked)

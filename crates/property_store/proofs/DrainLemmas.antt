@@ -1,23 +1,17 @@
 -- What calls that take marks have told.
-use Rattle.std.proofs.Common.{◌≡◌, ◌∙◌, ◌&&◌, ◌||◌, nat_lt, not, true, false, List, [], ◌∷◌, filter, length, refl, sym, ap, arith, ⊎_elim}
-use Rattle.std.specs.List.{list_any}
-use Rattle.std.proofs.lemmas.Bool.{both_ways, cases_Bool, lt-ltb, or_left, or_parts}
+use Rattle.std.proofs.Common.{◌≡◌, ◌∙◌, ◌&&◌, ◌||◌, not, true, false, List, [], ◌∷◌, filter, sym, ap, arith, ⊎_elim, rules}
+use Rattle.std.proofs.lemmas.Grind.{common_steps}
+use Rattle.std.proofs.lemmas.Bool.{cases_Bool, or_left}
 use Rattle.std.proofs.lemmas.Map.Views.{any-filter_same}
 use Rattle.property_store.specs.declared.property.Property.{Property}
 use Rattle.property_store.specs.declared.written.Written.TheVariants as told
-use Rattle.property_store.specs.Laws.{DrainLaw, tells}
+use Rattle.property_store.specs.Laws.{DrainLaw}
 use Rattle.property_store.specs.Marks.{Marks, has_marks, is_marked}
 use Rattle.property_store.specs.Property.{among, is_property}
 use Rattle.property_store.proofs.ChainLemmas.{same_property}
 
 unmarked : (marks : Marks) → has_marks marks ≡ false → (q : Property) → is_marked marks q ≡ false
-unmarked marks none q =
-    let parts = or_parts marks.all (nat_lt 0 (length marks.each)) none in
-    ap (λ b. b || among q marks.each) parts.0 ∙ by marks.each parts.1
-  where
-    by : (list : List Property) → nat_lt 0 (length list) ≡ false → among q list ≡ false
-    by [] none = refl
-    by (p ∷ list) none = absurd (both_ways (nat_lt 0 (length (p ∷ list))) none (lt-ltb _ _ (omega arith)))
+unmarked marks none q = grind (arith, common_steps)
 
 -- those that are left are not the one that was taken
 left_over : (at q : Property) (list : List Property) → among at list ≡ true → (is_property at q || among q (filter (λ p. not (is_property at p)) list)) ≡ among q list
@@ -30,7 +24,7 @@ left_over at q list stands =
 
 pub drain_law : DrainLaw
 drain_law marks [] drains q = absurd drains
-drain_law marks (told.None ∷ rest) drains q = ap (list_any (tells q)) drains.1 ∙ sym (unmarked marks drains.0.1.0 q)
+drain_law marks (told.None ∷ rest) drains q = search (rules, unmarked)
 drain_law marks (told.One at ∷ rest) drains q =
     let taken = drains.1 in
     ap (λ b. is_property at q || b) (drain_law drains.0 rest drains.2 q ∙ ap (λ (m : Marks). is_marked m q) taken.2)

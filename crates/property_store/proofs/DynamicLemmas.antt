@@ -1,5 +1,6 @@
 -- Dynamic properties by their names.
 use Rattle.std.proofs.Common.{◌≡◌, ◌≢◌, ◌∙◌, ℕ, ◌<◌, ◌≤◌, not, nat_lt, is_some, true, false, List, [], ◌∷◌, ◌++◌, OnErr, OnOk, Option, Some, None, Result, Ok, Err, bytes_eq, cond, length, get_or, set, refl, sym, ap, subst, arith, ⊎_elim}
+use Rattle.std.proofs.lemmas.Bool.Decides.{nat_tests}
 use Rattle.std.specs.List.{remove}
 use Rattle.std.specs.Option.{option_map_or}
 use Rattle.std.specs.Cmp.Lexicographic.{bytes_decides}
@@ -106,13 +107,7 @@ with_dynamic_sound of name value sound short takes = by (dynamic_number name of.
         alone k d within = let first : k ≡ 0 = omega (arith, within) in rw first short
 
 pub without_dynamic_sound : (of : Properties) (name : List ℕ) → AreSound of → AreSound (without_dynamic name of)
-without_dynamic_sound of name sound = record {
-  kinds = sound.kinds;
-  short = sound.short;
-  few = omega (arith, sound.few, length-filter (λ (named : Named). not (bytes_eq named.name name)) of.dynamic, count_by-le-length (λ (named : Named). not (bytes_eq named.name name)) of.dynamic);
-  distinct = AllPairs-filter (λ (earlier later : Named). earlier.name ≢ later.name) (λ (named : Named). not (bytes_eq named.name name)) of.dynamic sound.distinct;
-  dynamic_short = All-filter (λ (named : Named). not (bytes_eq named.name name)) (λ (named : Named). IsShort named.value) of.dynamic sound.dynamic_short;
-}
+without_dynamic_sound of name sound = grind (arith, nat_tests, sound.kinds, sound.short, sound.few, length-filter (λ (named : Named). not (bytes_eq named.name name)) of.dynamic, count_by-le-length (λ (named : Named). not (bytes_eq named.name name)) of.dynamic, AllPairs-filter (λ (earlier later : Named). earlier.name ≢ later.name) (λ (named : Named). not (bytes_eq named.name name)) of.dynamic sound.distinct, All-filter (λ (named : Named). not (bytes_eq named.name name)) (λ (named : Named). IsShort named.value) of.dynamic sound.dynamic_short)
 
 -- what a call that may be refused leaves
 pub either_sound : (of : Properties) (name : List ℕ) (value : Value) → AreSound of → IsShort value → (dynamic : List Named) {T : Type 0} (done : Result T Fault) → RefusedBy (refusal_of_name name of.dynamic) done → OnOk done (dynamic ≡ with_name name value of.dynamic) → OnErr done (dynamic ≡ of.dynamic)

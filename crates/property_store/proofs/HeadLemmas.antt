@@ -1,8 +1,10 @@
 -- The heads of places, and the rows that they lead over.
-use Rattle.std.proofs.Common.{◌≡◌, ◌≢◌, ◌∙◌, ℕ, zero, suc, ◌==◌, ◌||◌, Bool, true, false, cond, List, [], ◌∷◌, Option, Some, None, length, get_or, set, refl, sym, ap, subst, arith, ⊎_elim}
+use Rattle.std.proofs.Common.{◌≡◌, ◌≢◌, ◌∙◌, ℕ, zero, suc, ◌==◌, ◌||◌, Bool, true, false, cond, List, [], ◌∷◌, Option, Some, None, length, get_or, refl, sym, ap, arith, ⊎_elim, rules}
+use Rattle.std.proofs.lemmas.Grind.{common_steps}
+use Rattle.std.proofs.lemmas.Bool.Decides.{nat_tests}
 use Rattle.std.specs.List.{All}
-use Rattle.std.proofs.lemmas.Bool.{cases_Bool, cases_eq, or_left, or_right}
-use Rattle.std.proofs.lemmas.List.{get_or-set_other, get_or-set_same, length-set, set-get_or}
+use Rattle.std.proofs.lemmas.Bool.{cases_Bool, or_left, or_right}
+use Rattle.std.proofs.lemmas.List.{set-get_or}
 use Rattle.std.proofs.lemmas.List.Elements.{All-map}
 use Rattle.places.specs.Paired.{paired}
 use Rattle.places.specs.Table.{IsPlace, Table, with_place}
@@ -25,7 +27,7 @@ use Rattle.property_store.proofs.ChainLemmas.{linked_more, linked_same, same_pro
 use Rattle.property_store.proofs.LinkLemmas.{link_elsewhere, link_here, link_of_old, link_within, links_same, same_properties}
 use Rattle.property_store.proofs.MarkLemmas.{each_same, marked_linked}
 use Rattle.property_store.proofs.KindLemmas.{as_many}
-use Rattle.property_store.proofs.PlaceLemmas.{IsChanged, marks_seen, rows_open, shelves_seen, under_all}
+use Rattle.property_store.proofs.PlaceLemmas.{IsChanged, marks_seen, shelves_seen, under_all}
 use Rattle.property_store.proofs.StoreLemmas.{IsRowOf, number}
 
 joined_marks : (rows : List (List (Keyed Row))) (heads : List Head) → length heads ≡ length rows → (place : ℕ) → get_or (paired marks_of rows heads) place no_marks ≡ marks_of (get_or rows place []) (get_or heads place head.None)
@@ -42,48 +44,32 @@ pub record AreMoved (rows : Table (List (Keyed Row))) (heads : Table Head) (rows
 
 module _ {layouts : List (List Field)} {rows : Table (List (Keyed Row))} {heads : Table Head} (kept : IsKept layouts rows heads) {seen : Stock} (view_is : stock_of layouts rows heads ≡ seen) (place : ℕ) where
   pub marks_there : marks_at seen.marks place ≡ marks_of (rows_at rows place) (head_at heads place)
-  marks_there = ap (λ marks. marks_at marks place) (sym (marks_seen view_is)) ∙ joined_marks rows.places heads.places kept.same place
-
-  pub heads_open : IsPlace rows place → IsPlace heads place
-  heads_open is_place = omega (arith, is_place, kept.same)
+  marks_there = search (rules, marks_seen, joined_marks)
 
   module _ {rows' : Table (List (Keyed Row))} {heads' : Table Head} {list : List (Keyed Row)} {first : Head} (is_place : IsPlace rows place) (moved : AreMoved rows heads rows' heads' place list first) where
     pub limited_moved : limited rows' heads'.room ≡ with_place (limited rows heads.room) place list
     limited_moved = (λ i. limited (moved.rows_are i) (moved.heads_are i).room)
 
-    same_moved : length heads'.places ≡ length rows'.places
-    same_moved = ap (λ (t : Table Head). length t.places) moved.heads_are ∙ (length-set heads.places place first ∙ (kept.same ∙ (sym (length-set rows.places place list) ∙ ap (λ (t : Table (List (Keyed Row))). length t.places) (sym moved.rows_are))))
-
     rows_here : rows_at rows' place ≡ list
-    rows_here = ap (λ t. rows_at t place) moved.rows_are ∙ get_or-set_same rows.places place list [] is_place
+    rows_here = grind (arith, common_steps)
 
     head_here : head_at heads' place ≡ first
-    head_here = ap (λ t. head_at t place) moved.heads_are ∙ get_or-set_same heads.places place first head.None (heads_open is_place)
+    head_here = grind (arith, common_steps)
 
     rows_beside : (other : ℕ) → other ≢ place → rows_at rows' other ≡ rows_at rows other
-    rows_beside other differ = ap (λ t. rows_at t other) moved.rows_are ∙ get_or-set_other rows.places place other list [] differ
+    rows_beside other differ = grind (arith, common_steps)
 
     head_beside : (other : ℕ) → other ≢ place → head_at heads' other ≡ head_at heads other
-    head_beside other differ = ap (λ t. head_at t other) moved.heads_are ∙ get_or-set_other heads.places place other first head.None differ
+    head_beside other differ = grind (arith, common_steps)
 
     pub kept_moved : AreKept layouts rows' → AreChained list first → IsKept layouts rows' heads'
-    kept_moved sound chained = record {
-      sound = sound;
-      same = same_moved;
-      chained = λ other. ⊎_elim
-          (λ (here : other ≡ place). subst (λ p. AreChained (rows_at rows' p) (head_at heads' p)) (sym here) (subst (λ l. AreChained l (head_at heads' place)) (sym rows_here) (subst (AreChained list) (sym head_here) chained)))
-          (λ (differ : other ≢ place). subst (λ l. AreChained l (head_at heads' other)) (sym (rows_beside other differ)) (subst (AreChained (rows_at rows other)) (sym (head_beside other differ)) (kept.chained other)))
-          (cases_eq other place);
-    }
+    kept_moved sound chained = grind (arith, common_steps)
 
     pub here_moved : marks_at (paired marks_of rows'.places heads'.places) place ≡ marks_of list first
-    here_moved = joined_marks rows'.places heads'.places same_moved place ∙ (λ i. marks_of (rows_here i) (head_here i))
+    here_moved = search (rules, joined_marks, rows_here, head_here)
 
     pub beside_moved : (other : ℕ) → other ≢ place → marks_at (paired marks_of rows'.places heads'.places) other ≡ marks_at seen.marks other
-    beside_moved other differ =
-        joined_marks rows'.places heads'.places same_moved other
-        ∙ ((λ i. marks_of (rows_beside other differ i) (head_beside other differ i))
-        ∙ (sym (joined_marks rows.places heads.places kept.same other) ∙ ap (λ marks. marks_at marks other) (marks_seen view_is)))
+    beside_moved other differ = search (rules, joined_marks, rows_beside, head_beside, marks_seen)
 
     pub marked_moved : (these : Property → Bool) → ((q : Property) → is_marked (marks_of list first) q ≡ (these q || is_marked (marks_of (rows_at rows place) (head_at heads place)) q)) → AreMarked place these seen.marks (paired marks_of rows'.places heads'.places)
     marked_moved these are = record {
@@ -95,52 +81,27 @@ module _ {layouts : List (List Field)} {rows : Table (List (Keyed Row))} {heads 
     has_moved marks are = record { here = here_moved ∙ are; others = beside_moved }
 
     pub marks_kept : marks_of list first ≡ marks_of (rows_at rows place) (head_at heads place) → paired marks_of rows'.places heads'.places ≡ seen.marks
-    marks_kept are =
-        (λ i. paired marks_of (moved.rows_are i).places (moved.heads_are i).places)
-        ∙ (paired_set marks_of rows.places heads.places place list first (sym kept.same)
-        ∙ (ap (set (paired marks_of rows.places heads.places) place) (are ∙ sym (joined_marks rows.places heads.places kept.same place))
-        ∙ (set-get_or (paired marks_of rows.places heads.places) place no_marks ∙ marks_seen view_is)))
+    marks_kept are = grind (arith, nat_tests, paired_set marks_of rows.places heads.places place list first (sym kept.same), joined_marks rows.places heads.places kept.same place, set-get_or (paired marks_of rows.places heads.places) place no_marks, marks_seen view_is)
 
 -- the row of an object is another
 module _ (rows : List (Keyed Row)) (key n : ℕ) (old row : Row) (is : IsRowOf rows key n old) (numbered : row.object ≡ n) (first : Head) (chained : AreChained rows first) where
   many_changed : length row.links ≡ length row.values → All (λ keyed. length keyed.row.links ≡ length keyed.row.values) (with_row rows key row)
-  many_changed many = All-map (λ (keyed : Keyed Row). length keyed.row.links ≡ length keyed.row.values) (λ (keyed : Keyed Row). cond (keyed.key == key) (record { key = key; row = row }) keyed) rows (λ k d within. by (get_or rows k d) ((get_or rows k d).key == key) (chained.as_many k d within))
-    where
-      by : (keyed : Keyed Row) (here : Bool) → length keyed.row.links ≡ length keyed.row.values → length (cond here (record { key = key; row = row }) keyed).row.links ≡ length (cond here (record { key = key; row = row }) keyed).row.values
-      by keyed true other = many
-      by keyed false other = other
+  many_changed many = grind (arith, nat_tests, All-map (λ (keyed : Keyed Row). length keyed.row.links ≡ length keyed.row.values) (λ (keyed : Keyed Row). cond (keyed.key == key) (record { key = key; row = row }) keyed) rows)
 
   pub properties_changed : length row.links ≡ length old.links → properties_in (with_row rows key row) ≡ properties_in rows
-  properties_changed many = same_properties (λ (keyed : Keyed Row). cond (keyed.key == key) (record { key = key; row = row }) keyed) rows (λ k d within. by (get_or rows k d) ((get_or rows k d).key == key) (is.alone k d within).1)
-    where
-      by : (keyed : Keyed Row) (here : Bool) → (here ≡ true → keyed.row ≡ old) → ((cond here (record { key = key; row = row }) keyed).row.object ≡ keyed.row.object) × (length (cond here (record { key = key; row = row }) keyed).row.links ≡ length keyed.row.links)
-      by keyed true same = (numbered ∙ (sym is.numbered ∙ ap (λ (r : Row). r.object) (sym (same refl))), many ∙ ap (λ (r : Row). length r.links) (sym (same refl)))
-      by keyed false same = (refl, refl)
+  properties_changed many = search (rules, same_properties)
 
   -- with the same links
   module _ (same : row.links ≡ old.links) where
     pub chained_same : length row.links ≡ length row.values → AreChained (with_row rows key row) first
-    chained_same many = record {
-      as_many = many_changed many;
-      linked = linked_same (link_at rows) (link_at (with_row rows key row)) (first_of first) (links_same rows key n old row is numbered same) chained.linked;
-    }
+    chained_same many = search (rules, many_changed, linked_same, links_same)
 
     pub marks_same : marks_of (with_row rows key row) first ≡ marks_of rows first
     marks_same = ap {B = Marks} (λ list. record { all = is_all first; each = list }) (each_same rows (with_row rows key row) first (properties_changed (ap length same)) (links_same rows key n old row is numbered same))
 
   -- one property is marked
   pub chained_marked : (at : ℕ) (linked : Bool) → IsMarking first at old.links row.links linked → length row.links ≡ length row.values → AreChained (with_row rows key row) (cond linked (head.First (record { object = n; number = at })) first)
-  chained_marked at true marking many =
-      let p : Property = record { object = n; number = at } in
-      let within = link_within old.links at _ marking.0 in
-      record {
-        as_many = many_changed many;
-        linked = linked_more (link_at rows) (link_at (with_row rows key row)) (first_of first) (record { object = n; number = at })
-            (ap is_linked (link_of_old rows key n old row is numbered p refl ∙ marking.0))
-            (link_here rows key n old row is numbered at (link_to (first_of first)) within marking.2)
-            (link_elsewhere rows key n old row is numbered at (link_to (first_of first)) within marking.2)
-            chained.linked;
-      }
+  chained_marked at true marking many = grind (arith, nat_tests, number, link_within old.links, many_changed many, linked_more (link_at rows) (link_at (with_row rows key row)) (first_of first) (record { object = n; number = at }), link_of_old rows key n old row is numbered, marking.0, link_here rows key n old row is numbered, link_elsewhere rows key n old row is numbered)
   chained_marked at false marking many = chained_same marking.0 many
 
   pub marked_marked : (at : ℕ) (linked : Bool) → IsMarking first at old.links row.links linked → (q : Property)
@@ -195,10 +156,10 @@ pub record IsRowChanged (layouts : List (List Field)) (rows : Table (List (Keyed
 
 module _ {layouts : List (List Field)} {rows : Table (List (Keyed Row))} {heads : Table Head} {rows' : Table (List (Keyed Row))} {heads' : Table Head} {seen : Stock} {place key n : ℕ} {old row : Row} {first : Head} (it : IsRowChanged layouts rows heads rows' heads' seen place key n old row first) where
   pub in_rows : IsPlace rows place
-  in_rows = rows_open (limited rows heads.room) (shelves_seen it.view_is) place it.is_place
+  in_rows = grind (arith, common_steps)
 
   pub as_moved : AreMoved rows heads rows' heads' place (with_row (rows_at rows place) key row) first
-  as_moved = record { rows_are = it.rows_are ∙ ap (λ r. with_place rows place (with_row (rows_at rows place) key r)) (sym it.leaves); heads_are = it.heads_are }
+  as_moved = grind (arith, common_steps)
 
   pub as_changed : IsChanged layouts (limited rows heads.room) (limited rows' heads'.room) seen.shelves place key n old row
   as_changed = record {

@@ -1,5 +1,7 @@
 -- Values of the kinds of their properties.
-use Rattle.std.proofs.Common.{◌≡◌, ◌∙◌, ℕ, Bor, Bool, true, false, cond, ℤ, unsigned_abs, IfSome, List, Option, Some, None, Ok, Err, length, map, get_or, set, refl, sym, ap, subst, arith}
+use Rattle.std.proofs.Common.{◌≡◌, ◌∙◌, ℕ, Bor, Bool, true, false, cond, ℤ, unsigned_abs, IfSome, List, Option, Some, None, Ok, Err, length, map, get_or, set, refl, sym, ap, subst, arith, rules}
+use Rattle.std.proofs.lemmas.Grind.{common_steps}
+use Rattle.std.proofs.lemmas.Bool.Decides.{nat_tests}
 use Rattle.std.specs.List.{slice_get}
 use Rattle.std.specs.Option.{ok_or, option_map}
 use Rattle.std.specs.Prelude.{option_and_then}
@@ -33,24 +35,14 @@ default_short k.Ulonglong = tt
 default_short k.Text = omega arith
 
 pub fresh_sound : (object : ℕ) (fields : List Field) → AreSound (fresh object fields)
-fresh_sound object fields = record {
-  kinds = map_over_map kind_of (λ (field : Field). default_of field.kind) fields ∙ map_at (λ (field : Field). kind_of (default_of field.kind)) (λ field. Some field.kind) fields (λ k d within. default_kind (get_or fields k d).kind);
-  short = All-map IsShort (λ (field : Field). default_of field.kind) fields (λ k d within. default_short (get_or fields k d).kind);
-  few = omega arith;
-  distinct = λ i j d lt within. absurd (omega (arith, within));
-  dynamic_short = λ k d within. absurd (omega (arith, within));
-}
+fresh_sound object fields = grind (arith, nat_tests, map_over_map kind_of (λ (field : Field). default_of field.kind) fields, map_at (λ (field : Field). kind_of (default_of field.kind)) (λ field. Some field.kind) fields (λ k d within. default_kind (get_or fields k d).kind), default_kind, All-map IsShort (λ (field : Field). default_of field.kind) fields (λ k d within. default_short (get_or fields k d).kind), default_short)
 
 module _ (of : Properties) (sound : AreSound of) (number : ℕ) where
   same_kind : option_map kind_of (slice_get of.values number) ≡ option_map (λ (field : Field). Some field.kind) (slice_get of.fields number)
-  same_kind = sym (slice_get-map kind_of of.values number) ∙ (ap (λ kinds. slice_get kinds number) sound.kinds ∙ slice_get-map (λ (field : Field). Some field.kind) of.fields number)
+  same_kind = grind (arith, nat_tests, slice_get-map kind_of of.values number, slice_get-map (λ (field : Field). Some field.kind) of.fields number)
 
   pub kind_there : (value : Value) (field : Field) → slice_get of.values number ≡ Some value → slice_get of.fields number ≡ Some field → IsOfKind field.kind value
-  kind_there value field value_is field_is =
-      let kinds : Some (kind_of value) ≡ Some (Some field.kind) = ap (option_map kind_of) (sym value_is) ∙ (same_kind ∙ ap (option_map (λ (f : Field). Some f.kind)) field_is) in
-      let kind : kind_of value ≡ Some field.kind = cc in
-      let is : get_or of.values number value ≡ value = get_or_from_slice_get of.values number value value value_is in
-      (kind, subst IsShort is (sound.short number value (slice_get_within of.values number value value_is)))
+  kind_there value field value_is field_is = search (rules, same_kind, get_or_from_slice_get, slice_get_within)
 
   pub value_kind : (result : Option (Bor Value)) → option_map (λ value. value.now) result ≡ slice_get of.values number → (field : Option Field) → slice_get of.fields number ≡ field → IfSome result (λ value. IfSome field (λ f. IsOfKind f.kind value.now))
   value_kind None value_is field field_is = tt
@@ -88,7 +80,7 @@ number_fits k.Text (Some z) fit e = absurd (cc)
 
 truth_fits : (o : Option Bool) (fit : Value) → option_map v.Bool o ≡ Some fit → IsOfKind k.Bool fit
 truth_fits None fit e = absurd (cc)
-truth_fits (Some b) fit e = let same : v.Bool b ≡ fit = cc in subst (IsOfKind k.Bool) same (refl, tt)
+truth_fits (Some b) fit e = grind (arith, common_steps)
 
 text_fits : (value fit : Value) → IsShort value → option_map v.Text (text_in value) ≡ Some fit → IsOfKind k.Text fit
 text_fits v.Invalid fit short e = absurd (cc)
@@ -97,7 +89,7 @@ text_fits (v.Int z) fit short e = absurd (cc)
 text_fits (v.Uint n) fit short e = absurd (cc)
 text_fits (v.Longlong z) fit short e = absurd (cc)
 text_fits (v.Ulonglong n) fit short e = absurd (cc)
-text_fits (v.Text text) fit short e = let same : v.Text text ≡ fit = cc in subst (IsOfKind k.Text) same (refl, short)
+text_fits (v.Text text) fit short e = grind (arith, common_steps)
 
 pub converted_fits : (kind : Kind) (value fit : Value) → IsShort value → converted kind value ≡ Some fit → IsOfKind kind fit
 converted_fits k.Bool value fit short e = truth_fits (truth_in value) fit e
@@ -108,7 +100,7 @@ converted_fits k.Ulonglong value fit short e = number_fits k.Ulonglong (number_i
 converted_fits k.Text value fit short e = text_fits value fit short e
 
 pub as_many : (of : Properties) → AreSound of → length of.values ≡ length of.fields
-as_many of sound = sym (length-map of.values kind_of) ∙ (ap length sound.kinds ∙ length-map of.fields (λ (field : Field). Some field.kind))
+as_many of sound = search (rules, length-map)
 
 -- what is stored leaves the properties sound
 pub stored_sound : (of : Properties) (number : ℕ) (value : Value) → AreSound of → IsShort value → AreSound (record of { values = with_fit (fit_in of.fields number value) number of.values })

@@ -1,10 +1,11 @@
 -- What link each property has where rows change.
-use Rattle.std.proofs.Common.{◌≡◌, ◌≢◌, ◌∙◌, ℕ, zero, suc, ◌+◌, ◌<◌, ◌≤◌, ◌==◌, nat_lt, not, Bool, true, false, cond, List, [], ◌∷◌, ◌++◌, Option, Some, None, filter, find, map, length, get_or, set, refl, sym, ap, subst, arith, ⊎_elim}
+use Rattle.std.proofs.Common.{◌≡◌, ◌≢◌, ◌∙◌, ℕ, zero, suc, ◌+◌, ◌<◌, ◌≤◌, ◌==◌, nat_lt, not, Bool, true, false, cond, List, [], ◌∷◌, ◌++◌, Option, Some, None, filter, find, map, length, set, refl, sym, ap, subst, arith, ⊎_elim, rules}
+use Rattle.std.proofs.lemmas.Grind.{common_steps}
+use Rattle.std.proofs.lemmas.Bool.Decides.{nat_tests}
 use Rattle.std.specs.List.{All, slice_get}
 use Rattle.std.specs.Prelude.{option_and_then}
 use Rattle.std.specs.Option.{IsSome, option_map}
 use Rattle.std.proofs.lemmas.Bool.{and_from, both_ways, cases_Bool, cases_eq, cases_lt, eq-eqb, eqb-true, le-ltb, lt-ltb, ne_eqb}
-use Rattle.std.proofs.lemmas.List.{length-set}
 use Rattle.shared_rows.specs.Rows.{Keyed, inserted, key_of, with_row, without}
 use Rattle.property_store.specs.declared.link.Head.{Head}
 use Rattle.property_store.specs.declared.link.Head.TheVariants as head
@@ -13,9 +14,9 @@ use Rattle.property_store.specs.declared.link.Link.TheVariants as link
 use Rattle.property_store.specs.declared.property.Property.{Property}
 use Rattle.property_store.specs.declared.row.Row.{Row}
 use Rattle.property_store.specs.Property.{is_property}
-use Rattle.property_store.specs.Chain.{AreLinked, AreNew, IsLinking, IsMarking, first_of, is_all, is_linked, link_to, new_link}
-use Rattle.property_store.specs.Inside.{link_at, numbers_of, properties_in, row_of, unlinked, without_link}
-use Rattle.property_store.proofs.ListLemmas.{filter_at, found, map_at, mapped, unmapped}
+use Rattle.property_store.specs.Chain.{AreLinked, AreNew, IsLinking, IsMarking, first_of, is_all, is_linked, link_to}
+use Rattle.property_store.specs.Inside.{link_at, properties_in, row_of, unlinked, without_link}
+use Rattle.property_store.proofs.ListLemmas.{filter_at, found, map_at, mapped}
 use Rattle.property_store.proofs.StoreLemmas.{IsRowOf, number}
 use Rattle.property_store.proofs.ChainLemmas.{linked_kept, linked_more, linked_same}
 
@@ -55,11 +56,10 @@ link_back (y ∷ links) (suc n) x is = ap (λ zs. y ∷ zs) (link_back links n x
 -- what is done to a link is done to it in a list
 pub marking : (first : Head) (links : List Link) (n : ℕ) (old new : Link) (linked : Bool) → slice_get links n ≡ Some old → IsLinking first old new linked → IsMarking first n links (set links n new) linked
 marking first links n old new true is linking = (is ∙ ap Some linking.0, linking.1, ap (set links n) linking.2)
-marking first links n old new false is linking = (ap (set links n) linking.0 ∙ link_back links n old is, λ some. ap is_linked is ∙ linking.1 some)
+marking first links n old new false is linking = search (rules, link_back)
 
 pub marking_as : (first : Head) (n : ℕ) {old old' new new' : List Link} {linked linked' : Bool} → old ≡ old' → new' ≡ new → linked' ≡ linked → IsMarking first n old new linked → IsMarking first n old' new' linked'
-marking_as first n {old} {old'} {new} {new'} {linked} {linked'} old_is new_is linked_is is =
-    subst (λ l. IsMarking first n l new' linked') old_is (subst (λ l. IsMarking first n old l linked') (sym new_is) (subst (IsMarking first n old new) (sym linked_is) is))
+marking_as first n {old} {old'} {new} {new'} {linked} {linked'} old_is new_is linked_is is = grind (arith, common_steps)
 
 -- the link that a row has for a property
 abbrev pub of_row : Property → Option Row → Option Link
@@ -113,62 +113,34 @@ module _ (rows : List (Keyed Row)) (key n : ℕ) (old row : Row) (is : IsRowOf r
 
   -- the links are the same
   pub links_same : row.links ≡ old.links → (q : Property) → link_at (with_row rows key row) q ≡ link_at rows q
-  links_same same q = ⊎_elim
-      (λ here. link_of_row q here ∙ (ap (λ links. slice_get links q.number) same ∙ sym (link_of_old q here)))
-      (λ other. ap (of_row q) (row_beside q.object other))
-      (cases_eq q.object n)
+  links_same same q = search (rules, link_of_row, link_of_old, of_row, row_beside)
 
   -- that of one property is another
   module _ (at : ℕ) (link : Link) (within : at < length old.links) (changed : row.links ≡ set old.links at link) where
     pub link_here : link_at (with_row rows key row) (record { object = n; number = at }) ≡ Some link
-    link_here = link_of_row (record { object = n; number = at }) refl ∙ (ap (λ links. slice_get links at) changed ∙ link_set old.links at link within)
+    link_here = grind (arith, nat_tests, link_of_row (record { object = n; number = at }) refl, number, link_set old.links)
 
     pub link_elsewhere : (q : Property) → is_property (record { object = n; number = at }) q ≡ false → link_at (with_row rows key row) q ≡ link_at rows q
-    link_elsewhere q differ = ⊎_elim
-        (λ here.
-        link_of_row q here
-        ∙ (ap (λ links. slice_get links q.number) changed
-        ∙ (link_other old.links at q.number link (λ same. both_ways (is_property (record { object = n; number = at }) q) differ (and_from (n == q.object) (at == q.number) (eq-eqb n q.object (sym here)) (eq-eqb at q.number (sym same))))
-        ∙ sym (link_of_old q here))))
-        (λ other. ap (of_row q) (row_beside q.object other))
-        (cases_eq q.object n)
+    link_elsewhere q differ = search (rules, link_of_row, link_other, both_ways, number, and_from, eq-eqb, link_of_old, of_row, row_beside)
 
 -- the properties themselves, where rows keep their numbers and how many links they have
 pub same_properties : (change : Keyed Row → Keyed Row) (rows : List (Keyed Row)) → All (λ keyed. ((change keyed).row.object ≡ keyed.row.object) × (length (change keyed).row.links ≡ length keyed.row.links)) rows → properties_in (map change rows) ≡ properties_in rows
 same_properties change [] same = refl
-same_properties change (first ∷ rest) same =
-    let here = same 0 first (omega arith) in
-    (λ i. numbers_of (here.0 i) (here.1 i) ++ same_properties change rest (λ k d within. same (suc k) d (omega (arith, within))) i)
+same_properties change (first ∷ rest) same = search (rules, same 0 first (omega arith), same_properties change rest (λ k d within. same (suc k) d (omega (arith, within))))
 
 -- searches past a filter, and past another list
 module _ {X : Type 0} (p : X → Bool) where
   find_passing : (f : X → Bool) → ((x : X) → p x ≡ true → f x ≡ true) → (xs : List X) → find p (filter f xs) ≡ find p xs
   find_passing f passes [] = refl
-  find_passing f passes (x ∷ xs) = by (p x) (f x) (passes x) (find_passing f passes xs) refl
-    where
-      by : (b c : Bool) → (b ≡ true → c ≡ true) → find p (filter f xs) ≡ find p xs → p x ≡ b → find p (cond c (x ∷ filter f xs) (filter f xs)) ≡ cond b (Some x) (find p xs)
-      by true true through later here = rw here refl
-      by true false through later here = absurd (both_ways false refl (through refl))
-      by false true through later here = rw here later
-      by false false through later here = later
+  find_passing f passes (x ∷ xs) = search (rules, f x, passes x, find_passing f passes xs)
 
   find_stopped : (f : X → Bool) → ((x : X) → p x ≡ true → f x ≡ false) → (xs : List X) → find p (filter f xs) ≡ None
   find_stopped f stops [] = refl
-  find_stopped f stops (x ∷ xs) = by (p x) (f x) (stops x) (find_stopped f stops xs) refl
-    where
-      by : (b c : Bool) → (b ≡ true → c ≡ false) → find p (filter f xs) ≡ None → p x ≡ b → find p (cond c (x ∷ filter f xs) (filter f xs)) ≡ None
-      by true true stopped later here = absurd (both_ways true (stopped refl) refl)
-      by true false stopped later here = later
-      by false true stopped later here = rw here later
-      by false false stopped later here = later
+  find_stopped f stops (x ∷ xs) = search (rules, f x, stops x, find_stopped f stops xs)
 
   find_behind : (xs ys : List X) → find p xs ≡ None → find p (xs ++ ys) ≡ find p ys
   find_behind [] ys none = refl
-  find_behind (x ∷ xs) ys none = by (p x) (find_behind xs ys) none
-    where
-      by : (b : Bool) → (find p xs ≡ None → find p (xs ++ ys) ≡ find p ys) → cond b (Some x) (find p xs) ≡ None → cond b (Some x) (find p (xs ++ ys)) ≡ find p ys
-      by true later none = absurd (cc)
-      by false later none = later none
+  find_behind (x ∷ xs) ys none = search (rules, find_behind xs ys)
 
   find_before : (xs ys : List X) → find p ys ≡ None → find p (xs ++ ys) ≡ find p xs
   find_before [] ys none = none
@@ -186,37 +158,20 @@ module _ (rows : List (Keyed Row)) (key : ℕ) (row : Row) where
   is_of m keyed = keyed.row.object == m
 
   found_new : find (is_of row.object) (inserted number rows key row) ≡ Some (record { key = key; row = row })
-  found_new =
-      find_behind (is_of row.object) below (record { key = key; row = row } ∷ above)
-      (find_stopped (is_of row.object) (λ keyed. nat_lt keyed.row.object row.object) (λ keyed here. le-ltb _ _ (omega (arith, eqb-true keyed.row.object row.object here))) rows)
-      ∙ (let at = eq-eqb row.object row.object refl in rw at refl)
+  found_new = search (rules, find_behind, is_of, above, find_stopped, le-ltb, eqb-true, eq-eqb)
 
   found_old : (m : ℕ) → (m ≡ row.object → ⊥) → find (is_of m) (inserted number rows key row) ≡ find (is_of m) rows
-  found_old m differ =
-      let behind : (ys : List (Keyed Row)) → find (is_of m) (record { key = key; row = row } ∷ ys) ≡ find (is_of m) ys = λ ys. (let not_new : (row.object == m) ≡ false = ne_eqb _ _ (λ same. differ (sym same)) in rw not_new refl) in
-      ⊎_elim
-      (λ (less : m < row.object).
-      find_before (is_of m) below (record { key = key; row = row } ∷ above)
-      (behind above ∙ find_stopped (is_of m) (λ keyed. nat_lt row.object keyed.row.object) (λ keyed here. le-ltb _ _ (omega (arith, less, eqb-true keyed.row.object m here))) rows)
-      ∙ find_passing (is_of m) (λ keyed. nat_lt keyed.row.object row.object) (λ keyed here. lt-ltb _ _ (omega (arith, less, eqb-true keyed.row.object m here))) rows)
-      (λ (more : row.object ≤ m).
-      let beyond : row.object < m = omega (arith, more, differ) in
-      find_behind (is_of m) below (record { key = key; row = row } ∷ above)
-      (find_stopped (is_of m) (λ keyed. nat_lt keyed.row.object row.object) (λ keyed here. le-ltb _ _ (omega (arith, more, eqb-true keyed.row.object m here))) rows)
-      ∙ (behind above ∙ find_passing (is_of m) (λ keyed. nat_lt row.object keyed.row.object) (λ keyed here. lt-ltb _ _ (omega (arith, beyond, eqb-true keyed.row.object m here))) rows))
-      (cases_lt m row.object)
+  found_old m differ = search (rules, is_of, ne_eqb, find_before, above, find_stopped, le-ltb, eqb-true, find_passing, lt-ltb, find_behind)
 
   pub link_new : (q : Property) → q.object ≡ row.object → link_at (inserted number rows key row) q ≡ slice_get row.links q.number
   link_new q same = ap (λ m. of_row q (row_of (inserted number rows key row) m)) same ∙ ap (λ found. of_row q (option_map (λ (keyed : Keyed Row). keyed.row) found)) found_new
 
   pub link_before : (q : Property) → (q.object ≡ row.object → ⊥) → link_at (inserted number rows key row) q ≡ link_at rows q
-  link_before q differ = ap (λ found. of_row q (option_map (λ (keyed : Keyed Row). keyed.row) found)) (found_old q.object differ)
+  link_before q differ = search (rules, of_row, found_old)
 
 -- no object of the number stands
 pub link_absent : (rows : List (Keyed Row)) (n : ℕ) → key_of number rows n ≡ None → (q : Property) → q.object ≡ n → link_at rows q ≡ None
-link_absent rows n none q same =
-    ap (λ m. of_row q (row_of rows m)) same
-    ∙ ap (λ found. of_row q (option_map (λ (keyed : Keyed Row). keyed.row) found)) (unmapped (λ (keyed : Keyed Row). keyed.key) (find (λ keyed. keyed.row.object == n) rows) none)
+link_absent rows n none q same = grind (arith, common_steps)
 
 -- an object goes, where nothing is linked
 pub unlinked_without : (rows : List (Keyed Row)) (key n : ℕ) (row : Row) → IsRowOf rows key n row → ((q : Property) → is_linked (link_at rows q) ≡ false) → (q : Property) → is_linked (link_at (without rows key) q) ≡ false
@@ -253,16 +208,7 @@ module _ (before after : Property → Option Link) (n count : ℕ) (first : Head
 
   module _ (some : is_all first ≡ false) where
     is_next : (k : ℕ) → k < count → slice_get links k ≡ Some (link_to (first_at (k + 1)))
-    is_next k within = new.each k within ∙ by first some
-      where
-        either : (b : Bool) (p : Property) (o : Option Property) → cond b (link.Before p) (link_to o) ≡ link_to (cond b (Some p) o)
-        either true p o = refl
-        either false p o = refl
-
-        by : (first : Head) → is_all first ≡ false → Some (new_link n count first k) ≡ Some (link_to (cond (nat_lt (k + 1) count) (Some (record { object = n; number = k + 1 })) (first_of first)))
-        by head.None some = ap Some (either (nat_lt (k + 1) count) (record { object = n; number = k + 1 }) None)
-        by (head.First at) some = ap Some (either (nat_lt (k + 1) count) (record { object = n; number = k + 1 }) (Some at))
-        by head.All some = absurd (both_ways true some refl)
+    is_next k within = grind (arith, common_steps)
 
     staged : AreLinked before (first_of first) → (left k : ℕ) → k + left ≡ count → AreLinked (stage k) (first_at k)
     staged linked zero k is =
@@ -337,14 +283,7 @@ module _ (at : Property) where
 
   row_freed : (rows : List (Keyed Row)) (m : ℕ) → row_of (without_link at rows) m ≡ option_map freed (row_of rows m)
   row_freed [] m = refl
-  row_freed (first ∷ rest) m = by (first.row.object == at.object) (first.row.object == m) refl refl (row_freed rest m)
-    where
-      by : (b c : Bool) → (first.row.object == at.object) ≡ b → (first.row.object == m) ≡ c → row_of (without_link at rest) m ≡ option_map freed (row_of rest m)
-          → row_of (cond b (record { key = first.key; row = unlinked at first.row }) first ∷ without_link at rest) m ≡ option_map freed (option_map (λ (keyed : Keyed Row). keyed.row) (cond c (Some first) (find (λ keyed. keyed.row.object == m) rest)))
-      by true true is here later = rw here (rw is refl)
-      by true false is here later = rw here later
-      by false true is here later = rw here (rw is refl)
-      by false false is here later = rw here later
+  row_freed (first ∷ rest) m = search (rules, row_freed rest m)
 
   pub link_freed : (rows : List (Keyed Row)) (was : Link) → link_at rows at ≡ Some was → link_at (without_link at rows) at ≡ Some link.Unmarked
   link_freed rows was is = ap (of_row at) (row_freed rows at.object) ∙ by (row_of rows at.object) refl is
@@ -369,27 +308,8 @@ module _ (at : Property) where
           (cases_Bool (row.object == at.object))
 
   pub properties_freed : (rows : List (Keyed Row)) → properties_in (without_link at rows) ≡ properties_in rows
-  properties_freed rows = same_properties (λ (keyed : Keyed Row). cond (keyed.row.object == at.object) (record { key = keyed.key; row = unlinked at keyed.row }) keyed) rows (λ k d within. by (get_or rows k d) ((get_or rows k d).row.object == at.object))
-    where
-      by : (keyed : Keyed Row) (b : Bool) → ((cond b (record { key = keyed.key; row = unlinked at keyed.row }) keyed).row.object ≡ keyed.row.object) × (length (cond b (record { key = keyed.key; row = unlinked at keyed.row }) keyed).row.links ≡ length keyed.row.links)
-      by keyed true = (refl, length-set keyed.row.links at.number link.Unmarked)
-      by keyed false = (refl, refl)
+  properties_freed rows = search (rules, same_properties)
 
   -- which is what the row of its object is changed to
   pub unlinked_row : (rows : List (Keyed Row)) (key : ℕ) (old : Row) → IsRowOf rows key at.object old → with_row rows key (unlinked at old) ≡ without_link at rows
-  unlinked_row rows key old is = map_at (λ (keyed : Keyed Row). cond (keyed.key == key) (record { key = key; row = unlinked at old }) keyed) (λ keyed. cond (keyed.row.object == at.object) (record { key = keyed.key; row = unlinked at keyed.row }) keyed) rows each
-    where
-      each : All (λ keyed. cond (keyed.key == key) (record { key = key; row = unlinked at old }) keyed ≡ cond (keyed.row.object == at.object) (record { key = keyed.key; row = unlinked at keyed.row }) keyed) rows
-      each k d within =
-          let alone = is.alone k d within in
-          ⊎_elim
-          (λ (here : ((get_or rows k d).key == key) ≡ true).
-          let numbered : ((get_or rows k d).row.object == at.object) ≡ true = sym alone.0 ∙ here in
-          rw (here, numbered) (same (get_or rows k d) (eqb-true _ _ here) (alone.1 here)))
-          (λ (other : ((get_or rows k d).key == key) ≡ false).
-          let differs : ((get_or rows k d).row.object == at.object) ≡ false = sym alone.0 ∙ other in
-          rw (other, differs) refl)
-          (cases_Bool ((get_or rows k d).key == key))
-        where
-          same : (keyed : Keyed Row) → keyed.key ≡ key → keyed.row ≡ old → ◌≡◌ {A = Keyed Row} (record { key = key; row = unlinked at old }) (record { key = keyed.key; row = unlinked at keyed.row })
-          same keyed key_is row_is = (λ i. record { key = sym key_is i; row = unlinked at (sym row_is i) })
+  unlinked_row rows key old is = search (rules, map_at)

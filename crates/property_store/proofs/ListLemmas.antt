@@ -1,8 +1,9 @@
 -- Lists, searched and changed.
-use Rattle.std.proofs.Common.{◌≡◌, ◌∙◌, ℕ, zero, suc, ◌+◌, ◌<◌, ◌≤◌, nat_lt, not, Bool, true, false, cond, List, [], ◌∷◌, Option, Some, None, filter, find, map, length, get_or, refl, sym, ap, arith, ⊎_elim}
+use Rattle.std.proofs.Common.{◌≡◌, ◌∙◌, ℕ, zero, suc, ◌+◌, ◌<◌, nat_lt, not, Bool, true, false, List, [], ◌∷◌, Option, Some, None, filter, find, map, length, get_or, refl, sym, ap, arith, ⊎_elim, rules}
+use Rattle.std.proofs.lemmas.Grind.{common_steps}
 use Rattle.std.specs.List.{All, AllPairs, position, position_or_len, remove, slice_get}
-use Rattle.std.specs.Option.{is_some, option_map}
-use Rattle.std.proofs.lemmas.Bool.{cases_Bool, cases_lt, le-ltb, lt-ltb, ltb-true}
+use Rattle.std.specs.Option.{option_map}
+use Rattle.std.proofs.lemmas.Bool.{cases_Bool, lt-ltb, ltb-true}
 use Rattle.std.proofs.lemmas.List.Folds.{find_at}
 use Rattle.std.proofs.lemmas.Option.{slice_get-get_or, slice_get_past}
 
@@ -10,24 +11,16 @@ module _ {X Y : Type 0} where
   -- functions that agree at each element
   pub map_at : (f g : X → Y) (xs : List X) → All (λ x. f x ≡ g x) xs → map f xs ≡ map g xs
   map_at f g [] same = refl
-  map_at f g (x ∷ xs) same = let here : f x ≡ g x = same 0 x (omega arith) in ap (λ y. y ∷ map f xs) here ∙ ap (λ ys. g x ∷ ys) (map_at f g xs (λ k d within. same (suc k) d (omega arith)))
+  map_at f g (x ∷ xs) same = search (rules, f x, g x, same 0 x (omega arith), map_at f g xs (λ k d within. same (suc k) d (omega arith)))
 
   -- a filter, and a search, of what a function makes of the elements
   pub filter_over_map : (f : X → Y) (p : Y → Bool) (xs : List X) → filter p (map f xs) ≡ map f (filter (λ x. p (f x)) xs)
   filter_over_map f p [] = refl
-  filter_over_map f p (x ∷ xs) = by (p (f x)) (filter_over_map f p xs)
-    where
-      by : (here : Bool) → filter p (map f xs) ≡ map f (filter (λ x. p (f x)) xs) → cond here (f x ∷ filter p (map f xs)) (filter p (map f xs)) ≡ map f (cond here (x ∷ filter (λ x. p (f x)) xs) (filter (λ x. p (f x)) xs))
-      by true rest = ap (λ ys. f x ∷ ys) rest
-      by false rest = rest
+  filter_over_map f p (x ∷ xs) = search (rules, p (f x), f x, filter_over_map f p xs)
 
   pub find_over_map : (f : X → Y) (p : Y → Bool) (xs : List X) → find p (map f xs) ≡ option_map f (find (λ x. p (f x)) xs)
   find_over_map f p [] = refl
-  find_over_map f p (x ∷ xs) = by (p (f x)) (find_over_map f p xs)
-    where
-      by : (here : Bool) → find p (map f xs) ≡ option_map f (find (λ x. p (f x)) xs) → cond here (Some (f x)) (find p (map f xs)) ≡ option_map f (cond here (Some x) (find (λ x. p (f x)) xs))
-      by true rest = refl
-      by false rest = rest
+  find_over_map f p (x ∷ xs) = search (rules, p (f x), f x, find_over_map f p xs)
 
 pub map_over_map : {X Y Z : Type 0} (g : Y → Z) (f : X → Y) (xs : List X) → map g (map f xs) ≡ map (λ x. g (f x)) xs
 map_over_map g f [] = refl
@@ -36,31 +29,23 @@ map_over_map g f (x ∷ xs) = ap (λ ys. g (f x) ∷ ys) (map_over_map g f xs)
 module _ {X : Type 0} where
   pub map_same : (f : X → X) (xs : List X) → All (λ x. f x ≡ x) xs → map f xs ≡ xs
   map_same f [] same = refl
-  map_same f (x ∷ xs) same = let here : f x ≡ x = same 0 x (omega arith) in ap (λ y. y ∷ map f xs) here ∙ ap (λ ys. x ∷ ys) (map_same f xs (λ k d within. same (suc k) d (omega arith)))
+  map_same f (x ∷ xs) same = search (rules, f x, same 0 x (omega arith), map_same f xs (λ k d within. same (suc k) d (omega arith)))
 
   -- tests that agree at each element
   pub filter_at : (p q : X → Bool) (xs : List X) → All (λ x. p x ≡ q x) xs → filter p xs ≡ filter q xs
   filter_at p q [] same = refl
-  filter_at p q (x ∷ xs) same =
-      let here : p x ≡ q x = same 0 x (omega arith) in
-      ap (λ b. cond b (x ∷ filter p xs) (filter p xs)) here ∙ ap (λ ys. cond (q x) (x ∷ ys) ys) (filter_at p q xs (λ k d within. same (suc k) d (omega arith)))
+  filter_at p q (x ∷ xs) same = search (rules, p x, q x, same 0 x (omega arith), filter_at p q xs (λ k d within. same (suc k) d (omega arith)))
 
   -- each element passes
   pub filter_all : (p : X → Bool) (xs : List X) → All (λ x. p x ≡ true) xs → filter p xs ≡ xs
   filter_all p [] all = refl
-  filter_all p (x ∷ xs) all = let here : p x ≡ true = all 0 x (omega arith) in rw here (ap (λ ys. x ∷ ys) (filter_all p xs (λ k d within. all (suc k) d (omega arith))))
+  filter_all p (x ∷ xs) all = search (rules, p x, all 0 x (omega arith), filter_all p xs (λ k d within. all (suc k) d (omega arith)))
 
   -- nothing is found where no element passes, and the other way round
   pub none_passes : (p : X → Bool) (xs : List X) → find p xs ≡ None → All (λ x. p x ≡ false) xs
   none_passes p [] none k d within = absurd (omega arith)
-  none_passes p (x ∷ xs) none zero d within = ⊎_elim
-      (λ (here : p x ≡ true). let found : Some x ≡ None = rw here at none in absurd (cc))
-      (λ (other : p x ≡ false). other)
-      (cases_Bool (p x))
-  none_passes p (x ∷ xs) none (suc k) d within = ⊎_elim
-      (λ (here : p x ≡ true). let found : Some x ≡ None = rw here at none in absurd (cc))
-      (λ (other : p x ≡ false). let rest : find p xs ≡ None = rw other at none in none_passes p xs rest k d (omega arith))
-      (cases_Bool (p x))
+  none_passes p (x ∷ xs) none zero d within = search (rules, p x)
+  none_passes p (x ∷ xs) none (suc k) d within = search (rules, p x, none_passes p xs)
 
   -- what a search finds stands somewhere
   pub record IsFound (p : X → Bool) (xs : List X) (x : X) : Type 0 where
@@ -90,44 +75,26 @@ pub record IsMapped {X Y : Type 0} (f : X → Y) (o : Option X) (y : Y) : Type 0
 
 pub mapped : {X Y : Type 0} (f : X → Y) (o : Option X) (y : Y) → option_map f o ≡ Some y → IsMapped f o y
 mapped f None y e = absurd (cc)
-mapped f (Some x) y e = let gives : f x ≡ y = cc in record { x = x; is = refl; gives = gives }
+mapped f (Some x) y e = search (rules, f x)
 
 pub unmapped : {X Y : Type 0} (f : X → Y) (o : Option X) → option_map f o ≡ None → o ≡ None
 unmapped f None e = refl
 unmapped f (Some x) e = absurd (cc)
 
-pub not_some : {X : Type 0} (o : Option X) → is_some o ≡ false → o ≡ None
-not_some None e = refl
-not_some (Some x) e = absurd (cc)
-
 -- what a look-up tells
 pub looked_up : {X : Type 0} (xs : List X) (k : ℕ) (x : X) → true ≡ nat_lt k (length xs) → x ≡ get_or xs k x → slice_get xs k ≡ Some x
-looked_up xs k x within is = slice_get-get_or xs k x (ltb-true k (length xs) (sym within)) ∙ ap Some (sym is)
+looked_up xs k x within is = search (rules, slice_get-get_or, ltb-true)
 
 -- where a test passes first
 module _ {X : Type 0} (p : X → Bool) (xs : List X) where
   pub position_some : (k : ℕ) → position p xs ≡ Some k → (position_or_len p xs ≡ k) × (k < length xs)
-  position_some k e = ⊎_elim
-      (λ (within : position_or_len p xs < length xs).
-      let test : nat_lt (position_or_len p xs) (length xs) ≡ true = lt-ltb _ _ within in
-      let same : Some (position_or_len p xs) ≡ Some k = rw test at e in
-      let is : position_or_len p xs ≡ k = cc in
-      (is, omega (arith, is, within)))
-      (λ (past : length xs ≤ position_or_len p xs).
-      let test : nat_lt (position_or_len p xs) (length xs) ≡ false = le-ltb _ _ past in
-      let never : None ≡ Some k = rw test at e in absurd (cc))
-      (cases_lt (position_or_len p xs) (length xs))
+  position_some k e = grind (arith, common_steps)
 
   pub position_none : position p xs ≡ None → find p xs ≡ None
-  position_none e = ⊎_elim
-      (λ (within : position_or_len p xs < length xs).
-      let test : nat_lt (position_or_len p xs) (length xs) ≡ true = lt-ltb _ _ within in
-      let never : Some (position_or_len p xs) ≡ None = rw test at e in absurd (cc))
-      (λ (past : length xs ≤ position_or_len p xs). find_at p xs ∙ slice_get_past xs (position_or_len p xs) past)
-      (cases_lt (position_or_len p xs) (length xs))
+  position_none e = search (rules, lt-ltb, find_at, slice_get_past)
 
   pub found_at : (k : ℕ) (d : X) → position p xs ≡ Some k → find p xs ≡ Some (get_or xs k d)
-  found_at k d e = let is = position_some k e in find_at p xs ∙ (ap (slice_get xs) is.0 ∙ slice_get-get_or xs k d is.1)
+  found_at k d e = search (rules, position_some, find_at, slice_get-get_or)
 
 -- where one element at most passes, the others are left when it is taken out
 pub filter_one : {X : Type 0} (p : X → Bool) (xs : List X) → AllPairs (λ x y. p x ≡ true → p y ≡ false) xs → (k : ℕ) → position_or_len p xs ≡ k → k < length xs → filter (λ x. not (p x)) xs ≡ remove xs k
@@ -137,9 +104,4 @@ filter_one p (x ∷ xs) one zero is within = ⊎_elim
     rw here (filter_all (λ x. not (p x)) xs (λ k d inside. let other : p (get_or xs k d) ≡ false = one 0 (suc k) d (omega arith) (omega arith) here in rw other refl)))
     (λ (other : p x ≡ false). let never : 1 + position_or_len p xs ≡ 0 = rw other at is in absurd (omega (arith, never)))
     (cases_Bool (p x))
-filter_one p (x ∷ xs) one (suc k) is within = ⊎_elim
-    (λ (here : p x ≡ true). let never : 0 ≡ suc k = rw here at is in absurd (omega (arith, never)))
-    (λ (other : p x ≡ false).
-    let later : 1 + position_or_len p xs ≡ suc k = rw other at is in
-    rw other (ap (λ ys. x ∷ ys) (filter_one p xs (λ i j d lt within. one (suc i) (suc j) d (omega arith) (omega arith)) k (omega (arith, later)) (omega (arith, within)))))
-    (cases_Bool (p x))
+filter_one p (x ∷ xs) one (suc k) is within = search (rules, p x, filter_one p xs (λ i j d lt within. one (suc i) (suc j) d (omega arith) (omega arith)) k)

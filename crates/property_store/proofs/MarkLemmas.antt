@@ -1,5 +1,7 @@
 -- The marks of a place.
-use Rattle.std.proofs.Common.{◌≡◌, ◌∙◌, ℕ, ◌<◌, ◌≤◌, ◌==◌, ◌&&◌, ◌||◌, nat_lt, not, Bool, true, false, cond, List, [], ◌∷◌, Option, Some, None, filter, length, refl, sym, ap, arith, ⊎_elim}
+use Rattle.std.proofs.Common.{◌≡◌, ◌∙◌, ℕ, ◌<◌, ◌≤◌, ◌==◌, ◌&&◌, ◌||◌, nat_lt, not, Bool, true, false, cond, List, [], ◌∷◌, Option, Some, None, filter, length, refl, sym, ap, arith, ⊎_elim, rules}
+use Rattle.std.proofs.lemmas.Grind.{common_steps}
+use Rattle.std.proofs.lemmas.Bool.Decides.{nat_tests}
 use Rattle.std.specs.List.{slice_get}
 use Rattle.std.proofs.lemmas.Bool.{and_from, both_ways, cases_Bool, eq-eqb, eqb-true, lt-ltb, or_left, or_right}
 use Rattle.std.proofs.lemmas.List.Elements.{filter_agree}
@@ -21,10 +23,7 @@ use Rattle.property_store.proofs.LinkLemmas.{link_within}
 
 -- a property that has a link is one of the properties
 number_stands : (object count : ℕ) (q : Property) → q.object ≡ object → q.number < count → among q (numbers_of object count) ≡ true
-number_stands object count q same within =
-    let f : ℕ → Property = λ number. record { object = object; number = number } in
-    list_any_at (is_property q) (numbers_of object count) q.number q (omega (arith, within, length-map-range_with_len f 0 count))
-    (ap (is_property q) (get_or-map-range_with_len f 0 count q.number q.number q within (omega arith)) ∙ and_from (q.object == object) (q.number == q.number) (eq-eqb _ _ same) (eq-eqb q.number q.number refl))
+number_stands object count q same within = grind (arith, nat_tests, list_any_at (is_property q) (numbers_of object count) q.number q, length-map-range_with_len, get_or-map-range_with_len, and_from (q.object == object) (q.number == q.number) (eq-eqb _ _ same) (eq-eqb q.number q.number refl), q.object, q.number, eq-eqb _ _ same, eq-eqb q.number q.number refl)
 
 property_stands : (rows : List (Keyed Row)) (q : Property) → is_linked (link_at rows q) ≡ true → among q (properties_in rows) ≡ true
 property_stands [] q is = absurd (both_ways false refl is)
@@ -48,12 +47,7 @@ property_stands (first ∷ rest) q is =
 
 -- a property is marked where it is linked
 pub among_linked : (rows : List (Keyed Row)) (first : Head) (q : Property) → among q (marks_of rows first).each ≡ is_linked (link_at rows q)
-among_linked rows first q =
-    any-filter_same (is_property q) (λ p. is_linked (link_at rows p)) (is_linked (link_at rows q)) (λ p same. ap (λ r. is_linked (link_at rows r)) (sym (same_property q p same))) (properties_in rows)
-    ∙ ⊎_elim
-    (λ (linked : is_linked (link_at rows q) ≡ true). rw linked (property_stands rows q linked))
-    (λ (other : is_linked (link_at rows q) ≡ false). rw other refl)
-    (cases_Bool (is_linked (link_at rows q)))
+among_linked rows first q = grind (arith, nat_tests, any-filter_same (is_property q) (λ p. is_linked (link_at rows p)) (is_linked (link_at rows q)) (λ p same. ap (λ r. is_linked (link_at rows r)) (sym (same_property q p same))) (properties_in rows), same_property q, property_stands rows q)
 
 pub marked_linked : (rows : List (Keyed Row)) (first : Head) (q : Property) → is_marked (marks_of rows first) q ≡ (is_all first || is_linked (link_at rows q))
 marked_linked rows first q = ap (λ b. is_all first || b) (among_linked rows first q)
@@ -61,31 +55,14 @@ marked_linked rows first q = ap (λ b. is_all first || b) (among_linked rows fir
 -- the marks where links change
 filter_twice : {X : Type 0} (f g : X → Bool) (xs : List X) → filter (λ x. g x && f x) xs ≡ filter g (filter f xs)
 filter_twice f g [] = refl
-filter_twice f g (x ∷ xs) = by (f x) (g x) refl (filter_twice f g xs)
-  where
-    by : (b c : Bool) → g x ≡ c → filter (λ x. g x && f x) xs ≡ filter g (filter f xs) → cond (c && b) (x ∷ filter (λ x. g x && f x) xs) (filter (λ x. g x && f x) xs) ≡ filter g (cond b (x ∷ filter f xs) (filter f xs))
-    by true true here later = rw here (ap (λ l. x ∷ l) later)
-    by true false here later = rw here later
-    by false true here later = later
-    by false false here later = later
+filter_twice f g (x ∷ xs) = search (rules, f x, g x, filter_twice f g xs)
 
 pub each_same : (rows after : List (Keyed Row)) (first : Head) → properties_in after ≡ properties_in rows → ((q : Property) → link_at after q ≡ link_at rows q) → (marks_of after first).each ≡ (marks_of rows first).each
-each_same rows after first same links =
-    ap (filter (λ q. is_linked (link_at after q))) same
-    ∙ filter_agree (λ q. is_linked (link_at after q)) (λ q. is_linked (link_at rows q)) (λ q. ap is_linked (links q)) (properties_in rows)
+each_same rows after first same links = grind (arith, common_steps)
 
 pub each_less : (rows after : List (Keyed Row)) (first then : Head) (p : Property) → properties_in after ≡ properties_in rows → is_linked (link_at after p) ≡ false → ((q : Property) → is_property p q ≡ false → link_at after q ≡ link_at rows q)
     → (marks_of after then).each ≡ filter (λ q. not (is_property p q)) (marks_of rows first).each
-each_less rows after first then p same gone others =
-    ap (filter (λ q. is_linked (link_at after q))) same
-    ∙ (filter_agree (λ q. is_linked (link_at after q)) (λ q. not (is_property p q) && is_linked (link_at rows q)) each (properties_in rows)
-    ∙ filter_twice (λ q. is_linked (link_at rows q)) (λ q. not (is_property p q)) (properties_in rows))
-  where
-    each : (q : Property) → is_linked (link_at after q) ≡ (not (is_property p q) && is_linked (link_at rows q))
-    each q = ⊎_elim
-        (λ (here : is_property p q ≡ true). ap (λ r. is_linked (link_at after r)) (sym (same_property p q here)) ∙ (gone ∙ rw here refl))
-        (λ (other : is_property p q ≡ false). ap is_linked (others q other) ∙ rw other refl)
-        (cases_Bool (is_property p q))
+each_less rows after first then p same gone others = grind (arith, nat_tests, filter_agree (λ q. is_linked (link_at after q)) (λ q. not (is_property p q) && is_linked (link_at rows q)), filter_twice (λ q. is_linked (link_at rows q)) (λ q. not (is_property p q)) (properties_in rows))
 
 pub each_none : (rows : List (Keyed Row)) (first : Head) → ((q : Property) → is_linked (link_at rows q) ≡ false) → (marks_of rows first).each ≡ []
 each_none rows first none = by (properties_in rows)
@@ -111,7 +88,7 @@ is_some_head (head.First at) = true
 is_some_head head.All = true
 
 pub head_tells : (rows : List (Keyed Row)) (first : Head) → AreLinked (link_at rows) (first_of first) → has_marks (marks_of rows first) ≡ is_some_head first
-head_tells rows head.None linked = ap (λ list. nat_lt 0 (length list)) (none_marked rows linked head.None)
+head_tells rows head.None linked = search (rules, none_marked)
 head_tells rows (head.First at) linked = some_stands at (marks_of rows (head.First at)).each (first_marked rows at (head.First at) linked)
 head_tells rows head.All linked = refl
 

@@ -1,5 +1,7 @@
 -- The stores of places in rows.
-use Rattle.std.proofs.Common.{Result, Ok, Err, OnErr, ◌≡◌, ◌∙◌, ℕ, ◌<◌, ◌==◌, nat_lt, not, Bool, true, false, cond, List, [], ◌∷◌, ◌++◌, Some, None, filter, find, length, get_or, refl, sym, ap, subst, arith}
+use Rattle.std.proofs.Common.{Result, Ok, Err, OnErr, ◌≡◌, ◌∙◌, ℕ, ◌<◌, ◌==◌, nat_lt, cond, List, [], ◌∷◌, Some, None, filter, find, length, get_or, sym, ap, subst, arith, rules}
+use Rattle.std.proofs.lemmas.Grind.{common_steps}
+use Rattle.std.proofs.lemmas.Bool.Decides.{nat_tests}
 use Rattle.std.specs.List.{All, AllPairs}
 use Rattle.std.specs.Option.{option_map}
 use Rattle.std.proofs.lemmas.List.{get_or-map, length-map, map-set}
@@ -20,57 +22,40 @@ use Rattle.property_store.proofs.StoreLemmas.{IsRowOf, absent_none, absent_uncha
 
 module _ {layouts : List (List Field)} (rows : Table (List (Keyed Row))) {seen : Shelves} (view_is : shelves_of layouts rows ≡ seen) (place : ℕ) where
   pub rows_open : IsPlace seen.table place → IsPlace rows place
-  rows_open is_place = omega (arith, is_place, ap (λ (s : Shelves). length s.table.places) view_is, length-map rows.places (store_of layouts))
+  rows_open is_place = search (rules, length-map)
 
   pub store_there : IsPlace seen.table place → store_at seen place ≡ store_of layouts (rows_at rows place)
-  store_there is_place =
-      ap (λ (s : Shelves). store_at s place) (sym view_is)
-      ∙ get_or-map (store_of layouts) rows.places place [] [] (rows_open is_place)
+  store_there is_place = grind (arith, common_steps)
 
   pub stands_there : IsPlace seen.table place → (position : ℕ) → position < length (store_at seen place) → position < length (rows_at rows place)
-  stands_there is_place position stands = omega (arith, stands, ap (length {A = Properties}) (store_there is_place), length-map (rows_at rows place) (λ (keyed : Keyed Row). shown layouts keyed.row))
+  stands_there is_place position stands = grind (arith, common_steps)
 
   pub at_there : IsPlace seen.table place → (position : ℕ) → position < length (store_at seen place) → (keyed : Keyed Row) → get_or (rows_at rows place) position keyed ≡ keyed → (default : Properties) → get_or (store_at seen place) position default ≡ shown layouts keyed.row
-  at_there is_place position stands keyed is default =
-      ap (λ (store : Store). get_or store position default) (store_there is_place)
-      ∙ (get_or-map (λ (keyed : Keyed Row). shown layouts keyed.row) (rows_at rows place) position keyed default (stands_there is_place position stands) ∙ ap (λ (k : Keyed Row). shown layouts k.row) is)
+  at_there is_place position stands keyed is default = grind (arith, common_steps)
 
   pub after : (new : Table (List (Keyed Row))) (list : List (Keyed Row)) (store : Store) → new ≡ with_place rows place list → store_of layouts list ≡ store → shelves_of layouts new ≡ with_store seen place store
-  after new list store e is =
-      ap (shelves_of layouts) e
-      ∙ (ap {B = Shelves} (λ places. record { layouts = layouts; table = record { places = places; room = rows.room } }) (map-set (store_of layouts) rows.places place list)
-      ∙ (ap (λ s. with_store (shelves_of layouts rows) place s) is ∙ ap (λ shelves. with_store shelves place store) view_is))
+  after new list store e is = search (rules, map-set)
 
 pub unchanged_store : (seen : Shelves) (place : ℕ) (store : Store) → store ≡ store_at seen place → seen ≡ with_store seen place store
-unchanged_store seen place store is = sym (ap (with_store seen place) is ∙ ap {B = Shelves} (λ table. record seen { table = table }) (with_same [] seen.table place))
+unchanged_store seen place store is = search (rules, with_same)
 
 -- what holds of all rows and of one that comes
 pub inserted_all : (P : Row → Type 0) (rows : List (Keyed Row)) → All (λ keyed. P keyed.row) rows → (key : ℕ) (row : Row) → P row → All (λ keyed. P keyed.row) (inserted number rows key row)
-inserted_all P rows all key row is =
-    All-append (λ (keyed : Keyed Row). P keyed.row) (filter (λ keyed. nat_lt keyed.row.object row.object) rows) (record { key = key; row = row } ∷ filter (λ keyed. nat_lt row.object keyed.row.object) rows)
-    (All-filter (λ (keyed : Keyed Row). nat_lt keyed.row.object row.object) (λ keyed. P keyed.row) rows all)
-    (All-append (λ (keyed : Keyed Row). P keyed.row) (record { key = key; row = row } ∷ []) (filter (λ keyed. nat_lt row.object keyed.row.object) rows) (λ k d within. subst (λ (keyed : Keyed Row). P keyed.row) (alone k d within) is) (All-filter (λ (keyed : Keyed Row). nat_lt row.object keyed.row.object) (λ keyed. P keyed.row) rows all))
-  where
-    alone : (k : ℕ) (d : Keyed Row) → k < 1 → record { key = key; row = row } ≡ get_or (record { key = key; row = row } ∷ []) k d
-    alone k d within = let first : k ≡ 0 = omega (arith, within) in rw first refl
+inserted_all P rows all key row is = grind (arith, nat_tests, All-append (λ (keyed : Keyed Row). P keyed.row) (filter (λ keyed. nat_lt keyed.row.object row.object) rows) (record { key = key; row = row } ∷ filter (λ keyed. nat_lt row.object keyed.row.object) rows) (All-filter (λ (keyed : Keyed Row). nat_lt keyed.row.object row.object) (λ keyed. P keyed.row) rows all), All-filter (λ (keyed : Keyed Row). nat_lt keyed.row.object row.object) (λ keyed. P keyed.row) rows all, All-append (λ (keyed : Keyed Row). P keyed.row) (record { key = key; row = row } ∷ []) (filter (λ keyed. nat_lt row.object keyed.row.object) rows), All-filter (λ (keyed : Keyed Row). nat_lt row.object keyed.row.object) (λ keyed. P keyed.row) rows all)
 
 module _ (layouts : List (List Field)) where
   module _ (rows : List (Keyed Row)) (sound : AreRows layouts rows) where
     pub with_row_sound : (key : ℕ) (row : Row) → AreSound (shown layouts row) → AreRows layouts (with_row rows key row)
-    with_row_sound key row is = All-map (λ (keyed : Keyed Row). AreSound (shown layouts keyed.row)) (λ (keyed : Keyed Row). cond (keyed.key == key) (record { key = key; row = row }) keyed) rows (λ k d within. by (get_or rows k d) ((get_or rows k d).key == key) (sound k d within))
-      where
-        by : (keyed : Keyed Row) (here : Bool) → AreSound (shown layouts keyed.row) → AreSound (shown layouts (cond here (record { key = key; row = row }) keyed).row)
-        by keyed true other = is
-        by keyed false other = other
+    with_row_sound key row is = grind (arith, nat_tests, All-map (λ (keyed : Keyed Row). AreSound (shown layouts keyed.row)) (λ (keyed : Keyed Row). cond (keyed.key == key) (record { key = key; row = row }) keyed) rows)
 
     pub without_sound : (key : ℕ) → AreRows layouts (without rows key)
-    without_sound key = All-filter (λ (keyed : Keyed Row). not (keyed.key == key)) (λ (keyed : Keyed Row). AreSound (shown layouts keyed.row)) rows sound
+    without_sound key = search (rules, All-filter)
 
     pub inserted_sound : (key : ℕ) (row : Row) → AreSound (shown layouts row) → AreRows layouts (inserted number rows key row)
     inserted_sound key row is = inserted_all (λ row. AreSound (shown layouts row)) rows sound key row is
 
   pub kept_with : (rows : Table (List (Keyed Row))) → AreKept layouts rows → (place : ℕ) (new : Table (List (Keyed Row))) (list : List (Keyed Row)) → new ≡ with_place rows place list → AreRows layouts list → AreKept layouts new
-  kept_with rows kept place new list e sound = subst (AreKept layouts) (sym e) (All-set (AreRows layouts) rows.places place list sound kept)
+  kept_with rows kept place new list e sound = search (rules, All-set)
 
 -- a row that stands under a key is one of the rows
 pub under_all : (P : Row → Type 0) (rows : List (Keyed Row)) → All (λ keyed. P keyed.row) rows → (key : ℕ) (row : Row) → row_under rows key ≡ Some row → P row
@@ -97,7 +82,7 @@ store_sound layouts rows sound each = record { rising = rising rows sound; each 
 -- what is read of a place
 module _ {layouts : List (List Field)} (rows : Table (List (Keyed Row))) {seen : Shelves} (view_is : shelves_of layouts rows ≡ seen) (place : ℕ) (is_place : IsPlace seen.table place) (n : ℕ) where
   properties_there : properties_of (store_at seen place) n ≡ option_map (shown layouts) (row_of (rows_at rows place) n)
-  properties_there = ap (λ s. properties_of s n) (store_there rows view_is place is_place) ∙ properties_shown layouts (rows_at rows place) n
+  properties_there = grind (arith, common_steps, store_there, properties_shown)
 
   pub one_there : (row : Row) → Some row ≡ row_of (rows_at rows place) n → properties_of (store_at seen place) n ≡ Some (shown layouts row)
   one_there row e = properties_there ∙ ap (option_map (shown layouts)) (sym e)
@@ -108,12 +93,10 @@ module _ {layouts : List (List Field)} (rows : Table (List (Keyed Row))) {seen :
   -- no row has the number
   module _ (none : key_of number (rows_at rows place) n ≡ None) where
     pub nothing : properties_of (store_at seen place) n ≡ None
-    nothing = ap (λ s. properties_of s n) (store_there rows view_is place is_place) ∙ absent_none layouts (rows_at rows place) n none
+    nothing = grind (arith, common_steps, store_there, absent_none)
 
     pub nothing_changed : (change : Properties → Properties) → seen ≡ with_store seen place (changed change n (store_at seen place))
-    nothing_changed change =
-        let there = store_there rows view_is place is_place in
-        unchanged_store seen place (changed change n (store_at seen place)) (ap (changed change n) there ∙ (absent_unchanged layouts (rows_at rows place) n none change ∙ sym there))
+    nothing_changed change = grind (arith, common_steps, store_there, unchanged_store, absent_unchanged)
 
 -- the row of a number is lent to a call, which changes it where it stands
 pub record IsChanged (layouts : List (List Field)) (rows new : Table (List (Keyed Row))) (seen : Shelves) (place key n : ℕ) (old row : Row) : Type 0 where
@@ -134,7 +117,7 @@ module _ {layouts : List (List Field)} {rows new : Table (List (Keyed Row))} {se
   under_old = it.under ∙ ap Some (sym it.lends)
 
   with_new : new ≡ with_place rows place (with_row (rows_at rows place) key row)
-  with_new = it.new_is ∙ ap (λ r. with_place rows place (with_row (rows_at rows place) key r)) (sym it.leaves)
+  with_new = grind (arith, common_steps)
 
   each_sound : AreRows layouts (rows_at rows place)
   each_sound = it.kept place [] (rows_open rows it.view_is place it.is_place)
@@ -157,13 +140,7 @@ module _ {layouts : List (List Field)} {rows new : Table (List (Keyed Row))} {se
       (changed_shown layouts (rows_at rows place) key n old is_row row change e ∙ ap (changed change n) (sym (store_there rows it.view_is place it.is_place)))
 
   pub view_same : shown layouts row ≡ shown layouts old → shelves_of layouts new ≡ seen
-  view_same e =
-      view_under (λ of. of) e
-      ∙ sym (unchanged_store seen place (changed (λ of. of) n (store_at seen place)) (map_same (λ (of : Properties). cond (of.object == n) of of) (store_at seen place) (λ k d within. either ((get_or (store_at seen place) k d).object == n) (get_or (store_at seen place) k d))))
-    where
-      either : (b : Bool) (of : Properties) → cond b of of ≡ of
-      either true of = refl
-      either false of = refl
+  view_same e = grind (arith, nat_tests, view_under (λ of. of) e, unchanged_store seen place (changed (λ of. of) n (store_at seen place)), map_same (λ (of : Properties). cond (of.object == n) of of) (store_at seen place))
 
 -- a row that is found is one of the rows
 pub found_sound : (layouts : List (List Field)) (rows : List (Keyed Row)) → AreRows layouts rows → (n : ℕ) (row : Row) → Some row ≡ row_of rows n → AreSound (shown layouts row)
@@ -175,9 +152,7 @@ found_sound layouts rows sound n row e =
 -- an object that comes
 module _ {layouts : List (List Field)} (rows : Table (List (Keyed Row))) {seen : Shelves} (view_is : shelves_of layouts rows ≡ seen) (place : ℕ) (is_place : IsPlace seen.table place) (n : ℕ) where
   pub no_key : properties_of (store_at seen place) n ≡ None → key_of number (rows_at rows place) n ≡ None
-  no_key none =
-      let nowhere = unmapped (shown layouts) (row_of (rows_at rows place) n) (sym (properties_there rows view_is place is_place n) ∙ none) in
-      ap (option_map (λ (keyed : Keyed Row). keyed.key)) (unmapped (λ (keyed : Keyed Row). keyed.row) (find (λ keyed. keyed.row.object == n) (rows_at rows place)) nowhere)
+  no_key none = grind (arith, nat_tests, unmapped (shown layouts) (row_of (rows_at rows place) n) (sym (properties_there rows view_is place is_place n) ∙ none), properties_there rows view_is place is_place n, unmapped (λ (keyed : Keyed Row). keyed.row) (find (λ keyed. keyed.row.object == n) (rows_at rows place)))
 
   module _ (kept : AreKept layouts rows) (class key : ℕ) (row : Row) (is : shown layouts row ≡ fresh n (fields_in layouts class)) (new : Table (List (Keyed Row))) (e : new ≡ with_place rows place (inserted number (rows_at rows place) key row)) where
     pub new_kept : AreKept layouts new
@@ -186,15 +161,7 @@ module _ {layouts : List (List Field)} (rows : Table (List (Keyed Row))) {seen :
         (inserted_sound layouts (rows_at rows place) (kept place [] (rows_open rows view_is place is_place)) key row (subst AreSound (sym is) (fresh_sound n (fields_in layouts class))))
 
     pub new_added : shelves_of layouts new ≡ with_store seen place (added (store_at seen place) n (fields_in seen.layouts class))
-    new_added =
-        let there = store_there rows view_is place is_place in
-        let object : row.object ≡ n = ap (λ (of : Properties). of.object) is in
-        after rows view_is place new (inserted number (rows_at rows place) key row) (added (store_at seen place) n (fields_in seen.layouts class)) e
-        (added_shown layouts (rows_at rows place) key row
-        ∙ (ap (λ m. filter (λ (of : Properties). nat_lt of.object m) (store_of layouts (rows_at rows place)) ++ shown layouts row ∷ filter (λ (of : Properties). nat_lt m of.object) (store_of layouts (rows_at rows place))) object
-        ∙ (ap (λ of. filter (λ (of : Properties). nat_lt of.object n) (store_of layouts (rows_at rows place)) ++ of ∷ filter (λ (of : Properties). nat_lt n of.object) (store_of layouts (rows_at rows place))) is
-        ∙ (ap (λ s. added s n (fields_in layouts class)) (sym there)
-        ∙ ap (λ (s : Shelves). added (store_at seen place) n (fields_in s.layouts class)) view_is))))
+    new_added = search (rules, store_there, after, added_shown)
 
 pub on_err : {T E : Type 0} {A B : Type 0} (result : Result T E) → (A → B) → OnErr result A → OnErr result B
 on_err (Ok value) f h = tt

@@ -14,9 +14,6 @@ pub record IsSearched (rows : List (Keyed Row)) (last low high : ℕ) : Type 0 w
   pub below : AllWithin (λ keyed. keyed.row.object ≤ last) rows 0 low
   pub above : AllWithin (λ keyed. last < keyed.row.object) rows high (length rows)
 
-pub search_begins : (rows : List (Keyed Row)) (last count : ℕ) → count ≡ length rows → IsSearched rows last 0 count
-search_begins rows last count is = record { order = omega arith; within = omega (arith, is); below = λ k d low high. absurd (omega (arith, high)); above = λ k d low high. absurd (omega (arith, low, high, is)) }
-
 module _ (rows : List (Keyed Row)) (sound : IsSound number rows) (last low high middle key : ℕ) (row : Row) (is : IsSearched rows last low high) (from : low ≤ middle) (to : middle < high) (at : IsAtPosition rows middle key row) where
   object_at : (d : Keyed Row) → (get_or rows middle d).row.object ≡ row.object
   object_at d = ap (λ (keyed : Keyed Row). keyed.row.object) (at d)
@@ -31,24 +28,6 @@ module _ (rows : List (Keyed Row)) (sound : IsSound number rows) (last low high 
         (cases_lt k middle);
     above = is.above;
   }
-
-  pub search_before : last < row.object → IsSearched rows last low middle
-  search_before above = record {
-    order = from;
-    within = omega (arith, to, is.within);
-    below = is.below;
-    above = λ k d from_middle inside. ⊎_elim
-        (λ (behind : middle < k). let rise = sound.rising middle k d behind inside in omega (arith, rise, object_at d, above))
-        (λ (here : k ≤ middle). let same : k ≡ middle = omega (arith, from_middle, here) in let is_row : (get_or rows k d).row.object ≡ row.object = ap (λ n. (get_or rows n d).row.object) same ∙ object_at d in omega (arith, is_row, above))
-        (cases_lt middle k);
-  }
-
-pub search_ends : (rows : List (Keyed Row)) (last low high : ℕ) → IsSearched rows last low high → high ≤ low → IsCountUpTo rows last low
-search_ends rows last low high is end = record {
-  within = omega (arith, is.order, is.within);
-  below = is.below;
-  above = λ k d from inside. is.above k d (omega (arith, end, from)) inside;
-}
 
 -- what stands behind them is the next
 pub next_there : (rows : List (Keyed Row)) (last count : ℕ) → IsCountUpTo rows last count → count < length rows → (d : Keyed Row) → next_number rows last ≡ Some (get_or rows count d).row.object

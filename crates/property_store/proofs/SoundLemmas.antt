@@ -1,7 +1,7 @@
 -- What each change leaves of a store: the numbers of its objects, the properties of each, and that it is
 -- sound.
-use Rattle.std.proofs.Common.{◌≡◌, ◌∙◌, ℕ, zero, suc, ◌<◌, ◌==◌, nat_lt, not, Bool, true, false, cond, List, [], ◌∷◌, ◌++◌, Option, Some, None, filter, find, map, length, get_or, refl, ap, arith}
-use Rattle.std.specs.Cmp.{nat_eq_equiv}
+use Rattle.std.proofs.Common.{◌≡◌, ◌∙◌, ℕ, zero, suc, ◌<◌, ◌==◌, nat_lt, not, Bool, true, false, cond, List, [], ◌∷◌, ◌++◌, Option, Some, None, filter, find, map, length, get_or, refl, ap, arith, rules}
+use Rattle.std.proofs.lemmas.Grind.{common_steps}
 use Rattle.std.specs.List.{All, AllByRecursion, AllPairs}
 use Rattle.std.specs.Option.{option_map, option_or}
 use Rattle.std.proofs.lemmas.Bool.{eqb-true}
@@ -21,27 +21,14 @@ is_of object of = of.object == object
 abbrev pub objects : Store → List ℕ
 objects store = map (λ of. of.object) store
 
--- a test that implies another one fails where that fails
-denied : (a b : Bool) → (a ≡ true → b ≡ true) → b ≡ false → a ≡ false
-denied false b so e = refl
-denied true b so e = let held = so refl in absurd (cc)
-
 -- what is found where some are left out
 find_kept : (test kept : Properties → Bool) → ((of : Properties) → test of ≡ true → kept of ≡ true) → (store : Store) → find test (filter kept store) ≡ find test store
 find_kept test kept so [] = refl
-find_kept test kept so (of ∷ rest) = by (kept of) refl (find_kept test kept so rest)
-  where
-    by : (stays : Bool) → kept of ≡ stays → find test (filter kept rest) ≡ find test rest → find test (cond stays (of ∷ filter kept rest) (filter kept rest)) ≡ cond (test of) (Some of) (find test rest)
-    by true is later = ap (λ found. cond (test of) (Some of) found) later
-    by false is later = rw (denied (test of) (kept of) (so of) is) later
+find_kept test kept so (of ∷ rest) = search (rules, kept of, find_kept test kept so rest)
 
 find_none : (test kept : Properties → Bool) → ((of : Properties) → kept of ≡ true → test of ≡ false) → (store : Store) → find test (filter kept store) ≡ None
 find_none test kept so [] = refl
-find_none test kept so (of ∷ rest) = by (kept of) refl (find_none test kept so rest)
-  where
-    by : (stays : Bool) → kept of ≡ stays → find test (filter kept rest) ≡ None → find test (cond stays (of ∷ filter kept rest) (filter kept rest)) ≡ None
-    by true is later = rw (so of is) later
-    by false is later = later
+find_none test kept so (of ∷ rest) = search (rules, kept of, find_none test kept so rest)
 
 or_nothing : {A : Type 0} (found : Option A) → option_or found None ≡ found
 or_nothing None = refl
@@ -50,11 +37,7 @@ or_nothing (Some x) = refl
 module _ (store : Store) (object : ℕ) (fields : List Field) where
   -- what is added is found
   pub added_found : properties_of (added store object fields) object ≡ Some (fresh object fields)
-  added_found =
-      find-append (is_of object) (filter (λ of. nat_lt of.object object) store) (fresh object fields ∷ filter (λ of. nat_lt object of.object) store)
-      ∙ (ap (λ found. option_or found (find (is_of object) (fresh object fields ∷ filter (λ of. nat_lt object of.object) store)))
-      (find_none (is_of object) (λ of. nat_lt of.object object) (λ of less. grind (arith, nat_tests, less)) store)
-      ∙ ap (λ same. cond same (Some (fresh object fields)) (find (is_of object) (filter (λ of. nat_lt object of.object) store))) (nat_eq_equiv.refl object))
+  added_found = search (rules, find-append, is_of, find_none)
 
   -- and all others as before
   pub added_others : (other : ℕ) → (object == other) ≡ false → properties_of (added store object fields) other ≡ properties_of store other
@@ -74,7 +57,7 @@ module _ (store : Store) (object : ℕ) (fields : List Field) where
 
 -- the others are found as before where one is taken out
 pub without_others : (store : Store) (object other : ℕ) → (other == object) ≡ false → properties_of (without object store) other ≡ properties_of store other
-without_others store object other apart = find_kept (is_of other) (λ of. not (is_of object of)) (λ of same. ap (λ number. not (number == object)) (eqb-true of.object other same) ∙ ap not apart) store
+without_others store object other apart = search (rules, find_kept, is_of, eqb-true)
 
 -- an object of a number that is above all others stands behind them
 pub objects_added : (store : Store) (object : ℕ) (fields : List Field) → AllByRecursion (λ number. number < object) (objects store) → objects (added store object fields) ≡ objects store ++ object ∷ []
@@ -90,12 +73,7 @@ objects_added store object fields less = ap objects (λ i. all store less i ++ f
 
 pub objects_without : (store : Store) (object : ℕ) → objects (without object store) ≡ filter (λ number. not (number == object)) (objects store)
 objects_without [] object = refl
-objects_without (of ∷ rest) object = by (not (of.object == object)) (objects_without rest object)
-  where
-    by : (stays : Bool) → objects (without object rest) ≡ filter (λ number. not (number == object)) (objects rest)
-        → objects (cond stays (of ∷ without object rest) (without object rest)) ≡ cond stays (of.object ∷ filter (λ number. not (number == object)) (objects rest)) (filter (λ number. not (number == object)) (objects rest))
-    by true later = ap (λ numbers. of.object ∷ numbers) later
-    by false later = later
+objects_without (of ∷ rest) object = search (rules, objects_without rest object)
 
 -- a change that leaves an object its number
 module _ (change : Properties → Properties) (object : ℕ) (same : (of : Properties) → (change of).object ≡ of.object) where
@@ -103,11 +81,7 @@ module _ (change : Properties → Properties) (object : ℕ) (same : (of : Prope
   one of = cond (is_of object of) (change of) of
 
   same_one : (of : Properties) → (one of).object ≡ of.object
-  same_one of = by (is_of object of)
-    where
-      by : (is : Bool) → (cond is (change of) of).object ≡ of.object
-      by true = same of
-      by false = refl
+  same_one of = search (rules, is_of)
 
   pub objects_changed : (store : Store) → objects (changed change object store) ≡ objects store
   objects_changed [] = refl
@@ -115,24 +89,11 @@ module _ (change : Properties → Properties) (object : ℕ) (same : (of : Prope
 
   changed_found : (store : Store) (other : ℕ) → properties_of (changed change object store) other ≡ option_map one (properties_of store other)
   changed_found [] other = refl
-  changed_found (of ∷ rest) other = ap (λ number. cond (number == other) (Some (one of)) (properties_of (changed change object rest) other)) (same_one of) ∙ by (of.object == other) (changed_found rest other)
-    where
-      by : (is : Bool) → properties_of (changed change object rest) other ≡ option_map one (properties_of rest other)
-          → cond is (Some (one of)) (properties_of (changed change object rest) other) ≡ option_map one (cond is (Some of) (properties_of rest other))
-      by true later = refl
-      by false later = later
+  changed_found (of ∷ rest) other = search (rules, changed_found rest other, one, same_one)
 
   -- and its declared properties
   pub changed_fields : ((of : Properties) → (change of).fields ≡ of.fields) → (store : Store) (other : ℕ) → option_map (λ of. of.fields) (properties_of (changed change object store) other) ≡ option_map (λ of. of.fields) (properties_of store other)
-  changed_fields fields store other = ap (option_map (λ of. of.fields)) (changed_found store other) ∙ by (properties_of store other)
-    where
-      inside : (of : Properties) (is : Bool) → (cond is (change of) of).fields ≡ of.fields
-      inside of true = fields of
-      inside of false = refl
-
-      by : (found : Option Properties) → option_map (λ of. of.fields) (option_map one found) ≡ option_map (λ of. of.fields) found
-      by None = refl
-      by (Some of) = ap Some (inside of (is_of object of))
+  changed_fields fields store other = search (rules, changed_found)
 
 -- pairs of what is listed, of what it is mapped to, and of two lists behind each other
 module _ {X : Type 0} (R : X → X → Type 0) where
@@ -158,7 +119,7 @@ abbrev IsBefore : Properties → Properties → Type 0
 IsBefore earlier later = earlier.object < later.object
 
 pub sound_empty : IsSound []
-sound_empty = record { rising = λ i j default lt within. absurd (omega arith); each = λ index default within. absurd (omega arith) }
+sound_empty = grind (arith, common_steps)
 
 pub sound_added : (store : Store) (object : ℕ) (fields : List Field) → IsSound store → IsSound (added store object fields)
 sound_added store object fields sound = record {
@@ -183,20 +144,13 @@ sound_added store object fields sound = record {
     above = All-weaker (λ of. nat_lt object of.object ≡ true) (λ of. object < of.object) (λ of more. grind (arith, nat_tests, more)) high (filter_passes (λ of. nat_lt object of.object) store)
 
 pub sound_without : (store : Store) (object : ℕ) → IsSound store → IsSound (without object store)
-sound_without store object sound = record {
-  rising = AllPairs-filter IsBefore (λ of. not (is_of object of)) store sound.rising;
-  each = All-filter (λ of. not (is_of object of)) AreSound store sound.each;
-}
+sound_without store object sound = search (rules, AllPairs-filter, is_of, All-filter)
 
 -- an object stands once
 found_once : (store : Store) (object index : ℕ) (default : Properties) → AllPairs IsBefore store → index < length store → is_of object (get_or store index default) ≡ true → properties_of store object ≡ Some (get_or store index default)
 found_once [] object index default rising within is = absurd (omega arith)
 found_once (of ∷ rest) object zero default rising within is = ap (λ same. cond same (Some of) (properties_of rest object)) is
-found_once (of ∷ rest) object (suc index) default rising within is =
-    let before : of.object < (get_or rest index default).object = pairs_head IsBefore of rest rising index default (omega arith) in
-    let same : (get_or rest index default).object ≡ object = eqb-true (get_or rest index default).object object is in
-    let apart : (of.object == object) ≡ false = grind (arith, nat_tests, before, same) in
-    ap (λ here. cond here (Some of) (properties_of rest object)) apart ∙ found_once rest object index default (pairs_tail IsBefore of rest rising) (omega arith) is
+found_once (of ∷ rest) object (suc index) default rising within is = grind (arith, nat_tests, of.object, pairs_head IsBefore of rest rising index default (omega arith), eqb-true (get_or rest index default).object object is, found_once rest object index default (pairs_tail IsBefore of rest rising) (omega arith) is, pairs_tail IsBefore of rest rising)
 
 pub sound_changed : (change : Properties → Properties) (object : ℕ) → ((of : Properties) → (change of).object ≡ of.object)
     → (store : Store) → ((of : Properties) → properties_of store object ≡ Some of → AreSound of → AreSound (change of)) → IsSound store → IsSound (changed change object store)

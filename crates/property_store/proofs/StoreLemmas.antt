@@ -1,8 +1,8 @@
 -- Stores in rows.
-use Rattle.std.proofs.Common.{◌≡◌, ◌≢◌, ◌∙◌, ℕ, ◌<◌, ◌≤◌, ◌==◌, nat_lt, not, true, false, cond, List, ◌∷◌, ◌++◌, Option, Some, None, filter, find, map, length, get_or, refl, sym, ap, arith, ⊎_elim}
+use Rattle.std.proofs.Common.{◌≡◌, ◌≢◌, ◌∙◌, ℕ, ◌<◌, ◌≤◌, ◌==◌, nat_lt, true, false, List, ◌∷◌, ◌++◌, Some, None, filter, find, length, get_or, sym, ap, arith, ⊎_elim, rules}
 use Rattle.std.specs.List.{All}
 use Rattle.std.specs.Option.{option_map}
-use Rattle.std.proofs.lemmas.Bool.{cases_Bool, cases_eq, cases_lt, eq-eqb, ne_eqb, eqb-true}
+use Rattle.std.proofs.lemmas.Bool.{cases_eq, cases_lt, eq-eqb, ne_eqb, eqb-true}
 use Rattle.std.proofs.lemmas.List.{map-append}
 use Rattle.std.proofs.lemmas.List.Elements.{All-map}
 use Rattle.shared_rows.specs.Rows.{IsSound, Keyed, inserted, key_of, row_under, with_row, without}
@@ -65,31 +65,19 @@ module _ (rows : List (Keyed Row)) (sound : IsSound number rows) where
 
 -- an object that is not there is not missed
 pub without_absent : (list : store.Store) (n : ℕ) → properties_of list n ≡ None → store.without n list ≡ list
-without_absent list n none = filter_all (λ (of : Properties). not (of.object == n)) list (λ k d within. let other = none_passes (λ (of : Properties). of.object == n) list none k d within in rw other refl)
+without_absent list n none = search (rules, filter_all, none_passes)
 
 -- the properties that rows show
 module _ (layouts : List (List Field)) (rows : List (Keyed Row)) where
   pub properties_shown : (n : ℕ) → properties_of (store_of layouts rows) n ≡ option_map (shown layouts) (row_of rows n)
-  properties_shown n = find_over_map (λ (keyed : Keyed Row). shown layouts keyed.row) (λ of. of.object == n) rows ∙ by (find (λ keyed. keyed.row.object == n) rows)
-    where
-      by : (o : Option (Keyed Row)) → option_map (λ (keyed : Keyed Row). shown layouts keyed.row) o ≡ option_map (shown layouts) (option_map (λ (keyed : Keyed Row). keyed.row) o)
-      by None = refl
-      by (Some keyed) = refl
+  properties_shown n = search (rules, find_over_map)
 
   pub next_shown : (after : ℕ) → next_object (store_of layouts rows) after ≡ next_number rows after
-  next_shown after = ap (option_map (λ (of : Properties). of.object)) (find_over_map (λ (keyed : Keyed Row). shown layouts keyed.row) (λ of. nat_lt after of.object) rows) ∙ by (find (λ keyed. nat_lt after keyed.row.object) rows)
-    where
-      by : (o : Option (Keyed Row)) → option_map (λ (of : Properties). of.object) (option_map (λ (keyed : Keyed Row). shown layouts keyed.row) o) ≡ option_map (λ (keyed : Keyed Row). keyed.row.object) o
-      by None = refl
-      by (Some keyed) = refl
+  next_shown after = search (rules, find_over_map)
 
   pub added_shown : (key : ℕ) (row : Row) → store_of layouts (inserted number rows key row)
       ≡ filter (λ of. nat_lt of.object row.object) (store_of layouts rows) ++ shown layouts row ∷ filter (λ of. nat_lt row.object of.object) (store_of layouts rows)
-  added_shown key row =
-      let show : Keyed Row → Properties = λ keyed. shown layouts keyed.row in
-      map-append show (filter (λ keyed. nat_lt keyed.row.object row.object) rows) (record { key = key; row = row } ∷ filter (λ keyed. nat_lt row.object keyed.row.object) rows)
-      ∙ (ap (λ list. list ++ shown layouts row ∷ map show (filter (λ keyed. nat_lt row.object keyed.row.object) rows)) (sym (filter_over_map show (λ of. nat_lt of.object row.object) rows))
-      ∙ ap (λ list. filter (λ of. nat_lt of.object row.object) (store_of layouts rows) ++ shown layouts row ∷ list) (sym (filter_over_map show (λ of. nat_lt row.object of.object) rows)))
+  added_shown key row = search (rules, map-append, filter_over_map)
 
   -- where an object is not there nothing changes
   module _ (n : ℕ) (none : key_of number rows n ≡ None) where
@@ -97,42 +85,20 @@ module _ (layouts : List (List Field)) (rows : List (Keyed Row)) where
     absent = All-map (λ (of : Properties). (of.object == n) ≡ false) (λ (keyed : Keyed Row). shown layouts keyed.row) rows (none_passes (λ (keyed : Keyed Row). keyed.row.object == n) rows (unmapped (λ (keyed : Keyed Row). keyed.key) (find (λ keyed. keyed.row.object == n) rows) none))
 
     pub absent_none : properties_of (store_of layouts rows) n ≡ None
-    absent_none = properties_shown n ∙ ap (λ o. option_map (shown layouts) (option_map (λ (keyed : Keyed Row). keyed.row) o)) (unmapped (λ (keyed : Keyed Row). keyed.key) (find (λ keyed. keyed.row.object == n) rows) none)
+    absent_none = search (rules, properties_shown, unmapped)
 
     pub absent_unchanged : (change : Properties → Properties) → changed change n (store_of layouts rows) ≡ store_of layouts rows
-    absent_unchanged change = map_same (λ (of : Properties). cond (of.object == n) (change of) of) (store_of layouts rows) (λ k d within. let other = absent k d within in rw other refl)
+    absent_unchanged change = search (rules, map_same, absent)
 
     pub absent_kept : store.without n (store_of layouts rows) ≡ store_of layouts rows
-    absent_kept = filter_all (λ (of : Properties). not (of.object == n)) (store_of layouts rows) (λ k d within. let other = absent k d within in rw other refl)
+    absent_kept = search (rules, filter_all, absent)
 
   module _ (key n : ℕ) (row : Row) (is : IsRowOf rows key n row) where
     pub there : properties_of (store_of layouts rows) n ≡ Some (shown layouts row)
     there = properties_shown n ∙ ap (option_map (shown layouts)) is.found
 
     pub removed_shown : store_of layouts (without rows key) ≡ store.without n (store_of layouts rows)
-    removed_shown =
-        let show : Keyed Row → Properties = λ keyed. shown layouts keyed.row in
-        ap (map show) (filter_at (λ (keyed : Keyed Row). not (keyed.key == key)) (λ keyed. not (keyed.row.object == n)) rows (λ k d within. ap not (is.alone k d within).0))
-        ∙ sym (filter_over_map show (λ of. not (of.object == n)) rows)
+    removed_shown = search (rules, filter_at, filter_over_map)
 
     pub changed_shown : (row' : Row) (change : Properties → Properties) → shown layouts row' ≡ change (shown layouts row) → store_of layouts (with_row rows key row') ≡ changed change n (store_of layouts rows)
-    changed_shown row' change e =
-        let show : Keyed Row → Properties = λ keyed. shown layouts keyed.row in
-        map_over_map show (λ (keyed : Keyed Row). cond (keyed.key == key) (record { key = key; row = row' }) keyed) rows
-        ∙ (map_at (λ (keyed : Keyed Row). show (cond (keyed.key == key) (record { key = key; row = row' }) keyed)) (λ keyed. cond (keyed.row.object == n) (change (show keyed)) (show keyed)) rows each
-        ∙ sym (map_over_map (λ (of : Properties). cond (of.object == n) (change of) of) show rows))
-      where
-        show : Keyed Row → Properties
-        show keyed = shown layouts keyed.row
-
-        each : All (λ keyed. shown layouts (cond (keyed.key == key) (record { key = key; row = row' }) keyed).row ≡ cond (keyed.row.object == n) (change (shown layouts keyed.row)) (shown layouts keyed.row)) rows
-        each k d within =
-            let alone = is.alone k d within in
-            ⊎_elim
-            (λ (here : ((get_or rows k d).key == key) ≡ true).
-            let numbered : ((get_or rows k d).row.object == n) ≡ true = sym alone.0 ∙ here in
-            rw (here, numbered) (e ∙ ap (λ r. change (shown layouts r)) (sym (alone.1 here))))
-            (λ (other : ((get_or rows k d).key == key) ≡ false).
-            let differs : ((get_or rows k d).row.object == n) ≡ false = sym alone.0 ∙ other in
-            rw (other, differs) refl)
-            (cases_Bool ((get_or rows k d).key == key))
+    changed_shown row' change e = search (rules, map_over_map, map_at)

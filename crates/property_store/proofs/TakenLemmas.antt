@@ -1,5 +1,7 @@
 -- What is left where a mark is taken.
-use Rattle.std.proofs.Common.{◌≡◌, ◌≢◌, ◌∙◌, ℕ, ◌==◌, Bool, true, false, cond, not, List, [], Option, Some, None, filter, length, get_or, refl, sym, ap, subst}
+use Rattle.std.proofs.Common.{◌≡◌, ◌≢◌, ◌∙◌, ℕ, ◌==◌, Bool, true, false, cond, not, List, [], Option, Some, None, filter, length, get_or, refl, sym, ap, subst, arith, rules}
+use Rattle.std.proofs.lemmas.Grind.{common_steps}
+use Rattle.std.proofs.lemmas.Bool.Decides.{nat_tests}
 use Rattle.std.specs.Option.{IsSome}
 use Rattle.std.proofs.lemmas.List.{length-set}
 use Rattle.std.proofs.lemmas.List.Elements.{All-map}
@@ -18,7 +20,7 @@ use Rattle.property_store.specs.declared.written.Written.TheVariants as told
 use Rattle.property_store.specs.Property.{among, is_property}
 use Rattle.property_store.specs.Chain.{AreLinked, first_of, head_of, is_all, is_linked, next_of}
 use Rattle.property_store.specs.Inside.{AreChained, AreRows, IsKept, head_at, limited, link_at, marks_of, shelves_of, shown, stock_of, store_of, unlinked, without_link}
-use Rattle.property_store.specs.Marks.{IsTaken, Marks, has_marks, marks_at, no_marks}
+use Rattle.property_store.specs.Marks.{IsTaken, Marks, has_marks, marks_at}
 use Rattle.property_store.specs.Store.{AreSound}
 use Rattle.property_store.specs.Table.{Stock, store_at}
 use Rattle.property_store.proofs.ChainLemmas.{first_linked, linked_less}
@@ -26,7 +28,7 @@ use Rattle.property_store.proofs.HeadLemmas.{AreMoved, beside_moved, here_moved,
 use Rattle.property_store.proofs.LinkLemmas.{link_freed, link_kept, properties_freed}
 use Rattle.property_store.proofs.ListLemmas.{map_at, map_over_map}
 use Rattle.property_store.proofs.MarkLemmas.{each_less, first_marked, none_marked}
-use Rattle.property_store.proofs.PlaceLemmas.{after, kept_with, rows_open, shelves_seen, store_there, unchanged_store}
+use Rattle.property_store.proofs.PlaceLemmas.{after, kept_with, shelves_seen, store_there, unchanged_store}
 
 -- what holds after a mark is taken
 pub record IsLeft (layouts : List (List Field)) (rows : Table (List (Keyed Row))) (heads : Table Head) (seen : Stock) (place : ℕ) : Type 0 where
@@ -39,46 +41,33 @@ module _ {layouts : List (List Field)} {rows : Table (List (Keyed Row))} {heads 
   here = rows_at rows place
 
   in_rows : IsPlace rows place
-  in_rows = rows_open (limited rows heads.room) (shelves_seen view_is) place is_place
+  in_rows = grind (arith, common_steps)
 
   -- there is none
   pub none_taken : head_at heads place ≡ head.None → (has_marks (marks_at seen.marks place) ≡ false) × (marks_at seen.marks place ≡ marks_at seen.marks place)
-  none_taken is =
-      let none : marks_at seen.marks place ≡ no_marks = marks_there kept view_is place ∙ (ap (marks_of here) is ∙ ap {B = Marks} (λ list. record { all = false; each = list }) (none_marked here (subst (λ h. AreLinked (link_at here) (first_of h)) is (kept.chained place).linked) head.None)) in
-      (ap has_marks none, refl)
+  none_taken is = grind (arith, nat_tests, marks_there kept view_is place, none_marked here (subst (λ h. AreLinked (link_at here) (first_of h)) is (kept.chained place).linked) head.None)
 
   -- all are taken
   module _ (is : head_at heads place ≡ head.All) where
     all_linked : AreLinked (link_at here) None
-    all_linked = subst (λ h. AreLinked (link_at here) (first_of h)) is (kept.chained place).linked
+    all_linked = grind (arith, common_steps)
 
     all_moved : AreMoved rows heads rows (with_place heads place head.None) place here head.None
     all_moved = record { rows_are = sym (with_same [] rows place); heads_are = refl }
 
     pub all_left : IsLeft layouts rows (with_place heads place head.None) seen place
-    all_left = record {
-      kept = kept_moved kept view_is place in_rows all_moved kept.sound (record { as_many = (kept.chained place).as_many; linked = all_linked });
-      shelves = shelves_seen view_is;
-      others = beside_moved kept view_is place in_rows all_moved;
-    }
+    all_left = grind (arith, nat_tests, kept_moved kept view_is place in_rows all_moved kept.sound (record { as_many = (kept.chained place).as_many; linked = all_linked }), all_linked, shelves_seen view_is, beside_moved kept view_is place in_rows all_moved)
 
     pub all_taken : IsTaken (marks_at seen.marks place) (marks_at (paired marks_of rows.places (with_place heads place head.None).places) place) told.All
-    all_taken = (
-      ap (λ (marks : Marks). marks.all) (marks_there kept view_is place ∙ ap (marks_of here) is),
-      here_moved kept view_is place in_rows all_moved ∙ ap {B = Marks} (λ list. record { all = false; each = list }) (none_marked here all_linked head.None),
-    )
+    all_taken = grind (arith, nat_tests, marks_there kept view_is place, here_moved kept view_is place in_rows all_moved, none_marked here all_linked head.None)
 
   -- that of one property
   module _ (at : Property) (is : head_at heads place ≡ head.First at) where
     first_is : AreLinked (link_at here) (Some at)
-    first_is = subst (λ h. AreLinked (link_at here) (first_of h)) is (kept.chained place).linked
+    first_is = grind (arith, common_steps)
 
     pub first_stands : IsSome (link_at here at)
-    first_stands = by (link_at here at) (first_linked (link_at here) at first_is)
-      where
-        by : (o : Option Link) → is_linked o ≡ true → IsSome o
-        by None linked = absurd (cc)
-        by (Some link) linked = refl
+    first_stands = grind (arith, nat_tests, first_linked (link_at here), first_is)
 
     module _ (to : Link) (was : link_at here at ≡ Some to) (rows' : Table (List (Keyed Row))) (rows_are : rows' ≡ with_place rows place (without_link at here)) where
       abbrev next : Head
@@ -103,20 +92,10 @@ module _ {layouts : List (List Field)} {rows : Table (List (Keyed Row))} {heads 
           back (Some p) = refl
 
       freed_sound : AreRows layouts (without_link at here)
-      freed_sound = All-map (λ (keyed : Keyed Row). AreSound (shown layouts keyed.row)) (λ (keyed : Keyed Row). cond (keyed.row.object == at.object) (record { key = keyed.key; row = unlinked at keyed.row }) keyed) here (λ k d within. by (get_or here k d) ((get_or here k d).row.object == at.object) (kept.sound place [] in_rows k d within))
-        where
-          by : (keyed : Keyed Row) (b : Bool) → AreSound (shown layouts keyed.row) → AreSound (shown layouts (cond b (record { key = keyed.key; row = unlinked at keyed.row }) keyed).row)
-          by keyed true sound = sound
-          by keyed false sound = sound
+      freed_sound = grind (arith, nat_tests, All-map (λ (keyed : Keyed Row). AreSound (shown layouts keyed.row)) (λ (keyed : Keyed Row). cond (keyed.row.object == at.object) (record { key = keyed.key; row = unlinked at keyed.row }) keyed) here, in_rows)
 
       freed_store : store_of layouts (without_link at here) ≡ store_of layouts here
-      freed_store =
-          map_over_map (λ (keyed : Keyed Row). shown layouts keyed.row) (λ (keyed : Keyed Row). cond (keyed.row.object == at.object) (record { key = keyed.key; row = unlinked at keyed.row }) keyed) here
-          ∙ map_at (λ (keyed : Keyed Row). shown layouts (cond (keyed.row.object == at.object) (record { key = keyed.key; row = unlinked at keyed.row }) keyed).row) (λ keyed. shown layouts keyed.row) here (λ k d within. by (get_or here k d) ((get_or here k d).row.object == at.object))
-        where
-          by : (keyed : Keyed Row) (b : Bool) → shown layouts (cond b (record { key = keyed.key; row = unlinked at keyed.row }) keyed).row ≡ shown layouts keyed.row
-          by keyed true = refl
-          by keyed false = refl
+      freed_store = search (rules, map_over_map, map_at)
 
       pub one_left : IsLeft layouts rows' (with_place heads place next) seen place
       one_left = record {

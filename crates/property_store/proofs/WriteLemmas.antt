@@ -1,5 +1,6 @@
 -- What a change of an object's properties leaves.
-use Rattle.std.proofs.Common.{◌≡◌, ◌∙◌, ℕ, zero, suc, ◌<◌, Bool, false, cond, is_some, List, [], ◌∷◌, IfOk, OnErr, OnOk, Option, Some, None, Result, Ok, Err, length, refl, sym, ap, subst, arith}
+use Rattle.std.proofs.Common.{◌≡◌, ◌∙◌, ℕ, zero, suc, ◌<◌, Bool, false, cond, is_some, List, [], ◌∷◌, IfOk, OnErr, OnOk, Option, Some, None, Result, Ok, Err, length, refl, sym, ap, subst, arith, rules}
+use Rattle.std.proofs.lemmas.Grind.{common_steps}
 use Rattle.std.specs.List.{slice_get}
 use Rattle.std.specs.Option.{option_map, option_map_or}
 use Rattle.std.specs.Prelude.{option_and_then}
@@ -51,15 +52,10 @@ pub record IsDynamicSet (seen new : Shelves) (place n : ℕ) (name : List ℕ) (
 -- where there is no object
 module _ (seen : Shelves) (place n : ℕ) (value : Value) (none : properties_of (store_at seen place) n ≡ None) where
   pub nothing_written : (number : ℕ) → IsWritten seen seen place n number value (Ok false)
-  nothing_written number = record {
-    refused = rw none refl;
-    answer = rw none refl;
-    new_is = unchanged_store seen place _ (rw none refl);
-    err = tt;
-  }
+  nothing_written number = grind (arith, common_steps)
 
   pub nothing_named : (name : List ℕ) → IsWrittenNamed seen seen place n name value (Err (Undeclared value))
-  nothing_named name = record { answer = rw none refl; new_is = unchanged_store seen place _ (rw none refl); err = refl }
+  nothing_named name = grind (arith, common_steps)
 
 pub standing : {A : Type 0} (xs : List A) (i : ℕ) → i < length xs → (x : A) × (slice_get xs i ≡ Some x)
 standing [] i within = absurd (omega (arith, within))
@@ -154,7 +150,7 @@ module _ {layouts : List (List Field)} {rows new : Table (List (Keyed Row))} {se
 
   -- the dynamic properties alone are others
   shown_dynamic : (items : List Named) → row ≡ record old { dynamic = row.dynamic } → row.dynamic.items ≡ items → shown layouts row ≡ record (shown layouts old) { dynamic = items }
-  shown_dynamic items rest is = ap (shown layouts) rest ∙ ap {B = Properties} (λ dynamic. record (shown layouts old) { dynamic = dynamic }) is
+  shown_dynamic items rest is = grind (arith, common_steps)
 
   pub dynamic_set : {name : List ℕ} {value : Value} {result : Result (Unit {0}) Fault} → IsSet name value old row result → IsDynamicSet seen (shelves_of layouts new) place n name value result
   dynamic_set {name} {value} {result} said = record {
@@ -168,7 +164,7 @@ module _ {layouts : List (List Field)} {rows new : Table (List (Keyed Row))} {se
       kept_under it (subst AreSound (sym (ap (shown layouts) said.rest)) (either_sound (shown layouts old) name value (old_sound it) short row.dynamic.items result said.refused said.ok said.err))
 
   pub dynamic_removed : {name : List ℕ} → IsRemoved name old row → shelves_of layouts new ≡ with_store seen place (changed (without_dynamic name) n store)
-  dynamic_removed {name} said = view_under it (without_dynamic name) (shown_dynamic _ said.rest said.removed)
+  dynamic_removed {name} said = search (rules, view_under, shown_dynamic)
 
   pub removed_kept : {name : List ℕ} → IsRemoved name old row → AreKept layouts new
   removed_kept {name} said = kept_under it (subst AreSound (sym (shown_dynamic _ said.rest said.removed)) (without_dynamic_sound (shown layouts old) name (old_sound it)))

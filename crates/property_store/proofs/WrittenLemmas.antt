@@ -1,5 +1,5 @@
 -- What a change of a row marks.
-use Rattle.std.proofs.Common.{◌≡◌, ◌∙◌, ℕ, ◌&&◌, ◌||◌, Bool, true, false, cond, is_some, List, Option, Some, None, Result, Ok, Err, length, refl, sym, ap, subst}
+use Rattle.std.proofs.Common.{◌≡◌, ◌∙◌, ℕ, ◌&&◌, ◌||◌, Bool, true, false, cond, is_some, List, Option, Some, None, Result, Ok, Err, length, refl, sym, ap, subst, rules}
 use Rattle.std.specs.Option.{option_map, option_map_or}
 use Rattle.std.specs.Prelude.{option_and_then}
 use Rattle.std.specs.List.{slice_get}
@@ -24,7 +24,7 @@ use Rattle.property_store.specs.Inside.{AreChained, AreKept, IsKept, head_at, li
 use Rattle.property_store.specs.Marks.{AreMarked, Marks, is_marked, is_written, is_written_named, marks_at}
 use Rattle.property_store.specs.Named.{declared_at}
 use Rattle.property_store.specs.Store.{Store, field_number, fields_in, fitting, properties_of}
-use Rattle.property_store.specs.Storing.{IsMarkedWith, IsNamed, IsNumbered, IsStored, fit_in, numbered, was_linked, with_fit}
+use Rattle.property_store.specs.Storing.{IsMarkedWith, IsNamed, IsNumbered, IsStored, fit_in, numbered, was_linked}
 use Rattle.property_store.specs.Table.{Stock, store_at}
 use Rattle.property_store.proofs.HeadLemmas.{IsRowChanged, as_changed, as_moved, chained_marked, chained_same, in_rows, kept_moved, marked_marked, marked_moved, marks_kept, marks_same}
 use Rattle.property_store.proofs.PlaceLemmas.{is_row, old_there, stock_same, under_all}
@@ -58,17 +58,6 @@ same_many : (fit : Option Value) (first : Head) (number : ℕ) (old new : List L
 same_many None first number old new linked marked = ap length marked.0
 same_many (Some fit) first number old new true marked = ap length marked.2 ∙ length-set old number _
 same_many (Some fit) first number old new false marked = ap length marked.0
-
-fit_many : (fit : Option Value) (number : ℕ) (values : List Value) → length (with_fit fit number values) ≡ length values
-fit_many None number values = refl
-fit_many (Some fit) number values = length-set values number fit
-
--- the head that was read
-pub stored_as : {fields : List Field} {number : ℕ} {value : Value} {first first' : Head} {old row : Row} {result result' : Result Stored Code} → first ≡ first' → result ≡ result' → IsStored fields number value first old row result → IsStored fields number value first' old row result'
-stored_as {fields} {number} {value} {first} {first'} {old} {row} {result} {result'} first_is result_is said = subst (IsStored fields number value first' old row) result_is (subst (λ h. IsStored fields number value h old row result) first_is said)
-
-pub named_as : (fields : List Field) (name : List ℕ) (value : Value) {first first' : Head} (old row : Row) {result result' : Result (ℕ × Stored) Unwritten} → first ≡ first' → result ≡ result' → IsNamed fields name value first old row result → IsNamed fields name value first' old row result'
-named_as fields name value {first} {first'} old row {result} {result'} first_is result_is said = subst (IsNamed fields name value first' old row) result_is (subst (λ h. IsNamed fields name value h old row result) first_is said)
 
 -- where there is no object nothing is marked
 pub nothing_marked : (place n : ℕ) (store : Store) (marks : List Marks) → properties_of store n ≡ None → (number : ℕ) (value : Value) → AreMarked place (is_written store n number value) marks marks
@@ -114,14 +103,11 @@ module _ {layouts : List (List Field)} {rows : Table (List (Keyed Row))} {heads 
     numbered_as : row.object ≡ old.object
     numbered_as = ap (λ (r : Row). r.object) said.stored
 
-    values_as : length row.values ≡ length old.values
-    values_as = ap (λ (r : Row). length r.values) said.stored ∙ fit_many (fit_in fields number value) number old.values
-
     head_linked : first ≡ cond (was_linked result) (head.First (record { object = n; number = number })) before
     head_linked = head_is ∙ by_linked n number before result
 
     many : length row.links ≡ length row.values
-    many = same_many (fit_in fields number value) before number old.links row.links (was_linked result) said.marked ∙ (old_many ∙ sym values_as)
+    many = search (rules, same_many, old_many)
 
     chained_after : AreChained (with_row (rows_at rows place) key row) first
     chained_after = subst (AreChained (with_row (rows_at rows place) key row)) (sym head_linked) (by (fit_in fields number value) (was_linked result) said.marked)
@@ -149,7 +135,7 @@ module _ {layouts : List (List Field)} {rows : Table (List (Keyed Row))} {heads 
         by (Some fit) linked marked q = marked_marked (rows_at rows place) key n old row is_old (numbered_as ∙ is_old.numbered) before (it.kept.chained place) number linked marked q
 
     pub refused_same : was_linked result ≡ false → shelves_of layouts (limited rows' heads'.room) ≡ seen.shelves → stock_of layouts rows' heads' ≡ seen
-    refused_same off shelves = stock_same shelves (marks_as_before (same_links (fit_in fields number value) before number old.links row.links (was_linked result) off said.marked) values_as numbered_as (head_linked ∙ ap (λ b. cond b (head.First (record { object = n; number = number })) before) off))
+    refused_same off shelves = search (rules, stock_same, marks_as_before, same_links, head_linked)
 
   -- and by its property's name
   module _ (name : List ℕ) (value : Value) (result : Result (ℕ × Stored) Unwritten) (said : IsNamed fields name value before old row result) (head_is : first ≡ head_after_named n before result) where

@@ -1,10 +1,7 @@
 use Rattle.std.proofs.Common.{◌+◌, ◌-◌, ◌^◌, arith}
 use Rattle.shared_rows.specs.Rows.{rows_at}
-use Rattle.event_queue.proofs.SeatLemmas.{last_below, seat_behind, seat_first}
+use Rattle.event_queue.proofs.SeatLemmas.{last_below, seat_behind}
 use Rattle.event_queue.proofs.order.next_number.Goals as goal
-
-pub returns-then-before-eq0-clause-seat : goal.returns-then-before-eq0-clause-seat
-returns-then-before-eq0-clause-seat c = seat_first (rows_at c.args.rows.now c.args.place) (c.args.start + 2 ^ 62) c.args.before (c.args.start + 0) c.requires.before c.if-before-eq0.true
 
 pub returns-clause-few : goal.returns-clause-few
 returns-clause-few c =

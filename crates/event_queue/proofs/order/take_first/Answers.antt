@@ -1,17 +1,18 @@
-use Rattle.std.proofs.Common.{◌∙◌, ◌-◌, ap, sym, subst}
+use Rattle.std.proofs.Common.{◌∙◌, ◌-◌, ap, sym, subst, arith}
+use Rattle.std.proofs.lemmas.Grind.{common_steps}
 use Rattle.event_queue.specs.Inside.{IsCounted, count_of, is_dropped}
-use Rattle.event_queue.proofs.OrderLemmas.{taking_ends, taking_first, taking_on}
+use Rattle.event_queue.proofs.OrderLemmas.{taking_first, taking_on}
 use Rattle.event_queue.proofs.order.take_first.Goals as goal
 
 pub returns-then-not-was_dropped-clause-rest : goal.returns-then-not-was_dropped-clause-rest
 returns-then-not-was_dropped-clause-rest c =
-    (taking_first c.args.rows.now c.args.place c.args.objects.now c.rows.rows c.rows.objects c.rows.invariant c.take_row.new.rows c.in-Some.ensures.rest c.in-Some.event (sym c.in-Some.ensures.first) c.subtract-was_dropped.new.self
+    (taking_first c.rows.invariant c.in-Some.ensures.rest (sym c.in-Some.ensures.first) c.subtract-was_dropped.new.self
     (subst (λ n. IsCounted c.rows.objects c.subtract-was_dropped.new.self n (count_of c.rows.objects n - 1)) c.object.ensures c.subtract-was_dropped.ensures.counted) c.subtract-was_dropped.ensures.marks (ap (is_dropped c.rows.objects) (sym c.object.ensures) ∙ (sym c.subtract-was_dropped.ensures.was ∙ c.if-not-was_dropped.true))).1
 
 pub rows-preserved : goal.rows-preserved
 rows-preserved c =
-    taking_on c.args.rows.now c.args.place c.args.objects.now c.rows.rows c.rows.objects c.rows.invariant c.take_row.new.rows c.in-Some.ensures.rest c.in-Some.event (sym c.in-Some.ensures.first) c.subtract-was_dropped.new.self
+    taking_on c.rows.invariant c.in-Some.ensures.rest (sym c.in-Some.ensures.first) c.subtract-was_dropped.new.self
     (subst (λ n. IsCounted c.rows.objects c.subtract-was_dropped.new.self n (count_of c.rows.objects n - 1)) c.object.ensures c.subtract-was_dropped.ensures.counted) c.subtract-was_dropped.ensures.marks (ap (is_dropped c.rows.objects) (sym c.object.ensures) ∙ (sym c.subtract-was_dropped.ensures.was ∙ c.if-not-was_dropped.false))
 
 pub returns-clause-rest : goal.returns-clause-rest
-returns-clause-rest c = (taking_ends c.args.rows.now c.args.place c.args.objects.now c.rows.rows c.rows.objects c.rows.invariant c.take_row.new.rows c.take_row.ensures.rest (sym c.in_default.is ∙ c.take_row.ensures.first)).1
+returns-clause-rest c = grind (arith, common_steps)

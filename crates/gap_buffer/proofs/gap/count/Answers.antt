@@ -3,4 +3,4 @@ use Rattle.gap_buffer.proofs.GapLemmas.{length-without}
 use Rattle.gap_buffer.proofs.gap.count.Goals as goal
 
 pub returns : goal.returns
-returns g c = omega (arith, c.args.places.now.ok.0, length-without c.args.places.now.items c.args.gap.start c.args.gap.gone c.requires.0)
+returns g c = omega (arith, length-without)

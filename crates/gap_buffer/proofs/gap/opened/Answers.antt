@@ -11,6 +11,4 @@ returns-clause-items g c =
     ∙ sym (ap (λ n. without list c.args.gap.start n) none ∙ without_none list c.args.gap.start)
 
 pub returns-clause-some : goal.returns-clause-some
-returns-clause-some g c =
-    let size = length-without c.args.places.now.items c.args.gap.start c.args.gap.gone c.requires.gap.0 in
-    omega (arith, c.requires.room, c.min-gone.ensures, c.min.ensures, c.capacity.ensures, c.len-len.ensures, c.args.places.now.ok.0)
+returns-clause-some g c = omega (arith, length-without)

@@ -1,9 +1,9 @@
-use Rattle.std.proofs.Common.{◌∙◌, arith}
+use Rattle.std.proofs.Common.{arith, rules}
 use Rattle.gap_buffer.proofs.GapLemmas.{length-without, place_read, place_within}
 use Rattle.gap_buffer.proofs.gap.read.Goals as goal
 
 pub position-requires : goal.position-requires
-position-requires g c = omega (arith, length-without c.args.places.now.items c.args.gap.start c.args.gap.gone c.requires.gap.0)
+position-requires g c = omega (arith, length-without)
 
 pub index-requires : goal.index-requires
 index-requires g c =
@@ -14,4 +14,4 @@ index-requires g c =
     )
 
 pub returns : goal.returns
-returns g c = c.index.ensures ∙ place_read c.args.places.now.items c.args.gap.start c.args.gap.gone c.args.at c.position.result c.index.result.now c.requires.gap.0 c.position.ensures
+returns g c = search (rules, place_read)

@@ -3,4 +3,4 @@ use Rattle.gap_buffer.proofs.GapLemmas.{length-without}
 use Rattle.gap_buffer.proofs.gap.removed.Goals as goal
 
 pub overflow_mul-count : goal.overflow_mul-count
-overflow_mul-count g c = omega (arith, c.requires.gap.1, length-without c.args.places.now.items c.args.gap.start c.args.gap.gone c.requires.gap.0)
+overflow_mul-count g c = omega (arith, length-without)

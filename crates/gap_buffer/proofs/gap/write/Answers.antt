@@ -1,9 +1,9 @@
-use Rattle.std.proofs.Common.{arith}
+use Rattle.std.proofs.Common.{arith, rules}
 use Rattle.gap_buffer.proofs.GapLemmas.{length-without, place_set, place_within}
 use Rattle.gap_buffer.proofs.gap.write.Goals as goal
 
 pub position-requires : goal.position-requires
-position-requires g c = omega (arith, length-without c.args.places.now.items c.args.gap.start c.args.gap.gone c.requires.gap.0)
+position-requires g c = omega (arith, length-without)
 
 pub index_mut-requires : goal.index_mut-requires
 index_mut-requires g c =
@@ -14,4 +14,4 @@ index_mut-requires g c =
     )
 
 pub returns-clause-items : goal.returns-clause-items
-returns-clause-items g c = place_set c.args.places.now.items c.args.gap.start c.args.gap.gone c.args.at c.position.result c.args.element c.requires.gap.0 c.requires.within c.position.ensures
+returns-clause-items g c = search (rules, place_set)

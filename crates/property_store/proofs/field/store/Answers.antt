@@ -1,18 +1,11 @@
-use Rattle.std.proofs.Common.{◌≡◌, Some, arith, length, refl, rules, slice_get, sym}
-use Rattle.std.proofs.lemmas.Bool.{ltb-true}
+use Rattle.std.proofs.Common.{◌≡◌, Some, refl, rules, slice_get}
 use Rattle.variant_value.specs.Values.{converted}
 use Rattle.property_store.proofs.ListLemmas.{looked_up}
 use Rattle.property_store.proofs.field.store.Goals as goal
 
-pub put-requires : goal.put-requires
-put-requires c = omega (arith, c.requires, ltb-true c.args.number (length c.args.fields.now) (sym c.in-Some.ensures.lookup.0))
-
-pub store_converted-requires : goal.store_converted-requires
-store_converted-requires c = omega (arith, c.requires, ltb-true c.args.number (length c.args.fields.now) (sym c.in-Some.ensures.lookup.0))
-
 -- a value of the kind
 here : (c : goal.After-put) → slice_get c.args.fields.now c.args.number ≡ Some c.in-Some.field.now
-here c = looked_up c.args.fields.now c.args.number c.in-Some.field.now c.in-Some.ensures.lookup.0 c.in-Some.ensures.lookup.1
+here c = search (rules, looked_up)
 
 fits : (c : goal.After-put) → converted c.in-Some.field.now.kind c.args.value ≡ Some c.args.value
 fits c = search rules
@@ -28,7 +21,7 @@ returns-then-eq-clause-new c = rw (here c, fits c) c.put.ensures.new
 
 -- a value of another kind
 there : (c : goal.After-store_converted) → slice_get c.args.fields.now c.args.number ≡ Some c.in-Some.field.now
-there c = looked_up c.args.fields.now c.args.number c.in-Some.field.now c.in-Some.ensures.lookup.0 c.in-Some.ensures.lookup.1
+there c = search (rules, looked_up)
 
 pub returns-clause-refused : goal.returns-clause-refused
 returns-clause-refused c = rw (there c) c.store_converted.ensures.refused

@@ -1,11 +1,11 @@
-use Rattle.std.proofs.Common.{◌∙◌, Some, arith, ap, sym}
+use Rattle.std.proofs.Common.{◌∙◌, Some, arith, ap, sym, rules}
 use Rattle.shared_rows.specs.Rows.{Keyed, rows_at}
 use Rattle.property_store.specs.declared.row.Row.{Row}
 use Rattle.property_store.proofs.SearchLemmas.{next_nowhere, next_there}
 use Rattle.property_store.proofs.row.first_above.Goals as goal
 
 pub returns-then-position-len : goal.returns-then-position-len
-returns-then-position-len c = sym (next_nowhere (rows_at c.args.rows.now c.args.place) c.args.after c.count_up_to-position.result c.count_up_to-position.ensures (c.if-position-len.true ∙ c.len.ensures.len))
+returns-then-position-len c = search (rules, next_nowhere)
 
 pub returns : goal.returns
 returns c =

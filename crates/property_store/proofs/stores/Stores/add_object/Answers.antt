@@ -1,16 +1,16 @@
-use Rattle.std.proofs.Common.{◌≡◌, ◌∙◌, ◌&&◌, List, ap, arith, cond, length, map, nat_lt, not, refl, subst}
+use Rattle.std.proofs.Common.{◌≡◌, ◌&&◌, List, arith, cond, length, map, nat_lt, not, refl, rules}
 use Rattle.std.specs.declared.option.Option.TheVariants as option
 use Rattle.std.proofs.lemmas.Grind.{common_steps}
 use Rattle.std.proofs.lemmas.List.{length-map}
 use Rattle.places.specs.Table.{with_place}
 use Rattle.shared_rows.specs.Rows.{inserted, key_of, rows_at}
 use Rattle.property_store.specs.declared.field.Field.{Field}
-use Rattle.property_store.specs.declared.link.Head.TheVariants.{First, None}
+use Rattle.property_store.specs.declared.link.Head.TheVariants.{First}
 use Rattle.property_store.specs.declared.row.Row.{Row}
 use Rattle.property_store.specs.Chain.{AreNew, is_all}
 use Rattle.property_store.specs.Inside.{head_at, limited, shown}
 use Rattle.property_store.specs.Store.{default_of, fields_in, fresh}
-use Rattle.property_store.proofs.ComeLemmas.{come_kept, come_limited, come_marks}
+use Rattle.property_store.proofs.ComeLemmas.{come_kept, come_marks}
 use Rattle.property_store.proofs.PlaceLemmas.{new_added, new_kept, no_key, shelves_seen}
 use Rattle.property_store.proofs.StoreLemmas.{number}
 use Rattle.property_store.proofs.stores.Stores.add_object.Goals as goal
@@ -26,30 +26,25 @@ abbrev fields : (c : goal.After-set_first) → List Field
 fields c = fields_in c.self.inside.layouts c.args.class
 
 values_are : (c : goal.After-set_first) → c.in_ok-defaults.field-0 ≡ map (λ (field : Field). default_of field.kind) (fields c)
-values_are c = c.in_ok-defaults.ensures ∙ ap (map (λ (field : Field). default_of field.kind)) c.fields_in-fields.ensures
+values_are c = search rules
 
 is_fresh : (c : goal.After-set_first) → shown c.self.inside.layouts (row c) ≡ fresh c.args.object (fields c)
-is_fresh c = (λ i. record { object = c.args.object; fields = fields c; values = values_are c i; dynamic = c.new-2.ensures.items i })
+is_fresh c = search rules
 
 as_many : (c : goal.After-set_first) → length c.in_ok-defaults.field-0 ≡ length (fields c)
-as_many c = ap length (values_are c) ∙ length-map (fields c) (λ (field : Field). default_of field.kind)
+as_many c = search (rules, length-map)
 
 are_new : (c : goal.After-set_first) → AreNew c.args.object (length (fields c)) (head_at c.self.inside.heads c.args.place) c.in_ok-new.field-0
-are_new c =
-    subst (λ h. AreNew c.args.object (length (fields c)) h c.in_ok-new.field-0) (c.get-head.ensures None)
-    (subst (λ list. AreNew c.args.object (length list) c.get-head.result.now c.in_ok-new.field-0) c.fields_in-fields.ensures c.in_ok-new.ensures)
+are_new c = search rules
 
 none : (c : goal.After-set_first) → key_of number (rows_at c.self.inside.rows c.args.place) c.args.object ≡ option.None
 none c = no_key (limited c.self.inside.rows c.self.inside.heads.room) (shelves_seen c.self.view_is) c.args.place c.requires.place c.args.object c.requires.absent
 
 heads_are : (c : goal.After-set_first) → c.set_first.new.heads ≡ with_place c.self.inside.heads c.args.place (cond (nat_lt 0 (length (fields c)) && not (is_all (head_at c.self.inside.heads c.args.place))) (First (record { object = c.args.object; number = 0 })) (head_at c.self.inside.heads c.args.place))
-heads_are c =
-    c.set_first.ensures
-    ∙ (ap (λ b. with_place c.self.inside.heads c.args.place (cond b (First (record { object = c.args.object; number = 0 })) (head_at c.self.inside.heads c.args.place))) c.are_linked.ensures
-    ∙ (λ i. with_place c.self.inside.heads c.args.place (cond (nat_lt 0 (length (c.fields_in-fields.ensures i)) && not (is_all (c.get-head.ensures None i))) (First (record { object = c.args.object; number = 0 })) (head_at c.self.inside.heads c.args.place))))
+heads_are c = search rules
 
 limited_are : (c : goal.After-set_first) → limited c.insert.new.self c.set_first.new.heads.room ≡ with_place (limited c.self.inside.rows c.self.inside.heads.room) c.args.place (inserted number (rows_at c.self.inside.rows c.args.place) c.in_ok-insert.field-0 (row c))
-limited_are c = come_limited c.self.invariant c.self.view_is c.args.place c.requires.place c.args.object c.args.class c.in_ok-insert.field-0 (row c) refl (none c) (are_new c) (as_many c) c.insert.new.self c.set_first.new.heads c.in_ok-insert.ensures.added (heads_are c)
+limited_are c = search rules
 
 pub invariant_of-self-2 : goal.invariant_of-self-2
 invariant_of-self-2 c =

@@ -1,4 +1,4 @@
-use Rattle.std.proofs.Common.{Err, Ok, arith, cond, refl, sym}
+use Rattle.std.proofs.Common.{Err, Ok, arith, cond, refl, sym, rules}
 use Rattle.std.proofs.lemmas.Grind.{common_steps}
 use Rattle.places.proofs.TableLemmas.{with_same}
 use Rattle.property_store.specs.declared.link.Head.TheVariants.{First, None}
@@ -9,7 +9,7 @@ use Rattle.property_store.specs.Table.{store_at}
 use Rattle.property_store.proofs.HeadLemmas.{IsRowChanged, as_changed, each_many}
 use Rattle.property_store.proofs.PlaceLemmas.{nothing, rows_open, shelves_seen}
 use Rattle.property_store.proofs.WriteLemmas.{nothing_written, row_written}
-use Rattle.property_store.proofs.WrittenLemmas.{nothing_marked, refused_same, stored_as, stored_kept, stored_marks}
+use Rattle.property_store.proofs.WrittenLemmas.{nothing_marked, refused_same, stored_kept, stored_marks}
 use Rattle.property_store.proofs.stores.Stores.write.Goals as goal
 
 -- there is no such object
@@ -35,7 +35,7 @@ refused_row c =
     record { kept = c.self.invariant; view_is = c.self.view_is; is_place = c.requires.place; sound = c.find.ensures.sound; found = sym c.in-Some.ensures.found; lent = done.row; under = done.under; lends = refl; left = done.changed; leaves = refl; rows_are = done.new_is; heads_are = sym (with_same None c.self.inside.heads c.args.place) }
 
 refused : (c : goal.In-Err) → IsStored (fields_in c.self.inside.layouts c.write_under.ensures.row.class) c.args.number c.args.value (head_at c.self.inside.heads c.args.place) c.write_under.ensures.row c.write_under.ensures.changed (Err c.in-Err.code)
-refused c = stored_as (c.get-head.ensures None) c.in-Err.is c.write_under.ensures.done
+refused c = search rules
 
 pub invariant_of-self : goal.invariant_of-self
 invariant_of-self c = stored_kept (refused_row c) (refused c) refl c.requires.short
@@ -59,7 +59,7 @@ stored_row c =
     record { kept = c.self.invariant; view_is = c.self.view_is; is_place = c.requires.place; sound = c.find.ensures.sound; found = sym c.in-Some.ensures.found; lent = done.row; under = done.under; lends = refl; left = done.changed; leaves = refl; rows_are = done.new_is; heads_are = c.set_first.ensures }
 
 stored : (c : goal.After-set_first) → IsStored (fields_in c.self.inside.layouts c.write_under.ensures.row.class) c.args.number c.args.value (head_at c.self.inside.heads c.args.place) c.write_under.ensures.row c.write_under.ensures.changed (Ok c.in-Ok.stored)
-stored c = stored_as (c.get-head.ensures None) c.in-Ok.is c.write_under.ensures.done
+stored c = search rules
 
 pub invariant_of-self-2 : goal.invariant_of-self-2
 invariant_of-self-2 c = stored_kept (stored_row c) (stored c) refl c.requires.short

@@ -1,4 +1,4 @@
-use Rattle.std.proofs.Common.{Err, Ok, arith, cond, refl, sym}
+use Rattle.std.proofs.Common.{Err, Ok, arith, cond, refl, sym, rules}
 use Rattle.std.proofs.lemmas.Grind.{common_steps}
 use Rattle.places.proofs.TableLemmas.{with_same}
 use Rattle.property_store.specs.declared.link.Head.TheVariants.{First, None}
@@ -9,7 +9,7 @@ use Rattle.property_store.specs.Table.{store_at}
 use Rattle.property_store.proofs.HeadLemmas.{IsRowChanged, as_changed, under_many}
 use Rattle.property_store.proofs.PlaceLemmas.{nothing, rows_open, shelves_seen}
 use Rattle.property_store.proofs.WriteLemmas.{name_written, nothing_named}
-use Rattle.property_store.proofs.WrittenLemmas.{named_as, named_kept, named_marks, named_same, no_name_marked}
+use Rattle.property_store.proofs.WrittenLemmas.{named_kept, named_marks, named_same, no_name_marked}
 use Rattle.property_store.proofs.stores.Stores.write_named.Goals as goal
 
 -- there is no such object
@@ -32,7 +32,7 @@ refused_row c =
     record { kept = c.self.invariant; view_is = c.self.view_is; is_place = c.requires.place; sound = c.find.ensures.sound; found = sym c.in-Some.ensures.found; lent = done.0; under = done.2; lends = done.3.shows; left = done.1; leaves = done.3.leaves; rows_are = done.4; heads_are = sym (with_same None c.self.inside.heads c.args.place) }
 
 refused : (c : goal.In-Err) → IsNamed (fields_in c.self.inside.layouts c.update.ensures.3.shown.now.class) c.args.name.now c.args.value (head_at c.self.inside.heads c.args.place) c.update.ensures.3.shown.now c.update.ensures.3.left.now (Err c.in-Err.unwritten)
-refused c = named_as (fields_in c.self.inside.layouts c.update.ensures.3.shown.now.class) c.args.name.now c.args.value c.update.ensures.3.shown.now c.update.ensures.3.left.now (c.get.ensures None) c.in-Err.is c.update.ensures.3.met
+refused c = search rules
 
 pub invariant_of-self : goal.invariant_of-self
 invariant_of-self c = named_kept (refused_row c) c.args.name.now c.args.value (Err c.in-Err.unwritten) (refused c) refl c.requires.short
@@ -56,7 +56,7 @@ stored_row c =
     record { kept = c.self.invariant; view_is = c.self.view_is; is_place = c.requires.place; sound = c.find.ensures.sound; found = sym c.in-Some.ensures.found; lent = done.0; under = done.2; lends = done.3.shows; left = done.1; leaves = done.3.leaves; rows_are = done.4; heads_are = c.set_first.ensures }
 
 stored : (c : goal.After-set_first) → IsNamed (fields_in c.self.inside.layouts c.update.ensures.3.shown.now.class) c.args.name.now c.args.value (head_at c.self.inside.heads c.args.place) c.update.ensures.3.shown.now c.update.ensures.3.left.now (Ok c.in-Ok.stored)
-stored c = named_as (fields_in c.self.inside.layouts c.update.ensures.3.shown.now.class) c.args.name.now c.args.value c.update.ensures.3.shown.now c.update.ensures.3.left.now (c.get.ensures None) c.in-Ok.is c.update.ensures.3.met
+stored c = search rules
 
 pub invariant_of-self-2 : goal.invariant_of-self-2
 invariant_of-self-2 c = named_kept (stored_row c) c.args.name.now c.args.value (Ok c.in-Ok.stored) (stored c) refl c.requires.short
