@@ -3,7 +3,7 @@
 
 ghost use Rattle.std.specs.Prelude.{◌≡◌, ◌+◌, ◌≤◌, [], IfOk, IsTrue, None, OnErr, OnOk, length};
 ghost use Rattle.std.specs.Result.{result_err};
-ghost use Rattle.places.specs.Table.{ChangesAt, IsPlace, opened};
+ghost use Rattle.places.specs.Table.{ChangesAt, IsPlace, MakesRoom, Opens};
 ghost use Rattle.refusals.specs.Answers.{RefusedBy};
 ghost use Rattle.term_core.specs.Forms.{is_within_limits};
 ghost use Rattle.property_store.specs.Store.{without};
@@ -64,11 +64,7 @@ impl Bindings {
 
     /// Makes room for one more place at least.
     pub fn ready(&mut self) -> Result<(), AllocError>
-        ensures places { self.new.graphs.places ≡ self.old.graphs.places }
-        ensures room { OnOk result (1 ≤ self.new.graphs.room) }
-        ensures kept { self.old.graphs.room ≤ self.new.graphs.room }
-        ensures full { OnErr result (self.old.graphs.room ≡ 0) }
-        ensures err { OnErr result (self.new ≡ self.old) }
+        ensures graphs { MakesRoom self.old.graphs self.new.graphs result }
         ensures caches { self.new.caches ≡ self.old.caches }
         ensures step { (stores : Stock) → InStep stores self.old → InStep stores self.new }
     {
@@ -78,8 +74,7 @@ impl Bindings {
     /// Opens the next place, where nothing is bound and no group is open, and returns its number.
     pub fn open(&mut self) -> usize
         requires { 1 ≤ self.old.graphs.room }
-        ensures place { result ≡ length self.old.graphs.places }
-        ensures opened { self.new.graphs ≡ opened self.old.graphs no_graph }
+        ensures graphs { Opens self.old.graphs no_graph self.new.graphs result }
         ensures nothing { cache_at self.new.caches result ≡ no_cache }
         ensures others { OthersKept result self.old self.new }
         ensures step { (stores : Stock) → InStep stores self.old → InStep stores self.new }

@@ -1,6 +1,6 @@
 //! What the properties of all places store, and their bindings.
-ghost use Rattle.std.specs.Prelude.{◌≡◌, ◌≤◌, [], IfOk, IfSome, IsFalse, IsTrue, None, OnErr, OnOk, Some, length, if◌then◌else◌};
-ghost use Rattle.places.specs.Table.{IsPlace, opened};
+ghost use Rattle.std.specs.Prelude.{◌≡◌, ◌≤◌, [], IfOk, IfSome, IsFalse, IsTrue, None, OnErr, OnOk, Some, if◌then◌else◌};
+ghost use Rattle.places.specs.Table.{IsPlace, Opens, opened};
 ghost use Rattle.refusals.specs.Answers.{RefusedBy};
 ghost use Rattle.term_core.specs.Forms.{is_within_limits};
 ghost use Rattle.variant_value.specs.Values.{IsShort};
@@ -80,9 +80,8 @@ impl BoundStores {
     pub fn open(&mut self) -> usize
         requires room { 1 ≤ self.old.shelves.table.room }
         requires free { 1 ≤ self.old.graphs.room }
-        ensures place { result ≡ length self.old.shelves.table.places }
         ensures layouts { self.new.shelves.layouts ≡ self.old.shelves.layouts }
-        ensures opened { self.new.shelves.table ≡ opened self.old.shelves.table [] }
+        ensures table { Opens self.old.shelves.table [] self.new.shelves.table result }
         ensures graphs { self.new.graphs ≡ opened self.old.graphs no_graph }
     {
         binding_graph::openings();

@@ -1,7 +1,7 @@
 //! The connections of all places.
 ghost use Rattle.std.specs.Prelude.{◌≡◌, ◌+◌, ◌≤◌, [], false, IfOk, OnOk, OnErr, count_by, find, is_some, length};
 ghost use Rattle.std.specs.List.{list_any};
-ghost use Rattle.places.specs.Table.{IsPlace, opened};
+ghost use Rattle.places.specs.Table.{IsPlace, MakesRoom, Opens};
 ghost use Rattle.refusals.specs.Answers.{RefusedBy};
 ghost use Rattle.connection_list.specs.Ends.{matches, same_ends, touches};
 ghost use Rattle.connection_list.specs.Rows.{IsSound, no_rows, connect_refusal, connected, numbered, without, has_number, is_next, state_of, with_state};
@@ -54,11 +54,7 @@ impl Connections {
 
     /// Makes room for one more place at least.
     pub fn ready(&mut self) -> Result<(), AllocError>
-        ensures places { self.new.places ≡ self.old.places }
-        ensures room { OnOk result (1 ≤ self.new.room) }
-        ensures kept { self.old.room ≤ self.new.room }
-        ensures full { OnErr result (self.old.room ≡ 0) }
-        ensures err { OnErr result (self.new ≡ self.old) }
+        ensures { MakesRoom self.old self.new result }
     {
         self.rows.ready()?;
         self.routes.ready()
@@ -67,8 +63,7 @@ impl Connections {
     /// Opens the next place, where nothing is connected, and returns its number.
     pub fn open(&mut self) -> usize
         requires { 1 ≤ self.old.room }
-        ensures place { result ≡ length self.old.places }
-        ensures opened { self.new ≡ opened self.old no_rows }
+        ensures { Opens self.old no_rows self.new result }
     {
         self.rows.open();
         self.routes.open(LazyRoutes::new())

@@ -1,7 +1,7 @@
 //! The queues of all places.
-ghost use Rattle.std.specs.Prelude.{◌≡◌, ◌≤◌, [], IfOk, OnOk, OnErr, length};
+ghost use Rattle.std.specs.Prelude.{◌≡◌, ◌≤◌, [], IfOk, OnOk, OnErr};
 ghost use Rattle.std.specs.List.{slice_get};
-ghost use Rattle.places.specs.Table.{IsPlace, opened};
+ghost use Rattle.places.specs.Table.{IsPlace, MakesRoom, Opens};
 ghost use Rattle.event_queue.specs.Queue.{IsSound, counts_of, dropped, empty_queue, has_room, posted, taken, with_lost, with_mismatched};
 ghost use Rattle.event_queue.specs.Table.{queue_at, with_queue};
 ghost use Rattle.event_queue.specs.Inside.{IsLogged};
@@ -90,11 +90,7 @@ impl Queues {
 
     /// Makes room for one more place at least.
     pub fn ready(&mut self) -> Result<(), AllocError>
-        ensures places { self.new.places ≡ self.old.places }
-        ensures room { OnOk result (1 ≤ self.new.room) }
-        ensures kept { self.old.room ≤ self.new.room }
-        ensures full { OnErr result (self.old.room ≡ 0) }
-        ensures err { OnErr result (self.new ≡ self.old) }
+        ensures { MakesRoom self.old self.new result }
     {
         self.rows.ready()?;
         self.logs.ready()
@@ -103,8 +99,7 @@ impl Queues {
     /// Opens the next place, with an empty queue, and returns its number.
     pub fn open(&mut self) -> usize
         requires { 1 ≤ self.old.room }
-        ensures place { result ≡ length self.old.places }
-        ensures opened { self.new ≡ opened self.old empty_queue }
+        ensures { Opens self.old empty_queue self.new result }
     {
         self.logs.open(Log::new(self.alloc));
         self.rows.open()

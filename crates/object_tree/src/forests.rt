@@ -1,6 +1,6 @@
 //! A forest for each place.
-ghost use Rattle.std.specs.Prelude.{◌≡◌, ◌≤◌, [], IfOk, OnOk, OnErr, length};
-ghost use Rattle.places.specs.Table.{IsPlace, opened};
+ghost use Rattle.std.specs.Prelude.{◌≡◌, ◌≤◌, [], length};
+ghost use Rattle.places.specs.Table.{IsPlace, MakesRoom, Opens};
 ghost use Rattle.object_tree.specs.Rows.{row_of};
 ghost use Rattle.object_tree.specs.Forest.{IsSound, empty_forest};
 ghost use Rattle.object_tree.specs.Table.{forest_at, with_forest};
@@ -56,11 +56,7 @@ impl Forests {
 
     /// Makes room for one more place at least.
     pub fn ready(&mut self) -> Result<(), AllocError>
-        ensures places { self.new.places ≡ self.old.places }
-        ensures room { OnOk result (1 ≤ self.new.room) }
-        ensures kept { self.old.room ≤ self.new.room }
-        ensures full { OnErr result (self.old.room ≡ 0) }
-        ensures err { OnErr result (self.new ≡ self.old) }
+        ensures { MakesRoom self.old self.new result }
     {
         self.rows.ready()?;
         self.kinships.ready()
@@ -69,8 +65,7 @@ impl Forests {
     /// Opens the next place with no objects, and returns its number.
     pub fn open(&mut self) -> usize
         requires { 1 ≤ self.old.room }
-        ensures place { result ≡ length self.old.places }
-        ensures opened { self.new ≡ opened self.old empty_forest }
+        ensures { Opens self.old empty_forest self.new result }
     {
         self.rows.open();
         self.kinships.open(no_kinship(self.alloc))

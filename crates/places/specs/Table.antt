@@ -1,5 +1,5 @@
 -- What contracts see of a table: the values by place, and how many places can be opened without memory.
-use Rattle.std.specs.Prelude.{◌≡◌, ℕ, ◌-◌, ◌<◌, List, [], ◌∷◌, ◌++◌, length, slice_index_or, slice_set, refl}
+use Rattle.std.specs.Prelude.{◌≡◌, ℕ, ◌-◌, ◌<◌, ◌≤◌, List, [], ◌∷◌, ◌++◌, OnErr, OnOk, Result, length, slice_index_or, slice_set, refl}
 use Rattle.std.specs.Coded.{Coded, code_by, coded×, coded_list, coded_ℕ}
 
 pub record Table (T : Type 0) : Type 0 where
@@ -18,6 +18,19 @@ IsPlace table place = place < length table.places
 -- the table with one more place
 abbrev pub opened : {T : Type 0} → Table T → T → Table T
 opened table value = record { places = table.places ++ value ∷ []; room = table.room - 1 }
+
+-- room for one more place was made, and where that failed there was none and nothing has changed
+pub record MakesRoom {T A E : Type 0} (old new : Table T) (result : Result A E) : Type 0 where
+  pub places : new.places ≡ old.places
+  pub room : OnOk result (1 ≤ new.room)
+  pub kept : old.room ≤ new.room
+  pub full : OnErr result (old.room ≡ 0)
+  pub err : OnErr result (new ≡ old)
+
+-- the next place was opened with a value
+pub record Opens {T : Type 0} (old : Table T) (value : T) (new : Table T) (result : ℕ) : Type 0 where
+  pub place : result ≡ length old.places
+  pub opened : new ≡ opened old value
 
 -- the table with another value at a place, and all else as before
 abbrev pub with_place : {T : Type 0} → Table T → ℕ → T → Table T

@@ -1,7 +1,7 @@
 //! The table.
-ghost use Rattle.std.specs.Prelude.{◌≡◌, ◌≤◌, ◌↔◌, [], IsTrue, OnOk, OnErr, length, slice_index_or};
+ghost use Rattle.std.specs.Prelude.{◌≡◌, ◌≤◌, ◌↔◌, [], IsTrue, length, slice_index_or};
 ghost use Rattle.std.specs.Borrow.{sem};
-ghost use Rattle.places.specs.Table.{IsPlace, opened};
+ghost use Rattle.places.specs.Table.{IsPlace, MakesRoom, Opens};
 
 use std::alloc::{AllocError, Global};
 use std::marker::Model;
@@ -39,11 +39,7 @@ impl<T> Places<T> {
 
     /// Makes room for one more place at least.
     pub fn ready(&mut self) -> Result<(), AllocError>
-        ensures places { self.new.places ≡ self.old.places }
-        ensures room { OnOk result (1 ≤ self.new.room) }
-        ensures kept { self.old.room ≤ self.new.room }
-        ensures full { OnErr result (self.old.room ≡ 0) }
-        ensures err { OnErr result (self.new ≡ self.old) }
+        ensures { MakesRoom self.old self.new result }
     {
         self.items.reserve(1)
     }
@@ -51,8 +47,7 @@ impl<T> Places<T> {
     /// Opens the next place with this value, and answers its number.
     pub fn open(&mut self, value: T) -> usize
         requires { 1 ≤ self.old.room }
-        ensures place { result ≡ length self.old.places }
-        ensures opened { self.new ≡ opened self.old value }
+        ensures { Opens self.old value self.new result }
     {
         let place = self.items.len();
         self.items.push_reserved(value);

@@ -2,7 +2,7 @@
 ghost use Rattle.std.specs.Prelude.{◌≡◌, ◌≢◌, ◌&&◌, ◌<◌, ◌≤◌, ◌++◌, ◌∷◌, [], ℕ, IfOk, IfSome, None, OnOk, OnErr, Some, if◌then◌else◌, is_some, length, nat_lt, not, option_and_then, slice_index_or};
 ghost use Rattle.std.specs.Option.{option_map};
 ghost use Rattle.std.specs.Result.{result_err};
-ghost use Rattle.places.specs.Table.{IsPlace, opened, with_place};
+ghost use Rattle.places.specs.Table.{IsPlace, MakesRoom, Opens, with_place};
 ghost use Rattle.refusals.specs.Answers.{RefusedBy};
 ghost use Rattle.variant_value.specs.Values.{IsOfKind, IsShort};
 ghost use Rattle.property_store.specs.Store.{AreDistinct, IsSound, Properties, added, changed, declared_in, dynamic_names, dynamic_refusal, field_at, fields_in, is_change, named_value, next_object, properties_of, value_at, value_named, with_dynamic, without, without_dynamic, write_refusal, written};
@@ -71,11 +71,7 @@ impl Stores {
     /// Makes room for one more place at least.
     pub fn ready(&mut self) -> Result<(), AllocError>
         ensures layouts { self.new.shelves.layouts ≡ self.old.shelves.layouts }
-        ensures places { self.new.shelves.table.places ≡ self.old.shelves.table.places }
-        ensures room { OnOk result (1 ≤ self.new.shelves.table.room) }
-        ensures kept { self.old.shelves.table.room ≤ self.new.shelves.table.room }
-        ensures full { OnErr result (self.old.shelves.table.room ≡ 0) }
-        ensures err { OnErr result (self.new ≡ self.old) }
+        ensures table { MakesRoom self.old.shelves.table self.new.shelves.table result }
         ensures marks { self.new.marks ≡ self.old.marks }
     {
         self.rows.ready()?;
@@ -85,9 +81,8 @@ impl Stores {
     /// Opens the next place, with no object, and returns its number.
     pub fn open(&mut self) -> usize
         requires { 1 ≤ self.old.shelves.table.room }
-        ensures place { result ≡ length self.old.shelves.table.places }
         ensures layouts { self.new.shelves.layouts ≡ self.old.shelves.layouts }
-        ensures opened { self.new.shelves.table ≡ opened self.old.shelves.table [] }
+        ensures table { Opens self.old.shelves.table [] self.new.shelves.table result }
         ensures marks { self.new.marks ≡ self.old.marks ++ no_marks ∷ [] }
     {
         self.heads.open(Head::None);

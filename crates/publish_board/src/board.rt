@@ -1,7 +1,7 @@
 //! The desks of all places.
 ghost use Rattle.std.specs.Prelude.{◌≡◌, ◌<◌, ◌≤◌, [], IfOk, OnOk, OnErr, filter, length};
 ghost use Rattle.std.specs.List.{list_any};
-ghost use Rattle.places.specs.Table.{IsPlace, opened};
+ghost use Rattle.places.specs.Table.{IsPlace, MakesRoom, Opens};
 ghost use Rattle.refusals.specs.Answers.{RefusedBy};
 ghost use Rattle.publish_board.specs.Rows.{has_name, is_join, listens, names_of, publishes};
 ghost use Rattle.publish_board.specs.Desk.{IsSound, counts_of, join_refusal, with_join, left, names_session, no_desk, publish_refusal, published, unpublished, without_object};
@@ -58,11 +58,7 @@ impl Board {
 
     /// Makes room for one more place at least.
     pub fn ready(&mut self) -> Result<(), AllocError>
-        ensures places { self.new.places ≡ self.old.places }
-        ensures room { OnOk result (1 ≤ self.new.room) }
-        ensures kept { self.old.room ≤ self.new.room }
-        ensures full { OnErr result (self.old.room ≡ 0) }
-        ensures err { OnErr result (self.new ≡ self.old) }
+        ensures { MakesRoom self.old self.new result }
     {
         self.desks.ready()
     }
@@ -70,8 +66,7 @@ impl Board {
     /// Opens the next place, where nothing is published and nothing joined, and returns its number.
     pub fn open(&mut self) -> usize
         requires { 1 ≤ self.old.room }
-        ensures place { result ≡ length self.old.places }
-        ensures opened { self.new ≡ opened self.old no_desk }
+        ensures { Opens self.old no_desk self.new result }
     {
         self.desks.open(LazyDesk::new())
     }

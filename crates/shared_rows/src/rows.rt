@@ -1,9 +1,9 @@
 //! The rows of all places.
-ghost use Rattle.std.specs.Prelude.{◌≡◌, ◌≢◌, ◌^◌, ◌<◌, ◌≤◌, [], ℕ, All, IfNone, IfOk, IfSome, IsSome, None, OnOk, OnErr, Some, length, slice_index_or};
+ghost use Rattle.std.specs.Prelude.{◌≡◌, ◌^◌, ◌<◌, ◌≤◌, [], ℕ, All, IfNone, IfOk, IfSome, IsSome, None, OnErr, Some, length};
 ghost use Rattle.std.specs.Borrow.{MutBor};
 ghost use Rattle.std.specs.Fn.{FnOnceReturnsAtMut};
 ghost use Rattle.std.specs.Option.{option_map};
-ghost use Rattle.places.specs.Table.{IsPlace, opened, with_place};
+ghost use Rattle.places.specs.Table.{IsPlace, MakesRoom, Opens, with_place};
 ghost use Rattle.shared_rows.specs.Rows.{IsSound, added, inserted, key_of, row_under, rows_at, with_row, without, IsAtPosition};
 
 use crate::index::{Entry, Slot, count_below, position};
@@ -57,11 +57,7 @@ impl<R: Numbered> SharedRows<R> {
 
     /// Makes room for one more place at least.
     pub fn ready(&mut self) -> Result<(), AllocError>
-        ensures places { self.new.places ≡ self.old.places }
-        ensures room { OnOk result (1 ≤ self.new.room) }
-        ensures kept { self.old.room ≤ self.new.room }
-        ensures full { OnErr result (self.old.room ≡ 0) }
-        ensures err { OnErr result (self.new ≡ self.old) }
+        ensures { MakesRoom self.old self.new result }
     {
         self.indexes.ready()
     }
@@ -69,8 +65,7 @@ impl<R: Numbered> SharedRows<R> {
     /// Opens the next place, with no row, and returns its number.
     pub fn open(&mut self) -> usize
         requires { 1 ≤ self.old.room }
-        ensures place { result ≡ length self.old.places }
-        ensures opened { self.new ≡ opened self.old [] }
+        ensures { Opens self.old [] self.new result }
     {
         self.indexes.open(GapBuffer::new(self.alloc))
     }

@@ -1,6 +1,0 @@
-use Rattle.std.proofs.Common.{arith}
-use Rattle.std.proofs.lemmas.Grind.{common_steps}
-use Rattle.connection_list.proofs.table.Connections.ready.Goals as goal
-
-pub returns-clause-room : goal.returns-clause-room
-returns-clause-room c = grind (arith, common_steps)
