@@ -5,7 +5,6 @@
 
 mod connection;
 mod ends;
-mod lazy_routes;
 mod limit;
 mod link;
 mod pattern;

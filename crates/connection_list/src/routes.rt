@@ -1,9 +1,9 @@
 //! How the connections of a place are found from both ends.
-ghost use Rattle.std.specs.Prelude.{◌≡◌, ◌≢◌, ◌<◌, ◌^◌, ◌==◌, All, Any, Bool, IfNone, IfSome, IsSome, List, OnOk, Some, false, find, length, slice_index_or, true};
+ghost use Rattle.std.specs.Prelude.{◌≡◌, ◌≢◌, ◌<◌, ◌^◌, ◌==◌, [], All, Any, Bool, IfNone, IfSome, IsSome, List, OnOk, Some, false, find, length, slice_index_or, true};
 ghost use Rattle.std.specs.List.{list_any};
 ghost use Rattle.std.specs.Option.{option_map};
 ghost use Rattle.places.specs.Table.{IsPlace};
-ghost use Rattle.shared_rows.specs.Links.{IsInOrder, without_link};
+ghost use Rattle.shared_rows.specs.Links.{IsInOrder, with_link, without_link};
 ghost use Rattle.shared_rows.specs.Rows.{Keyed, added, row_under, rows_at};
 ghost use Rattle.connection_list.specs.declared.connection.Connection.{Connection};
 ghost use Rattle.connection_list.specs.declared.link.Link.{Link};
@@ -17,6 +17,7 @@ use crate::link::{Group, Link, first_near, group_of};
 use crate::pattern::{Pattern, Receiver};
 use shared_rows::{Links, SharedRows};
 use std::alloc::{AllocError, Global};
+use std::marker::Model;
 
 /// What a place keeps beside its connections.
 #[derive(Drop)]
@@ -30,7 +31,7 @@ pub(crate) struct Routes {
 
 impl Routes {
     /// What a place keeps where nothing was ever connected.
-    pub(crate) fn new(alloc: Global) -> Routes
+    fn new(alloc: Global) -> Routes
         ensures { AreSame no_routes result }
     {
         Routes {
@@ -40,13 +41,79 @@ impl Routes {
         }
     }
 
-    /// Makes room for one more connection.
-    pub(crate) fn reserve(&mut self) -> Result<(), AllocError>
+    fn reserve(&mut self) -> Result<(), AllocError>
         ensures same { AreSame self.old self.new }
         ensures room { OnOk result (HaveRoom self.new) }
     {
         self.sent.reserve()?;
         self.received.reserve()
+    }
+
+    fn link(&mut self, row: &Connection, key: u32)
+        requires { HaveRoom self.old }
+        ensures number { self.new.last_number ≡ row.now.number }
+        ensures sent { self.new.sent.links ≡ with_link link_cmp self.old.sent.links (sent_of (record { key = key; row = row.now })) }
+        ensures received { self.new.received.links ≡ with_link link_cmp self.old.received.links (received_of (record { key = key; row = row.now })) }
+    {
+        self.sent.insert_reserved(sent_link(row, key));
+        self.received.insert_reserved(received_link(row, key));
+        self.last_number = row.number;
+    }
+
+    fn unlink(&mut self, row: &Connection, key: u32)
+        ensures number { self.new.last_number ≡ self.old.last_number }
+        ensures sent { self.new.sent.links ≡ without_link link_cmp self.old.sent.links (sent_of (record { key = key; row = row.now })) }
+        ensures received { self.new.received.links ≡ without_link link_cmp self.old.received.links (received_of (record { key = key; row = row.now })) }
+    {
+        self.sent.remove(sent_link(row, key));
+        self.received.remove(received_link(row, key));
+    }
+}
+
+/// Routes that are made with the first connection.
+#[derive(Drop)]
+pub(crate) struct LazyRoutes {
+    made: Option<Box<Routes>>,
+}
+
+impl Model for LazyRoutes {
+    ghost use Rattle.connection_list.specs.declared.routes.Routes.{Routes as Seen};
+    ghost use Rattle.connection_list.specs.Routes.{routes_in};
+
+    ghost Value = { Seen };
+
+    ghost view = { λ lazy. routes_in lazy.made };
+}
+
+impl LazyRoutes {
+    pub(crate) fn new() -> LazyRoutes
+        ensures number { result.last_number ≡ 0 }
+        ensures routed { IsRouted [] result }
+    {
+        LazyRoutes { made: None }
+    }
+
+    pub(crate) fn last_number(&self) -> u32
+        ensures { result ≡ self.now.last_number }
+    {
+        match &self.made {
+            Some(routes) => routes.last_number,
+            None => 0,
+        }
+    }
+
+    /// Makes room for one more connection.
+    pub(crate) fn reserve(&mut self, alloc: Global) -> Result<(), AllocError>
+        ensures same { AreSame self.old self.new }
+        ensures room { OnOk result (HaveRoom self.new) }
+    {
+        if let Some(routes) = &mut self.made {
+            return routes.reserve();
+        }
+        let mut routes = Box::new(alloc, Routes::new(alloc))?;
+        routes.reserve()?;
+        self.made = Some(routes);
+        Ok(())
     }
 
     /// Adds a connection of the next number.
@@ -55,9 +122,10 @@ impl Routes {
         ensures number { self.new.last_number ≡ row.now.number }
         ensures routed { (rows : List (Keyed Connection)) → IsRouted rows self.old → IsRouted (added rows key row.now) self.new }
     {
-        self.sent.insert_reserved(sent_link(row, key));
-        self.received.insert_reserved(received_link(row, key));
-        self.last_number = row.number;
+        let Some(routes) = &mut self.made else {
+            unreachable!()
+        };
+        routes.link(row, key);
     }
 
     /// Takes out the connection under a key.
@@ -69,9 +137,11 @@ impl Routes {
         ensures links { (received : Bool) (row : Connection) → row_under (rows_at rows.old place) key ≡ Some row
             → links_of received self.new ≡ without_link link_cmp (links_of received self.old) (link_of received (record { key = key; row = row })) }
     {
+        let Some(routes) = &mut self.made else {
+            unreachable!()
+        };
         let row = rows.remove(place, key);
-        self.sent.remove(sent_link(&row, key as u32));
-        self.received.remove(received_link(&row, key as u32));
+        routes.unlink(&row, key as u32);
     }
 
     /// Takes out the connections that have an object at either end.
@@ -145,11 +215,18 @@ impl Routes {
     fn group(&self, pattern: &Pattern) -> Group
         ensures { IsGroup (λ keyed. matches pattern.now keyed.row) self.now result }
     {
-        let sent = group_of(&self.sent, false, pattern.sender, pattern.signal);
+        let Some(routes) = &self.made else {
+            return Group {
+                received: false,
+                start: 0,
+                end: 0,
+            };
+        };
+        let sent = group_of(&routes.sent, false, pattern.sender, pattern.signal);
         let Some(receiver) = pattern.receiver else {
             return sent;
         };
-        let received = group_of(&self.received, true, receiver.object, None);
+        let received = group_of(&routes.received, true, receiver.object, None);
         if received.end.saturating_sub(received.start) < sent.end.saturating_sub(sent.start) {
             received
         } else {
@@ -163,7 +240,14 @@ impl Routes {
         ensures key { (default : Link) → result ≡ (slice_index_or (links_of received self.now) at default).key }
         ensures sound { IsInOrder link_cmp (links_of received self.now) }
     {
-        let links = if received { &self.received } else { &self.sent };
+        let Some(routes) = &self.made else {
+            unreachable!()
+        };
+        let links = if received {
+            &routes.received
+        } else {
+            &routes.sent
+        };
         links.as_buffer().get(at).key as usize
     }
 
@@ -180,6 +264,9 @@ impl Routes {
         ensures { (rows : List (Keyed Connection)) → IsPlaceKept rows self.now
             → result ≡ option_map (λ keyed. keyed.key) (find (λ keyed. is_next sender signal after up_to keyed.row) rows) }
     {
+        let Some(routes) = &self.made else {
+            return None;
+        };
         if after == u32::MAX {
             return None;
         }
@@ -189,7 +276,7 @@ impl Routes {
             number: after + 1,
             key: 0,
         };
-        let link = first_near(&self.sent, start, near)?;
+        let link = first_near(&routes.sent, start, near)?;
         if link.object != sender || link.signal != signal || link.number > up_to {
             return None;
         }
@@ -203,9 +290,12 @@ impl Routes {
         ensures none { (rows : List (Keyed Connection)) → IsRouted rows self.now
             → IfNone result (All (λ keyed. touches object keyed.row ≡ false) rows) }
     {
-        match first_of(&self.sent, object) {
+        let Some(routes) = &self.made else {
+            return None;
+        };
+        match first_of(&routes.sent, object) {
             Some(key) => Some(key),
-            None => first_of(&self.received, object),
+            None => first_of(&routes.received, object),
         }
     }
 }

@@ -9,9 +9,9 @@ ghost use Rattle.connection_list.specs.Table.{rows_at, with_rows};
 
 use crate::connection::{Connection, NewConnection};
 use crate::ends::calls_functor;
-use crate::lazy_routes::LazyRoutes;
 use crate::limit::CONNECTIONS;
 use crate::pattern::Pattern;
+use crate::routes::LazyRoutes;
 use places::Places;
 use refusals::{Code, Fault};
 use shared_rows::SharedRows;

@@ -1,5 +1,5 @@
 //! Why a run ends before its input does.
-use std::alloc::{AllocError, AllocFailed};
+use std::alloc::AllocError;
 use wire_devices::Failed;
 
 /// Why a run ended before its input did.
@@ -23,17 +23,6 @@ impl From<AllocError> for RunFault {
     ghost from_gives = { λ _ fault. fault ≡ Memory };
 
     fn from(_error: AllocError) -> RunFault {
-        RunFault::Memory
-    }
-}
-
-impl<T: Drop> From<AllocFailed<T>> for RunFault {
-    ghost use Rattle.std.specs.Prelude.{◌≡◌};
-    ghost use Rattle.wire_lines.specs.declared.fault.RunFault.TheVariants.{Memory};
-
-    ghost from_gives = { λ _ fault. fault ≡ Memory };
-
-    fn from(_error: AllocFailed<T>) -> RunFault {
         RunFault::Memory
     }
 }

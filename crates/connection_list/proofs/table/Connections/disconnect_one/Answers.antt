@@ -19,7 +19,7 @@ take_out-requires-clause-kept c = (seen c.self.invariant c.self.view_is c.requir
 
 pub invariant_of-self : goal.invariant_of-self
 invariant_of-self c =
-    gone_kept (seen c.self.invariant c.self.view_is c.requires c.get_mut-routes.ensures.value) c.take_out.ensures
+    gone_kept (seen c.self.invariant c.self.view_is c.requires c.get_mut-routes.ensures.value) c.take_out.ensures.gone
 
 pub returns-in-Some-clause-stood : goal.returns-in-Some-clause-stood
 returns-in-Some-clause-stood c =
@@ -30,7 +30,7 @@ returns-in-Some-clause-stood c =
 pub returns-in-Some-clause-rows : goal.returns-in-Some-clause-rows
 returns-in-Some-clause-rows c =
     let at = seen c.self.invariant c.self.view_is c.requires c.get_mut-routes.ensures.value in
-    gone_view (seen c.self.invariant c.self.view_is c.requires c.get_mut-routes.ensures.value) c.take_out.ensures (has_number c.args.number)
+    gone_view (seen c.self.invariant c.self.view_is c.requires c.get_mut-routes.ensures.value) c.take_out.ensures.gone (has_number c.args.number)
     (numbered_alike (rows_at c.self.inside.rows c.args.place) c.get_mut-routes.result.now c.args.number c.in-Some.key at.kept c.in-Some.ensures.stands)
 
 pub returns-in-None-clause-stood : goal.returns-in-None-clause-stood

@@ -6,7 +6,7 @@ use Rattle.connection_list.specs.Ends.{same_ends}
 use Rattle.connection_list.specs.Routes.{links_of}
 use Rattle.connection_list.proofs.KeyedLemmas.{stands_under}
 use Rattle.connection_list.proofs.WalkLemmas.{joins_group, led, left_first, left_front, linked_end, none_left}
-use Rattle.connection_list.proofs.routes.Routes.joins.Goals as goal
+use Rattle.connection_list.proofs.routes.LazyRoutes.joins.Goals as goal
 
 pub links-init : goal.links-init
 links-init c = left_first (λ keyed. same_ends c.args.new.now keyed.row) (rows_at c.args.rows.now c.args.place) c.args.self.now c.group-group.result (joins_group c.args.new.now c.args.self.now c.group-group.result c.group-group.ensures)

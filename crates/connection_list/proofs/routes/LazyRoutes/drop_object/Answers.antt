@@ -1,7 +1,7 @@
 use Rattle.shared_rows.specs.Rows.{rows_at}
 use Rattle.connection_list.specs.Ends.{touches}
 use Rattle.connection_list.proofs.GoneLemmas.{all_gone, fewer, one_more_gone, some_under}
-use Rattle.connection_list.proofs.routes.Routes.drop_object.Goals as goal
+use Rattle.connection_list.proofs.routes.LazyRoutes.drop_object.Goals as goal
 
 pub take_out-requires-clause-stands : goal.take_out-requires-clause-stands
 take_out-requires-clause-stands c =

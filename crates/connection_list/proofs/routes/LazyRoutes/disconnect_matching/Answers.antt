@@ -6,7 +6,7 @@ use Rattle.connection_list.specs.Routes.{links_of}
 use Rattle.connection_list.proofs.GoneLemmas.{all_gone, none_gone, one_more_gone, still_place}
 use Rattle.connection_list.proofs.KeyedLemmas.{stands_under}
 use Rattle.connection_list.proofs.WalkLemmas.{led, left_back, left_first, left_gone, linked_end, none_left}
-use Rattle.connection_list.proofs.routes.Routes.disconnect_matching.Goals as goal
+use Rattle.connection_list.proofs.routes.LazyRoutes.disconnect_matching.Goals as goal
 
 pub links-init : goal.links-init
 links-init c =

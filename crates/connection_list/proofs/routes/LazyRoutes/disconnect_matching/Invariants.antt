@@ -4,7 +4,7 @@ use Rattle.connection_list.specs.Ends.{matches}
 use Rattle.connection_list.specs.Routes.{links_of}
 use Rattle.connection_list.proofs.GoneLemmas.{AreGoing}
 use Rattle.connection_list.proofs.WalkLemmas.{AreLeft}
-use Rattle.connection_list.proofs.routes.Routes.disconnect_matching.Given as goal
+use Rattle.connection_list.proofs.routes.LazyRoutes.disconnect_matching.Given as goal
 
 abbrev pub invariant-links : goal.invariant-links
 invariant-links l = AreGoing (λ keyed. matches l.pattern keyed.row) l.place l.fn.rows l.rows l.fn.self l.self × AreLeft l.group.received (λ keyed. matches l.pattern keyed.row) (rows_at l.rows l.place) (links_of l.group.received l.self) l.group.start l.left
