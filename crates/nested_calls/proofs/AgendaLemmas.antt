@@ -4,7 +4,6 @@ use Rattle.std.proofs.Common.{Result, Ok, Err, OnErr, OnOk, get_or, ⊎_elim, �
 use Rattle.std.proofs.Math.Nat.{mul-le-mul_left, mul-suc}
 use Rattle.std.proofs.lemmas.List.{append-nil, drop_all}
 use Rattle.std.specs.List.{AllByRecursion, list_any}
-use Rattle.std.specs.Option.{option_map}
 use Rattle.std.proofs.lemmas.Bool.{cond-false, cond-true, ne_eqb}
 use Rattle.std.proofs.lemmas.List.Elements.{recursion_from_All}
 use Rattle.std.proofs.lemmas.Bool.Decides.{nat_tests}
@@ -176,19 +175,6 @@ pub keeps_posted : {T E : Type 0} (result : Result T E) (place : ℕ) (middle ne
 keeps_posted (Ok value) place middle new state still ok err = keeps_with middle new place state still ok
 keeps_posted (Err error) place middle new state still ok err = keeps_same middle new place err
 
--- the object that a signal is sent by
-record Sends (rows : List Row) (target : ℕ) (blocked : Bool) : Type 0 where
-  row : Row
-  there : row_of rows target ≡ Some row
-  is : row.blocked ≡ blocked
-
-sends : (rows : List Row) (target : ℕ) (blocked : Bool) → Some blocked ≡ option_map (λ row. row.blocked) (row_of rows target) → Sends rows target blocked
-sends rows target blocked e = by (row_of rows target) refl e
-  where
-    by : (found : Option Row) → row_of rows target ≡ found → Some blocked ≡ option_map (λ row. row.blocked) found → Sends rows target blocked
-    by None is e = absurd (cc)
-    by (Some row) is e = record { row = row; there = is; is = cc }
-
 -- a signal that is not published is not posted
 pub posts_none : (classes : List Class) (state : State) (target signal : ℕ) (args : List Value) → list_any (publishes target signal) state.desk.publications ≡ false → posts_of classes state target signal args ≡ []
 posts_none classes state target signal args none = ap (map (post_of (kinds_of classes state.forest.rows target signal) args)) (by state.desk.publications none)
@@ -216,55 +202,45 @@ posting_is place old new before after earlier more own same =
 
 module _ (settings : Settings) (target signal : ℕ) (args : List Value) (depth : ℕ) where
   -- an object that has gone sends nothing
-  pub emission_absent : (doing : Doing) → None ≡ option_map (λ row. row.blocked) (row_of doing.state.forest.rows target) → run settings (Emit target signal args depth ∷ []) doing ≡ doing
-  emission_absent doing none = by_change settings (Emit target signal args depth) doing doing (rule.emit_absent settings target signal args depth doing (by (row_of doing.state.forest.rows target) none))
-    where
-      by : (found : Option Row) → None ≡ option_map (λ row. row.blocked) found → is_some found ≡ false
-      by None e = refl
-      by (Some row) e = absurd (cc)
+  pub emission_absent : (doing : Doing) → None ≡ row_of doing.state.forest.rows target → run settings (Emit target signal args depth ∷ []) doing ≡ doing
+  emission_absent doing none = by_change settings (Emit target signal args depth) doing doing (rule.emit_absent settings target signal args depth doing (ap is_some (sym none)))
 
-  module _ (doing : Doing) (blocked : Bool) (has : Some blocked ≡ option_map (λ row. row.blocked) (row_of doing.state.forest.rows target)) where
-    its_row : Sends doing.state.forest.rows target blocked
-    its_row = sends doing.state.forest.rows target blocked has
-
-    held_is : (held : Bool) → (blocked && not (signal == DESTROYED)) ≡ held → is_held_back signal its_row.row ≡ held
-    held_is held e = ap (λ blocked. blocked && not (signal == DESTROYED)) its_row.is ∙ e
-
+  module _ (doing : Doing) (row : Row) (there : Some row ≡ row_of doing.state.forest.rows target) where
     -- a signal of a blocked object is not sent
-    pub emission_held_back : (blocked && not (signal == DESTROYED)) ≡ true → run settings (Emit target signal args depth ∷ []) doing ≡ doing
-    emission_held_back held = by_change settings (Emit target signal args depth) doing doing (rule.emit_held_back settings target signal args depth doing its_row.row its_row.there (held_is true held))
+    pub emission_held_back : is_held_back signal row ≡ true → run settings (Emit target signal args depth ∷ []) doing ≡ doing
+    emission_held_back held = by_change settings (Emit target signal args depth) doing doing (rule.emit_held_back settings target signal args depth doing row (sym there) held)
 
-    module _ (sent : (blocked && not (signal == DESTROYED)) ≡ false) where
+    module _ (sent : is_held_back signal row ≡ false) where
       -- one that is nested too deep is warned of
       pub emission_deep : (new : Doing) → NESTED_SIGNALS ≤ depth → run settings (Warn Limit (Some target) ∷ []) doing ≡ new → run settings (Emit target signal args depth ∷ []) doing ≡ new
-      emission_deep new deep does = by_step settings (Emit target signal args depth) doing _ (rule.emit_deep settings target signal args depth doing its_row.row its_row.there (held_is false sent) deep) ∙ does
+      emission_deep new deep does = by_step settings (Emit target signal args depth) doing _ (rule.emit_deep settings target signal args depth doing row (sym there) sent deep) ∙ does
 
       -- an emission that begins is posted, and has all connections of the signal before it
       pub emission_begins : depth < NESTED_SIGNALS → IsSound doing.state.connections → (new : Doing) → posting doing (posts_of settings.classes doing.state target signal args) ≡ new
           → run settings (calls_to settings args depth (remaining target signal doing.state.connections.last_number 0 doing.state.connections.rows)) new ≡ run settings (Emit target signal args depth ∷ []) doing
       emission_begins shallow sound new posts =
-          sym (by_step settings (Emit target signal args depth) doing _ (rule.emit_calls settings target signal args depth doing its_row.row its_row.there (held_is false sent) shallow)
+          sym (by_step settings (Emit target signal args depth) doing _ (rule.emit_calls settings target signal args depth doing row (sym there) sent shallow)
           ∙ ap (λ agenda. run settings agenda (posting doing (posts_of settings.classes doing.state target signal args))) (emission_first settings target signal args depth doing sound)
           ∙ ap (run settings (calls_to settings args depth (remaining target signal doing.state.connections.last_number 0 doing.state.connections.rows))) posts)
 
   -- a signal that is not published and that nothing is connected to comes to nothing, whether its object is there or not, blocked or not
   pub emission_unheard : (doing : Doing) → depth < NESTED_SIGNALS → IsSound doing.state.connections → posts_of settings.classes doing.state target signal args ≡ [] → is_some (find (is_next target signal 0 doing.state.connections.last_number) doing.state.connections.rows) ≡ false
       → run settings (Emit target signal args depth ∷ []) doing ≡ doing
-  emission_unheard doing shallow sound unpublished unheard = by_row (option_map (λ (row : Row). row.blocked) (row_of doing.state.forest.rows target)) refl
+  emission_unheard doing shallow sound unpublished unheard = by_row (row_of doing.state.forest.rows target) refl
     where
       none : (found : Option Connection) → is_some found ≡ false → found ≡ None
       none None e = refl
       none (Some connection) e = absurd (cc)
 
-      sent : (blocked : Bool) → Some blocked ≡ option_map (λ (row : Row). row.blocked) (row_of doing.state.forest.rows target) → (held : Bool) → (blocked && not (signal == DESTROYED)) ≡ held → run settings (Emit target signal args depth ∷ []) doing ≡ doing
-      sent blocked has true held = emission_held_back doing blocked has held
-      sent blocked has false free =
-          sym (emission_begins doing blocked has free shallow sound doing (ap (posting doing) unpublished ∙ posting_none doing))
+      sent : (row : Row) → Some row ≡ row_of doing.state.forest.rows target → (held : Bool) → is_held_back signal row ≡ held → run settings (Emit target signal args depth ∷ []) doing ≡ doing
+      sent row there true held = emission_held_back doing row there held
+      sent row there false free =
+          sym (emission_begins doing row there free shallow sound doing (ap (posting doing) unpublished ∙ posting_none doing))
           ∙ emission_end settings target signal args depth doing.state.connections.last_number 0 doing (none (find (is_next target signal 0 doing.state.connections.last_number) doing.state.connections.rows) unheard)
 
-      by_row : (found : Option Bool) → option_map (λ (row : Row). row.blocked) (row_of doing.state.forest.rows target) ≡ found → run settings (Emit target signal args depth ∷ []) doing ≡ doing
+      by_row : (found : Option Row) → row_of doing.state.forest.rows target ≡ found → run settings (Emit target signal args depth ∷ []) doing ≡ doing
       by_row None e = emission_absent doing (sym e)
-      by_row (Some blocked) e = sent blocked (sym e) (blocked && not (signal == DESTROYED)) refl
+      by_row (Some row) e = sent row (sym e) (is_held_back signal row) refl
 
   -- the next connection is called, and those behind it are left
   pub emission_goes_on : (up_to after : ℕ) (old middle new : Doing) (next : Connection) → IsSound middle.state.connections → up_to ≤ middle.state.connections.last_number

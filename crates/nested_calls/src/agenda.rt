@@ -59,20 +59,20 @@ pub fn emit<F: Answering>(
     requires depth { depth ≤ NESTED_SIGNALS }
     ensures { Does actor.now.caller (Emit target signal args.now depth ∷ []) tables.old tables.new telling.old telling.new result }
 {
-    let Some(blocked) = tables.blocked(actor.caller.place, target) else {
+    let Some(row) = tables.forests.row(actor.caller.place, target) else {
         return Ok(());
     };
-    if blocked && signal != DESTROYED {
+    if row.blocked && signal != DESTROYED {
         return Ok(());
     }
     if depth >= NESTED_SIGNALS {
         return telling.warn(Code::Limit, Some(target));
     }
     telling.failing = post(&actor.caller, tables, target, signal, args, telling.failing);
-    let up_to = tables.last_connection(actor.caller.place);
+    let up_to = tables.connections.last_number(actor.caller.place);
     let mut after = 0;
     let mut near = 0;
-    'calls: while let Some(connection) = tables.next_connection(
+    'calls: while let Some(connection) = tables.connections.next_after(
         actor.caller.place,
         target,
         signal,

@@ -31,7 +31,7 @@ pub fn delete<F: Answering>(
     requires depth { depth ≤ NESTED_SIGNALS }
     ensures { Does actor.now.caller (Delete target depth ∷ []) tables.old tables.new telling.old telling.new result }
 {
-    if !tables.lives(actor.caller.place, target) {
+    if !tables.forests.lives(actor.caller.place, target) {
         return Ok(());
     }
     tables.mark_dying(actor.caller.place, target);
@@ -54,7 +54,7 @@ fn cut<F: Answering>(
     requires depth { depth ≤ NESTED_SIGNALS }
     ensures { Does actor.now.caller (Cut target depth ∷ []) tables.old tables.new telling.old telling.new result }
 {
-    let children = tables.children(actor.caller.place, Some(target))?;
+    let children = tables.forests.children(actor.caller.place, Some(target))?;
     tables.sever(actor.caller.place, target);
     'children: for child in children.as_slice() {
         kin(actor, tables, telling, target, *child, depth)?;
@@ -76,7 +76,8 @@ fn kin<F: Answering>(
     requires depth { depth ≤ NESTED_SIGNALS }
     ensures { Does actor.now.caller (Kin parent child depth ∷ []) tables.old tables.new telling.old telling.new result }
 {
-    if !tables.lives_below(actor.caller.place, parent, child) {
+    let place = actor.caller.place;
+    if !tables.forests.lives_below(place, parent, child) {
         return Ok(());
     }
     delete(actor, tables, telling, child, depth)

@@ -59,8 +59,12 @@ fn notify_of<F: Answering>(
         tables.old tables.new telling.old telling.new result }
 {
     if depth < NESTED_SIGNALS
-        && !tables.is_published(actor.caller.place, notice.object, notice.signal)
-        && !tables.is_sent(actor.caller.place, notice.object, notice.signal)
+        && !tables
+            .desks
+            .is_published(actor.caller.place, notice.object, notice.signal)
+        && !tables
+            .connections
+            .is_sent(actor.caller.place, notice.object, notice.signal)
     {
         return Ok(());
     }

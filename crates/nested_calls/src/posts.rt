@@ -23,7 +23,7 @@ pub fn post(
         (posts_of caller.now.setup.now.classes (state_at tables.old caller.now.place) object signal args.now) tables.old tables.new failing result }
     ensures own { state_at tables.new caller.now.place ≡ state_at tables.old caller.now.place }
 {
-    if !tables.is_published(caller.place, object, signal) {
+    if !tables.desks.is_published(caller.place, object, signal) {
         return failing;
     }
     let sending = Sending {

@@ -1,5 +1,6 @@
 //! New objects.
-ghost use Rattle.std.specs.Prelude.{◌≡◌, ◌+◌, IfOk, OnOk, OnErr, Option};
+ghost use Rattle.std.specs.Prelude.{◌≡◌, ◌+◌, IfOk, OnOk, OnErr};
+ghost use Rattle.std.specs.Result.{result_err};
 ghost use Rattle.places.specs.Table.{IsPlace};
 ghost use Rattle.refusals.specs.Answers.{RefusedBy};
 ghost use Rattle.object_tree.specs.Refusing.{add_refusal};
@@ -25,9 +26,7 @@ impl Forests {
             (added (forest_at self.old place) parent class)) }
         ensures err { OnErr result (self.new ≡ self.old) }
     {
-        if let Some(code) = self.add_refusal(place, parent) {
-            return Err(Fault::Refused(code));
-        }
+        self.check_add(place, parent)?;
         let kinship = self.kinships.get_mut(place);
         let row = Row {
             number: kinship.last_number + 1,
@@ -45,22 +44,20 @@ impl Forests {
         Ok(row.number)
     }
 
-    /// Why no object can be added below a parent.
+    /// Refuses to add an object below a parent.
     #[tactic(auto, unfolding(crate::specs::Refusing::add_refusal))]
-    fn add_refusal(&self, place: usize, parent: Option<u32>) -> Option<Code>
+    fn check_add(&self, place: usize, parent: Option<u32>) -> Result<(), Code>
         requires { IsPlace self.now place }
-        ensures { result ≡ add_refusal (forest_at self.now place) parent }
+        ensures { result_err result ≡ add_refusal (forest_at self.now place) parent }
     {
-        if let Some(code) = self.parent_refusal(place, parent) {
-            return Some(code);
-        }
+        self.check_parent(place, parent)?;
         if self.count(place) >= OBJECTS || self.depth_at(place, parent) >= DEPTH {
-            return Some(Code::Limit);
+            return Err(Code::Limit);
         }
         let kinship = self.kinship(place);
         if kinship.last_number == u32::MAX || kinship.last_stamp == u64::MAX {
-            return Some(Code::NumbersUsedUp);
+            return Err(Code::NumbersUsedUp);
         }
-        None
+        Ok(())
     }
 }

@@ -1,7 +1,8 @@
 //! A forest for each place.
-ghost use Rattle.std.specs.Prelude.{◌≡◌, ◌≤◌, [], length};
+ghost use Rattle.std.specs.Prelude.{◌≡◌, ◌≤◌, ◌&&◌, [], Some, false, length, not};
+ghost use Rattle.std.specs.Option.{option_map_or};
 ghost use Rattle.places.specs.Table.{IsPlace, MakesRoom, Opens};
-ghost use Rattle.object_tree.specs.Rows.{row_of};
+ghost use Rattle.object_tree.specs.Rows.{is_same, row_of};
 ghost use Rattle.object_tree.specs.Forest.{IsSound, empty_forest};
 ghost use Rattle.object_tree.specs.Table.{forest_at, with_forest};
 
@@ -96,6 +97,29 @@ impl Forests {
     {
         let key = self.rows.find(place, object as u64)?;
         Some(*self.rows.get(place, key))
+    }
+
+    /// Whether an object is there and not being deleted.
+    pub fn lives(&self, place: usize, object: u32) -> bool
+        requires { IsPlace self.now place }
+        ensures { result ≡ option_map_or (λ row. not row.dying) (row_of (forest_at self.now place).rows object) false }
+    {
+        match self.row(place, object) {
+            Some(row) => !row.dying,
+            None => false,
+        }
+    }
+
+    /// Whether an object is below this parent and not being deleted.
+    pub fn lives_below(&self, place: usize, parent: u32, object: u32) -> bool
+        requires { IsPlace self.now place }
+        ensures { result ≡ option_map_or (λ row. not row.dying && is_same row.parent (Some parent))
+            (row_of (forest_at self.now place).rows object) false }
+    {
+        match self.row(place, object) {
+            Some(row) => !row.dying && row.parent == Some(parent),
+            None => false,
+        }
     }
 
     /// What a place has beside its rows.

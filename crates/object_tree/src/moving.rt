@@ -1,5 +1,5 @@
 //! Objects that get another parent.
-ghost use Rattle.std.specs.Prelude.{◌≡◌, [], OnOk, OnErr, Option};
+ghost use Rattle.std.specs.Prelude.{◌≡◌, [], OnOk, OnErr};
 ghost use Rattle.std.specs.Result.{result_err};
 ghost use Rattle.places.specs.Table.{ChangesAt, IsPlace};
 ghost use Rattle.shared_rows.specs.Links.{AreLinked};
@@ -30,9 +30,7 @@ impl Forests {
             (reparented (forest_at self.old place) object parent)) }
         ensures err { OnErr result (self.new ≡ self.old) }
     {
-        if let Some(code) = self.set_parent_refusal(place, object, parent) {
-            return Err(code);
-        }
+        self.check_set_parent(place, object, parent)?;
         if !self.keeps_parent(place, object, parent) {
             let kinship = self.kinships.get_mut(place);
             kinship.last_stamp += 1;
@@ -48,22 +46,18 @@ impl Forests {
         Ok(())
     }
 
-    /// Why an object cannot have a parent.
+    /// Refuses an object another parent.
     #[tactic(auto, unfolding(crate::specs::Refusing::set_parent_refusal))]
-    fn set_parent_refusal(&self, place: usize, object: u32, parent: Option<u32>) -> Option<Code>
+    fn check_set_parent(&self, place: usize, object: u32, parent: Option<u32>) -> Result<(), Code>
         requires { IsPlace self.now place }
-        ensures { result ≡ set_parent_refusal (forest_at self.now place) object parent }
+        ensures { result_err result ≡ set_parent_refusal (forest_at self.now place) object parent }
     {
-        if let Some(code) = self.object_refusal(place, object) {
-            return Some(code);
-        }
-        if let Some(code) = self.parent_refusal(place, parent) {
-            return Some(code);
-        }
+        self.check_living(place, object)?;
+        self.check_parent(place, parent)?;
         if self.keeps_parent(place, object, parent) {
-            return None;
+            return Ok(());
         }
-        self.move_refusal(place, object, parent)
+        self.check_move(place, object, parent)
     }
 
     /// Whether an object has a parent already.
@@ -75,37 +69,35 @@ impl Forests {
     }
 
     #[tactic(auto, unfolding(crate::specs::Refusing::move_refusal))]
-    fn move_refusal(&self, place: usize, object: u32, parent: Option<u32>) -> Option<Code>
+    fn check_move(&self, place: usize, object: u32, parent: Option<u32>) -> Result<(), Code>
         requires { IsPlace self.now place }
-        ensures { result ≡ move_refusal (forest_at self.now place) object parent }
+        ensures { result_err result ≡ move_refusal (forest_at self.now place) object parent }
     {
-        if let Some(code) = self.cycle_refusal(place, object, parent) {
-            return Some(code);
-        }
+        self.check_cycle(place, object, parent)?;
         // For the proof: a sound forest is small enough for the sum.
         self.sound(place);
         if self.depth_at(place, parent) + self.height(place, object) > DEPTH {
-            return Some(Code::Limit);
+            return Err(Code::Limit);
         }
         if self.kinship(place).last_stamp == u64::MAX {
-            return Some(Code::NumbersUsedUp);
+            return Err(Code::NumbersUsedUp);
         }
-        None
+        Ok(())
     }
 
-    fn cycle_refusal(&self, place: usize, object: u32, parent: Option<u32>) -> Option<Code>
+    fn check_cycle(&self, place: usize, object: u32, parent: Option<u32>) -> Result<(), Code>
         requires { IsPlace self.now place }
-        ensures { result ≡ cycle_refusal (forest_at self.now place).rows object parent }
+        ensures { result_err result ≡ cycle_refusal (forest_at self.now place).rows object parent }
     {
         match parent {
             Some(number) => {
                 if self.is_below(place, object, number) {
-                    Some(Code::Cycle)
+                    Err(Code::Cycle)
                 } else {
-                    None
+                    Ok(())
                 }
             }
-            None => None,
+            None => Ok(()),
         }
     }
 }

@@ -108,8 +108,8 @@ fn property_at<'a>(caller: &Caller<'a>, tables: &Tables, at: At) -> Option<&'a P
     requires { IsPlaced tables.now caller.now.place }
     ensures { option_copied result ≡ property_at (settings_of caller.now.setup.now) (state_at tables.now caller.now.place) at.object at.number }
 {
-    let class = tables.class_of(caller.place, at.object)?;
-    property_row(caller, class, at.number)
+    let row = tables.forests.row(caller.place, at.object)?;
+    property_row(caller, row.class, at.number)
 }
 
 /// What a notice is sent with: the value that its property shows, where the signal takes one.
@@ -120,7 +120,11 @@ pub fn told_args(caller: &Caller, tables: &Tables, notice: Notice) -> Result<Arg
     if kinds_at(caller, tables, notice.object, notice.signal).is_empty() {
         return Ok(Args::from_vec(Vec::new(caller.setup.alloc)));
     }
-    let (value, _) = tables.shown(caller.place, notice.object, notice.property)?;
+    let at = At {
+        object: notice.object,
+        number: notice.property,
+    };
+    let (value, _) = tables.stores.shown(caller.place, at)?;
     Ok(Args::one(value))
 }
 

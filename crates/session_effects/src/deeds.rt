@@ -18,8 +18,8 @@ pub fn do_deed(tables: &mut Tables, place: usize, deed: Deed) -> Result<Answer, 
     ensures err { OnErr result (tables.new ≡ tables.old) }
 {
     if let Deed::Connect { new, unique: _ } = deed {
-        tables.check_living(place, new.sender)?;
-        tables.check_living(place, new.receiver)?;
+        tables.forests.check_living(place, new.sender)?;
+        tables.forests.check_living(place, new.receiver)?;
     }
     do_found(tables, place, deed)
 }
@@ -43,12 +43,12 @@ pub fn do_found(tables: &mut Tables, place: usize, deed: Deed) -> Result<Answer,
         }
         Deed::SetParent { object, parent } => tables.set_parent(place, object, parent)?,
         Deed::DeleteLater { object } => {
-            tables.check_living(place, object)?;
+            tables.forests.check_living(place, object)?;
             tables.check_room(place)?;
             tables.post(place, Event::Deletion(object))?;
         }
         Deed::Block { object, on } => {
-            tables.check_object(place, object)?;
+            tables.forests.check_object(place, object)?;
             return Ok(Answer::Truth(tables.set_blocked(place, object, on)));
         }
     }

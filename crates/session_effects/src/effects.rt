@@ -63,7 +63,7 @@ pub fn sent(
 {
     let reader = reader(caller, tables, slot);
     let object = object_of(&reader, of)?;
-    tables.check_object(caller.place, object)?;
+    tables.forests.check_object(caller.place, object)?;
     emission_of(caller, &reader, slot, object, signal, args)
 }
 
@@ -97,7 +97,7 @@ pub fn deleted(caller: &Caller, tables: &Tables, slot: &Slot, target: &Target) -
     ensures { Tries caller.now slot.now (e.Delete target.now) tables.now (λ object. Delete object slot.now.depth ∷ []) tables.now result }
 {
     let object = object_of(&reader(caller, tables, slot), target)?;
-    tables.check_living(caller.place, object)?;
+    tables.forests.check_living(caller.place, object)?;
     Ok(object)
 }
 
@@ -186,8 +186,8 @@ fn connect_deed(
     let reader = reader(caller, tables, slot);
     let sender = object_of(&reader, of)?;
     let receiver = object_of(&reader, to)?;
-    tables.check_living(caller.place, sender)?;
-    tables.check_living(caller.place, receiver)?;
+    tables.forests.check_living(caller.place, sender)?;
+    tables.forests.check_living(caller.place, receiver)?;
     let new = connection(caller, tables, sender, signal, receiver, method, options)?;
     Ok(Deed::Connect {
         new,
@@ -211,8 +211,8 @@ fn disconnect_deed(
     let reader = reader(caller, tables, slot);
     let sender = object_of(&reader, of)?;
     let receiver = named_object_of(&reader, to)?;
-    tables.check_object(caller.place, sender)?;
-    tables.check_named(caller.place, receiver)?;
+    tables.forests.check_object(caller.place, sender)?;
+    tables.forests.check_named(caller.place, receiver)?;
     let pattern = pattern(caller, tables, sender, signal, receiver, method)?;
     Ok(Deed::Disconnect { pattern })
 }

@@ -37,10 +37,10 @@ impl Reads for Reader<'_> {
 
     fn read(&self, _alloc: Global, target: &Target, name: &Text) -> Result<Value, Halt<()>> {
         let object = object_of(self, target)?;
-        if !self.tables.is_there(self.place, object) {
+        if self.tables.forests.row(self.place, object).is_none() {
             return Err(Halt::Refused(Code::NoSuchObject));
         }
-        match self.tables.named(self.place, object, name.as_str())? {
+        match self.tables.stores.named(self.place, object, name.as_str())? {
             Some(value) => Ok(value),
             None => Err(Halt::Refused(Code::NoSuchProperty)),
         }

@@ -28,8 +28,8 @@ pub fn method_at<'a>(
     ensures value { option_copied result ≡ method_at (settings_of caller.now.setup.now) (state_at tables.now caller.now.place) object index }
     ensures sound { IfSome result (λ method. IsMethod method.now) }
 {
-    let class = tables.class_of(caller.place, object)?;
-    caller.setup.classes.method_row(class, index)
+    let row = tables.forests.row(caller.place, object)?;
+    caller.setup.classes.method_row(row.class, index)
 }
 
 /// The kinds of the parameters of the method of an object with this index.
@@ -53,10 +53,10 @@ pub fn method_with(
     requires { IsPlaced tables.now caller.now.place }
     ensures { result ≡ method_with (its_methods caller.now tables.now object) signature.now }
 {
-    let Some(class) = tables.class_of(caller.place, object) else {
+    let Some(row) = tables.forests.row(caller.place, object) else {
         return Err(Code::NoSuchMethod);
     };
-    match caller.setup.classes.method(class, signature) {
+    match caller.setup.classes.method(row.class, signature) {
         Some(index) => Ok(index),
         None => Err(Code::NoSuchMethod),
     }
@@ -109,11 +109,11 @@ pub fn method_named(
     requires { IsPlaced tables.now caller.now.place }
     ensures { Answers result (method_named (its_methods caller.now tables.now object) text.now) }
 {
-    let Some(class) = tables.class_of(caller.place, object) else {
+    let Some(row) = tables.forests.row(caller.place, object) else {
         drop(Signature::normalise(caller.setup.alloc, text.as_str())?);
         return Err(Fault::Refused(Code::NoSuchMethod));
     };
-    match method_in(caller, class, text)? {
+    match method_in(caller, row.class, text)? {
         Some(index) => Ok(index),
         None => Err(Fault::Refused(Code::NoSuchMethod)),
     }

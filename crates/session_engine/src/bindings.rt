@@ -90,7 +90,7 @@ pub fn unbind<F: Answering>(
 {
     let place = actor.caller.place;
     let at = tables.asked_property(place, object, property.as_str())?;
-    let was_bound = tables.is_bound(place, at);
+    let was_bound = tables.stores.is_bound(place, at);
     let changes = tables.unbind(place, at)?;
     tell(actor, tables, telling, changes, 0)?;
     Ok(Answer::Truth(was_bound))
@@ -108,7 +108,7 @@ pub fn binding_error(
     ensures { Reads caller.now (model.BindingError object property.now) tables.now result }
 {
     let at = tables.asked_property(caller.place, object, property.as_str())?;
-    let (_, error) = tables.shown(caller.place, at.object, at.number)?;
+    let (_, error) = tables.stores.shown(caller.place, at)?;
     Ok(Answer::BindingError(error))
 }
 

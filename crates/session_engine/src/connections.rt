@@ -25,8 +25,8 @@ pub fn connect(
     requires { IsPlaced tables.old caller.now.place }
     ensures { Performs caller.now (Connect sender signal.now receiver method.now options.mode options.unique options.single) tables.old tables.new false reply_lines result }
 {
-    tables.check_living(caller.place, sender)?;
-    tables.check_living(caller.place, receiver)?;
+    tables.forests.check_living(caller.place, sender)?;
+    tables.forests.check_living(caller.place, receiver)?;
     let new = asked_connection(caller, tables, sender, signal, receiver, method, options)?;
     let deed = Deed::Connect {
         new,
@@ -49,8 +49,8 @@ pub fn connect_functor(
     requires { IsPlaced tables.old caller.now.place }
     ensures { Performs caller.now (ConnectFunctor sender signal.now context functor.now options.mode options.unique options.single) tables.old tables.new false reply_lines result }
 {
-    tables.check_living(caller.place, sender)?;
-    tables.check_living(caller.place, context)?;
+    tables.forests.check_living(caller.place, sender)?;
+    tables.forests.check_living(caller.place, context)?;
     let new = asked_functor_connection(caller, tables, sender, signal, context, functor, options)?;
     if options.unique {
         return Err(Fault::Refused(Code::UniqueFunctor));
@@ -82,8 +82,8 @@ pub fn disconnect(
     requires { IsPlaced tables.old caller.now.place }
     ensures { Performs caller.now (Disconnect sender signal.now receiver method.now) tables.old tables.new false reply_lines result }
 {
-    tables.check_object(caller.place, sender)?;
-    tables.check_named(caller.place, receiver)?;
+    tables.forests.check_object(caller.place, sender)?;
+    tables.forests.check_named(caller.place, receiver)?;
     let pattern = asked_pattern(caller, tables, sender, signal, receiver, method)?;
     do_deed(tables, caller.place, Deed::Disconnect { pattern })
 }

@@ -43,7 +43,7 @@ fn take_events<F: Answering>(
     requires none { telling.old.taken ≡ 0 }
     ensures { Does actor.now.caller (item.Spin ∷ []) tables.old tables.new telling.old telling.new result }
 {
-    'events: while tables.has_events(actor.caller.place) {
+    'events: while tables.queues.counts(actor.caller.place).queued > 0 {
         if telling.turns == 0 {
             return telling.use_up();
         }

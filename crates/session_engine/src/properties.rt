@@ -49,7 +49,7 @@ pub fn get(caller: &Caller, tables: &Tables, object: u32, property: &Text) -> Re
     requires { IsPlaced tables.now caller.now.place }
     ensures { Reads caller.now (Get object property.now) tables.now result }
 {
-    tables.check_object(caller.place, object)?;
+    tables.forests.check_object(caller.place, object)?;
     let value = tables.property(caller.place, object, property.as_str())?;
     Ok(Answer::Value(value))
 }
@@ -60,7 +60,7 @@ pub fn dynamic_names(caller: &Caller, tables: &Tables, object: u32) -> Result<An
     requires { IsPlaced tables.now caller.now.place }
     ensures { Reads caller.now (DynamicNames object) tables.now result }
 {
-    tables.check_object(caller.place, object)?;
-    let names = tables.dynamic_names(caller.place, object)?;
+    tables.forests.check_object(caller.place, object)?;
+    let names = tables.stores.dynamic_names(caller.place, object)?;
     Ok(Answer::Names(names))
 }

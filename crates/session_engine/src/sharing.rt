@@ -28,7 +28,7 @@ pub fn publish(
     requires { IsPlaced tables.old caller.now.place }
     ensures { Performs caller.now (Publish object signal.now name.now) tables.old tables.new false reply_lines result }
 {
-    tables.check_object(caller.place, object)?;
+    tables.forests.check_object(caller.place, object)?;
     let signal = signal_named(caller, tables, object, signal)?;
     let name = name.copy(caller.setup.alloc)?;
     let row = Publication {
@@ -61,7 +61,7 @@ pub fn join(
     requires { IsPlaced tables.old caller.now.place }
     ensures { Performs caller.now (model.Join from.now name.now types.now object method.now) tables.old tables.new false reply_lines result }
 {
-    tables.check_object(caller.place, object)?;
+    tables.forests.check_object(caller.place, object)?;
     let kinds = asked_kinds(caller.setup.alloc, types)?;
     let method = method_named(caller, tables, object, method)?;
     let join = Join {
@@ -106,7 +106,7 @@ pub fn leave(
     requires { IsPlaced tables.old caller.now.place }
     ensures { Performs caller.now (Leave from.now name.now object method.now) tables.old tables.new false reply_lines result }
 {
-    tables.check_object(caller.place, object)?;
+    tables.forests.check_object(caller.place, object)?;
     let method = method_named(caller, tables, object, method)?;
     let stood = tables.leave(caller.place, from, name, object, method);
     Ok(Answer::Truth(stood))

@@ -22,7 +22,7 @@ pub fn new_object(
     requires known { KnowsProperties caller.now tables.old }
     ensures { Performs caller.now (New class.now parent) tables.old tables.new false reply_lines result }
 {
-    tables.check_parent(caller.place, parent)?;
+    tables.forests.check_parent(caller.place, parent)?;
     let class = caller.setup.class_index(class)?;
     let number = tables.make(caller.place, parent, class)?;
     Ok(Answer::Number(number))
@@ -39,7 +39,7 @@ pub fn delete_object<F: Answering>(
     requires fresh { telling.old ≡ fresh_telling actor.now.caller.setup.now.turns }
     ensures { Performs actor.now.caller (Delete object) tables.old tables.new telling.new.failing (reply_after telling.new.lines) result }
 {
-    tables.check_object(actor.caller.place, object)?;
+    tables.forests.check_object(actor.caller.place, object)?;
     delete(actor, tables, telling, object, 0)?;
     Ok(Answer::Truth(true))
 }
@@ -50,8 +50,8 @@ pub fn children(caller: &Caller, tables: &Tables, object: Option<u32>) -> Result
     requires { IsPlaced tables.now caller.now.place }
     ensures { Reads caller.now (Children object) tables.now result }
 {
-    tables.check_named(caller.place, object)?;
-    let found = tables.children(caller.place, object)?;
+    tables.forests.check_named(caller.place, object)?;
+    let found = tables.forests.children(caller.place, object)?;
     Ok(Answer::Numbers(Items::from_vec(found)))
 }
 
@@ -67,7 +67,7 @@ pub fn find(
     requires { IsPlaced tables.now caller.now.place }
     ensures { Reads caller.now (Find object title.now class.now) tables.now result }
 {
-    tables.check_object(caller.place, object)?;
+    tables.forests.check_object(caller.place, object)?;
     let base = caller.setup.named_index(class)?;
     let found = tables.find(&caller.setup.classes, caller.place, object, title, base)?;
     Ok(Answer::Found(found))

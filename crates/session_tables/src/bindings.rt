@@ -2,56 +2,30 @@
 ghost use Rattle.std.specs.Prelude.{◌≡◌, [], IfOk, IsTrue, OnOk, Some, None, if◌then◌else◌};
 ghost use Rattle.refusals.specs.Answers.{RefusedBy};
 ghost use Rattle.term_core.specs.Forms.{is_within_limits};
-ghost use Rattle.variant_value.specs.Values.{IsShort};
 ghost use Rattle.binding_graph.specs.Graph as graph;
-ghost use Rattle.binding_graph.specs.Graph.{begin_refusal, bind_refusal, end_refusal, is_bound, is_open};
+ghost use Rattle.binding_graph.specs.Graph.{begin_refusal, bind_refusal, end_refusal, is_open};
 ghost use Rattle.binding_values.specs.Stored.{is_bindable};
 ghost use Rattle.thread_model.specs.Binding.{asked_property, bindable_property};
 ghost use Rattle.thread_model.specs.Showing.{changes, showing};
-ghost use Rattle.thread_model.specs.State.{shown, with_binding, with_binding_taken, with_group, without_group};
+ghost use Rattle.thread_model.specs.State.{with_binding, with_binding_taken, with_group, without_group};
 ghost use Rattle.session_tables.specs.Refused.{OnRefused};
 ghost use Rattle.session_tables.specs.Tables.{ChangesOnly, IsPlaced, state_at, with_state};
 
 use crate::tables::Tables;
 use binding_graph::Change;
-use binding_values::BindingError;
 use plain_types::Items;
 use property_store::Property;
 use refusals::{Code, Fault};
 use std::alloc::AllocError;
 use term_core::Expr;
-use variant_value::Value;
 
 impl Tables {
-    /// What the declared property of this number shows, and the error for which it is the default of its kind;
-    /// `Invalid` where there is none.
-    pub fn shown(
-        &self,
-        place: usize,
-        object: u32,
-        number: usize,
-    ) -> Result<(Value, Option<BindingError>), AllocError>
-        requires { IsPlaced self.now place }
-        ensures shown { IfOk result (λ found. found ≡ shown (state_at self.now place) object number) }
-        ensures short { IfOk result (λ found. IsShort found.0) }
-    {
-        self.stores.shown(place, Property { object, number })
-    }
-
-    /// Whether a declared property is bound.
-    pub fn is_bound(&self, place: usize, at: Property) -> bool
-        requires { IsPlaced self.now place }
-        ensures { result ≡ is_bound (state_at self.now place).graph.bindings at }
-    {
-        self.stores.is_bound(place, at)
-    }
-
     /// The property of this name that the class of an object declares.
     pub fn asked_property(&self, place: usize, object: u32, name: &str) -> Result<Property, Code>
         requires { IsPlaced self.now place }
         ensures { result ≡ asked_property (state_at self.now place) object name.now }
     {
-        self.check_object(place, object)?;
+        self.forests.check_object(place, object)?;
         match self.declared(place, object, name) {
             Some((number, _)) => Ok(Property { object, number }),
             None => Err(Code::NoSuchProperty),

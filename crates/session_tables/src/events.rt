@@ -1,10 +1,8 @@
 //! The events of sessions, the objects whose signals are blocked, and how much there is.
-ghost use Rattle.std.specs.Prelude.{◌≡◌, IfOk, OnOk, OnErr, length, nat_lt};
+ghost use Rattle.std.specs.Prelude.{◌≡◌, IfOk, OnOk, OnErr};
 ghost use Rattle.std.specs.List.{slice_get};
-ghost use Rattle.std.specs.Option.{option_map};
 ghost use Rattle.std.specs.Result.{result_err};
-ghost use Rattle.event_queue.specs.Queue.{IsSound, has_room};
-ghost use Rattle.object_tree.specs.Rows.{row_of};
+ghost use Rattle.event_queue.specs.Queue.{has_room};
 ghost use Rattle.thread_model.specs.Deeds.{is_blocked};
 ghost use Rattle.thread_model.specs.Events.{status};
 ghost use Rattle.thread_model.specs.Posting.{post_refusal, spin_after};
@@ -63,15 +61,6 @@ impl Tables {
         self.queues.take(place)
     }
 
-    /// Whether an event waits.
-    pub fn has_events(&self, place: usize) -> bool
-        requires { IsPlaced self.now place }
-        ensures waits { result ≡ nat_lt 0 (length (state_at self.now place).queue.events) }
-        ensures sound { IsSound (state_at self.now place).queue }
-    {
-        self.queues.counts(place).queued > 0
-    }
-
     /// Blocks the signals of an object, or lets them through, and returns whether they were blocked.
     pub fn set_blocked(&mut self, place: usize, object: u32, on: bool) -> bool
         requires { IsPlaced self.old place }
@@ -80,15 +69,6 @@ impl Tables {
             (with_blocking (state_at self.old place) object on) }
     {
         self.forests.set_blocked(place, object, on)
-    }
-
-    /// Whether the signals of an object are blocked, where it is there.
-    pub fn blocked(&self, place: usize, object: u32) -> Option<bool>
-        requires { IsPlaced self.now place }
-        ensures { result ≡ option_map (λ row. row.blocked) (row_of (state_at self.now place).forest.rows object) }
-    {
-        let row = self.forests.row(place, object)?;
-        Some(row.blocked)
     }
 
     /// How much there is in a session.

@@ -55,14 +55,6 @@ impl Tables {
         failing
     }
 
-    /// Whether a signal of an object is published under any name.
-    pub fn is_published(&self, place: usize, object: u32, signal: u32) -> bool
-        requires { IsPlaced self.now place }
-        ensures { result ≡ list_any (publishes object signal) (state_at self.now place).desk.publications }
-    {
-        self.desks.is_published(place, object, signal)
-    }
-
     /// Posts it for one publication, where that is of this signal.
     fn post_by(&mut self, sending: &Sending, index: usize, failing: bool) -> bool
         requires placed { IsPlaced self.old sending.now.place }

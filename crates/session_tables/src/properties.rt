@@ -4,7 +4,7 @@ ghost use Rattle.std.specs.Option.{unwrap_or};
 ghost use Rattle.variant_value.specs.declared.value.Value.TheVariants.{Invalid};
 ghost use Rattle.refusals.specs.Answers.{RefusedBy};
 ghost use Rattle.variant_value.specs.Values.{IsShort};
-ghost use Rattle.property_store.specs.Store.{dynamic_names, dynamic_refusal, fitting};
+ghost use Rattle.property_store.specs.Store.{dynamic_refusal, fitting};
 ghost use Rattle.thread_model.specs.Showing.{named_value};
 ghost use Rattle.thread_model.specs.Writing.{Declared, Dynamic, Removed, declared, with_writing};
 ghost use Rattle.session_tables.specs.Named.{Tells, WritesNamed};
@@ -13,7 +13,7 @@ ghost use Rattle.session_tables.specs.Tables.{ChangesOnly, IsPlaced, state_at, w
 use crate::named::NamedWrite;
 use crate::tables::Tables;
 use bound_stores::Changed;
-use plain_types::{Items, Text};
+use plain_types::Text;
 use property_store::{Property, Unwritten};
 use refusals::Fault;
 use signature_core::Kind;
@@ -30,20 +30,16 @@ impl Tables {
     }
 
     /// A copy of the value of the property of this name: of a declared one what it shows, of a dynamic one
-    /// what it was set to.
-    pub fn named(&self, place: usize, object: u32, name: &str) -> Result<Option<Value>, AllocError>
-        requires { IsPlaced self.now place }
-        ensures { IfOk result (λ value. value ≡ named_value (state_at self.now place) object name.now) }
-    {
-        self.stores.named(place, object, name)
-    }
-
-    /// The same, and `Invalid` where there is none.
+    /// what it was set to; `Invalid` where there is none.
     pub fn property(&self, place: usize, object: u32, name: &str) -> Result<Value, AllocError>
         requires { IsPlaced self.now place }
         ensures { IfOk result (λ value. value ≡ unwrap_or (named_value (state_at self.now place) object name.now) Invalid) }
     {
-        Ok(self.named(place, object, name)?.unwrap_or(Value::Invalid))
+        Ok(
+            self.stores
+                .named(place, object, name)?
+                .unwrap_or(Value::Invalid),
+        )
     }
 
     /// Gives a declared property a value of its kind, which is bound no longer then, and returns what has
@@ -114,13 +110,5 @@ impl Tables {
             (with_writing (state_at self.old place) object (Removed name.now)) }
     {
         self.stores.remove_dynamic(place, object, name);
-    }
-
-    /// Copies of the names of an object's dynamic properties, that first set first.
-    pub fn dynamic_names(&self, place: usize, object: u32) -> Result<Items<Text>, AllocError>
-        requires { IsPlaced self.now place }
-        ensures { IfOk result (λ names. names ≡ dynamic_names (state_at self.now place).store object) }
-    {
-        self.stores.dynamic_names(place, object)
     }
 }

@@ -1,9 +1,9 @@
 //! The connections between objects.
-ghost use Rattle.std.specs.Prelude.{◌≡◌, ◌+◌, IfOk, OnOk, OnErr, count_by, find, if◌then◌else◌, is_some};
+ghost use Rattle.std.specs.Prelude.{◌≡◌, ◌+◌, IfOk, OnOk, OnErr, count_by, if◌then◌else◌};
 ghost use Rattle.std.specs.List.{list_any};
 ghost use Rattle.refusals.specs.Answers.{RefusedBy};
 ghost use Rattle.connection_list.specs.Ends.{matches};
-ghost use Rattle.connection_list.specs.Rows.{IsSound, connect_refusal, has_number, is_next};
+ghost use Rattle.connection_list.specs.Rows.{connect_refusal, has_number};
 ghost use Rattle.thread_model.specs.State.{functor_state, with_connection, with_functor_state, without_connections};
 ghost use Rattle.session_tables.specs.Tables.{IsPlaced, state_at, with_state};
 
@@ -45,36 +45,6 @@ impl Tables {
         self.connections.disconnect_matching(place, pattern)
     }
 
-    /// The connection that an emission of `sender`'s `signal` calls next: of those that stand, the one
-    /// with the least number above `after` and at most `up_to`. `near` is a guess, as
-    /// [`Connections::next_after`](connection_list::Connections::next_after) has it.
-    pub fn next_connection(
-        &self,
-        place: usize,
-        sender: u32,
-        signal: u32,
-        after: u32,
-        up_to: u32,
-        near: &mut usize,
-    ) -> Option<Connection>
-        requires { IsPlaced self.now place }
-        ensures next { result ≡ find (is_next sender signal after up_to) (state_at self.now place).connections.rows }
-        ensures sound { IsSound (state_at self.now place).connections }
-    {
-        self.connections
-            .next_after(place, sender, signal, after, up_to, near)
-    }
-
-    /// Whether a connection stands that an emission of `sender`'s `signal` would call if it began now.
-    pub fn is_sent(&self, place: usize, sender: u32, signal: u32) -> bool
-        requires { IsPlaced self.now place }
-        ensures sent { let connections = (state_at self.now place).connections in
-            result ≡ is_some (find (is_next sender signal 0 connections.last_number) connections.rows) }
-        ensures sound { IsSound (state_at self.now place).connections }
-    {
-        self.connections.is_sent(place, sender, signal)
-    }
-
     /// Breaks a single-shot connection, as its callee is about to be called; another one stays.
     pub fn shoot(&mut self, place: usize, connection: &Connection)
         requires { IsPlaced self.old place }
@@ -101,14 +71,5 @@ impl Tables {
         ensures { self.new ≡ with_state self.old place (with_functor_state (state_at self.old place) number next) }
     {
         self.connections.set_state(place, number, next);
-    }
-
-    /// The number that was given last to a connection, or 0.
-    pub fn last_connection(&self, place: usize) -> u32
-        requires { IsPlaced self.now place }
-        ensures number { result ≡ (state_at self.now place).connections.last_number }
-        ensures sound { IsSound (state_at self.now place).connections }
-    {
-        self.connections.last_number(place)
     }
 }

@@ -15,13 +15,13 @@ use publish_board::Board;
 use std::alloc::{AllocError, Global};
 use std::hash::RandomState;
 
-/// What a server keeps of each session.
+/// What a server keeps of each session. What is asked of one table alone is asked of the table itself.
 pub struct Tables {
-    pub(crate) forests: Forests,
-    pub(crate) stores: BoundStores,
-    pub(crate) connections: Connections,
-    pub(crate) queues: Queues,
-    pub(crate) desks: Board,
+    pub forests: Forests,
+    pub stores: BoundStores,
+    pub connections: Connections,
+    pub queues: Queues,
+    pub desks: Board,
     /// Memory was wanted for the session and not found. Its objects, connections and events are gone,
     /// and it refuses every command.
     pub(crate) failed: Places<bool>,

@@ -1,16 +1,13 @@
 //! The trees of objects.
-ghost use Rattle.std.specs.Prelude.{◌≡◌, ◌+◌, ◌&&◌, IfOk, OnOk, OnErr, Some, None, false};
-ghost use Rattle.std.specs.Option.{option_map, option_map_or};
+ghost use Rattle.std.specs.Prelude.{◌≡◌, ◌+◌, ◌&&◌, IfOk, OnOk, OnErr, None};
 ghost use Rattle.std.specs.Result.{result_err};
 ghost use Rattle.refusals.specs.Answers.{RefusedBy};
-ghost use Rattle.object_tree.specs.Rows.{children, is_same, is_there, row_of};
 ghost use Rattle.object_tree.specs.Changes.{marked};
 ghost use Rattle.object_tree.specs.Finding.{found_below};
-ghost use Rattle.object_tree.specs.Refusing.{add_refusal, object_refusal, parent_refusal, set_parent_refusal};
-ghost use Rattle.thread_model.specs.Agenda.{is_living};
+ghost use Rattle.object_tree.specs.Refusing.{add_refusal, set_parent_refusal};
 ghost use Rattle.thread_model.specs.Showing.{changes};
 ghost use Rattle.thread_model.specs.State.{is_text, title_of, with_object, with_parent, without_object};
-ghost use Rattle.thread_model.specs.Absence.{absence, named_absence};
+ghost use Rattle.thread_model.specs.Absence.{absence};
 ghost use Rattle.thread_model.specs.Trees.{has_title, is_of_class};
 ghost use Rattle.session_tables.specs.Classes.{HasClass};
 ghost use Rattle.session_tables.specs.Refused.{OnRefused};
@@ -79,84 +76,15 @@ impl Tables {
         self.stores.drop_object(place, object)
     }
 
-    /// The children of an object by age; of none, the roots.
-    pub fn children(&self, place: usize, object: Option<u32>) -> Result<Vec<u32>, AllocError>
-        requires { IsPlaced self.now place }
-        ensures { IfOk result (λ found. found.items ≡ children (state_at self.now place).forest.rows object) }
-    {
-        self.forests.children(place, object)
-    }
-
-    /// Refuses an object that is not there.
-    pub fn check_object(&self, place: usize, object: u32) -> Result<(), Code>
-        requires { IsPlaced self.now place }
-        ensures { result_err result ≡ absence (state_at self.now place) object }
-    {
-        match self.forests.row(place, object) {
-            Some(_) => Ok(()),
-            None => Err(Code::NoSuchObject),
-        }
-    }
-
-    /// Refuses an object that is not there, where one is named.
-    pub fn check_named(&self, place: usize, object: Option<u32>) -> Result<(), Code>
-        requires { IsPlaced self.now place }
-        ensures { result_err result ≡ named_absence (state_at self.now place) object }
-    {
-        match object {
-            Some(object) => self.check_object(place, object),
-            None => Ok(()),
-        }
-    }
-
-    /// Refuses a parent, where there is to be one, that is not there or is dying.
-    pub fn check_parent(&self, place: usize, parent: Option<u32>) -> Result<(), Code>
-        requires { IsPlaced self.now place }
-        ensures { result_err result ≡ parent_refusal (state_at self.now place).forest.rows parent }
-    {
-        match self.forests.parent_refusal(place, parent) {
-            Some(code) => Err(code),
-            None => Ok(()),
-        }
-    }
-
-    /// Whether an object is there.
-    pub fn is_there(&self, place: usize, object: u32) -> bool
-        requires { IsPlaced self.now place }
-        ensures { result ≡ is_there (state_at self.now place).forest.rows object }
-    {
-        self.forests.row(place, object).is_some()
-    }
-
-    /// The index of an object's class, where the object is there.
-    pub fn class_of(&self, place: usize, object: u32) -> Option<u32>
-        requires { IsPlaced self.now place }
-        ensures { result ≡ option_map (λ row. row.class) (row_of (state_at self.now place).forest.rows object) }
-    {
-        let row = self.forests.row(place, object)?;
-        Some(row.class)
-    }
-
     /// The index of an object's class, where an object that is not there is refused.
     pub fn class_there(&self, place: usize, object: u32) -> Result<u32, Code>
         requires { IsPlaced self.now place }
         ensures refusal { result_err result ≡ absence (state_at self.now place) object }
         ensures class { IfOk result (λ class. HasClass (state_at self.now place) object class) }
     {
-        match self.class_of(place, object) {
-            Some(class) => Ok(class),
+        match self.forests.row(place, object) {
+            Some(row) => Ok(row.class),
             None => Err(Code::NoSuchObject),
-        }
-    }
-
-    /// Refuses an object that is not there or is dying.
-    pub fn check_living(&self, place: usize, object: u32) -> Result<(), Code>
-        requires { IsPlaced self.now place }
-        ensures { result_err result ≡ object_refusal (state_at self.now place).forest.rows object }
-    {
-        match self.forests.object_refusal(place, object) {
-            Some(code) => Err(code),
-            None => Ok(()),
         }
     }
 
@@ -167,29 +95,6 @@ impl Tables {
             (λ number. is_text title.now (title_of (state_at self.now place) number))) }
     {
         self.forests.find_child(place, object, |number| self.is_titled(place, number, title))
-    }
-
-    /// Whether an object stands and is not dying.
-    pub fn lives(&self, place: usize, object: u32) -> bool
-        requires { IsPlaced self.now place }
-        ensures { result ≡ option_map_or is_living (row_of (state_at self.now place).forest.rows object) false }
-    {
-        match self.forests.row(place, object) {
-            Some(row) => !row.dying,
-            None => false,
-        }
-    }
-
-    /// Whether an object stands below this parent and is not dying.
-    pub fn lives_below(&self, place: usize, parent: u32, object: u32) -> bool
-        requires { IsPlaced self.now place }
-        ensures { result ≡ option_map_or (λ row. is_living row && is_same row.parent (Some parent))
-            (row_of (state_at self.now place).forest.rows object) false }
-    {
-        match self.forests.row(place, object) {
-            Some(row) => !row.dying && row.parent == Some(parent),
-            None => false,
-        }
     }
 
     /// The nearest object below another one, of this title and of this class or one below it, where

@@ -291,8 +291,8 @@ agenda::emit-returns-then-signal-ne-DESTROYED t g c =
     let old = c.args.tables.now in
     let before = c.args.telling.now in
     does_none caller _ old before old before _ (keeps_same old old caller.place refl) refl
-    (λ earlier. emission_held_back (settings_of caller.setup.now) c.args.target c.args.signal c.args.args.now c.args.depth (doing_at caller.place old before earlier) c.in-Some.blocked c.in-Some.ensures
-    (is_held c.in-Some.blocked c.args.signal c.if-blocked.true c.if-signal-ne-DESTROYED.true))
+    (λ earlier. emission_held_back (settings_of caller.setup.now) c.args.target c.args.signal c.args.args.now c.args.depth (doing_at caller.place old before earlier) c.in-Some.row c.in-Some.ensures
+    (is_held c.in-Some.row.blocked c.args.signal c.if-row.true c.if-signal-ne-DESTROYED.true))
 
 pub agenda::emit-returns-then-depth-ge-NESTED_SIGNALS : goal.agenda::emit-returns-then-depth-ge-NESTED_SIGNALS
 agenda::emit-returns-then-depth-ge-NESTED_SIGNALS t g c =
@@ -301,7 +301,7 @@ agenda::emit-returns-then-depth-ge-NESTED_SIGNALS t g c =
     let old = c.args.tables.now in
     let before = c.args.telling.now in
     does_none caller _ old before old c.warn.new.self c.warn.result (keeps_same old old caller.place refl) c.warn.ensures.failing (OnOk-map c.warn.result
-    (λ e earlier. emission_deep settings c.args.target c.args.signal c.args.args.now c.args.depth (doing_at caller.place old before earlier) c.in-Some.blocked c.in-Some.ensures (is_let_through c.in-Some.blocked c.args.signal c.else-blocked.either) (doing_at caller.place old c.warn.new.self earlier) (omega arith)
+    (λ e earlier. emission_deep settings c.args.target c.args.signal c.args.args.now c.args.depth (doing_at caller.place old before earlier) c.in-Some.row c.in-Some.ensures (is_let_through c.in-Some.row.blocked c.args.signal c.else-row.either) (doing_at caller.place old c.warn.new.self earlier) (omega arith)
     (warn_done settings caller.place old before c.warn.new.self earlier Limit (Some c.args.target) e))
     c.warn.ensures.told)
 
@@ -320,33 +320,33 @@ agenda::emit-calls-init t g c =
       so = record {
         posts = posts;
         runs = λ earlier.
-            ap (λ number. run settings (calls_to settings c.args.args.now c.args.depth (remaining c.args.target c.args.signal number 0 (state_at new place).connections.rows)) (doing_at place new after (earlier ++ posts))) c.last_connection-up_to.ensures.number
+            ap (λ number. run settings (calls_to settings c.args.args.now c.args.depth (remaining c.args.target c.args.signal number 0 (state_at new place).connections.rows)) (doing_at place new after (earlier ++ posts))) c.last_number-up_to.ensures.number
             ∙ ap (λ (state : State). run settings (calls_to settings c.args.args.now c.args.depth (remaining c.args.target c.args.signal state.connections.last_number 0 state.connections.rows)) (doing_at place new after (earlier ++ posts))) c.post-telling.ensures.own
-            ∙ emission_begins settings c.args.target c.args.signal c.args.args.now c.args.depth (doing_at place old before earlier) c.in-Some.blocked c.in-Some.ensures (is_let_through c.in-Some.blocked c.args.signal c.else-blocked.either) (omega arith)
-            (subst (λ (state : State). IsSound state.connections) c.post-telling.ensures.own c.last_connection-up_to.ensures.sound) (doing_at place new after (earlier ++ posts)) (posting_is place old new before after earlier posts c.post-telling.ensures.own refl);
+            ∙ emission_begins settings c.args.target c.args.signal c.args.args.now c.args.depth (doing_at place old before earlier) c.in-Some.row c.in-Some.ensures (is_let_through c.in-Some.row.blocked c.args.signal c.else-row.either) (omega arith)
+            (subst (λ (state : State). IsSound state.connections) c.post-telling.ensures.own c.last_number-up_to.ensures.sound) (doing_at place new after (earlier ++ posts)) (posting_is place old new before after earlier posts c.post-telling.ensures.own refl);
         reaches = c.post-telling.ensures.reaches;
       };
       placed = placed_reached caller old new posts before.failing c.post-telling.result c.post-telling.ensures.reaches c.requires.placed;
       left = omega (arith, alike);
-      last = let number = c.last_connection-up_to.ensures.number in omega (arith, number);
+      last = let number = c.last_number-up_to.ensures.number in omega (arith, number);
     }
 
 pub agenda::emit-call-requires : goal.agenda::emit-call-requires
 agenda::emit-call-requires t g c = λ κs outlives.
     let place = c.args.actor.now.caller.place in
     let left = c.calls.invariant.left in
-    ((let falls = rank_falls c.args.actor.now.caller c.args.tables.now c.calls.tables c.args.telling.now c.calls.telling 1 0 left (omega arith) in grind (arith, falls)), (outlives, (c.calls.invariant.placed, (omega arith, found_stands _ _ c.in-Some-next_connection.connection c.next_connection.ensures.sound.rising (sym c.in-Some-next_connection.ensures.next)))))
+    ((let falls = rank_falls c.args.actor.now.caller c.args.tables.now c.calls.tables c.args.telling.now c.calls.telling 1 0 left (omega arith) in grind (arith, falls)), (outlives, (c.calls.invariant.placed, (omega arith, found_stands _ _ c.in-Some-next_after.connection c.next_after.ensures.sound.rising (sym c.in-Some-next_after.ensures.next)))))
 
 pub agenda::emit-returns-in_err-call : goal.agenda::emit-returns-in_err-call
 agenda::emit-returns-in_err-call t g c =
     let caller = c.args.actor.now.caller in
     let settings = settings_of caller.setup.now in
     far_wanting caller _ c.args.tables.now c.args.telling.now c.requires.placed _ c.calls.tables c.calls.telling c.calls.invariant.so _ c.call.new.tables c.call.new.telling _ _ c.from_residual.ensures.0 c.in_err-call.ensures
-    (λ posts. part_front settings _ _ _ (emission_goes_on settings c.args.target c.args.signal c.args.args.now c.args.depth c.last_connection-up_to.result c.calls.after _ (doing_at caller.place c.calls.tables c.calls.telling posts) _ c.in-Some-next_connection.connection
-    c.next_connection.ensures.sound c.calls.invariant.last (sym c.in-Some-next_connection.ensures.next) refl refl))
+    (λ posts. part_front settings _ _ _ (emission_goes_on settings c.args.target c.args.signal c.args.args.now c.args.depth c.last_number-up_to.result c.calls.after _ (doing_at caller.place c.calls.tables c.calls.telling posts) _ c.in-Some-next_after.connection
+    c.next_after.ensures.sound c.calls.invariant.last (sym c.in-Some-next_after.ensures.next) refl refl))
 
 pub agenda::emit-calls-smaller : goal.agenda::emit-calls-smaller
-agenda::emit-calls-smaller t g c = next_smaller c.args.target c.args.signal c.calls.after c.last_connection-up_to.result _ c.in-Some-next_connection.connection (sym c.in-Some-next_connection.ensures.next)
+agenda::emit-calls-smaller t g c = next_smaller c.args.target c.args.signal c.calls.after c.last_number-up_to.result _ c.in-Some-next_after.connection (sym c.in-Some-next_after.ensures.next)
 
 pub agenda::emit-calls-preserved : goal.agenda::emit-calls-preserved
 agenda::emit-calls-preserved t g c =
@@ -357,14 +357,14 @@ agenda::emit-calls-preserved t g c =
     let between = c.calls.telling in
     let new = c.call.new.tables in
     let after = c.call.new.telling in
-    let next = c.in-Some-next_connection.connection in
-    let up_to = c.last_connection-up_to.result in
-    let found = sym c.in-Some-next_connection.ensures.next in
+    let next = c.in-Some-next_after.connection in
+    let up_to = c.last_number-up_to.result in
+    let found = sym c.in-Some-next_after.ensures.next in
     let less : left_at place new after ≤ left_at place now between = left_falls settings _ place now new between after [] _ (c.in_ok-call.ensures.runs []) in
     record {
       so = far_next caller _ c.args.tables.now c.args.telling.now c.requires.placed _ now between c.calls.invariant.so _ new after _
           (here caller (calls_to settings c.args.args.now c.args.depth (remaining c.args.target c.args.signal up_to next.number (state_at new place).connections.rows)) new after) c.in_ok-call.ensures
-          (λ posts more done. emission_goes_on settings c.args.target c.args.signal c.args.args.now c.args.depth up_to c.calls.after done (doing_at place now between posts) (doing_at place new after more) next c.next_connection.ensures.sound c.calls.invariant.last found);
+          (λ posts more done. emission_goes_on settings c.args.target c.args.signal c.args.args.now c.args.depth up_to c.calls.after done (doing_at place now between posts) (doing_at place new after more) next c.next_after.ensures.sound c.calls.invariant.last found);
       placed = placed_reached caller now new _ _ _ c.call.ensures.reaches c.calls.invariant.placed;
       left = omega (arith, less, c.calls.invariant.left);
       last = last_stays settings c.args.target c.args.signal c.args.args.now c.args.depth up_to (doing_at place now between []) (doing_at place new after _) next c.calls.invariant.last (c.in_ok-call.ensures.runs []);
@@ -374,7 +374,7 @@ pub agenda::emit-returns : goal.agenda::emit-returns
 agenda::emit-returns t g c =
     let caller = c.args.actor.now.caller in
     far_end caller _ c.args.tables.now c.args.telling.now c.requires.placed _ c.calls.tables c.calls.telling _ c.calls.invariant.so
-    (λ posts done e. sym e ∙ emission_end (settings_of caller.setup.now) c.args.target c.args.signal c.args.args.now c.args.depth c.last_connection-up_to.result c.calls.after (doing_at caller.place c.calls.tables c.calls.telling posts) (sym c.in_default-next_connection.ensures.next))
+    (λ posts done e. sym e ∙ emission_end (settings_of caller.setup.now) c.args.target c.args.signal c.args.args.now c.args.depth c.last_number-up_to.result c.calls.after (doing_at caller.place c.calls.tables c.calls.telling posts) (sym c.in_default-next_after.ensures.next))
 
 pub news::notify-returns-in-Nothing : goal.news::notify-returns-in-Nothing
 news::notify-returns-in-Nothing t g c =
