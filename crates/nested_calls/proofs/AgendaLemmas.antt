@@ -1,5 +1,5 @@
 -- An agenda by nested calls.
-use Rattle.std.proofs.Common.{◌≡◌, ◌<◌, ◌≤◌, ◌+◌, ◌-◌, ◌*◌, ◌==◌, ◌&&◌, ◌||◌, map, filter, nat_lt, nat_le, ℕ, suc, Bool, true, false, cond, not, is_some, List, [], ◌∷◌, ◌++◌, Option, Some, None, find, drop, take, length, refl, sym, subst, ap, ◌∙◌, if◌then◌else◌, arith}
+use Rattle.std.proofs.Common.{◌≡◌, ◌<◌, ◌≤◌, ◌+◌, ◌-◌, ◌*◌, ◌==◌, ◌&&◌, ◌||◌, map, filter, nat_lt, nat_le, ℕ, suc, Bool, true, false, cond, not, is_some, List, [], ◌∷◌, ◌++◌, Option, Some, None, find, drop, length, refl, sym, subst, ap, ◌∙◌, if◌then◌else◌, arith}
 use Rattle.std.proofs.Common.{Result, Ok, Err, OnErr, OnOk, get_or, ⊎_elim, ◌⊎◌}
 use Rattle.std.proofs.Math.Nat.{mul-le-mul_left, mul-suc}
 use Rattle.std.proofs.lemmas.List.{append-nil, drop_all}
@@ -13,18 +13,12 @@ use Rattle.refusals.specs.declared.fault.Fault.{Fault}
 use Rattle.refusals.specs.declared.fault.Fault.TheVariants.{Refused, Memory}
 use Rattle.refusals.specs.Answers.{Answers}
 use Rattle.variant_value.specs.declared.value.Value.{Value}
-use Rattle.class_table.specs.declared.class.Method as class
 use Rattle.connection_types.specs.declared.callee.Callee.{Callee}
-use Rattle.connection_types.specs.declared.callee.Callee.TheVariants.{Functor, Method}
 use Rattle.term_core.specs.declared.action.SingleAction.{SingleAction}
 use Rattle.term_core.specs.Term.{Term}
 use Rattle.connection_list.specs.declared.connection.Connection.{Connection}
 use Rattle.connection_list.specs.Rows.{IsRising, IsSound, has_number, is_next}
 use Rattle.connection_list.proofs.RowsLemmas.{rising_head, rising_tail}
-use Rattle.event_queue.specs.declared.event.Event.TheVariants as event
-use Rattle.event_queue.specs.declared.event.QueuedCall.{QueuedCall}
-use Rattle.event_queue.specs.declared.event.Priority.TheVariants.{Normal}
-use Rattle.event_queue.specs.Queue.{has_room}
 use Rattle.object_tree.specs.declared.row.Row.{Row}
 use Rattle.object_tree.specs.Rows.{row_of}
 use Rattle.term_core.specs.Act.{Act, Acts, acts_of, single_action, when}
@@ -32,8 +26,7 @@ use Rattle.thread_model.specs.declared.call.TheConstants.{DESTROYED, NESTED_SIGN
 use Rattle.thread_model.specs.declared.line.Line.{Line}
 use Rattle.thread_model.specs.declared.line.Line.TheVariants.{Warning}
 use Rattle.thread_model.specs.Acts as model
-use Rattle.thread_model.specs.Agenda.{call_line, callee_called, connection_of, is_held_back, step}
-use Rattle.thread_model.specs.Methods.{method_at}
+use Rattle.thread_model.specs.Agenda.{callee_called, connection_of, is_held_back, step}
 use Rattle.thread_model.specs.Targets.{truth_evaluated}
 use Rattle.thread_model.proofs.ActionLemmas as action
 use Rattle.thread_model.specs.declared.post.Post.{Post}
@@ -41,12 +34,11 @@ use Rattle.class_table.specs.declared.class.Class.{Class}
 use Rattle.publish_board.specs.declared.publication.Publication.{Publication}
 use Rattle.publish_board.specs.Rows.{publishes}
 use Rattle.thread_model.specs.Arriving.{kinds_of, post_of, posts_of}
-use Rattle.thread_model.specs.Doing.{Doing, in_state, lost, posted, posting, shot, line_told, turn_taken, used_up}
-use Rattle.thread_model.specs.Items.{Call, Emit, Item, Next, Run, Warn, puts}
-use Rattle.thread_model.specs.Posting.{is_queued}
+use Rattle.thread_model.specs.Doing.{Doing, in_state, posting, shot, line_told, turn_taken, used_up}
+use Rattle.thread_model.specs.Items.{Call, Emit, Item, Next, Warn, puts}
 use Rattle.thread_model.specs.Run.{longest_functor, run}
 use Rattle.thread_model.specs.Settings.{Settings}
-use Rattle.thread_model.specs.State.{State, with_event, with_lost, without_connections}
+use Rattle.thread_model.specs.State.{State, without_connections}
 use Rattle.thread_model.proofs.EmissionLemmas as rule
 use Rattle.thread_model.proofs.FilterLemmas.{find-passes}
 use Rattle.thread_model.proofs.LaterLemmas.{run_later}
@@ -360,102 +352,15 @@ module _ (caller : Caller) (connection : Connection) (args : List Value) (depth 
           by true = refl
           by false = refl
 
-      -- the methods of objects are as before
-      same_method : (object index : ℕ) → method_at its_settings (state_at new caller.place) object index ≡ method_at its_settings (state_at old caller.place) object index
-      same_method object index = ap (λ (state : State). method_at its_settings state object index) (state_with old new caller.place shot_state placed e) ∙ by connection.single
-        where
-          by : (b : Bool) → method_at its_settings (if b then without_connections (state_at old caller.place) (has_number connection.number) else state_at old caller.place) object index ≡ method_at its_settings (state_at old caller.place) object index
-          by true = refl
-          by false = refl
-
-      -- nor is the queue another one
-      same_queue : (state_at new caller.place).queue ≡ (state_at old caller.place).queue
-      same_queue = ap (λ (state : State). state.queue) (state_with old new caller.place shot_state placed e) ∙ by connection.single
-        where
-          by : (b : Bool) → (if b then without_connections (state_at old caller.place) (has_number connection.number) else state_at old caller.place).queue ≡ (state_at old caller.place).queue
-          by true = refl
-          by false = refl
-
-      -- a functor is called then
-      pub call_functor : (index : ℕ) → connection.callee ≡ Functor index → (done : Doing)
-          → run its_settings (callee_called its_settings connection args depth (doing_at caller.place new taken earlier) (Functor index)).items (callee_called its_settings connection args depth (doing_at caller.place new taken earlier) (Functor index)).doing ≡ done
+      -- what it calls is called then
+      pub call_taken : (called : Callee) → connection.callee ≡ called → (done : Doing)
+          → (let next = callee_called its_settings connection args depth (doing_at caller.place new taken earlier) called in run its_settings next.items next.doing) ≡ done
           → run its_settings (Call connection.number args depth ∷ []) (doing_at caller.place old before earlier) ≡ done
-      call_functor index is done does =
+      call_taken called is done does =
           by_step its_settings (Call connection.number args depth) (doing_at caller.place old before earlier) _ (rule.call_taken its_settings connection.number args depth (doing_at caller.place old before earlier) connection standing some)
           ∙ ap (λ (called : Callee). let next = callee_called its_settings connection args depth (shot (turn_taken (doing_at caller.place old before earlier)) connection) called in run its_settings next.items next.doing) is
-          ∙ ap (λ (doing : Doing). let next = callee_called its_settings connection args depth doing (Functor index) in run its_settings next.items next.doing) is_shot
+          ∙ ap (λ (doing : Doing). let next = callee_called its_settings connection args depth doing called in run its_settings next.items next.doing) is_shot
           ∙ does
-
-      module _ (index : ℕ) (is : connection.callee ≡ Method index) where
-        pub call_absent : None ≡ method_at its_settings (state_at new caller.place) connection.receiver index → run its_settings (Call connection.number args depth ∷ []) (doing_at caller.place old before earlier) ≡ doing_at caller.place new taken earlier
-        call_absent has =
-            by_change its_settings (Call connection.number args depth) (doing_at caller.place old before earlier) _
-            (rule.call_absent its_settings connection.number args depth (doing_at caller.place old before earlier) connection standing some index is (sym (has ∙ same_method connection.receiver index))) ∙ is_shot
-
-        -- the event that a queued connection posts
-        module _ (given : List Value) where
-          abbrev pub posted_call : QueuedCall
-          posted_call = record { object = connection.receiver; callee = connection.callee; sender = connection.sender; connection = connection.number; priority = Normal; args = given }
-
-        module _ (method : class.Method) (has : Some method ≡ method_at its_settings (state_at new caller.place) connection.receiver index) (given : List Value) (cut : given ≡ take (length method.signature.kinds) args) where
-          abbrev its_call : QueuedCall
-          its_call = posted_call given
-
-          abbrev pub its_later : Bool → State
-          its_later room = if room then with_event (state_at new caller.place) (event.Call its_call) else with_lost (state_at new caller.place)
-
-          later_is : record { object = connection.receiver; callee = Method index; sender = connection.sender; connection = connection.number; priority = Normal; args = take (length method.signature.kinds) args } ≡ its_call
-          later_is = ap (λ (called : Callee). record { object = connection.receiver; callee = called; sender = connection.sender; connection = connection.number; priority = Normal; args = take (length method.signature.kinds) args }) (sym is)
-              ∙ ap (λ (values : List Value). record { object = connection.receiver; callee = connection.callee; sender = connection.sender; connection = connection.number; priority = Normal; args = values }) (sym cut)
-
-          posted_is : (final : Tables) → IsPlaced new caller.place → final ≡ with_state new caller.place (with_event (state_at new caller.place) (event.Call its_call)) → posted (doing_at caller.place new taken earlier) (event.Call its_call) ≡ doing_at caller.place final taken earlier
-          unfolding posted
-          posted_is final still f = ap (λ (state : State). in_state (doing_at caller.place new taken earlier) state) (sym (state_with new final caller.place _ still f))
-
-          lost_is : (final : Tables) → IsPlaced new caller.place → final ≡ with_state new caller.place (with_lost (state_at new caller.place)) → lost (doing_at caller.place new taken earlier) ≡ doing_at caller.place final taken earlier
-          unfolding lost
-          lost_is final still f = ap (λ (state : State). in_state (doing_at caller.place new taken earlier) state) (sym (state_with new final caller.place _ still f))
-
-          -- a queued connection calls later
-          pub call_queued : (final : Tables) → IsPlaced new caller.place → is_queued connection.mode ≡ true → final ≡ with_state new caller.place (its_later (has_room (state_at new caller.place).queue))
-              → run its_settings (Call connection.number args depth ∷ []) (doing_at caller.place old before earlier) ≡ doing_at caller.place final taken earlier
-          call_queued final still later f = by (has_room (state_at new caller.place).queue) refl
-            where
-              at_first : (room : Bool) → has_room (state_at new caller.place).queue ≡ room → has_room (state_at old caller.place).queue ≡ room
-              at_first room is_room = ap has_room (sym same_queue) ∙ is_room
-
-              by : (room : Bool) → has_room (state_at new caller.place).queue ≡ room → run its_settings (Call connection.number args depth ∷ []) (doing_at caller.place old before earlier) ≡ doing_at caller.place final taken earlier
-              by true room =
-                  by_change its_settings (Call connection.number args depth) (doing_at caller.place old before earlier) _
-                  (rule.call_posted its_settings connection.number args depth (doing_at caller.place old before earlier) connection standing some index is method (sym (has ∙ same_method connection.receiver index)) later (at_first true room))
-                  ∙ ap (λ (call : QueuedCall). posted (shot (turn_taken (doing_at caller.place old before earlier)) connection) (event.Call call)) later_is
-                  ∙ ap (λ (doing : Doing). posted doing (event.Call its_call)) is_shot
-                  ∙ posted_is final still (f ∙ ap (λ room. with_state new caller.place (its_later room)) room)
-              by false full =
-                  by_change its_settings (Call connection.number args depth) (doing_at caller.place old before earlier) _
-                  (rule.call_lost its_settings connection.number args depth (doing_at caller.place old before earlier) connection standing some index is method (sym (has ∙ same_method connection.receiver index)) later (at_first false full))
-                  ∙ ap (λ (doing : Doing). lost doing) is_shot
-                  ∙ lost_is final still (f ∙ ap (λ room. with_state new caller.place (its_later room)) full)
-
-          pub call_signal : (done : Doing) → is_queued connection.mode ≡ false → method.is_signal ≡ true → run its_settings (Emit connection.receiver index given (depth + 1) ∷ []) (doing_at caller.place new taken earlier) ≡ done
-              → run its_settings (Call connection.number args depth ∷ []) (doing_at caller.place old before earlier) ≡ done
-          call_signal done at_once signal does =
-              by_step its_settings (Call connection.number args depth) (doing_at caller.place old before earlier) _
-              (rule.call_signal its_settings connection.number args depth (doing_at caller.place old before earlier) connection standing some index is method (sym (has ∙ same_method connection.receiver index)) at_once signal)
-              ∙ ap (run its_settings (Emit connection.receiver index (take (length method.signature.kinds) args) (depth + 1) ∷ [])) is_shot
-              ∙ ap (λ (given : List Value). run its_settings (Emit connection.receiver index given (depth + 1) ∷ []) (doing_at caller.place new taken earlier)) (sym cut)
-              ∙ does
-
-          pub call_slot : (done : Doing) → is_queued connection.mode ≡ false → method.is_signal ≡ false
-              → run its_settings (model.acts (acts_of method.body.actions) given connection.receiver connection.sender (depth + 1)) (line_told (doing_at caller.place new taken earlier) (call_line method connection.receiver connection.sender given)) ≡ done
-              → run its_settings (Call connection.number args depth ∷ []) (doing_at caller.place old before earlier) ≡ done
-          call_slot done at_once slot does =
-              by_step its_settings (Call connection.number args depth) (doing_at caller.place old before earlier) _
-              (rule.call_slot its_settings connection.number args depth (doing_at caller.place old before earlier) connection standing some index is method (sym (has ∙ same_method connection.receiver index)) at_once slot)
-              ∙ ap (run its_settings (Run connection.receiver index connection.sender (take (length method.signature.kinds) args) depth ∷ [])) is_shot
-              ∙ ap (λ (given : List Value). run its_settings (Run connection.receiver index connection.sender given depth ∷ []) (doing_at caller.place new taken earlier)) (sym cut)
-              ∙ by_step its_settings (Run connection.receiver index connection.sender given depth) (doing_at caller.place new taken earlier) _ (rule.run_slot its_settings connection.receiver index connection.sender given depth (doing_at caller.place new taken earlier) method (sym has))
-              ∙ does
 
 -- the next connection is above the last one that was called, and not above the last of all
 pub next_within : (target signal after up_to : ℕ) (row : Connection) → is_next target signal after up_to row ≡ true → (after < row.number) × (row.number ≤ up_to)

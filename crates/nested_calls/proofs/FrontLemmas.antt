@@ -1,10 +1,9 @@
 -- What was posted stays the front of all that is posted.
-use Rattle.std.proofs.Common.{◌≡◌, ℕ, true, List, [], ◌∷◌, ◌++◌, None, refl, sym, ap, subst, ◌∙◌, append_assoc}
+use Rattle.std.proofs.Common.{◌≡◌, true, List, [], ◌∷◌, ◌++◌, None, refl, sym, ap, subst, ◌∙◌, append_assoc}
 use Rattle.std.proofs.lemmas.Bool.{cond_both}
 use Rattle.std.proofs.lemmas.List.{append-nil}
 use Rattle.refusals.specs.declared.code.Code.TheVariants.{TurnsUsedUp}
 use Rattle.connection_list.specs.Rows.{has_number}
-use Rattle.thread_model.specs.declared.line.Line.{Line}
 use Rattle.thread_model.specs.declared.line.Line.TheVariants.{Warning}
 use Rattle.thread_model.specs.declared.post.Post.{Post}
 use Rattle.thread_model.specs.Agenda.{step}
@@ -39,23 +38,13 @@ PostsBehind old new = IsFront old.posts new.posts
 same : (doing : Doing) → PostsBehind doing doing
 same doing = front_same doing.posts
 
--- what is told posts nothing
-pub told_front : (doing : Doing) (said : Line) → PostsBehind doing (line_told doing said)
-unfolding line_told
-told_front doing said = same doing
-
--- nor does another state of a functor
-pub stepped_front : (doing : Doing) (number next : ℕ) → PostsBehind doing (stepped doing number next)
-unfolding stepped
-stepped_front doing number next = same doing
-
 -- what each change posts
 holds : Holds PostsBehind
-unfolding posting turn_taken used_up shot posted lost first_taken dying severed deed_done
+unfolding line_told posting turn_taken used_up shot posted lost first_taken stepped dying severed deed_done
 holds = record {
   same = same;
   both = λ one two three first second. front_both one.posts two.posts three.posts first second;
-  tells = told_front;
+  tells = λ doing said. same doing;
   publishes = λ doing more. (more, refl);
   takes_turn = same;
   uses_up = λ doing. cond_both doing.spent doing (record doing { spent = true; lines = doing.lines ++ Warning TurnsUsedUp None ∷ [] }) (PostsBehind doing) (λ spent. same doing) (λ fresh. same doing);
@@ -68,7 +57,7 @@ holds = record {
   marks = λ doing target. same doing;
   severs = λ doing target. same doing;
   goes = λ doing target. same doing;
-  steps = stepped_front;
+  steps = λ doing number next. same doing;
 }
 
 module _ (settings : Settings) where

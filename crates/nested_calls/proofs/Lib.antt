@@ -3,4 +3,4 @@ pub mod DoesLemmas
 pub mod DeletionLemmas
 pub mod NewsLemmas
 pub mod AgendaLemmas
-pub mod FunctorLemmas
+pub mod CalleeLemmas

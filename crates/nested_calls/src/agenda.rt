@@ -1,24 +1,21 @@
 //! An agenda by nested calls. Each function does what the item of its name does, and calls the others
 //! where that puts items in front. The calls come to an end, since each way round takes a turn, or marks
 //! an object that lives as dying; no action gives a turn back, or makes an object.
-ghost use Rattle.std.specs.Prelude.{◌≡◌, ◌∷◌, [], ◌≤◌, ◌<◌, OnOk, OnErr, Some, find, is_some, take};
-ghost use Rattle.connection_list.specs.Rows.{IsSound, is_next};
+ghost use Rattle.std.specs.Prelude.{◌≡◌, ◌∷◌, ◌+◌, [], ◌≤◌, ◌<◌, ℕ, OnOk, OnErr, Some, take};
 ghost use Rattle.connection_types.specs.declared.callee.Callee.TheVariants as callee;
 ghost use Rattle.term_core.specs.Act.{acts_of, single_action};
 ghost use Rattle.event_queue.specs.declared.event.Priority.TheVariants.{Normal};
 ghost use Rattle.thread_model.specs.declared.call.TheConstants.{NESTED_SIGNALS};
 ghost use Rattle.thread_model.specs.Acts as model;
-ghost use Rattle.thread_model.specs.Agenda.{call_line, callee_called, connection_of, functor_line};
-ghost use Rattle.term_evaluation.specs.Stating.{after, with_state};
-ghost use Rattle.thread_model.specs.Doing.{stepped, line_told};
-ghost use Rattle.thread_model.specs.Items.{Call, Emit, puts};
-ghost use Rattle.thread_model.specs.Functors.{functor_at};
+ghost use Rattle.thread_model.specs.Agenda.{callee_called, connection_of, method_items};
+ghost use Rattle.thread_model.specs.Items.{Call, Emit, RunFunctor};
+ghost use Rattle.thread_model.specs.Methods.{method_at};
 ghost use Rattle.thread_model.specs.Posting.{is_queued};
-ghost use Rattle.thread_model.specs.State.{functor_state, with_call};
+ghost use Rattle.thread_model.specs.State.{with_call};
 ghost use Rattle.class_table.specs.Sound.{IsMethod};
 ghost use Rattle.session_tables.specs.Tables as session;
 ghost use Rattle.session_tables.specs.Tables.{IsPlaced, state_at};
-ghost use Rattle.session_effects.specs.Actions.{KeepsOthers, act_of};
+ghost use Rattle.session_effects.specs.Actions.{act_of};
 ghost use Rattle.session_effects.specs.Setup.{settings_of};
 ghost use Rattle.nested_calls.specs.Agenda.{Does, DoesNext};
 ghost use Rattle.nested_calls.specs.Telling.{doing_at};
@@ -37,7 +34,6 @@ use refusals::Code;
 use session_effects::{Caller, Slot, change, deleted, functor_at, method_at, sent, set, truth};
 use session_tables::Tables;
 use std::alloc::AllocError;
-use stored_slots::Functor;
 use term_core::{Action, SingleAction, Step};
 use thread_model::{DESTROYED, NESTED_SIGNALS};
 use variant_value::{Args, Value};
@@ -46,7 +42,7 @@ use variant_value::{Args, Value};
 /// as they stand by then, up to the last that was made when the sending began. `destroyed()` cannot be
 /// blocked.
 #[cycle(agenda)]
-pub fn emit<F: Answering>(
+pub(crate) fn emit<F: Answering>(
     actor: &Actor<F>,
     tables: &mut Tables,
     telling: &mut Telling,
@@ -120,24 +116,13 @@ fn call<F: Answering>(
     if is_queued(connection.mode) {
         return call_later(&actor.caller, tables, connection, given);
     }
-    if method.is_signal {
-        return emit(
-            actor,
-            tables,
-            telling,
-            connection.receiver,
-            index,
-            given,
-            depth + 1,
-        );
-    }
     let slot = Slot {
         object: connection.receiver,
         sender: connection.sender,
         args: given,
         depth: depth + 1,
     };
-    run_slot(actor, tables, telling, method, &slot)
+    run_method(actor, tables, telling, index, method, &slot, depth + 1)
 }
 
 /// Calls the functor of a connection whose turn is taken: later, by an event, or at once.
@@ -164,22 +149,13 @@ fn call_functor<F: Answering>(
     if is_queued(connection.mode) {
         return call_later(&actor.caller, tables, connection, given);
     }
-    let its_depth = depth + 1;
     let slot = Slot {
         object: connection.receiver,
         sender: connection.sender,
         args: given,
-        depth: its_depth,
+        depth: depth + 1,
     };
-    run_functor(
-        actor,
-        tables,
-        telling,
-        index,
-        functor,
-        connection.number,
-        &slot,
-    )
+    run_functor(actor, tables, telling, index, connection.number, &slot)
 }
 
 /// Posts the call of what a connection calls, or counts it as lost where the queue is full.
@@ -205,22 +181,38 @@ fn call_later(
     tables.post_call(caller.place, call)
 }
 
-/// Tells of a slot that is called, and does what its body says.
+/// Calls a method of an object, which is this one: sends it on at its own depth, where it is a signal, and else
+/// tells of the slot and does what its body says.
 #[cycle(agenda)]
-pub fn run_slot<F: Answering>(
+pub fn run_method<F: Answering>(
     actor: &Actor<F>,
     tables: &mut Tables,
     telling: &mut Telling,
+    index: u32,
     method: &Method,
     slot: &Slot,
+    sent_at: u32,
 ) -> Result<(), AllocError>
     requires placed { IsPlaced tables.old actor.now.caller.place }
+    requires sent_at { sent_at ≤ NESTED_SIGNALS }
     requires depth { slot.now.depth ≤ NESTED_SIGNALS }
+    requires found { Some method.now ≡ method_at (settings_of actor.now.caller.setup.now) (state_at tables.old actor.now.caller.place) slot.now.object index }
     requires sound { IsMethod method.now }
-    ensures { DoesNext actor.now.caller (λ earlier. puts (model.acts (acts_of method.now.body.actions) slot.now.args.now slot.now.object slot.now.sender slot.now.depth)
-        (line_told (doing_at actor.now.caller.place tables.old telling.old earlier) (call_line method.now slot.now.object slot.now.sender slot.now.args.now))) tables.old tables.new telling.old telling.new result }
+    ensures { (depth : ℕ) → slot.now.depth ≡ depth + 1 → Does actor.now.caller
+        (method_items slot.now.object index slot.now.sender slot.now.args.now sent_at depth method.now) tables.old tables.new telling.old telling.new result }
 {
-    telling.call(actor.caller.setup.alloc, method, slot)?;
+    if method.is_signal {
+        return emit(
+            actor,
+            tables,
+            telling,
+            slot.object,
+            index,
+            slot.args,
+            sent_at,
+        );
+    }
+    telling.call(actor.caller.setup.alloc, &method.text, slot)?;
     acts(actor, tables, telling, slot, method.body.actions.as_slice())
 }
 
@@ -233,19 +225,18 @@ pub fn run_functor<F: Answering>(
     tables: &mut Tables,
     telling: &mut Telling,
     index: u32,
-    functor: &Functor,
     connection: u32,
     slot: &Slot,
 ) -> Result<(), AllocError>
     requires placed { IsPlaced tables.old actor.now.caller.place }
     requires depth { slot.now.depth ≤ NESTED_SIGNALS }
-    requires found { Some functor.now ≡ functor_at (settings_of actor.now.caller.setup.now) index }
-    ensures { DoesNext actor.now.caller (λ earlier. let state = functor_state (state_at tables.old actor.now.caller.place) connection in
-        puts (model.acts (acts_of (with_state state functor.now.body).actions) slot.now.args.now slot.now.object slot.now.sender slot.now.depth)
-        (stepped (line_told (doing_at actor.now.caller.place tables.old telling.old earlier) (functor_line functor.now slot.now.object slot.now.sender slot.now.args.now))
-        connection (after functor.now.next state slot.now.args.now))) tables.old tables.new telling.old telling.new result }
+    ensures { (depth : ℕ) → slot.now.depth ≡ depth + 1 → Does actor.now.caller
+        (RunFunctor slot.now.object index slot.now.sender connection slot.now.args.now depth ∷ []) tables.old tables.new telling.old telling.new result }
 {
-    telling.call_functor(actor.caller.setup.alloc, functor, slot)?;
+    let Some(functor) = functor_at(&actor.caller, index) else {
+        return Ok(());
+    };
+    telling.call(actor.caller.setup.alloc, &functor.name, slot)?;
     let state = tables.functor_state(actor.caller.place, connection);
     let (actions, next) = answered(actor, index, functor, state, slot.args)?;
     tables.step_functor(actor.caller.place, connection, next);

@@ -11,7 +11,7 @@ mod posts;
 mod telling;
 
 pub use actor::Actor;
-pub use agenda::{emit, is_queued, run_functor, run_slot};
+pub use agenda::{is_queued, run_functor, run_method};
 pub use answering::Answering;
 pub use deletion::delete;
 pub use news::{notify, tell};

@@ -1,18 +1,15 @@
 //! What a command has told so far, and the turns that it has left.
 ghost use Rattle.std.specs.Prelude.{◌≡◌, OnOk};
+ghost use Rattle.thread_model.specs.declared.line.Line.TheVariants as line;
 ghost use Rattle.thread_model.specs.declared.line.Line.TheVariants.{BindingWarning, Warning};
-ghost use Rattle.thread_model.specs.Agenda.{call_line, functor_line};
-ghost use Rattle.class_table.specs.Sound.{IsMethod};
 ghost use Rattle.nested_calls.specs.Telling.{Warns, fresh_telling, spent, with_line};
 
 use binding_values::BindingError;
-use class_table::Method;
 use plain_types::{Items, Text};
 use property_store::Property;
 use refusals::{Code, Fault};
 use session_effects::{Setup, Slot};
 use std::alloc::{AllocError, Global};
-use stored_slots::Functor;
 use thread_model::{Call, Line};
 use variant_value::Args;
 
@@ -101,38 +98,14 @@ impl Telling {
         }
     }
 
-    /// Tells of a slot that is called.
-    pub(crate) fn call(
-        &mut self,
-        alloc: Global,
-        method: &Method,
-        slot: &Slot,
-    ) -> Result<(), AllocError>
-        requires { IsMethod method.now }
-        ensures told { OnOk result (self.new ≡ with_line self.old (call_line method.now slot.now.object slot.now.sender slot.now.args.now)) }
+    /// Tells of a slot or a functor that is called, by its name.
+    pub(crate) fn call(&mut self, alloc: Global, name: &Text, slot: &Slot) -> Result<(), AllocError>
+        ensures told { OnOk result (self.new ≡ with_line self.old
+            (line.Call (record { method = name.now; object = slot.now.object; sender = slot.now.sender; args = slot.now.args.now }))) }
         ensures failing { self.new.failing ≡ self.old.failing }
     {
         let call = Call {
-            method: method.text.copy(alloc)?,
-            object: slot.object,
-            sender: slot.sender,
-            args: Args::copied(alloc, slot.args)?,
-        };
-        self.tell(Line::Call(call))
-    }
-
-    /// Tells of a functor that is called.
-    pub(crate) fn call_functor(
-        &mut self,
-        alloc: Global,
-        functor: &Functor,
-        slot: &Slot,
-    ) -> Result<(), AllocError>
-        ensures told { OnOk result (self.new ≡ with_line self.old (functor_line functor.now slot.now.object slot.now.sender slot.now.args.now)) }
-        ensures failing { self.new.failing ≡ self.old.failing }
-    {
-        let call = Call {
-            method: functor.name.copy(alloc)?,
+            method: name.copy(alloc)?,
             object: slot.object,
             sender: slot.sender,
             args: Args::copied(alloc, slot.args)?,

@@ -1,5 +1,5 @@
 -- What changes of an engine by places change of its sessions by names.
-use Rattle.std.proofs.Common.{◌≡◌, ℕ, ◌+◌, ◌<◌, ◌≤◌, Bool, true, false, not, cond, List, [], ◌∷◌, ◌++◌, Some, None, length, position, get_or, slice_get, eqb, ltb, refl, sym, ap, ap₂, subst, ◌∙◌, ⊎_elim, arith}
+use Rattle.std.proofs.Common.{◌≡◌, ℕ, ◌+◌, ◌<◌, ◌≤◌, Bool, true, false, true≢false, not, cond, List, [], ◌∷◌, ◌++◌, Some, None, length, position, get_or, slice_get, eqb, ltb, refl, sym, ap, ap₂, subst, ◌∙◌, ⊎_elim, arith}
 use Rattle.std.specs.Prelude.{bytes_eq}
 use Rattle.std.specs.List.{list_any, position_or_len}
 use Rattle.std.specs.Option.{option_map_or}
@@ -170,6 +170,20 @@ module _ (engine : EngineState) (whole : IsWhole engine) where
       (cases_Bool (eqb old (length engine.names)))
       in
       sessions-first (opened engine name) other (whole_opened name absent) ∙ session_opened engine.tables new ∙ same ∙ sym (sessions-first engine other whole)
+
+-- the engine once memory was refused
+abbrev pub marked : EngineState → EngineState
+marked engine = record { settings = engine.settings; names = engine.names; tables = engine.tables; memory_refused = true }
+
+pub whole_marked : (engine : EngineState) → IsWhole engine → IsWhole (marked engine)
+whole_marked engine whole = record {
+  settings = whole.settings;
+  even = whole.even;
+  paired = whole.paired;
+  named = whole.named;
+  laid = whole.laid;
+  kept = λ at. record { well = λ found. absurd (true≢false found); sound = (whole.kept at).sound };
+}
 
 -- the engine with other tables
 abbrev pub with_tables : EngineState → Tables → EngineState

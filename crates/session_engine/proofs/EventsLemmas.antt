@@ -2,7 +2,6 @@
 use Rattle.std.proofs.Common.{◌≡◌, ◌<◌, ◌≤◌, ◌+◌, ◌-◌, ℕ, true, false, List, [], ◌∷◌, ◌++◌, Option, Some, None, Ok, drop, length, nat_lt, refl, sym, subst, ap, ◌∙◌, arith}
 use Rattle.std.specs.List.{slice_get}
 use Rattle.std.specs.Option.{option_map_or}
-use Rattle.std.proofs.lemmas.Bool.{cond-false}
 use Rattle.std.proofs.lemmas.Bool.Decides.{nat_tests}
 use Rattle.connection_types.specs.declared.callee.Callee.{Callee}
 use Rattle.connection_types.specs.declared.callee.Callee.TheVariants as callee
@@ -10,22 +9,19 @@ use Rattle.event_queue.specs.declared.event.Event.{Event}
 use Rattle.event_queue.specs.declared.event.Event.TheVariants as event
 use Rattle.event_queue.specs.declared.event.QueuedCall.{QueuedCall}
 use Rattle.class_table.specs.declared.class.Method.{Method}
-use Rattle.term_core.specs.Act.{acts_of}
 use Rattle.thread_model.specs.declared.line.Answer.TheVariants as a
 use Rattle.thread_model.specs.declared.line.Line.TheVariants as line
 use Rattle.thread_model.specs.declared.line.Spin.{Spin as Came}
-use Rattle.thread_model.specs.Acts.{acts}
 use Rattle.thread_model.specs.Asked as asked
 use Rattle.thread_model.specs.Effects.{ended}
 use Rattle.thread_model.specs.Posting.{spin_of}
-use Rattle.thread_model.specs.Agenda.{call_items, call_line, event_items, method_items}
+use Rattle.thread_model.specs.Agenda.{call_items, event_items, method_items}
 use Rattle.thread_model.specs.Doing.{Doing, first_taken, line_told, turn_taken}
-use Rattle.thread_model.specs.Items.{Item, Run, Spin}
+use Rattle.thread_model.specs.Items.{Item, Spin}
 use Rattle.thread_model.specs.Methods.{method_at}
 use Rattle.thread_model.specs.Run.{run}
 use Rattle.thread_model.specs.Settings.{Settings}
 use Rattle.thread_model.specs.State.{State, without_first}
-use Rattle.thread_model.proofs.EmissionLemmas as emission
 use Rattle.thread_model.proofs.EventLemmas as rule
 use Rattle.thread_model.proofs.RunLemmas.{at_end, by_change, by_step, in_parts, run_shrinks}
 use Rattle.thread_model.proofs.ThreadLemmas.{spun_last}
@@ -140,14 +136,10 @@ module _ (settings : Settings) (place : ℕ) (tables : Tables) (telling : Tellin
     pub calls_none : None ≡ method_at settings (state_at tables place) call.object index → run settings its_items its_doing ≡ its_doing
     calls_none has = ap (λ (items : List Item). run settings items its_doing) (by_method None has) ∙ at_end settings its_doing
 
-    module _ (method : Method) (has : Some method ≡ method_at settings (state_at tables place) call.object index) (done : Doing) where
-      -- a slot is run
-      pub calls_slot : method.is_signal ≡ false → run settings (acts (acts_of method.body.actions) call.args call.object call.sender 1) (line_told its_doing (call_line method call.object call.sender call.args)) ≡ done
-          → run settings its_items its_doing ≡ done
-      calls_slot slot does =
-          ap (λ (items : List Item). run settings items its_doing) (by_method (Some method) has ∙ cond-false method.is_signal _ _ slot)
-          ∙ by_step settings (Run call.object index call.sender call.args 0) its_doing _ (emission.run_slot settings call.object index call.sender call.args 0 its_doing method (sym has))
-          ∙ does
+    -- and one that is there is
+    pub calls_method : (method : Method) → Some method ≡ method_at settings (state_at tables place) call.object index → (done : Doing)
+        → run settings (method_items call.object index call.sender call.args 0 0 method) its_doing ≡ done → run settings its_items its_doing ≡ done
+    calls_method method has done does = ap (λ (items : List Item). run settings items its_doing) (by_method (Some method) has) ∙ does
 
 -- no turn is given back
 pub turns_left : (settings : Settings) (agenda : List Item) (place : ℕ) (old new : Tables) (before after : Telling) (earlier posts : List Post) → run settings agenda (doing_at place old before earlier) ≡ doing_at place new after posts → after.turns ≤ before.turns

@@ -1,6 +1,6 @@
 -- The command that calls a slot or sends a signal.
-use Rattle.std.proofs.Common.{◌≡◌, ◌<◌, ◌-◌, ◌==◌, ◌&&◌, ℕ, Bool, true, false, cond, List, [], ◌∷◌, Option, Some, None, Result, Ok, Err, slice_get, sym, ap, refl, subst, ◌∙◌, arith}
-use Rattle.std.proofs.lemmas.Bool.{cond-true, cond-false}
+use Rattle.std.proofs.Common.{◌≡◌, ◌<◌, ◌-◌, ◌==◌, ◌&&◌, ℕ, Bool, true, false, cond, List, [], ◌∷◌, Option, Some, None, Ok, Err, slice_get, sym, ap, refl, if◌then◌else◌, ◌∙◌, arith}
+use Rattle.std.proofs.lemmas.Bool.{cond-true, cond-false, cond_both}
 use Rattle.std.proofs.lemmas.Bool.Decides.{nat_tests}
 use Rattle.std.proofs.lemmas.List.Quantifiers.{position-Some}
 use Rattle.std.proofs.lemmas.Option.{slice_get-get_or}
@@ -17,17 +17,15 @@ use Rattle.signature_core.specs.Reading.{signature_of}
 use Rattle.variant_value.specs.declared.value.Value.{Value}
 use Rattle.class_table.specs.declared.class.Method.{Method}
 use Rattle.class_table.specs.Lookup.{is_same, method_number, methods}
-use Rattle.term_core.specs.Act.{acts_of}
 use Rattle.event_queue.specs.declared.event.Priority.{Priority}
 use Rattle.thread_model.specs.declared.line.Answer.TheVariants as a
 use Rattle.thread_model.specs.declared.line.Line.TheVariants as line
 use Rattle.thread_model.specs.Absence.{absence}
-use Rattle.thread_model.specs.Acts.{acts}
-use Rattle.thread_model.specs.Agenda.{call_line, with_turn}
+use Rattle.thread_model.specs.Agenda.{method_items, with_turn}
 use Rattle.thread_model.specs.Asked.{Invoke}
-use Rattle.thread_model.specs.Doing.{Doing, begun, line_told, turn_taken, used_up}
+use Rattle.thread_model.specs.Doing.{Doing, line_told, turn_taken, used_up}
 use Rattle.thread_model.specs.Effects.{does_next, ended}
-use Rattle.thread_model.specs.Items.{Emit, Next, Run, puts}
+use Rattle.thread_model.specs.Items.{Emit, Item, Next, Run, puts}
 use Rattle.thread_model.specs.Methods.{Found, ◌>>=◌, is_signal_at, kinds_at, method_at, methods_of, signature_in}
 use Rattle.thread_model.specs.Run.{run}
 use Rattle.thread_model.specs.Settings.{Settings}
@@ -37,8 +35,7 @@ use Rattle.thread_model.specs.Refusing.{later_refusal, values_refusal}
 use Rattle.thread_model.specs.Signals.{asked_method, asked_values, invoked, invoked_later, invokes}
 use Rattle.thread_model.specs.Thread.{performs}
 use Rattle.thread_model.specs.State.{State}
-use Rattle.thread_model.proofs.EmissionLemmas as rule
-use Rattle.thread_model.proofs.RunLemmas.{at_end, by_step}
+use Rattle.thread_model.proofs.RunLemmas.{at_end}
 use Rattle.thread_model.proofs.SignalLemmas.{performs_invoke, refusal_invoke}
 use Rattle.thread_model.proofs.ThreadLemmas.{replies_last}
 use Rattle.session_tables.specs.declared.tables.Tables.{Tables}
@@ -48,16 +45,13 @@ use Rattle.session_effects.specs.Methods.{number_named}
 use Rattle.session_effects.proofs.MethodLemmas.{methods_by_class}
 use Rattle.session_effects.specs.declared.caller.Caller.{Caller}
 use Rattle.nested_calls.specs.declared.telling.Telling.{Telling}
-use Rattle.session_engine.specs.Commands.{DoesAtFirst, Performs, its_effect, its_refusal, reply_after}
+use Rattle.session_engine.specs.Commands.{Performs, its_effect, its_refusal, reply_after}
 use Rattle.session_effects.specs.Setup.{settings_of}
-use Rattle.nested_calls.specs.Telling.{doing_at, fresh_telling, spent}
-use Rattle.nested_calls.proofs.AgendaLemmas.{spent_is}
+use Rattle.nested_calls.specs.Telling.{doing_at, fresh_telling}
 use Rattle.session_engine.proofs.CommandsLemmas.{at_first_reaches, or_second, replied_last}
 use Rattle.nested_calls.specs.Agenda.{DoesNext}
 use Rattle.nested_calls.specs.Front.{IsFront}
-use Rattle.nested_calls.proofs.DoesLemmas.{OnErr-map, OnOk-map}
-use Rattle.session_tables.specs.Reaching.{Reaches}
-use Rattle.thread_model.specs.declared.post.Post.{Post}
+use Rattle.nested_calls.proofs.FrontLemmas.{front_same}
 
 -- what a text names among the methods of an object's class
 pub record IsAsked (settings : Settings) (state : State) (target : ℕ) (text : List ℕ) (number : Option ℕ) : Type 0 where
@@ -96,63 +90,55 @@ method_is settings state target class index method has found = found ∙ ap (λ 
 pub kinds_are : (settings : Settings) (state : State) (target index : ℕ) (method : Method) → Some method ≡ method_at settings state target index → method.signature.kinds ≡ kinds_at (methods_of settings state target) index
 kinds_are settings state target index method has = ap (λ (found : Option Method). option_map_or (λ method. method.signature.kinds) found []) has
 
-module _ (settings : Settings) (state : State) (target index : ℕ) (values : List Value) where
-  invoked_spent : is_signal_at (methods_of settings state target) index ≡ false → settings.turns ≡ 0 → invoked settings state target index values ≡ puts [] (used_up (begun settings state))
-  invoked_spent slot none =
-      let is : (settings.turns == 0) ≡ true = grind (arith, nat_tests, none) in
-      cond-false (is_signal_at (methods_of settings state target) index) _ (with_turn (begun settings state) (puts (Run target index 0 values 0 ∷ []))) slot ∙ cond-true (settings.turns == 0) _ _ is
+-- a method that is called at once: a slot takes a turn for that
+abbrev pub called_now : Bool → List Item → Doing → Next
+called_now signal items doing = if signal then puts items doing else with_turn doing (puts items)
 
-  invoked_slot : is_signal_at (methods_of settings state target) index ≡ false → 0 < settings.turns → invoked settings state target index values ≡ puts (Run target index 0 values 0 ∷ []) (turn_taken (begun settings state))
-  invoked_slot slot some =
-      let is : (settings.turns == 0) ≡ false = grind (arith, nat_tests, some) in
-      cond-false (is_signal_at (methods_of settings state target) index) _ (with_turn (begun settings state) (puts (Run target index 0 values 0 ∷ []))) slot ∙ cond-false (settings.turns == 0) _ _ is
+pub invoked_is : (settings : Settings) (place : ℕ) (tables : Tables) (telling : Telling) (object index : ℕ) (values : List Value) (method : Method) → telling ≡ fresh_telling settings.turns → Some method ≡ method_at settings (state_at tables place) object index
+    → called_now method.is_signal (method_items object index 0 values 0 0 method) (doing_at place tables telling []) ≡ invoked settings (state_at tables place) object index values
+invoked_is settings place tables telling object index values method fresh has =
+    by method.is_signal (doing_at place tables telling [])
+    ∙ ap (λ (found : Option Method). now (option_map_or (λ method. method.is_signal) found false) (doing_at place tables telling [])) has
+    ∙ ap (λ (telling : Telling). now (is_signal_at (methods_of settings (state_at tables place) object) index) (doing_at place tables telling [])) fresh
+  where
+    now : Bool → Doing → Next
+    now signal doing = if signal then puts (Emit object index values 0 ∷ []) doing else with_turn doing (puts (Run object index 0 values 0 ∷ []))
 
-module _ (caller : Caller) (object index : ℕ) (values : List Value) (tables : Tables) (telling : Telling) (fresh : telling ≡ fresh_telling caller.setup.now.turns)
-    (method : Method) (has : Some method ≡ method_at (settings_of caller.setup.now) (state_at tables caller.place) object index) (slot : method.is_signal ≡ false) where
-  abbrev next : Next
-  next = invoked (settings_of caller.setup.now) (state_at tables caller.place) object index values
+    by : (signal : Bool) (doing : Doing) → called_now signal (if signal then Emit object index values 0 ∷ [] else Run object index 0 values 0 ∷ []) doing ≡ now signal doing
+    by true doing = refl
+    by false doing = refl
 
-  is_slot : is_signal_at (methods_of (settings_of caller.setup.now) (state_at tables caller.place) object) index ≡ false
-  is_slot = ap (λ (found : Option Method). option_map_or (λ method. method.is_signal) found false) (sym has) ∙ slot
+-- it goes by whether it is a signal, and by the turns that are left
+module _ (settings : Settings) (items : List Item) (doing : Doing) where
+  abbrev runs : Bool → Doing
+  runs signal = let next = called_now signal items doing in run settings next.items next.doing
 
-  fresh_doing : begun (settings_of caller.setup.now) (state_at tables caller.place) ≡ doing_at caller.place tables telling []
-  fresh_doing = ap (λ (telling : Telling). doing_at caller.place tables telling []) (sym fresh)
+  used_front : IsFront doing.posts (used_up doing).posts
+  unfolding used_up
+  used_front = cond_both doing.spent doing _ (λ (new : Doing). IsFront doing.posts new.posts) (λ spent. front_same doing.posts) (λ fresh. front_same doing.posts)
 
-  -- a slot that finds no turn is not run
-  pub run_spent : (after : Telling) → telling.turns ≡ 0 → after ≡ spent telling → run (settings_of caller.setup.now) next.items next.doing ≡ doing_at caller.place tables after []
-  run_spent after none e =
-      let turns : caller.setup.now.turns ≡ 0 = sym (ap (λ (telling : Telling). telling.turns) fresh) ∙ none in
-      ap (λ (next : Next). run (settings_of caller.setup.now) next.items next.doing) (invoked_spent (settings_of caller.setup.now) (state_at tables caller.place) object index values is_slot turns)
-      ∙ at_end (settings_of caller.setup.now) (used_up (begun (settings_of caller.setup.now) (state_at tables caller.place)))
-      ∙ ap used_up fresh_doing ∙ spent_is caller.place tables telling after [] e
-
-  -- and else it takes one, and is run
-  pub run_called : (done : Doing) → 0 < telling.turns
-      → run (settings_of caller.setup.now) (acts (acts_of method.body.actions) values object 0 1)
-      (line_told (doing_at caller.place tables (record { lines = telling.lines; turns = telling.turns - 1; spent = telling.spent; taken = telling.taken; failing = telling.failing }) []) (call_line method object 0 values)) ≡ done
-      → run (settings_of caller.setup.now) next.items next.doing ≡ done
+  pub now_front : (signal : Bool) → IsFront doing.posts (called_now signal items doing).doing.posts
   unfolding turn_taken
-  run_called done some does =
-      let same : telling.turns ≡ caller.setup.now.turns = ap (λ (telling : Telling). telling.turns) fresh in
-      let turns : 0 < caller.setup.now.turns = omega (arith, same, some) in
-      ap (λ (next : Next). run (settings_of caller.setup.now) next.items next.doing) (invoked_slot (settings_of caller.setup.now) (state_at tables caller.place) object index values is_slot turns)
-      ∙ ap (λ doing. run (settings_of caller.setup.now) (Run object index 0 values 0 ∷ []) (turn_taken doing)) fresh_doing
-      ∙ by_step (settings_of caller.setup.now) (Run object index 0 values 0) (turn_taken (doing_at caller.place tables telling [])) _
-      (rule.run_slot (settings_of caller.setup.now) object index 0 values 0 (turn_taken (doing_at caller.place tables telling [])) method (sym has))
-      ∙ does
+  now_front true = front_same doing.posts
+  now_front false = by (doing.turns == 0)
+    where
+      by : (none : Bool) → IsFront doing.posts (cond none (puts [] (used_up doing)) (puts items (turn_taken doing))).doing.posts
+      by true = used_front
+      by false = front_same doing.posts
 
--- a signal is sent
-pub run_sent : (caller : Caller) (object index : ℕ) (values : List Value) (tables : Tables) (telling : Telling) → telling ≡ fresh_telling caller.setup.now.turns
-    → (method : Method) → Some method ≡ method_at (settings_of caller.setup.now) (state_at tables caller.place) object index → (done : Doing) → method.is_signal ≡ true
-    → run (settings_of caller.setup.now) (Emit object index values 0 ∷ []) (doing_at caller.place tables telling []) ≡ done
-    → run (settings_of caller.setup.now) (invoked (settings_of caller.setup.now) (state_at tables caller.place) object index values).items (invoked (settings_of caller.setup.now) (state_at tables caller.place) object index values).doing ≡ done
-run_sent caller object index values tables telling fresh method has done signal does =
-    let settings = settings_of caller.setup.now in
-    let state = state_at tables caller.place in
-    let is_signal : is_signal_at (methods_of settings state object) index ≡ true = ap (λ (found : Option Method). option_map_or (λ method. method.is_signal) found false) (sym has) ∙ signal in
-    ap (λ (next : Next). run settings next.items next.doing) (cond-true (is_signal_at (methods_of settings state object) index) (puts (Emit object index values 0 ∷ []) (begun settings state)) (with_turn (begun settings state) (puts (Run object index 0 values 0 ∷ []))) is_signal)
-    ∙ ap (λ (telling : Telling). run settings (Emit object index values 0 ∷ []) (doing_at caller.place tables telling [])) (sym fresh)
-    ∙ does
+  pub now_spent : (signal : Bool) → signal ≡ false → doing.turns ≡ 0 → runs signal ≡ used_up doing
+  now_spent signal slot none =
+      let is : (doing.turns == 0) ≡ true = grind (arith, nat_tests, none) in
+      ap runs slot ∙ ap (λ (next : Next). run settings next.items next.doing) (cond-true (doing.turns == 0) _ _ is) ∙ at_end settings (used_up doing)
+
+  pub now_run : (signal : Bool) → signal ≡ false → 0 < doing.turns → (done : Doing) → run settings items (record doing { turns = doing.turns - 1 }) ≡ done → runs signal ≡ done
+  unfolding turn_taken
+  now_run signal slot some done does =
+      let is : (doing.turns == 0) ≡ false = grind (arith, nat_tests, some) in
+      ap runs slot ∙ ap (λ (next : Next). run settings next.items next.doing) (cond-false (doing.turns == 0) _ _ is) ∙ does
+
+  pub now_sent : (signal : Bool) → signal ≡ true → (done : Doing) → run settings items doing ≡ done → runs signal ≡ done
+  now_sent signal sent done does = ap runs sent ∙ does
 
 -- why a method is not invoked, where the object is there and the signature spelled
 module _ (caller : Caller) (object : ℕ) (text : List ℕ) (args : List Data) (mode : ConnectionType) (priority : Priority) (old new : Tables) (signature : Signature)
@@ -194,12 +180,13 @@ module _ (caller : Caller) (object : ℕ) (text : List ℕ) (args : List Data) (
     refusal_later later = refusal_given ∙ ap (λ (b : Bool). cond (b && true) (post_refusal the_state.queue) None) later
 
 -- what is invoked at once tells its reply last
-pub invoke_runs : (caller : Caller) (object : ℕ) (text : List ℕ) (args : List Data) (mode : ConnectionType) (priority : Priority) (old new : Tables) (index : ℕ) (values : List Value)
+pub invoke_runs : (caller : Caller) (object : ℕ) (text : List ℕ) (args : List Data) (mode : ConnectionType) (priority : Priority) (old : Tables) (before : Telling) (index : ℕ) (values : List Value) (method : Method) → before ≡ fresh_telling caller.setup.now.turns
+    → Some method ≡ method_at (settings_of caller.setup.now) (state_at old caller.place) object index
     → is_queued mode ≡ false → asked_method (settings_of caller.setup.now) (state_at old caller.place) object text ≡ Some index
     → asked_values (settings_of caller.setup.now) (state_at old caller.place) object index args ≡ Ok values
-    → let next = invoked (settings_of caller.setup.now) (state_at old caller.place) object index values in
+    → let next = called_now method.is_signal (method_items object index 0 values 0 0 method) (doing_at caller.place old before []) in
     its_effect caller (Invoke object text args mode priority) old ≡ ended (line_told (run (settings_of caller.setup.now) next.items next.doing) (line.Reply (a.Truth true)))
-invoke_runs caller object text args mode priority old new index values at_once found given =
+invoke_runs caller object text args mode priority old before index values method fresh has at_once found given =
     let settings = settings_of caller.setup.now in
     let state = state_at old caller.place in
     performs_invoke settings caller.name.now state object text args mode priority
@@ -207,30 +194,21 @@ invoke_runs caller object text args mode priority old new index values at_once f
     ∙ cond-false (is_queued mode) _ _ at_once
     ∙ ap (λ (given : Found (List Value)). does_next settings (invoked settings state object index (result_unwrap_or given [])) (a.Truth true)) given
     ∙ replies_last settings (invoked settings state object index values) (a.Truth true)
+    ∙ ap (λ (next : Next). ended (line_told (run settings next.items next.doing) (line.Reply (a.Truth true)))) (sym (invoked_is settings caller.place old before object index values method fresh has))
 
 -- so it is performed
-pub performs_invoked : {T E : Type 0} (caller : Caller) (object : ℕ) (text : List ℕ) (args : List Data) (mode : ConnectionType) (priority : Priority) (old new : Tables) (before after : Telling) (value : T) (index : ℕ) (values : List Value) → before ≡ fresh_telling caller.setup.now.turns
+pub performs_invoked : {T E : Type 0} (caller : Caller) (object : ℕ) (text : List ℕ) (args : List Data) (mode : ConnectionType) (priority : Priority) (old new : Tables) (before after : Telling) (value : T) (index : ℕ) (values : List Value) (method : Method) → before ≡ fresh_telling caller.setup.now.turns
+    → Some method ≡ method_at (settings_of caller.setup.now) (state_at old caller.place) object index
     → is_queued mode ≡ false → its_refusal caller (Invoke object text args mode priority) old ≡ None
     → asked_method (settings_of caller.setup.now) (state_at old caller.place) object text ≡ Some index
     → asked_values (settings_of caller.setup.now) (state_at old caller.place) object index args ≡ Ok values
-    → DoesAtFirst {E = E} caller (invoked (settings_of caller.setup.now) (state_at old caller.place) object index values) old new before after (Ok value)
+    → DoesNext {E = E} caller (λ earlier. called_now method.is_signal (method_items object index 0 values 0 0 method) (doing_at caller.place old before earlier)) old new before after (Ok value)
     → Performs caller (Invoke object text args mode priority) old new after.failing (reply_after after.lines) (Ok (a.Truth true))
-performs_invoked caller object text args mode priority old new before after value index values fresh at_once passed found given does =
+performs_invoked caller object text args mode priority old new before after value index values method fresh has at_once passed found given does =
     replied_last caller (Invoke object text args mode priority) old new after (a.Truth true) does.posts passed
-    (invoke_runs caller object text args mode priority old new index values at_once found given
-    ∙ ap (λ done. ended (line_told done (line.Reply (a.Truth true)))) does.runs)
+    (invoke_runs caller object text args mode priority old before index values method fresh has at_once found given
+    ∙ ap (λ done. ended (line_told done (line.Reply (a.Truth true)))) (does.runs []))
     (at_first_reaches caller old new before after does.posts fresh does.reaches)
-
--- what a command begins with is done by nested calls
-pub at_first : {T E : Type 0} (caller : Caller) (next : List Post → Next) (begins : Next) (old new : Tables) (before between after : Telling) (result : Result T E) → between.failing ≡ before.failing
-    → ((done : Doing) → run (settings_of caller.setup.now) (next []).items (next []).doing ≡ done → run (settings_of caller.setup.now) begins.items begins.doing ≡ done)
-    → DoesNext caller next old new between after result → DoesAtFirst caller begins old new before after result
-at_first caller next begins old new before between after result same by does = record {
-  posts = does.posts;
-  runs = OnOk-map result (λ h. by _ (h [])) does.runs;
-  front = OnErr-map result (λ h. subst (λ (done : Doing). IsFront does.posts done.posts) (sym (by _ refl)) (h [])) does.front;
-  reaches = subst (λ flag. Reaches caller.setup.now.classes caller.name.now caller.place does.posts old new flag after.failing) same does.reaches;
-}
 
 -- what is invoked later is posted, and replied at once
 pub posts_invoked : (caller : Caller) (object : ℕ) (text : List ℕ) (args : List Data) (mode : ConnectionType) (priority : Priority) (state : State) (index : ℕ) (values : List Value)

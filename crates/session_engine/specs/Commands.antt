@@ -1,5 +1,5 @@
 -- What a command makes of the session at a place.
-use Rattle.std.specs.Prelude.{◌≡◌, ℕ, Bool, eqb, List, [], ◌∷◌, Option, ◌++◌, ◌||◌, Result, OnErr, OnOk, IsFalse, IsTrue}
+use Rattle.std.specs.Prelude.{◌≡◌, ℕ, Bool, eqb, List, [], ◌∷◌, Option, ◌++◌, ◌||◌, Result, OnOk, IsFalse, IsTrue}
 use Rattle.isolation.specs.Machine.{Effect}
 use Rattle.class_table.specs.declared.class.Class.{Class}
 use Rattle.refusals.specs.declared.code.Code.{Code}
@@ -18,15 +18,11 @@ use Rattle.thread_model.specs.Thread.{does, performs}
 use Rattle.session_tables.specs.declared.tables.Tables.{Tables}
 use Rattle.session_tables.specs.Refused.{OnRefused}
 use Rattle.session_tables.specs.Session.{gone}
-use Rattle.session_tables.specs.Reaching.{AreShaped, Hears, Reaches, heard}
+use Rattle.session_tables.specs.Reaching.{AreShaped, Hears, heard}
 use Rattle.session_tables.specs.Tables.{AreLaid, AreStored, IsPlaced, failed_at, session_at, state_at}
 use Rattle.thread_model.specs.declared.post.Post.{Post}
 use Rattle.session_effects.specs.declared.caller.Caller.{Caller}
-use Rattle.thread_model.specs.Items.{Next}
-use Rattle.thread_model.specs.Run.{run}
-use Rattle.nested_calls.specs.declared.telling.Telling.{Telling}
 use Rattle.nested_calls.specs.Front.{IsFront}
-use Rattle.nested_calls.specs.Telling.{doing_at}
 use Rattle.session_engine.specs.Returning.{Returns, wants_memory}
 use Rattle.session_engine.specs.Sessions.{is_shut, session_after, session_does, session_refusal}
 use Rattle.session_effects.specs.Setup.{settings_of}
@@ -81,14 +77,6 @@ pub record OthersHear (classes : List Class) (from : List ℕ) (place : ℕ) (po
   pub hear : (at : ℕ) → IsFalse (eqb at place) → IsPlaced old at → Hears classes from posts (session_at old at) (session_at new at)
   pub all : IsFalse failing → (at : ℕ) → IsFalse (eqb at place) → IsPlaced old at → session_at new at ≡ heard classes from posts (session_at old at)
   pub one : IsTrue failing → (at : ℕ) × IsFalse (eqb at place) × IsPlaced old at × IsFalse (failed_at old at) × IsTrue (failed_at new at)
-
--- what a command begins with is done, and makes these posts, which all other sessions have heard; where memory
--- was wanted, these are the first of those that all of it posts
-pub record DoesAtFirst {T E : Type 0} (caller : Caller) (next : Next) (old new : Tables) (before after : Telling) (result : Result T E) : Type 0 where
-  pub posts : List Post
-  pub runs : OnOk result (run (settings_of caller.setup.now) next.items next.doing ≡ doing_at caller.place new after posts)
-  pub front : OnErr result (IsFront posts (run (settings_of caller.setup.now) next.items next.doing).posts)
-  pub reaches : Reaches caller.setup.now.classes caller.name.now caller.place posts old new before.failing after.failing
 
 -- a command that changes nothing: it is refused exactly by its refusal, and else answered as it replies, unless memory was wanted
 pub record Reads (caller : Caller) (asked : Asked) (tables : Tables) (result : Result Answer Fault) : Type 0 where

@@ -160,25 +160,13 @@ impl Engine {
         ensures sound { AreSound (seen_by_name (seen_engine self.new)) }
     {
         self.sound();
-        let entered = self.enter(name);
-        if entered.is_err() {
-            self.core.memory_refused = true;
-        }
-        entered
-    }
-
-    fn enter(&mut self, name: &Text) -> Result<usize, AllocError>
-        requires { place (seen_engine self.old) name.now ≡ None }
-        ensures place { IfOk result (λ at. place (seen_engine self.new) name.now ≡ Some at) }
-        ensures sessions { sessions (seen_engine self.new) ≡ sessions (seen_engine self.old) }
-        ensures names { OnOk result (names (seen_engine self.new) ≡ names (seen_engine self.old) ++ name.now ∷ []) }
-        ensures settings { settings (seen_engine self.new) ≡ settings (seen_engine self.old) }
-        ensures refused { was_refused (seen_engine self.new) ≡ was_refused (seen_engine self.old) }
-        ensures err { OnErr result (names (seen_engine self.new) ≡ names (seen_engine self.old)) }
-    {
+        let before = self.core.memory_refused;
+        // It stays so where memory is wanted and not found.
+        self.core.memory_refused = true;
         self.core.tables.ready()?;
         let name = name.copy(self.core.setup.alloc)?;
         self.core.names.insert(name)?;
+        self.core.memory_refused = before;
         Ok(self.core.tables.open())
     }
 

@@ -1,6 +1,5 @@
 //! The commands that take what waits in the session, and tell how much there is.
 ghost use Rattle.std.specs.Prelude.{◌≡◌, ◌∷◌, [], OnOk};
-ghost use Rattle.connection_types.specs.declared.callee.Callee.TheVariants.{Functor};
 ghost use Rattle.thread_model.specs.Agenda.{call_items, event_items};
 ghost use Rattle.thread_model.specs.Asked.{Spin, Status};
 ghost use Rattle.thread_model.specs.Items as item;
@@ -12,9 +11,9 @@ ghost use Rattle.nested_calls.specs.Telling.{doing_at, fresh_telling};
 
 use connection_types::Callee;
 use event_queue::{Event, QueuedCall};
-use nested_calls::{Actor, Answering, Telling, delete, emit, run_functor, run_slot};
+use nested_calls::{Actor, Answering, Telling, delete, run_functor, run_method};
 use refusals::Fault;
-use session_effects::{Caller, Slot, functor_at, method_at};
+use session_effects::{Caller, Slot, method_at};
 use session_tables::Tables;
 use std::alloc::AllocError;
 use thread_model::Answer;
@@ -74,7 +73,7 @@ fn deliver<F: Answering>(
     }
 }
 
-/// Makes a call that was queued: runs the slot, or sends the signal on.
+/// Makes a call that was queued.
 fn deliver_call<F: Answering>(
     actor: &Actor<F>,
     tables: &mut Tables,
@@ -85,66 +84,22 @@ fn deliver_call<F: Answering>(
     ensures { Does actor.now.caller (call_items (settings_of actor.now.caller.setup.now) (state_at tables.old actor.now.caller.place) call.now call.now.callee)
         tables.old tables.new telling.old telling.new result }
 {
-    let index = match call.callee {
-        Callee::Method(index) => index,
-        Callee::Functor(index) => {
-            return deliver_to_functor(actor, tables, telling, call, index);
-        }
-    };
-    let Some(method) = method_at(&actor.caller, tables, call.object, index) else {
-        return Ok(());
-    };
-    if method.is_signal {
-        return emit(
-            actor,
-            tables,
-            telling,
-            call.object,
-            index,
-            call.args.as_slice(),
-            0,
-        );
-    }
     let slot = Slot {
         object: call.object,
         sender: call.sender,
         args: call.args.as_slice(),
         depth: 1,
     };
-    run_slot(actor, tables, telling, method, &slot)
-}
-
-/// Makes a call of a functor that was queued.
-fn deliver_to_functor<F: Answering>(
-    actor: &Actor<F>,
-    tables: &mut Tables,
-    telling: &mut Telling,
-    call: &QueuedCall,
-    index: u32,
-) -> Result<(), AllocError>
-    requires placed { IsPlaced tables.old actor.now.caller.place }
-    ensures { Does actor.now.caller (call_items (settings_of actor.now.caller.setup.now) (state_at tables.old actor.now.caller.place) call.now (Functor index))
-        tables.old tables.new telling.old telling.new result }
-{
-    let Some(functor) = functor_at(&actor.caller, index) else {
+    let index = match call.callee {
+        Callee::Method(index) => index,
+        Callee::Functor(index) => {
+            return run_functor(actor, tables, telling, index, call.connection, &slot);
+        }
+    };
+    let Some(method) = method_at(&actor.caller, tables, call.object, index) else {
         return Ok(());
     };
-    let (object, sender) = (call.object, call.sender);
-    let slot = Slot {
-        object,
-        sender,
-        args: call.args.as_slice(),
-        depth: 1,
-    };
-    run_functor(
-        actor,
-        tables,
-        telling,
-        index,
-        functor,
-        call.connection,
-        &slot,
-    )
+    run_method(actor, tables, telling, index, method, &slot, 0)
 }
 
 /// Replies how much there is in the session.

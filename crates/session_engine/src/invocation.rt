@@ -1,24 +1,27 @@
 //! The command that calls a slot or sends a signal.
-ghost use Rattle.std.specs.Prelude.{◌≡◌, OnOk, OnErr, Some, map};
+ghost use Rattle.std.specs.Prelude.{◌≡◌, OnOk, OnErr, Some, if◌then◌else◌, map};
 ghost use Rattle.serde_json.specs.View.{view};
 ghost use Rattle.refusals.specs.Answers.{RefusedBy};
 ghost use Rattle.class_table.specs.Sound.{IsMethod};
 ghost use Rattle.connection_types.specs.declared.callee.Callee.TheVariants as callee;
 ghost use Rattle.event_queue.specs.declared.event.Event.TheVariants.{Call};
+ghost use Rattle.thread_model.specs.Agenda.{method_items, with_turn};
+ghost use Rattle.thread_model.specs.Items.{puts};
 ghost use Rattle.thread_model.specs.Methods.{method_at};
 ghost use Rattle.thread_model.specs.Posting.{post_refusal};
 ghost use Rattle.thread_model.specs.State.{with_event};
 ghost use Rattle.thread_model.specs.Asked.{Invoke};
-ghost use Rattle.thread_model.specs.Signals.{invoked, values_of};
+ghost use Rattle.thread_model.specs.Signals.{values_of};
 ghost use Rattle.session_tables.specs.Tables.{IsPlaced, state_at, with_state};
 ghost use Rattle.session_effects.specs.Setup.{settings_of};
-ghost use Rattle.session_engine.specs.Commands.{DoesAtFirst, Performs, reply_after};
-ghost use Rattle.nested_calls.specs.Telling.{fresh_telling};
+ghost use Rattle.session_engine.specs.Commands.{Performs, reply_after};
+ghost use Rattle.nested_calls.specs.Agenda.{DoesNext};
+ghost use Rattle.nested_calls.specs.Telling.{doing_at, fresh_telling};
 
 use class_table::Method;
 use connection_types::{Callee, ConnectionType};
 use event_queue::{Event, Priority, QueuedCall};
-use nested_calls::{Actor, Answering, Telling, emit, is_queued, run_slot};
+use nested_calls::{Actor, Answering, Telling, is_queued, run_method};
 use plain_types::Text;
 use refusals::Fault;
 use session_effects::{Caller, Slot, method_in};
@@ -53,18 +56,11 @@ pub fn invoke<F: Answering>(
     };
     let kinds = row.signature.kinds.as_slice();
     let values = values_of(actor.caller.setup.alloc, kinds, args)?;
+    let values = values.as_slice();
     if is_queued(mode) {
-        post(
-            &actor.caller,
-            tables,
-            object,
-            index,
-            values.as_slice(),
-            priority,
-        )?;
+        post(&actor.caller, tables, object, index, values, priority)?;
         return Ok(Answer::Truth(true));
     }
-    let values = values.as_slice();
     run(actor, tables, telling, row, object, index, values)?;
     Ok(Answer::Truth(true))
 }
@@ -97,7 +93,7 @@ fn post(
     Ok(())
 }
 
-/// Calls the slot or sends the signal of this index, which is this method.
+/// Calls the method of this index, which is this one. A slot takes a turn, and a signal none.
 fn run<F: Answering>(
     actor: &Actor<F>,
     tables: &mut Tables,
@@ -108,24 +104,23 @@ fn run<F: Answering>(
     values: &[Value],
 ) -> Result<(), AllocError>
     requires placed { IsPlaced tables.old actor.now.caller.place }
-    requires fresh { telling.old ≡ fresh_telling actor.now.caller.setup.now.turns }
     requires has { Some method.now ≡ method_at (settings_of actor.now.caller.setup.now) (state_at tables.old actor.now.caller.place) object index }
     requires sound { IsMethod method.now }
-    ensures { DoesAtFirst actor.now.caller (invoked (settings_of actor.now.caller.setup.now) (state_at tables.old actor.now.caller.place) object index values.now)
-        tables.old tables.new telling.old telling.new result }
+    ensures { DoesNext actor.now.caller (λ earlier. let doing = doing_at actor.now.caller.place tables.old telling.old earlier in
+        let call = puts (method_items object index 0 values.now 0 0 method.now) in
+        if method.now.is_signal then call doing else with_turn doing call) tables.old tables.new telling.old telling.new result }
 {
-    if method.is_signal {
-        return emit(actor, tables, telling, object, index, values, 0);
+    if !method.is_signal {
+        if telling.turns == 0 {
+            return telling.use_up();
+        }
+        telling.turns -= 1;
     }
-    if telling.turns == 0 {
-        return telling.use_up();
-    }
-    telling.turns -= 1;
     let slot = Slot {
         object,
         sender: 0,
         args: values,
         depth: 1,
     };
-    run_slot(actor, tables, telling, method, &slot)
+    run_method(actor, tables, telling, index, method, &slot, 0)
 }

@@ -1,5 +1,5 @@
 -- The rules by which a signal is sent, a connection called and a slot run: one for each way that it goes.
-use Rattle.std.proofs.Common.{◌≡◌, ◌<◌, ◌≤◌, ◌+◌, ◌==◌, ℕ, Bool, true, false, cond, List, [], ◌∷◌, Option, Some, None, is_some, length, nat_le, slice_get, take, refl, ap, ◌∙◌, arith}
+use Rattle.std.proofs.Common.{◌≡◌, ◌<◌, ◌≤◌, ◌+◌, ◌==◌, ℕ, true, false, cond, List, [], ◌∷◌, Option, Some, None, is_some, nat_le, refl, ap, ◌∙◌, arith}
 use Rattle.std.specs.Option.{option_map_or}
 use Rattle.std.proofs.lemmas.Bool.{cond-false, cond-true}
 use Rattle.std.proofs.lemmas.Bool.Decides.{nat_tests}
@@ -8,16 +8,8 @@ use Rattle.refusals.specs.declared.code.Code.TheVariants.{Limit}
 use Rattle.variant_value.specs.declared.value.Value.{Value}
 use Rattle.term_core.specs.Act.{acts_of}
 use Rattle.class_table.specs.declared.class.Method.{Method}
-use Rattle.class_table.specs.Lookup.{methods}
-use Rattle.connection_types.specs.declared.callee.Callee.TheVariants as callee
 use Rattle.connection_list.specs.declared.connection.Connection.{Connection}
-use Rattle.connection_list.specs.Rows.{has_number}
-use Rattle.event_queue.specs.declared.event.Event.TheVariants as event
-use Rattle.event_queue.specs.declared.event.QueuedCall.{QueuedCall}
-use Rattle.event_queue.specs.declared.event.Priority.TheVariants.{Normal}
-use Rattle.event_queue.specs.Queue.{has_room}
 use Rattle.object_tree.specs.declared.row.Row.{Row}
-use Rattle.object_tree.specs.Forest.{Forest}
 use Rattle.object_tree.specs.Rows.{is_there, row_of}
 use Rattle.stored_slots.specs.declared.functor.Functor.{Functor}
 use Rattle.thread_model.specs.declared.call.TheConstants.{NESTED_SIGNALS}
@@ -27,14 +19,12 @@ use Rattle.thread_model.specs.Acts.{acts}
 use Rattle.thread_model.specs.Arriving.{posts_of}
 use Rattle.binding_values.specs.declared.property.BindingError.{BindingError}
 use Rattle.property_store.specs.declared.property.Property.{Property}
-use Rattle.thread_model.specs.Agenda.{binding_line, call_line, callee_called, called, calls_of, connection_of, emitted, functor_called, functor_ran, is_held_back, method_called, method_items, ran, step, with_turn}
-use Rattle.thread_model.specs.Doing.{Doing, in_state, lost, posted, posting, shot, line_told, turn_taken, used_up}
+use Rattle.thread_model.specs.Agenda.{binding_line, call_line, callee_called, called, calls_of, connection_of, emitted, functor_ran, is_held_back, ran, step, with_turn}
+use Rattle.thread_model.specs.Doing.{Doing, posting, shot, line_told, turn_taken, used_up}
 use Rattle.thread_model.specs.Items.{Call, Emit, Run, RunFunctor, Warn, WarnOf, puts}
 use Rattle.thread_model.specs.Functors.{functor_at}
 use Rattle.thread_model.specs.Methods.{method_at}
-use Rattle.thread_model.specs.Posting.{is_queued}
 use Rattle.thread_model.specs.Settings.{Settings}
-use Rattle.thread_model.specs.State.{without_connections}
 
 module _ (settings : Settings) (target signal : ℕ) (args : List Value) (depth : ℕ) (doing : Doing) where
   -- an object that has gone sends nothing
@@ -66,30 +56,6 @@ module _ (settings : Settings) (target signal : ℕ) (args : List Value) (depth 
       pub emit_calls : depth < NESTED_SIGNALS → step settings (Emit target signal args depth) doing ≡ puts (calls_of doing target signal args depth) (posting doing (posts_of settings.classes doing.state target signal args))
       emit_calls shallow = let is : nat_le NESTED_SIGNALS depth ≡ false = grind (arith, nat_tests, shallow) in is_sent ∙ cond-false (nat_le NESTED_SIGNALS depth) _ _ is
 
--- that the turns are used up is told once
-module _ (doing : Doing) where
-  -- a turn changes nothing of the state
-  pub turn_taken-state : (turn_taken doing).state ≡ doing.state
-  unfolding turn_taken
-  turn_taken-state = refl
-
-  -- and nothing of the objects and of the events
-  pub shot-forest : (row : Connection) → (shot doing row).state.forest ≡ doing.state.forest
-  unfolding shot
-  shot-forest row = by row.single
-    where
-      by : (single : Bool) → (cond single (in_state doing (without_connections doing.state (has_number row.number))) doing).state.forest ≡ doing.state.forest
-      by true = refl
-      by false = refl
-
-  pub shot-queue : (row : Connection) → (shot doing row).state.queue ≡ doing.state.queue
-  unfolding shot
-  shot-queue row = by row.single
-    where
-      by : (single : Bool) → (cond single (in_state doing (without_connections doing.state (has_number row.number))) doing).state.queue ≡ doing.state.queue
-      by true = refl
-      by false = refl
-
 module _ (settings : Settings) (number : ℕ) (args : List Value) (depth : ℕ) (doing : Doing) where
   -- a connection that is broken is not called
   pub call_broken : connection_of doing number ≡ None → step settings (Call number args depth) doing ≡ puts [] doing
@@ -110,69 +76,6 @@ module _ (settings : Settings) (number : ℕ) (args : List Value) (depth : ℕ) 
     -- a connection that stands takes a turn where one is left
     pub call_taken : 0 < doing.turns → step settings (Call number args depth) doing ≡ callee_called settings connection args depth after connection.callee
     call_taken some = let is : (doing.turns == 0) ≡ false = grind (arith, nat_tests, some) in is_called ∙ cond-false (doing.turns == 0) _ (called settings connection args depth (turn_taken doing)) is
-
-    after-state : (after.state.forest ≡ doing.state.forest) × (after.state.queue ≡ doing.state.queue)
-    after-state = (
-      shot-forest (turn_taken doing) connection ∙ ap (λ state. state.forest) (turn_taken-state doing),
-      shot-queue (turn_taken doing) connection ∙ ap (λ state. state.queue) (turn_taken-state doing),
-    )
-
-    module _ (some : 0 < doing.turns) where
-      module _ (index : ℕ) (is : connection.callee ≡ callee.Functor index) where
-        functor_to : (found : Option Functor) → functor_at settings index ≡ found → step settings (Call number args depth) doing ≡ option_map_or (functor_called connection index args depth after) found (puts [] after)
-        functor_to found has =
-            call_taken some
-            ∙ ap (callee_called settings connection args depth after) is
-            ∙ ap (λ found. option_map_or (functor_called connection index args depth after) found (puts [] after)) has
-
-        -- a functor that is not there is not called
-        pub functor_absent : functor_at settings index ≡ None → step settings (Call number args depth) doing ≡ puts [] after
-        functor_absent has = functor_to None has
-
-      module _ (index : ℕ) (is : connection.callee ≡ callee.Method index) where
-        comes_to : (found : Option Method) → method_at settings doing.state connection.receiver index ≡ found
-            → step settings (Call number args depth) doing ≡ option_map_or (method_called connection index args depth after) found (puts [] after)
-        comes_to found has =
-            call_taken some
-            ∙ ap (callee_called settings connection args depth after) is
-            ∙ ap (λ found. option_map_or (method_called connection index args depth after) found (puts [] after)) (ap (λ (forest : Forest). slice_get (option_map_or (λ row. methods settings.classes row.class) (row_of forest.rows connection.receiver) []) index) after-state.0 ∙ has)
-
-        -- a receiver that has no such method is not called
-        pub call_absent : method_at settings doing.state connection.receiver index ≡ None → step settings (Call number args depth) doing ≡ puts [] after
-        call_absent has = comes_to None has
-
-        module _ (method : Method) (has : method_at settings doing.state connection.receiver index ≡ Some method) where
-          -- a queued connection calls later, with the same arguments
-          abbrev pub call_later : QueuedCall
-          call_later = record { object = connection.receiver; callee = callee.Method index; sender = connection.sender; connection = connection.number; priority = Normal; args = take (length method.signature.kinds) args }
-
-          module _ (later : is_queued connection.mode ≡ true) where
-            is_later : (room : Bool) → has_room doing.state.queue ≡ room → step settings (Call number args depth) doing ≡ puts [] (cond room (posted after (event.Call call_later)) (lost after))
-            is_later room has_it =
-                comes_to (Some method) has ∙ cond-true (is_queued connection.mode) _ _ later
-                ∙ ap (λ room. puts [] (cond room (posted after (event.Call call_later)) (lost after))) (ap has_room after-state.1 ∙ has_it)
-
-            -- an event is posted where there is room for it
-            pub call_posted : has_room doing.state.queue ≡ true → step settings (Call number args depth) doing ≡ puts [] (posted after (event.Call call_later))
-            call_posted room = is_later true room
-
-            -- and else the call is lost
-            pub call_lost : has_room doing.state.queue ≡ false → step settings (Call number args depth) doing ≡ puts [] (lost after)
-            call_lost full = is_later false full
-
-          module _ (at_once : is_queued connection.mode ≡ false) where
-            is_at_once : step settings (Call number args depth) doing ≡ puts (method_items connection.receiver index connection.sender (take (length method.signature.kinds) args) (depth + 1) depth method) after
-            is_at_once = comes_to (Some method) has ∙ cond-false (is_queued connection.mode) _ _ at_once
-
-            -- a signal that is connected to is sent, one level deeper
-            pub call_signal : method.is_signal ≡ true → step settings (Call number args depth) doing
-                ≡ puts (Emit connection.receiver index (take (length method.signature.kinds) args) (depth + 1) ∷ []) after
-            call_signal signal = is_at_once ∙ ap (λ items. puts items after) (cond-true method.is_signal _ _ signal)
-
-            -- a slot that is connected to is run
-            pub call_slot : method.is_signal ≡ false → step settings (Call number args depth) doing
-                ≡ puts (Run connection.receiver index connection.sender (take (length method.signature.kinds) args) depth ∷ []) after
-            call_slot slot = is_at_once ∙ ap (λ items. puts items after) (cond-false method.is_signal _ _ slot)
 
 module _ (settings : Settings) (target index sender : ℕ) (args : List Value) (depth : ℕ) (doing : Doing) where
   -- a slot that is there is told of, and does what its body says, one level deeper

@@ -1,4 +1,6 @@
 use Rattle.std.proofs.Common.{◌≡◌, ◌≤◌, ◌+◌, ◌*◌, ◌∷◌, [], ℕ, find, is_some, take, true, false, Ok, List, Some, ◌++◌, refl, sym, ap, subst, ◌∙◌, arith, drop}
+use Rattle.std.proofs.lemmas.Bool.{cond-false, cond-true}
+use Rattle.connection_types.specs.declared.callee.Callee.TheVariants as callee
 use Rattle.connection_list.specs.Rows.{is_next}
 use Rattle.term_core.specs.Act.{Act, acts_of, count, counts, single_action, when}
 use Rattle.term_core.specs.Steps.{act_at}
@@ -9,8 +11,9 @@ use Rattle.thread_model.specs.Acts as model
 use Rattle.thread_model.specs.declared.call.TheConstants.{DESTROYED}
 use Rattle.publish_board.specs.Rows.{publishes}
 use Rattle.thread_model.specs.Arriving.{posts_of}
-use Rattle.thread_model.specs.Doing.{Doing, stepped}
-use Rattle.thread_model.specs.Items.{Cut, Delete, Emit, Gone}
+use Rattle.thread_model.specs.declared.line.Line.TheVariants as line
+use Rattle.thread_model.specs.Doing.{Doing, line_told, stepped}
+use Rattle.thread_model.specs.Items.{Cut, Delete, Emit, Gone, Item}
 use Rattle.thread_model.specs.Run.{run}
 use Rattle.thread_model.specs.Targets.{truth_evaluated}
 use Rattle.thread_model.proofs.LivingLemmas.{living_rows}
@@ -28,13 +31,13 @@ use Rattle.session_effects.specs.Setup.{settings_of}
 use Rattle.session_effects.specs.Writing.{items_of, notice_args}
 use Rattle.nested_calls.specs.Telling.{doing_at}
 use Rattle.session_effects.proofs.ActionLemmas.{keeps_same, keeps_twice, keeps_with, placed_kept}
-use Rattle.nested_calls.proofs.AgendaLemmas.{acts_end, acts_go_on, call_absent, call_functor, call_queued, call_signal, call_slot, call_spent, effect_done, effect_refused, effect_warned, emission_absent, emission_begins, emission_deep, emission_goes_on, emission_held_back, emission_unheard, failed_done, found_stands, held_done, is_held, is_let_through, keeps_posted, last_stays, left_at, left_falls, left_shot, left_stepped, longest_of, next_smaller, posting_is, posts_none, rank_falls, round_falls, taken, test_warned, told_is, warn_done}
-use Rattle.nested_calls.proofs.DoesLemmas.{OnOk-map, does_after, does_by, does_none, does_wanting, far_end, far_item, far_last, far_next, far_none, far_stopped, far_wanting, here, item_wanting, next_none, next_wanting, placed_reached}
+use Rattle.nested_calls.proofs.AgendaLemmas.{acts_end, acts_go_on, call_spent, call_taken, effect_done, effect_refused, effect_warned, emission_absent, emission_begins, emission_deep, emission_goes_on, emission_held_back, emission_unheard, failed_done, found_stands, held_done, is_held, is_let_through, keeps_posted, last_stays, left_at, left_falls, left_shot, left_stepped, longest_of, next_smaller, posting_is, posts_none, rank_falls, round_falls, taken, test_warned, told_is, warn_done}
+use Rattle.nested_calls.proofs.DoesLemmas.{OnOk-map, does_after, does_by, does_none, does_wanting, far_end, far_item, far_last, far_next, far_none, far_stopped, far_wanting, here, item_wanting, next_none, placed_reached}
 use Rattle.thread_model.specs.Agenda.{lives, lives_below}
 use Rattle.nested_calls.proofs.DeletionLemmas.{cut_first, cut_last, cut_next, delete_begins, delete_loose, delete_none, gone_told, kin_none, kin_some, kins_from, left_marked, left_severed}
 use Rattle.nested_calls.proofs.NewsLemmas.{told_from, told_last, told_next, warn_of_done}
-use Rattle.nested_calls.proofs.FrontLemmas.{front_same, part_front, told_front}
-use Rattle.nested_calls.proofs.FunctorLemmas.{answered_short, callee_front, functor_absent, functor_does, functor_front, functor_queued, functor_run, functor_short, left_functor, queued_is, stepped_is}
+use Rattle.nested_calls.proofs.FrontLemmas.{front_same, part_front}
+use Rattle.nested_calls.proofs.CalleeLemmas.{answered_short, called_at_once, called_later, callee_front, functor_absent, functor_does, functor_short, functor_there, left_functor, method_absent, method_there, queued_is, runs_functor, runs_none, runs_slot, stepped_is}
 use Rattle.nested_calls.proofs.+agenda.Goals as goal
 
 pub agenda::act-returns-in-Ok-true : goal.agenda::act-returns-in-Ok-true
@@ -116,72 +119,183 @@ agenda::call-returns-then-telling-eq0 t g c =
     does_none caller _ old c.args.telling.now old c.use_up.new.self c.use_up.result (keeps_same old old caller.place refl) c.use_up.ensures.failing (OnOk-map c.use_up.result
     (λ e earlier. call_spent caller c.args.connection.now c.args.args.now c.args.depth old old c.args.telling.now earlier c.requires.placed c.requires.stands c.use_up.new.self (omega arith) e) c.use_up.ensures.told)
 
-pub agenda::call-returns-in-Functor : goal.agenda::call-returns-in-Functor
-agenda::call-returns-in-Functor t g c =
-    let caller = c.args.actor.now.caller in
-    let old = c.args.tables.now in
-    let shot = c.shoot.new.self in
-    does_after caller _ old c.args.telling.now _ shot c.call_functor.new.tables (taken caller c.args.connection.now c.args.args.now c.args.depth old shot c.args.telling.now) c.call_functor.new.telling c.call_functor.result c.requires.placed (keeps_with _ _ _ _ c.requires.placed c.shoot.ensures) refl
-    (λ earlier done. call_functor caller c.args.connection.now c.args.args.now c.args.depth old shot c.args.telling.now earlier c.requires.placed c.requires.stands c.shoot.ensures (omega arith) c.in-Functor.index c.in-Functor.is done)
-    c.call_functor.ensures
-
-pub agenda::call-returns-in_default : goal.agenda::call-returns-in_default
-agenda::call-returns-in_default t g c =
-    let caller = c.args.actor.now.caller in
-    let old = c.args.tables.now in
-    let shot = c.shoot.new.self in
-    does_none caller _ old c.args.telling.now shot (taken caller c.args.connection.now c.args.args.now c.args.depth old shot c.args.telling.now) _ (keeps_with _ _ _ _ c.requires.placed c.shoot.ensures) refl
-    (λ earlier. call_absent caller c.args.connection.now c.args.args.now c.args.depth old shot c.args.telling.now earlier c.requires.placed c.requires.stands c.shoot.ensures (omega arith) c.in-Method.index c.in-Method.is c.in_default.ensures.value)
-
-pub agenda::call-emit-requires : goal.agenda::call-emit-requires
-agenda::call-emit-requires t g c = λ κs outlives.
-    let place = c.args.actor.now.caller.place in
-    let less = left_shot place c.args.connection.now c.args.tables.now c.shoot.new.self c.args.telling.now c.requires.placed c.shoot.ensures in
-    ((let falls = round_falls c.args.actor.now.caller c.args.tables.now c.shoot.new.self c.args.telling.now (taken c.args.actor.now.caller c.args.connection.now c.args.args.now c.args.depth c.args.tables.now c.shoot.new.self c.args.telling.now) 0 1 (omega (arith, less)) (omega arith) in grind (arith, falls)), (outlives, (placed_kept _ _ _ (keeps_with _ _ _ _ c.requires.placed c.shoot.ensures) c.requires.placed, omega arith)))
-
 pub agenda::call-call_functor-requires : goal.agenda::call-call_functor-requires
 agenda::call-call_functor-requires t g c = λ κs outlives.
     let place = c.args.actor.now.caller.place in
     let less = left_shot place c.args.connection.now c.args.tables.now c.shoot.new.self c.args.telling.now c.requires.placed c.shoot.ensures in
     ((let falls = round_falls c.args.actor.now.caller c.args.tables.now c.shoot.new.self c.args.telling.now (taken c.args.actor.now.caller c.args.connection.now c.args.args.now c.args.depth c.args.tables.now c.shoot.new.self c.args.telling.now) 0 (2 * longest_of c.args.actor.now.caller + 8) (omega (arith, less)) (omega arith) in grind (arith, falls)), (outlives, (placed_kept _ _ _ (keeps_with _ _ _ _ c.requires.placed c.shoot.ensures) c.requires.placed, (omega arith, c.in-Functor.is))))
 
-pub agenda::call-run_slot-requires : goal.agenda::call-run_slot-requires
-agenda::call-run_slot-requires t g c = λ κs outlives.
-    let place = c.args.actor.now.caller.place in
-    let less = left_shot place c.args.connection.now c.args.tables.now c.shoot.new.self c.args.telling.now c.requires.placed c.shoot.ensures in
-    ((let falls = round_falls c.args.actor.now.caller c.args.tables.now c.shoot.new.self c.args.telling.now (taken c.args.actor.now.caller c.args.connection.now c.args.args.now c.args.depth c.args.tables.now c.shoot.new.self c.args.telling.now) 0 71 (omega (arith, less)) (omega arith) in grind (arith, falls)), (outlives, (placed_kept _ _ _ (keeps_with _ _ _ _ c.requires.placed c.shoot.ensures) c.requires.placed, (omega arith, c.in-Some.ensures.sound))))
+pub agenda::call-returns-in-Functor : goal.agenda::call-returns-in-Functor
+agenda::call-returns-in-Functor t g c =
+    let caller = c.args.actor.now.caller in
+    let settings = settings_of caller.setup.now in
+    let old = c.args.tables.now in
+    let shot = c.shoot.new.self in
+    let connection = c.args.connection.now in
+    let left = taken caller connection c.args.args.now c.args.depth old shot c.args.telling.now in
+    let shoots = keeps_with _ _ _ _ c.requires.placed c.shoot.ensures in
+    does_after caller _ old c.args.telling.now _ shot c.call_functor.new.tables left c.call_functor.new.telling c.call_functor.result c.requires.placed shoots refl
+    (λ earlier done. call_taken caller connection c.args.args.now c.args.depth old shot c.args.telling.now earlier c.requires.placed c.requires.stands c.shoot.ensures (omega arith) (callee.Functor c.in-Functor.index) c.in-Functor.is done)
+    c.call_functor.ensures
+
+pub agenda::call-returns-in_default : goal.agenda::call-returns-in_default
+agenda::call-returns-in_default t g c =
+    let caller = c.args.actor.now.caller in
+    let settings = settings_of caller.setup.now in
+    let old = c.args.tables.now in
+    let shot = c.shoot.new.self in
+    let connection = c.args.connection.now in
+    let left = taken caller connection c.args.args.now c.args.depth old shot c.args.telling.now in
+    let shoots = keeps_with _ _ _ _ c.requires.placed c.shoot.ensures in
+    does_none caller _ old c.args.telling.now shot left _ shoots refl
+    (λ earlier. call_taken caller connection c.args.args.now c.args.depth old shot c.args.telling.now earlier c.requires.placed c.requires.stands c.shoot.ensures (omega arith) (callee.Method c.in-Method.index) c.in-Method.is _
+    (method_absent settings connection c.args.args.now c.args.depth (doing_at caller.place shot left earlier) c.in-Method.index c.in_default.ensures.value))
+
+pub agenda::call-run_method-requires : goal.agenda::call-run_method-requires
+agenda::call-run_method-requires t g c = λ κs outlives.
+    let caller = c.args.actor.now.caller in
+    let shot = c.shoot.new.self in
+    let less = left_shot caller.place c.args.connection.now c.args.tables.now shot c.args.telling.now c.requires.placed c.shoot.ensures in
+    let left = taken caller c.args.connection.now c.args.args.now c.args.depth c.args.tables.now shot c.args.telling.now in (
+      (let falls = round_falls caller c.args.tables.now shot c.args.telling.now left 0 71 (omega (arith, less)) (omega arith) in grind (arith, falls)),
+      (outlives, (placed_kept _ _ _ (keeps_with _ _ _ _ c.requires.placed c.shoot.ensures) c.requires.placed, (omega arith, (omega arith, (c.in-Some.ensures.value, c.in-Some.ensures.sound))))),
+    )
 
 pub agenda::call-returns-then-is_queued : goal.agenda::call-returns-then-is_queued
 agenda::call-returns-then-is_queued t g c =
     let caller = c.args.actor.now.caller in
+    let settings = settings_of caller.setup.now in
     let old = c.args.tables.now in
     let shot = c.shoot.new.self in
+    let connection = c.args.connection.now in
+    let left = taken caller connection c.args.args.now c.args.depth old shot c.args.telling.now in
     let shoots = keeps_with _ _ _ _ c.requires.placed c.shoot.ensures in
     let still = placed_kept _ _ _ shoots c.requires.placed in
-    does_none caller _ old c.args.telling.now c.call_later.new.tables (taken caller c.args.connection.now c.args.args.now c.args.depth old shot c.args.telling.now) c.call_later.result
+    does_none caller _ old c.args.telling.now c.call_later.new.tables left c.call_later.result
     (keeps_twice _ _ _ _ shoots (keeps_posted c.call_later.result caller.place shot c.call_later.new.tables _ still c.call_later.ensures.ok c.call_later.ensures.err)) refl
-    (OnOk-map c.call_later.result (λ e earlier. call_queued caller c.args.connection.now c.args.args.now c.args.depth old shot c.args.telling.now earlier c.requires.placed c.requires.stands c.shoot.ensures (omega arith) c.in-Method.index c.in-Method.is
-    c.in-Some.method.now c.in-Some.ensures.value c.first-given.result.now (c.first-given.ensures ∙ ap (λ n. take n c.args.args.now) c.len.ensures) c.call_later.new.tables still (sym c.if-is_queued.ensures) e) c.call_later.ensures.ok)
-
-pub agenda::call-returns-then-method : goal.agenda::call-returns-then-method
-agenda::call-returns-then-method t g c =
-    let caller = c.args.actor.now.caller in
-    let old = c.args.tables.now in
-    let shot = c.shoot.new.self in
-    does_after caller _ old c.args.telling.now _ shot c.emit.new.tables (taken caller c.args.connection.now c.args.args.now c.args.depth old shot c.args.telling.now) c.emit.new.telling c.emit.result c.requires.placed (keeps_with _ _ _ _ c.requires.placed c.shoot.ensures) refl
-    (λ earlier done. call_signal caller c.args.connection.now c.args.args.now c.args.depth old shot c.args.telling.now earlier c.requires.placed c.requires.stands c.shoot.ensures (omega arith) c.in-Method.index c.in-Method.is
-    c.in-Some.method.now c.in-Some.ensures.value c.first-given.result.now (c.first-given.ensures ∙ ap (λ n. take n c.args.args.now) c.len.ensures) done (sym c.if-is_queued.ensures) c.if-method.true)
-    c.emit.ensures
+    (OnOk-map c.call_later.result (λ e earlier. call_taken caller connection c.args.args.now c.args.depth old shot c.args.telling.now earlier c.requires.placed c.requires.stands c.shoot.ensures (omega arith) (callee.Method c.in-Method.index) c.in-Method.is _
+    (let doing = doing_at caller.place shot left earlier in
+    called_later settings connection c.args.args.now c.args.depth doing (callee.Method c.in-Method.index) c.first-given.result.now _
+    (method_there settings connection c.args.args.now c.args.depth doing c.in-Method.index c.in-Some.method.now c.in-Some.ensures.value _ (c.first-given.ensures ∙ ap (λ n. take n c.args.args.now) c.len.ensures)) _ c.in-Method.is (sym c.if-is_queued.ensures)
+    (queued_is caller.place shot c.call_later.new.tables left earlier _ still e))) c.call_later.ensures.ok)
 
 pub agenda::call-returns : goal.agenda::call-returns
 agenda::call-returns t g c =
     let caller = c.args.actor.now.caller in
+    let settings = settings_of caller.setup.now in
     let old = c.args.tables.now in
     let shot = c.shoot.new.self in
-    does_after caller _ old c.args.telling.now _ shot c.run_slot.new.tables (taken caller c.args.connection.now c.args.args.now c.args.depth old shot c.args.telling.now) c.run_slot.new.telling c.run_slot.result c.requires.placed (keeps_with _ _ _ _ c.requires.placed c.shoot.ensures) refl
-    (λ earlier done. call_slot caller c.args.connection.now c.args.args.now c.args.depth old shot c.args.telling.now earlier c.requires.placed c.requires.stands c.shoot.ensures (omega arith) c.in-Method.index c.in-Method.is
-    c.in-Some.method.now c.in-Some.ensures.value c.first-given.result.now (c.first-given.ensures ∙ ap (λ n. take n c.args.args.now) c.len.ensures) done (sym c.if-is_queued.ensures) c.if-method.false)
-    c.run_slot.ensures
+    let connection = c.args.connection.now in
+    let left = taken caller connection c.args.args.now c.args.depth old shot c.args.telling.now in
+    let shoots = keeps_with _ _ _ _ c.requires.placed c.shoot.ensures in
+    does_after caller _ old c.args.telling.now _ shot c.run_method.new.tables left c.run_method.new.telling c.run_method.result c.requires.placed shoots refl
+    (λ earlier done does. call_taken caller connection c.args.args.now c.args.depth old shot c.args.telling.now earlier c.requires.placed c.requires.stands c.shoot.ensures (omega arith) (callee.Method c.in-Method.index) c.in-Method.is done
+    (let doing = doing_at caller.place shot left earlier in
+    called_at_once settings connection c.args.args.now c.args.depth doing (callee.Method c.in-Method.index) c.first-given.result.now _
+    (method_there settings connection c.args.args.now c.args.depth doing c.in-Method.index c.in-Some.method.now c.in-Some.ensures.value _ (c.first-given.ensures ∙ ap (λ n. take n c.args.args.now) c.len.ensures)) done (sym c.if-is_queued.ensures) does))
+    (c.run_method.ensures c.args.depth refl)
+
+pub agenda::call_functor-returns-in_default : goal.agenda::call_functor-returns-in_default
+agenda::call_functor-returns-in_default t g c =
+    let caller = c.args.actor.now.caller in
+    let settings = settings_of caller.setup.now in
+    let old = c.args.tables.now in
+    let before = c.args.telling.now in
+    next_none caller _ old before (λ earlier. callee_front settings c.args.connection.now c.args.index c.args.args.now c.args.depth (doing_at caller.place old before earlier)) old before _ (keeps_same old old caller.place refl) refl
+    (λ earlier. functor_absent settings c.args.connection.now c.args.args.now c.args.depth (doing_at caller.place old before earlier) c.args.index c.in_default.ensures)
+
+pub agenda::call_functor-returns-then-is_queued : goal.agenda::call_functor-returns-then-is_queued
+agenda::call_functor-returns-then-is_queued t g c =
+    let caller = c.args.actor.now.caller in
+    let settings = settings_of caller.setup.now in
+    let old = c.args.tables.now in
+    let before = c.args.telling.now in
+    next_none caller _ old before (λ earlier. callee_front settings c.args.connection.now c.args.index c.args.args.now c.args.depth (doing_at caller.place old before earlier)) c.call_later.new.tables before c.call_later.result (keeps_posted c.call_later.result caller.place old c.call_later.new.tables _ c.requires.placed c.call_later.ensures.ok c.call_later.ensures.err) refl
+    (OnOk-map c.call_later.result (λ e earlier. let doing = doing_at caller.place old before earlier in
+    called_later settings c.args.connection.now c.args.args.now c.args.depth doing (callee.Functor c.args.index) c.first-given.result.now _
+    (functor_there settings c.args.connection.now c.args.args.now c.args.depth doing c.args.index c.in-Some.functor.now c.in-Some.ensures _ (c.first-given.ensures ∙ ap (λ n. take n c.args.args.now) c.len.ensures)) _ c.requires.callee (sym c.if-is_queued.ensures)
+    (queued_is caller.place old c.call_later.new.tables before earlier _ c.requires.placed e)) c.call_later.ensures.ok)
+
+pub agenda::call_functor-returns : goal.agenda::call_functor-returns
+agenda::call_functor-returns t g c =
+    let caller = c.args.actor.now.caller in
+    let settings = settings_of caller.setup.now in
+    let old = c.args.tables.now in
+    let before = c.args.telling.now in
+    does_by caller _ old before _ c.run_functor.new.tables c.run_functor.new.telling c.run_functor.result
+    (λ earlier done. let doing = doing_at caller.place old before earlier in
+    called_at_once settings c.args.connection.now c.args.args.now c.args.depth doing (callee.Functor c.args.index) c.first-given.result.now _
+    (functor_there settings c.args.connection.now c.args.args.now c.args.depth doing c.args.index c.in-Some.functor.now c.in-Some.ensures _ (c.first-given.ensures ∙ ap (λ n. take n c.args.args.now) c.len.ensures)) done (sym c.if-is_queued.ensures))
+    (c.run_functor.ensures c.args.depth refl)
+
+pub agenda::run_method-returns-then-method : goal.agenda::run_method-returns-then-method
+agenda::run_method-returns-then-method t g c = λ depth is.
+    let caller = c.args.actor.now.caller in
+    let settings = settings_of caller.setup.now in
+    let old = c.args.tables.now in
+    does_by caller _ old c.args.telling.now _ c.emit.new.tables c.emit.new.telling c.emit.result
+    (λ earlier done does. ap (λ (items : List Item). run settings items (doing_at caller.place old c.args.telling.now earlier)) (cond-true c.args.method.now.is_signal _ _ c.if-method.true) ∙ does)
+    c.emit.ensures
+
+pub agenda::run_method-returns-in_err-call : goal.agenda::run_method-returns-in_err-call
+agenda::run_method-returns-in_err-call t g c = λ depth is.
+    let caller = c.args.actor.now.caller in
+    let old = c.args.tables.now in
+    does_wanting caller _ old c.args.telling.now old c.call.new.self _ c.from_residual.ensures.0 (keeps_same old old caller.place refl) c.call.ensures.failing
+
+pub agenda::run_method-returns : goal.agenda::run_method-returns
+agenda::run_method-returns t g c = λ depth is.
+    let caller = c.args.actor.now.caller in
+    let settings = settings_of caller.setup.now in
+    let slot = c.args.slot.now in
+    let old = c.args.tables.now in
+    does_after caller _ old c.args.telling.now _ old c.acts.new.tables c.call.new.self c.acts.new.telling c.acts.result c.requires.placed (keeps_same old old caller.place refl) c.in_ok-call.ensures.failing
+    (λ earlier done does.
+    let doing = doing_at caller.place old c.args.telling.now earlier in
+    let runs = run settings (model.acts (acts_of c.args.method.now.body.actions) slot.args.now slot.object slot.sender slot.depth) in
+    ap (λ (items : List Item). run settings items doing) (cond-false c.args.method.now.is_signal _ _ c.if-method.false)
+    ∙ runs_slot settings slot.object c.args.index slot.sender slot.args.now depth doing c.args.method.now c.requires.found slot.depth is done
+    (ap (λ name. runs (line_told doing (line.Call (record { method = name; object = slot.object; sender = slot.sender; args = slot.args.now })))) (sym c.requires.sound.text)
+    ∙ ap runs (told_is caller.place old c.args.telling.now c.call.new.self earlier _ c.in_ok-call.ensures.told) ∙ does))
+    (rw c.as_slice.ensures at c.acts.ensures)
+
+pub agenda::run_functor-returns-in_default : goal.agenda::run_functor-returns-in_default
+agenda::run_functor-returns-in_default t g c = λ depth is.
+    let caller = c.args.actor.now.caller in
+    let old = c.args.tables.now in
+    let slot = c.args.slot.now in
+    does_none caller _ old c.args.telling.now old c.args.telling.now _ (keeps_same old old caller.place refl) refl
+    (λ earlier. runs_none (settings_of caller.setup.now) slot.object c.args.index slot.sender c.args.connection slot.args.now depth (doing_at caller.place old c.args.telling.now earlier) c.in_default.ensures)
+
+pub agenda::run_functor-returns-in_err-call : goal.agenda::run_functor-returns-in_err-call
+agenda::run_functor-returns-in_err-call t g c = λ depth is.
+    let caller = c.args.actor.now.caller in
+    let old = c.args.tables.now in
+    does_wanting caller _ old c.args.telling.now old c.call.new.self _ c.from_residual.ensures.0 (keeps_same old old caller.place refl) c.call.ensures.failing
+
+pub agenda::run_functor-returns-in_err-actions : goal.agenda::run_functor-returns-in_err-actions
+agenda::run_functor-returns-in_err-actions t g c = λ depth is.
+    let caller = c.args.actor.now.caller in
+    let old = c.args.tables.now in
+    does_wanting caller _ old c.args.telling.now old c.call.new.self _ c.from_residual-in_err-actions.ensures.0 (keeps_same old old caller.place refl) c.call.ensures.failing
+
+pub agenda::run_functor-returns : goal.agenda::run_functor-returns
+agenda::run_functor-returns t g c = λ depth is.
+    let caller = c.args.actor.now.caller in
+    let settings = settings_of caller.setup.now in
+    let slot = c.args.slot.now in
+    let old = c.args.tables.now in
+    let new = c.step_functor.new.self in
+    let functor = c.in-Some.functor.now in
+    does_after caller _ old c.args.telling.now _ new c.acts.new.tables c.call.new.self c.acts.new.telling c.acts.result c.requires.placed (keeps_with _ _ _ _ c.requires.placed c.step_functor.ensures) c.in_ok-call.ensures.failing
+    (λ earlier done does. let doing = doing_at caller.place old c.args.telling.now earlier in
+    runs_functor settings slot.object c.args.index slot.sender c.args.connection slot.args.now depth doing functor c.in-Some.ensures slot.depth is done
+    (functor_does settings c.args.index functor c.in-Some.ensures slot.object slot.sender c.args.connection slot.args.now slot.depth
+    doing (doing_at caller.place new c.call.new.self earlier) done c.functor_state-state.result c.in_ok-actions.next c.in_ok-actions.actions.items
+    c.functor_state-state.ensures c.in_ok-actions.ensures.actions c.in_ok-actions.ensures.next
+    (ap (λ (doing : Doing). stepped doing c.args.connection c.in_ok-actions.next) (told_is caller.place old c.args.telling.now c.call.new.self earlier _ c.in_ok-call.ensures.told)
+    ∙ stepped_is caller.place old new c.call.new.self earlier c.args.connection c.in_ok-actions.next c.requires.placed c.step_functor.ensures) does))
+    (rw c.as_slice.ensures.value at c.acts.ensures)
 
 pub agenda::single_action-returns-in-Ok : goal.agenda::single_action-returns-in-Ok
 agenda::single_action-returns-in-Ok t g c =
@@ -473,53 +587,6 @@ news::tell-returns-in_err-told t g c =
     let old = c.args.tables.now in
     does_wanting caller _ old c.args.telling.now old c.args.telling.now _ c.from_residual.ensures.0 (keeps_same old old caller.place refl) refl
 
-pub agenda::call_functor-returns-in_default : goal.agenda::call_functor-returns-in_default
-agenda::call_functor-returns-in_default t g c =
-    let caller = c.args.actor.now.caller in
-    let old = c.args.tables.now in
-    let before = c.args.telling.now in
-    next_none caller _ old before (λ earlier. callee_front (settings_of caller.setup.now) c.args.connection.now c.args.index c.args.args.now c.args.depth (doing_at caller.place old before earlier)) old before _ (keeps_same old old caller.place refl) refl
-    (λ earlier. functor_absent (settings_of caller.setup.now) c.args.connection.now c.args.index c.args.args.now c.args.depth (doing_at caller.place old before earlier) c.in_default.ensures)
-
-pub agenda::call_functor-returns-then-is_queued : goal.agenda::call_functor-returns-then-is_queued
-agenda::call_functor-returns-then-is_queued t g c =
-    let caller = c.args.actor.now.caller in
-    let old = c.args.tables.now in
-    let before = c.args.telling.now in
-    next_none caller _ old before (λ earlier. callee_front (settings_of caller.setup.now) c.args.connection.now c.args.index c.args.args.now c.args.depth (doing_at caller.place old before earlier)) c.call_later.new.tables before c.call_later.result (keeps_posted c.call_later.result caller.place old c.call_later.new.tables _ c.requires.placed c.call_later.ensures.ok c.call_later.ensures.err) refl (OnOk-map c.call_later.result
-    (λ e earlier. functor_queued (settings_of caller.setup.now) c.args.connection.now c.args.index c.args.args.now c.args.depth (doing_at caller.place old before earlier) c.in-Some.functor.now c.in-Some.ensures
-    c.first-given.result.now (c.first-given.ensures ∙ ap (λ n. take n c.args.args.now) c.len.ensures) (doing_at caller.place c.call_later.new.tables before earlier) c.requires.callee (sym c.if-is_queued.ensures)
-    (queued_is caller.place old c.call_later.new.tables before earlier _ c.requires.placed e)) c.call_later.ensures.ok)
-
-pub agenda::call_functor-run_functor-requires : goal.agenda::call_functor-run_functor-requires
-agenda::call_functor-run_functor-requires t g c = λ κs outlives. (grind arith, (outlives, (c.requires.placed, (omega arith, c.in-Some.ensures))))
-
-pub agenda::call_functor-returns : goal.agenda::call_functor-returns
-agenda::call_functor-returns t g c =
-    let caller = c.args.actor.now.caller in
-    let old = c.args.tables.now in
-    let before = c.args.telling.now in
-    does_by caller _ old before _ c.run_functor.new.tables c.run_functor.new.telling c.run_functor.result
-    (λ earlier done. functor_run (settings_of caller.setup.now) c.args.connection.now c.args.index c.args.args.now c.args.depth (doing_at caller.place old before earlier) c.in-Some.functor.now c.in-Some.ensures
-    c.first-given.result.now (c.first-given.ensures ∙ ap (λ n. take n c.args.args.now) c.len.ensures) done (sym c.if-is_queued.ensures))
-    c.run_functor.ensures
-
-pub agenda::run_slot-returns-in_err-call : goal.agenda::run_slot-returns-in_err-call
-agenda::run_slot-returns-in_err-call t g c =
-    let caller = c.args.actor.now.caller in
-    let old = c.args.tables.now in
-    next_wanting caller _ old c.args.telling.now (λ earlier. told_front (doing_at caller.place old c.args.telling.now earlier) _) old c.call.new.self _ c.from_residual.ensures.0 (keeps_same old old caller.place refl) c.call.ensures.failing
-
-pub agenda::run_slot-returns : goal.agenda::run_slot-returns
-agenda::run_slot-returns t g c =
-    let caller = c.args.actor.now.caller in
-    let settings = settings_of caller.setup.now in
-    let slot = c.args.slot.now in
-    let old = c.args.tables.now in
-    does_after caller _ old c.args.telling.now _ old c.acts.new.tables c.call.new.self c.acts.new.telling c.acts.result c.requires.placed (keeps_same old old caller.place refl) c.in_ok-call.ensures.failing
-    (λ earlier done does. ap (run settings (model.acts (acts_of c.args.method.now.body.actions) slot.args.now slot.object slot.sender slot.depth)) (told_is caller.place old c.args.telling.now c.call.new.self earlier _ c.in_ok-call.ensures.told) ∙ does)
-    (rw c.as_slice.ensures at c.acts.ensures)
-
 pub deletion::cut-returns-in_err-children : goal.deletion::cut-returns-in_err-children
 deletion::cut-returns-in_err-children t g c =
     let caller = c.args.actor.now.caller in
@@ -696,41 +763,12 @@ agenda::run_functor-acts-requires t g c = λ κs outlives.
     let settings = settings_of caller.setup.now in
     let old = c.args.tables.now in
     let new = c.step_functor.new.self in
-    let same : left_at caller.place old c.call_functor.new.self ≡ left_at caller.place old c.args.telling.now = ap (left_at caller.place old) c.in_ok-call_functor.ensures.told in
-    let less = left_functor caller.place old new c.call_functor.new.self c.args.connection c.in_ok-actions.next c.requires.placed c.step_functor.ensures in
-    let short = functor_short settings c.args.index c.args.functor.now c.requires.found in
-    let kept = answered_short settings c.args.index c.args.functor.now c.requires.found c.functor_state-state.result c.args.slot.now.args.now c.in_ok-actions.actions.items c.in_ok-actions.ensures.actions in
+    let same : left_at caller.place old c.call.new.self ≡ left_at caller.place old c.args.telling.now = ap (left_at caller.place old) c.in_ok-call.ensures.told in
+    let less = left_functor caller.place old new c.call.new.self c.args.connection c.in_ok-actions.next c.requires.placed c.step_functor.ensures in
+    let short = functor_short settings c.args.index c.in-Some.functor.now c.in-Some.ensures in
+    let kept = answered_short settings c.args.index c.in-Some.functor.now c.in-Some.ensures c.functor_state-state.result c.args.slot.now.args.now c.in_ok-actions.actions.items c.in_ok-actions.ensures.actions in
     let whole : counts (acts_of c.as_slice.result.now) ≡ counts (acts_of c.in_ok-actions.actions.items) = ap (λ (actions : List Act). counts (acts_of actions)) c.as_slice.ensures.value in
-    ((let falls = rank_falls caller old new c.args.telling.now c.call_functor.new.self (2 * longest_of caller + 7) (2 * counts (acts_of c.as_slice.result.now) + 6) (omega (arith, same, less)) (omega (arith, short, kept, whole)) in grind (arith, falls)), (outlives, (placed_kept _ _ _ (keeps_with _ _ _ _ c.requires.placed c.step_functor.ensures) c.requires.placed, c.requires.depth)))
-
-pub agenda::run_functor-returns-in_err-call_functor : goal.agenda::run_functor-returns-in_err-call_functor
-agenda::run_functor-returns-in_err-call_functor t g c =
-    let caller = c.args.actor.now.caller in
-    let slot = c.args.slot.now in
-    let old = c.args.tables.now in
-    next_wanting caller _ old c.args.telling.now (λ earlier. functor_front (settings_of caller.setup.now) c.args.index c.args.functor.now c.requires.found slot.object slot.sender c.args.connection slot.args.now slot.depth (doing_at caller.place old c.args.telling.now earlier)) old c.call_functor.new.self _ c.from_residual.ensures.0 (keeps_same old old caller.place refl) c.call_functor.ensures.failing
-
-pub agenda::run_functor-returns-in_err-actions : goal.agenda::run_functor-returns-in_err-actions
-agenda::run_functor-returns-in_err-actions t g c =
-    let caller = c.args.actor.now.caller in
-    let slot = c.args.slot.now in
-    let old = c.args.tables.now in
-    next_wanting caller _ old c.args.telling.now (λ earlier. functor_front (settings_of caller.setup.now) c.args.index c.args.functor.now c.requires.found slot.object slot.sender c.args.connection slot.args.now slot.depth (doing_at caller.place old c.args.telling.now earlier)) old c.call_functor.new.self _ c.from_residual-in_err-actions.ensures.0 (keeps_same old old caller.place refl) c.call_functor.ensures.failing
-
-pub agenda::run_functor-returns : goal.agenda::run_functor-returns
-agenda::run_functor-returns t g c =
-    let caller = c.args.actor.now.caller in
-    let settings = settings_of caller.setup.now in
-    let slot = c.args.slot.now in
-    let old = c.args.tables.now in
-    let new = c.step_functor.new.self in
-    does_after caller _ old c.args.telling.now _ new c.acts.new.tables c.call_functor.new.self c.acts.new.telling c.acts.result c.requires.placed (keeps_with _ _ _ _ c.requires.placed c.step_functor.ensures) c.in_ok-call_functor.ensures.failing
-    (λ earlier done. functor_does settings c.args.index c.args.functor.now c.requires.found slot.object slot.sender c.args.connection slot.args.now slot.depth
-    (doing_at caller.place old c.args.telling.now earlier) (doing_at caller.place new c.call_functor.new.self earlier) done c.functor_state-state.result c.in_ok-actions.next c.in_ok-actions.actions.items
-    c.functor_state-state.ensures c.in_ok-actions.ensures.actions c.in_ok-actions.ensures.next
-    (ap (λ (doing : Doing). stepped doing c.args.connection c.in_ok-actions.next) (told_is caller.place old c.args.telling.now c.call_functor.new.self earlier _ c.in_ok-call_functor.ensures.told)
-    ∙ stepped_is caller.place old new c.call_functor.new.self earlier c.args.connection c.in_ok-actions.next c.requires.placed c.step_functor.ensures))
-    (rw c.as_slice.ensures.value at c.acts.ensures)
+    ((let falls = rank_falls caller old new c.args.telling.now c.call.new.self (2 * longest_of caller + 7) (2 * counts (acts_of c.as_slice.result.now) + 6) (omega (arith, same, less)) (omega (arith, short, kept, whole)) in grind (arith, falls)), (outlives, (placed_kept _ _ _ (keeps_with _ _ _ _ c.requires.placed c.step_functor.ensures) c.requires.placed, c.requires.depth)))
 
 pub agenda::acts-actions-init : goal.agenda::acts-actions-init
 agenda::acts-actions-init t g c =

@@ -52,8 +52,8 @@ abbrev pub decreases-agenda::acts : goal.decreases-agenda::acts
 decreases-agenda::acts g l = left_to_do l.actor.now.caller l.tables.now l.telling.now (2 * counts (acts_of l.actions.now) + 6)
 
 -- a body has at most 32 actions
-abbrev pub decreases-agenda::run_slot : goal.decreases-agenda::run_slot
-decreases-agenda::run_slot g l = left_to_do l.actor.now.caller l.tables.now l.telling.now 71
+abbrev pub decreases-agenda::run_method : goal.decreases-agenda::run_method
+decreases-agenda::run_method g l = left_to_do l.actor.now.caller l.tables.now l.telling.now 71
 
 -- nor is a functor's body longer than the longest one
 abbrev pub decreases-agenda::run_functor : goal.decreases-agenda::run_functor

@@ -2,14 +2,15 @@ use Rattle.std.proofs.Common.{refl}
 use Rattle.session_effects.specs.Setup.{settings_of}
 use Rattle.session_effects.proofs.ActionLemmas.{keeps_same}
 use Rattle.nested_calls.proofs.DoesLemmas.{does_by, does_none}
-use Rattle.session_engine.proofs.EventsLemmas.{calls_functor, calls_none, calls_slot}
+use Rattle.session_engine.proofs.EventsLemmas.{calls_functor, calls_method, calls_none}
 use Rattle.session_engine.proofs.events.deliver_call.Goals as goal
 
 pub returns-in-Functor : goal.returns-in-Functor
 returns-in-Functor g c =
     let caller = c.args.actor.now.caller in
-    does_by caller _ c.args.tables.now c.args.telling.now _ c.deliver_to_functor.new.tables c.deliver_to_functor.new.telling c.deliver_to_functor.result
-    (λ earlier done. calls_functor (settings_of caller.setup.now) caller.place c.args.tables.now c.args.telling.now earlier c.args.call.now c.in-Functor.index c.in-Functor.is done) c.deliver_to_functor.ensures
+    does_by caller _ c.args.tables.now c.args.telling.now _ c.run_functor.new.tables c.run_functor.new.telling c.run_functor.result
+    (λ earlier done. calls_functor (settings_of caller.setup.now) caller.place c.args.tables.now c.args.telling.now earlier c.args.call.now c.in-Functor.index c.in-Functor.is done)
+    (rw c.as_slice.ensures at (c.run_functor.ensures 0 refl))
 
 pub returns-in_default : goal.returns-in_default
 returns-in_default g c =
@@ -21,6 +22,6 @@ returns-in_default g c =
 pub returns : goal.returns
 returns g c =
     let caller = c.args.actor.now.caller in
-    does_by caller _ c.args.tables.now c.args.telling.now _ c.run_slot.new.tables c.run_slot.new.telling c.run_slot.result
-    (λ earlier done. calls_slot (settings_of caller.setup.now) caller.place c.args.tables.now c.args.telling.now earlier c.args.call.now c.in-Method.index c.in-Method.is c.in-Some.method.now c.in-Some.ensures.value done c.if-method.false)
-    (rw c.as_slice-2.ensures at c.run_slot.ensures)
+    does_by caller _ c.args.tables.now c.args.telling.now _ c.run_method.new.tables c.run_method.new.telling c.run_method.result
+    (λ earlier done. calls_method (settings_of caller.setup.now) caller.place c.args.tables.now c.args.telling.now earlier c.args.call.now c.in-Method.index c.in-Method.is c.in-Some.method.now c.in-Some.ensures.value done)
+    (rw c.as_slice.ensures at (c.run_method.ensures 0 refl))

@@ -1,4 +1,4 @@
-use Rattle.std.proofs.Common.{◌≡◌, None, Some, Ok, map, refl, sym, ap, ◌∙◌}
+use Rattle.std.proofs.Common.{◌≡◌, [], None, Some, Ok, map, refl, sym, ap, ◌∙◌}
 use Rattle.std.specs.Option.{option_copied, option_or}
 use Rattle.std.specs.Result.{result_err}
 use Rattle.serde_json.specs.View.{view}
@@ -73,7 +73,7 @@ returns-then-is_queued g c =
     (refusal_later c.args.actor.now.caller c.args.object c.args.method.now (map view c.args.args.now) c.args.mode c.args.priority c.args.tables.now c.post.new.tables named.signature c.in_ok-class.ensures.refusal named.spelled c.in-Some.index c.in_ok-values.values named.asked given
     (sym c.if-is_queued.ensures) ∙ c.in_ok-post.ensures.refusal)
     (posts_invoked c.args.actor.now.caller c.args.object c.args.method.now (map view c.args.args.now) c.args.mode c.args.priority state c.in-Some.index c.in_ok-values.values (sym c.if-is_queued.ensures) named.asked given)
-    (rw c.as_slice.ensures at c.in_ok-post.ensures.ok))
+    (rw c.as_slice-values.ensures at c.in_ok-post.ensures.ok))
 
 pub unreachable-requires : goal.unreachable-requires
 unreachable-requires g c =
@@ -96,7 +96,7 @@ returns g c =
     let has = method_is settings state c.args.object c.in_ok-class.class c.in-Some.index c.in-Some-method_row.row.now c.in_ok-class.ensures.class c.in-Some-method_row.ensures.value in
     let kinds = c.as_slice-kinds.ensures ∙ kinds_are settings state c.args.object c.in-Some.index c.in-Some-method_row.row.now has in
     let given : asked_values settings state c.args.object c.in-Some.index (map view c.args.args.now) ≡ Ok c.in_ok-values.values = rw kinds at c.in_ok-values.ensures in
-    performs_invoked c.args.actor.now.caller c.args.object c.args.method.now (map view c.args.args.now) c.args.mode c.args.priority c.args.tables.now c.run.new.tables c.args.telling.now c.run.new.telling _ c.in-Some.index c.in_ok-values.values c.requires.fresh (sym c.if-is_queued.ensures)
+    performs_invoked c.args.actor.now.caller c.args.object c.args.method.now (map view c.args.args.now) c.args.mode c.args.priority c.args.tables.now c.run.new.tables c.args.telling.now c.run.new.telling _ c.in-Some.index c.in_ok-values.values c.in-Some-method_row.row.now c.requires.fresh has (sym c.if-is_queued.ensures)
     (refusal_now c.args.actor.now.caller c.args.object c.args.method.now (map view c.args.args.now) c.args.mode c.args.priority c.args.tables.now c.run.new.tables named.signature c.in_ok-class.ensures.refusal named.spelled c.in-Some.index c.in_ok-values.values named.asked given
     (sym c.if-is_queued.ensures))
     named.asked given (rw c.as_slice-values.ensures at c.in_ok-run.ensures)
@@ -114,6 +114,6 @@ returns-in_err-run g c =
     starved_last caller _ c.args.tables.now c.run.new.tables c.run.new.telling runs.posts _ _ _ _ c.from_residual-in_err-run.ensures.1
     (refusal_now caller c.args.object c.args.method.now (map view c.args.args.now) c.args.mode c.args.priority c.args.tables.now c.run.new.tables named.signature c.in_ok-class.ensures.refusal named.spelled c.in-Some.index c.in_ok-values.values named.asked given
     (sym c.if-is_queued.ensures))
-    (invoke_runs caller c.args.object c.args.method.now (map view c.args.args.now) c.args.mode c.args.priority c.args.tables.now c.run.new.tables c.in-Some.index c.in_ok-values.values (sym c.if-is_queued.ensures) named.asked given)
-    runs.front
+    (invoke_runs caller c.args.object c.args.method.now (map view c.args.args.now) c.args.mode c.args.priority c.args.tables.now c.args.telling.now c.in-Some.index c.in_ok-values.values c.in-Some-method_row.row.now c.requires.fresh has (sym c.if-is_queued.ensures) named.asked given)
+    (runs.front [])
     (at_first_reaches caller c.args.tables.now c.run.new.tables c.args.telling.now c.run.new.telling runs.posts c.requires.fresh runs.reaches)

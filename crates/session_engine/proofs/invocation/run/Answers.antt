@@ -1,29 +1,38 @@
-use Rattle.std.proofs.Common.{[], refl, arith}
+use Rattle.std.proofs.Common.{refl, arith, ◌∙◌}
+use Rattle.session_effects.specs.Setup.{settings_of}
 use Rattle.session_effects.proofs.ActionLemmas.{keeps_same}
-use Rattle.nested_calls.proofs.DoesLemmas.{OnOk-map, on_error, reaches_none}
-use Rattle.nested_calls.proofs.FrontLemmas.{front_none}
-use Rattle.session_engine.proofs.InvocationLemmas.{at_first, run_called, run_sent, run_spent}
+use Rattle.thread_model.specs.Agenda.{method_items}
+use Rattle.nested_calls.specs.Telling.{doing_at}
+use Rattle.nested_calls.proofs.AgendaLemmas.{spent_is}
+use Rattle.nested_calls.proofs.DoesLemmas.{OnOk-map, does_after, does_by, next_none}
+use Rattle.session_engine.proofs.InvocationLemmas.{now_front, now_run, now_sent, now_spent}
 use Rattle.session_engine.proofs.invocation.run.Goals as goal
-
-pub returns-then-method : goal.returns-then-method
-returns-then-method g c =
-    let caller = c.args.actor.now.caller in
-    at_first caller _ _ c.args.tables.now c.emit.new.tables c.args.telling.now c.args.telling.now c.emit.new.telling c.emit.result refl
-    (λ done. run_sent caller c.args.object c.args.index c.args.values.now c.args.tables.now c.args.telling.now c.requires.fresh c.args.method.now c.requires.has done c.if-method.true) c.emit.ensures
+use Rattle.session_engine.proofs.invocation.run.Goals.{else-not-method, then-not-method+else-telling-eq0}
 
 pub returns-then-telling-eq0 : goal.returns-then-telling-eq0
 returns-then-telling-eq0 g c =
     let caller = c.args.actor.now.caller in
+    let settings = settings_of caller.setup.now in
     let old = c.args.tables.now in
-    record {
-      posts = [];
-      runs = OnOk-map c.use_up.result (run_spent caller c.args.object c.args.index c.args.values.now old c.args.telling.now c.requires.fresh c.args.method.now c.requires.has c.if-method.false c.use_up.new.self (omega arith)) c.use_up.ensures.told;
-      front = on_error c.use_up.result (front_none _);
-      reaches = reaches_none caller old old c.args.telling.now.failing c.use_up.new.self.failing (keeps_same old old caller.place refl) c.use_up.ensures.failing;
-    }
+    let before = c.args.telling.now in
+    let items = method_items c.args.object c.args.index 0 c.args.values.now 0 0 c.args.method.now in
+    next_none caller _ old before (λ earlier. now_front settings items (doing_at caller.place old before earlier) c.args.method.now.is_signal) old c.use_up.new.self c.use_up.result (keeps_same old old caller.place refl) c.use_up.ensures.failing
+    (OnOk-map c.use_up.result (λ e earlier. now_spent settings items (doing_at caller.place old before earlier) c.args.method.now.is_signal c.if-not-method.true (omega arith) ∙ spent_is caller.place old before c.use_up.new.self earlier e) c.use_up.ensures.told)
 
 pub returns : goal.returns
 returns g c =
     let caller = c.args.actor.now.caller in
-    at_first caller _ _ c.args.tables.now c.run_slot.new.tables c.args.telling.now _ c.run_slot.new.telling c.run_slot.result refl
-    (λ done. run_called caller c.args.object c.args.index c.args.values.now c.args.tables.now c.args.telling.now c.requires.fresh c.args.method.now c.requires.has c.if-method.false done (omega arith)) c.run_slot.ensures
+    let settings = settings_of caller.setup.now in
+    let old = c.args.tables.now in
+    let before = c.args.telling.now in
+    let items = method_items c.args.object c.args.index 0 c.args.values.now 0 0 c.args.method.now in
+    elim c.if-not-method.branch [
+      | then-not-method+else-telling-eq0 w ↦
+          does_after caller _ old before _ old c.run_method.new.tables _ c.run_method.new.telling c.run_method.result c.requires.placed (keeps_same old old caller.place refl) refl
+          (λ earlier done. now_run settings items (doing_at caller.place old before earlier) c.args.method.now.is_signal w.if-not-method.true (omega (arith, w.if-telling-eq0.false)) done)
+          (rw w.telling-is at (c.run_method.ensures 0 refl))
+      | else-not-method w ↦
+          does_by caller _ old before _ c.run_method.new.tables c.run_method.new.telling c.run_method.result
+          (λ earlier done. now_sent settings items (doing_at caller.place old before earlier) c.args.method.now.is_signal w.if-not-method.false done)
+          (rw w.telling-is at (c.run_method.ensures 0 refl))
+    ]

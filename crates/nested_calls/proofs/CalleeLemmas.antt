@@ -1,5 +1,4 @@
--- Functors that are called: what a connection's call of one comes to, and that a closure's actions do what
--- its body does.
+-- What a connection calls, when its turn is taken; and that a functor's closure does what its body does.
 use Rattle.std.proofs.Common.{◌≡◌, ◌+◌, ◌≤◌, ℕ, Bool, true, false, cond, List, [], ◌∷◌, Option, Some, None, length, take, refl, sym, ap, ◌∙◌, arith}
 use Rattle.std.specs.Option.{option_map_or}
 use Rattle.std.proofs.lemmas.Bool.{cond-false, cond-true, cond_both}
@@ -11,7 +10,7 @@ use Rattle.term_evaluation.proofs.Branches.{branch_changed}
 use Rattle.term_evaluation.proofs.StatingLemmas.{state_counts}
 use Rattle.term_evaluation.proofs.SubstitutionLemmas.{actions_kept}
 use Rattle.connection_types.specs.declared.callee.Callee.{Callee}
-use Rattle.connection_types.specs.declared.callee.Callee.TheVariants.{Functor}
+use Rattle.connection_types.specs.declared.callee.Callee.TheVariants.{Functor, Method}
 use Rattle.connection_list.specs.declared.connection.Connection.{Connection}
 use Rattle.event_queue.specs.declared.event.Event.TheVariants as event
 use Rattle.event_queue.specs.declared.event.QueuedCall.{QueuedCall}
@@ -19,11 +18,11 @@ use Rattle.event_queue.specs.declared.event.Priority.TheVariants.{Normal}
 use Rattle.event_queue.specs.Queue.{has_room}
 use Rattle.stored_slots.specs.declared.functor.Functor as stored
 use Rattle.thread_model.specs.Acts as model
-use Rattle.thread_model.specs.Agenda.{callee_called, functor_called, functor_line, queued}
+use Rattle.thread_model.specs.Agenda.{callee_called, functor_called, functor_line, queued, call_line, method_called, method_items}
 use Rattle.thread_model.specs.declared.post.Post.{Post}
 use Rattle.thread_model.specs.Doing.{Doing, in_state, lost, posted, stepped, line_told}
 use Rattle.thread_model.specs.Functors.{functor_at}
-use Rattle.thread_model.specs.Items.{Item, Next, RunFunctor, puts}
+use Rattle.thread_model.specs.Items.{Item, Next, RunFunctor, puts, Run}
 use Rattle.thread_model.specs.Posting.{is_queued}
 use Rattle.thread_model.specs.Run.{longest_functor, run}
 use Rattle.thread_model.specs.Settings.{Settings}
@@ -40,7 +39,9 @@ use Rattle.nested_calls.specs.declared.telling.Telling.{Telling}
 use Rattle.nested_calls.specs.Telling.{doing_at}
 use Rattle.thread_model.proofs.LivingLemmas.{living_rows}
 use Rattle.nested_calls.proofs.AgendaLemmas.{left_at}
-use Rattle.nested_calls.proofs.FrontLemmas.{PostsBehind, front_both, front_same, stepped_front, told_front}
+use Rattle.nested_calls.proofs.FrontLemmas.{PostsBehind, front_same}
+use Rattle.class_table.specs.declared.class.Method as class
+use Rattle.thread_model.specs.Methods.{method_at}
 
 -- a call that is posted, or lost where there is no room for it
 pub queued_is : (place : ℕ) (old new : Tables) (telling : Telling) (earlier : List Post) (call : QueuedCall) → IsPlaced old place → new ≡ tables.with_state old place (with_call (state_at old place) call) → queued (doing_at place old telling earlier) call ≡ doing_at place new telling earlier
@@ -54,6 +55,65 @@ queued_is place old new telling earlier call placed e =
     by true = refl
     by false = refl
 
+module _ (settings : Settings) (connection : Connection) (args : List Value) (depth : ℕ) (doing : Doing) where
+  abbrev ran : Next → Doing
+  ran next = run settings next.items next.doing
+
+  abbrev calls : Callee → Doing
+  calls called = ran (callee_called settings connection args depth doing called)
+
+  abbrev later_call : Callee → List Value → QueuedCall
+  later_call called values = record { object = connection.receiver; callee = called; sender = connection.sender; connection = connection.number; priority = Normal; args = values }
+
+  -- with these values it is called later; or at once, and this is to be done
+  abbrev by_mode : Callee → List Value → List Item → Doing
+  by_mode called values items = ran (cond (is_queued connection.mode) (puts [] (queued doing (later_call called values))) (puts items doing))
+
+  module _ (index : ℕ) where
+    by_method : (found : Option class.Method) → found ≡ method_at settings doing.state connection.receiver index → calls (Method index) ≡ ran (option_map_or (method_called connection index args depth doing) found (puts [] doing))
+    by_method found has = ap (λ (found : Option class.Method). ran (option_map_or (method_called connection index args depth doing) found (puts [] doing))) (sym has)
+
+    by_functor : (found : Option stored.Functor) → found ≡ functor_at settings index → calls (Functor index) ≡ ran (option_map_or (functor_called connection index args depth doing) found (puts [] doing))
+    by_functor found has = ap (λ (found : Option stored.Functor). ran (option_map_or (functor_called connection index args depth doing) found (puts [] doing))) (sym has)
+
+    -- one that is not there does nothing
+    pub method_absent : None ≡ method_at settings doing.state connection.receiver index → calls (Method index) ≡ doing
+    method_absent has = by_method None has ∙ at_end settings doing
+
+    pub functor_absent : None ≡ functor_at settings index → calls (Functor index) ≡ doing
+    functor_absent has = by_functor None has ∙ at_end settings doing
+
+    -- and one that is there goes by the mode
+    pub method_there : (method : class.Method) → Some method ≡ method_at settings doing.state connection.receiver index → (given : List Value) → given ≡ take (length method.signature.kinds) args
+        → calls (Method index) ≡ by_mode (Method index) given (method_items connection.receiver index connection.sender given (depth + 1) depth method)
+    method_there method has given cut = by_method (Some method) has
+        ∙ ap (λ given. by_mode (Method index) given (method_items connection.receiver index connection.sender given (depth + 1) depth method)) (sym cut)
+
+    pub functor_there : (functor : stored.Functor) → Some functor ≡ functor_at settings index → (given : List Value) → given ≡ take (length functor.params) args
+        → calls (Functor index) ≡ by_mode (Functor index) given (RunFunctor connection.receiver index connection.sender connection.number given depth ∷ [])
+    functor_there functor has given cut = by_functor (Some functor) has
+        ∙ ap (λ given. by_mode (Functor index) given (RunFunctor connection.receiver index connection.sender connection.number given depth ∷ [])) (sym cut)
+
+  module _ (called : Callee) (given : List Value) (items : List Item) (there : calls called ≡ by_mode called given items) (done : Doing) where
+    pub called_later : connection.callee ≡ called → is_queued connection.mode ≡ true → queued doing (later_call connection.callee given) ≡ done → calls called ≡ done
+    called_later is later does =
+        there
+        ∙ ap ran (cond-true (is_queued connection.mode) _ _ later)
+        ∙ at_end settings (queued doing (later_call called given))
+        ∙ ap (λ (called : Callee). queued doing (later_call called given)) (sym is)
+        ∙ does
+
+    pub called_at_once : is_queued connection.mode ≡ false → run settings items doing ≡ done → calls called ≡ done
+    called_at_once at_once does = there ∙ ap ran (cond-false (is_queued connection.mode) _ _ at_once) ∙ does
+
+-- a slot that is called is run
+pub runs_slot : (settings : Settings) (target index sender : ℕ) (args : List Value) (depth : ℕ) (doing : Doing) (method : class.Method) → Some method ≡ method_at settings doing.state target index → (deeper : ℕ) → deeper ≡ depth + 1 → (done : Doing)
+    → run settings (model.acts (acts_of method.body.actions) args target sender deeper) (line_told doing (call_line method target sender args)) ≡ done → run settings (Run target index sender args depth ∷ []) doing ≡ done
+runs_slot settings target index sender args depth doing method has deeper is done does =
+    by_step settings (Run target index sender args depth) doing _ (rule.run_slot settings target index sender args depth doing method (sym has))
+    ∙ ap (λ depth. run settings (model.acts (acts_of method.body.actions) args target sender depth) (line_told doing (call_line method target sender args))) (sym is)
+    ∙ does
+
 -- what a functor comes to, where its actions are done at this depth
 abbrev pub ran_at : Doing → ℕ → ℕ → ℕ → List Value → ℕ → stored.Functor → Next
 ran_at doing target sender connection args depth functor =
@@ -66,49 +126,13 @@ module _ (settings : Settings) (target index sender connection : ℕ) (args : Li
   pub runs_none : None ≡ functor_at settings index → run settings (RunFunctor target index sender connection args depth ∷ []) doing ≡ doing
   runs_none has = by_change settings (RunFunctor target index sender connection args depth) doing doing (rule.run_functor_absent settings target index sender connection args depth doing (sym has))
 
-  pub runs_functor : (functor : stored.Functor) → Some functor ≡ functor_at settings index → (done : Doing)
-      → (let next = ran_at doing target sender connection args (depth + 1) functor in run settings next.items next.doing) ≡ done
+  pub runs_functor : (functor : stored.Functor) → Some functor ≡ functor_at settings index → (deeper : ℕ) → deeper ≡ depth + 1 → (done : Doing)
+      → (let next = ran_at doing target sender connection args deeper functor in run settings next.items next.doing) ≡ done
       → run settings (RunFunctor target index sender connection args depth ∷ []) doing ≡ done
-  runs_functor functor has done does = by_step settings (RunFunctor target index sender connection args depth) doing _ (rule.run_functor settings target index sender connection args depth doing functor (sym has)) ∙ does
-
--- what a connection's call of a functor comes to, when its turn is taken
-module _ (settings : Settings) (connection : Connection) (index : ℕ) (args : List Value) (depth : ℕ) (doing : Doing) where
-  abbrev ran : Next → Doing
-  ran next = run settings next.items next.doing
-
-  abbrev its_next : Next
-  its_next = callee_called settings connection args depth doing (Functor index)
-
-  by_functor : (found : Option stored.Functor) → found ≡ functor_at settings index → ran its_next ≡ ran (option_map_or (functor_called connection index args depth doing) found (puts [] doing))
-  by_functor found has = ap (λ (found : Option stored.Functor). ran (option_map_or (functor_called connection index args depth doing) found (puts [] doing))) (sym has)
-
-  -- one that is not there does nothing
-  pub functor_absent : None ≡ functor_at settings index → ran its_next ≡ doing
-  functor_absent has = by_functor None has ∙ at_end settings doing
-
-  module _ (functor : stored.Functor) (has : Some functor ≡ functor_at settings index) (given : List Value) (cut : given ≡ take (length functor.params) args) where
-    abbrev later_call : Callee → List Value → QueuedCall
-    later_call called values = record { object = connection.receiver; callee = called; sender = connection.sender; connection = connection.number; priority = Normal; args = values }
-
-    -- a queued connection calls it later
-    pub functor_queued : (done : Doing) → connection.callee ≡ Functor index → is_queued connection.mode ≡ true → queued doing (later_call connection.callee given) ≡ done → ran its_next ≡ done
-    functor_queued done is later does =
-        by_functor (Some functor) has
-        ∙ ap ran (cond-true (is_queued connection.mode) _ _ later)
-        ∙ at_end settings (queued doing (later_call (Functor index) (take (length functor.params) args)))
-        ∙ ap (λ (values : List Value). queued doing (later_call (Functor index) values)) (sym cut)
-        ∙ ap (λ (called : Callee). queued doing (later_call called given)) (sym is)
-        ∙ does
-
-    -- and another one at once
-    pub functor_run : (done : Doing) → is_queued connection.mode ≡ false
-        → ran (ran_at doing connection.receiver connection.sender connection.number given (depth + 1) functor) ≡ done
-        → ran its_next ≡ done
-    functor_run done at_once does =
-        by_functor (Some functor) has
-        ∙ ap ran (cond-false (is_queued connection.mode) _ _ at_once)
-        ∙ ap (λ (values : List Value). run settings (RunFunctor connection.receiver index connection.sender connection.number values depth ∷ []) doing) (sym cut)
-        ∙ runs_functor settings connection.receiver index connection.sender connection.number given depth doing functor has done does
+  runs_functor functor has deeper is done does =
+      by_step settings (RunFunctor target index sender connection args depth) doing _ (rule.run_functor settings target index sender connection args depth doing functor (sym has))
+      ∙ ap (λ depth. let next = ran_at doing target sender connection args depth functor in run settings next.items next.doing) (sym is)
+      ∙ does
 
 -- it posts nothing to other sessions before that is run
 module _ (settings : Settings) (connection : Connection) (index : ℕ) (args : List Value) (depth : ℕ) (doing : Doing) where
@@ -168,9 +192,3 @@ module _ (settings : Settings) (index : ℕ) (functor : stored.Functor) (has : S
       ∙ ap (λ n. run settings (model.acts (acts_of (with_state state functor.body).actions) args target sender depth) (stepped (line_told doing (functor_line functor target sender args)) connection n)) (sym next_is)
       ∙ ap (run settings (model.acts (acts_of (with_state state functor.body).actions) args target sender depth)) middle_is
       ∙ answered_does settings index functor has state args answered answered_is target sender depth middle done does
-
-  pub functor_front : (doing : Doing) → PostsBehind doing (ran_at doing target sender connection args depth functor).doing
-  functor_front doing =
-      let line = functor_line functor target sender args in
-      let next = after functor.next (functor_state doing.state connection) args in
-      front_both doing.posts (line_told doing line).posts (stepped (line_told doing line) connection next).posts (told_front doing line) (stepped_front (line_told doing line) connection next)
