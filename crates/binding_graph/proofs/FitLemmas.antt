@@ -11,11 +11,10 @@ use Rattle.term_core.specs.Forms.{is_within_limits}
 use Rattle.term_core.specs.Term.{Term, has_short_texts}
 use Rattle.term_evaluation.specs.Evaluation.{eval_by}
 use Rattle.term_evaluation.specs.Outcomes.{Answer, own, refused}
-use Rattle.term_evaluation.proofs.EvaluationLemmas.{short_value}
+use Rattle.term_evaluation.proofs.ForCallers.{short_value}
 use Rattle.property_store.specs.declared.field.Field.{Field}
 use Rattle.property_store.specs.Store.{AreSound, IsSound, Properties, Store, properties_of}
-use Rattle.property_store.proofs.KindLemmas.{converted_fits, default_kind, default_short, kind_there}
-use Rattle.property_store.proofs.ListLemmas.{found}
+use Rattle.property_store.proofs.ForCallers.{converted_fits, default_kind, default_short, kind_there, found}
 use Rattle.binding_values.specs.declared.binding.Binding.{Binding}
 use Rattle.binding_values.specs.declared.property.BindingError.{BindingError}
 use Rattle.binding_values.specs.declared.property.BindingError.TheVariants.{EvaluationError}
@@ -25,7 +24,7 @@ use Rattle.binding_graph.specs.Graph.{shown_as, shown_now}
 use Rattle.binding_values.specs.Scene.{Cell, Outcome, choose, evaluated, passed_on, plain, reader, reading, settled, term_at}
 use Rattle.property_store.specs.Property.{among, is_property}
 use Rattle.binding_values.specs.Stored.{cell_in, cell_of, is_there, outcome_in, scene_of}
-use Rattle.binding_values.proofs.FuelLemmas.{by_unmet, plain_rule}
+use Rattle.binding_values.proofs.ForCallers.{by_unmet, plain_rule}
 
 -- what is converted of a short value is of the kind
 settled_fits : (kind : Kind) (r : Answer BindingError) → IfOk r IsShort → IfOk (settled kind r) (IsOfKind kind)

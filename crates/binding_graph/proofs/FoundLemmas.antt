@@ -13,7 +13,7 @@ use Rattle.property_store.specs.Store.{Store, properties_of}
 use Rattle.binding_values.specs.declared.binding.Binding.{Binding}
 use Rattle.binding_values.specs.Scene.{Cell, Outcome}
 use Rattle.binding_values.specs.Stored.{cell_in, cell_of, numbered, outcome_in, properties_in, properties_of_object}
-use Rattle.binding_values.proofs.FuelLemmas.{is_itself, property_eq}
+use Rattle.binding_values.proofs.ForCallers.{is_itself, property_eq}
 use Rattle.binding_graph.specs.declared.shown.Shown.{Shown}
 use Rattle.binding_graph.specs.Graph.{all_shown, shown_as, shown_at, shown_now}
 

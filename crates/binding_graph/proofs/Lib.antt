@@ -11,3 +11,4 @@ pub mod RowLemmas
 pub mod DrainLemmas
 pub mod KnownLemmas
 pub mod SettlingLemmas
+pub mod ForCallers

@@ -3,7 +3,7 @@ use Rattle.std.proofs.Common.{◌≡◌, ◌≢◌, ◌∙◌, ◌==◌, ℕ, ze
 use Rattle.std.proofs.lemmas.Bool.{both_ways, cases_Bool, eq-eqb, eqb-true}
 use Rattle.std.proofs.lemmas.List.{get_or-set_other, get_or-set_same, get_or_past, length-map}
 use Rattle.places.specs.Table.{IsPlace, Table, opened, with_place}
-use Rattle.places.proofs.TableLemmas.{default_pushed, with_same}
+use Rattle.places.proofs.ForCallers.{default_pushed, with_same}
 use Rattle.property_store.specs.declared.property.Property.{Property}
 use Rattle.property_store.specs.Marks.{marks_at}
 use Rattle.property_store.specs.Property.{is_property}

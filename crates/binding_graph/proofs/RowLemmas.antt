@@ -10,8 +10,7 @@ use Rattle.variant_value.specs.Values.{IsOfKind}
 use Rattle.property_store.specs.declared.property.Property.{Property}
 use Rattle.property_store.specs.Property.{is_property}
 use Rattle.binding_values.specs.Sorted.{IsCountBefore, IsRising, is_before}
-use Rattle.binding_values.proofs.FuelLemmas.{property_eq}
-use Rattle.binding_values.proofs.SortedLemmas.{inserted, is_behind, is_other, is_property_sym, replaced, stands_so, stands_within, with_rising}
+use Rattle.binding_values.proofs.ForCallers.{property_eq, inserted, is_behind, is_other, is_property_sym, replaced, stands_so, stands_within, with_rising}
 use Rattle.binding_graph.specs.declared.shown.Shown.{Shown}
 use Rattle.binding_graph.specs.Graph.{AreShown, shown_at}
 use Rattle.binding_graph.specs.Rows.{IsPut}

@@ -8,7 +8,7 @@ use Rattle.property_store.specs.Marks.{Marks, has_marks, is_marked, marks_at}
 use Rattle.property_store.specs.Property.{among}
 use Rattle.property_store.specs.Store.{IsSound, Store}
 use Rattle.property_store.specs.Table.{Stock, store_at}
-use Rattle.property_store.proofs.ListLemmas.{unmapped}
+use Rattle.property_store.proofs.ForCallers.{unmapped}
 use Rattle.binding_values.specs.declared.kept.Done.{Done}
 use Rattle.binding_values.specs.declared.kept.Kept.{Kept}
 use Rattle.binding_values.specs.Binds.{AreBindings}
@@ -17,7 +17,7 @@ use Rattle.binding_values.specs.Scene.{Cell}
 use Rattle.binding_values.specs.Sorted.{IsRising}
 use Rattle.binding_values.specs.Stored.{cell_in, outcome_in, scene_of}
 use Rattle.kept_values.specs.Right.{AreMore, IsComplete, IsRightBut, IsWhole, both, only}
-use Rattle.kept_values.proofs.KeptLemmas.{complete_is_known}
+use Rattle.kept_values.proofs.ForCallers.{complete_is_known}
 use Rattle.binding_graph.specs.declared.shown.Shown.{Shown}
 use Rattle.binding_graph.specs.Cache.{Cache, IsInStep}
 use Rattle.binding_graph.specs.Rows.{AreMerged}

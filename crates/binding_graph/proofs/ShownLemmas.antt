@@ -10,8 +10,7 @@ use Rattle.variant_value.specs.declared.value.Value.TheVariants.{Invalid}
 use Rattle.variant_value.specs.Values.{IsOfKind, IsShort}
 use Rattle.property_store.specs.declared.field.Field.{Field}
 use Rattle.property_store.specs.Store.{IsSound, Properties, Store}
-use Rattle.property_store.proofs.KindLemmas.{default_short}
-use Rattle.property_store.proofs.ListLemmas.{found}
+use Rattle.property_store.proofs.ForCallers.{default_short, found}
 use Rattle.binding_values.specs.declared.binding.Binding.{Binding}
 use Rattle.binding_values.specs.declared.property.BindingError.{BindingError}
 use Rattle.property_store.specs.declared.property.Property.{Property}
@@ -24,7 +23,7 @@ use Rattle.property_store.specs.Property.{is_property}
 use Rattle.binding_values.specs.Sorted.{is_before}
 use Rattle.binding_values.specs.Stored.{cell_in, numbered, properties_in, properties_of_object}
 use Rattle.binding_graph.proofs.FitLemmas.{shown_now_fits}
-use Rattle.binding_values.proofs.MapLemmas.{all_given, pairs_append, pairs_given}
+use Rattle.binding_values.proofs.ForCallers.{all_given, pairs_append, pairs_given}
 
 before_later : (a b c d : ℕ) → a < c → (nat_lt a c || (a == c && nat_lt b d)) ≡ true
 before_later a b c d less = grind (arith, nat_tests)

@@ -17,7 +17,7 @@ use Rattle.binding_graph.specs.Graph as graph
 use Rattle.binding_values.specs.Scene.{Cell, Outcome}
 use Rattle.binding_values.specs.Stored.{cell_in, outcome_in, properties_in}
 use Rattle.binding_graph.proofs.FitLemmas.{shown_now_fits}
-use Rattle.binding_values.proofs.MapLemmas.{all_given}
+use Rattle.binding_values.proofs.ForCallers.{all_given}
 use Rattle.binding_graph.proofs.ShownLemmas.{all_shown_sound}
 
 -- what a property shows is of the kind that it has

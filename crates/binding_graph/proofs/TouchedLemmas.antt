@@ -16,8 +16,7 @@ use Rattle.property_store.specs.Property.{among, is_property}
 use Rattle.binding_values.specs.declared.property.BindingError.{BindingError}
 use Rattle.binding_values.specs.declared.property.BindingError.TheVariants.{BindingLoop, EvaluationError}
 use Rattle.binding_values.specs.Sorted.{IsRising, is_before}
-use Rattle.binding_values.proofs.FuelLemmas.{is_itself, property_eq}
-use Rattle.binding_values.proofs.SortedLemmas.{before_trans, is_behind, is_other, is_property_sym}
+use Rattle.binding_values.proofs.ForCallers.{is_itself, property_eq, before_trans, is_behind, is_other, is_property_sym}
 use Rattle.binding_graph.specs.declared.change.Change.{Change}
 use Rattle.binding_graph.specs.declared.change.Message.TheVariants as message
 use Rattle.binding_graph.specs.declared.shown.Shown.{Shown}

@@ -11,7 +11,7 @@ use Rattle.term_evaluation.specs.Met.{met_by}
 use Rattle.binding_values.specs.Scene.{Cell, Outcome, Scene, choose, evaluated, met, passed_on, plain, reader, reading, settled, term_at}
 use Rattle.property_store.specs.Property.{among, is_property}
 use Rattle.binding_values.specs.Laws.{IsChain, IsSubset, ReallyReads}
-use Rattle.term_evaluation.proofs.MetLemmas.{fault_met}
+use Rattle.term_evaluation.proofs.ForCallers.{fault_met}
 use Rattle.binding_values.proofs.MapLemmas.{giver}
 use Rattle.binding_values.proofs.FuelLemmas.{by_unmet, plain_rule, property_eq}
 use Rattle.binding_values.proofs.ValueLemmas.{IsSameOrLoop, same_or_loop}

@@ -2,7 +2,7 @@
 use Rattle.std.proofs.Common.{◌≡◌, ◌∙◌, ℕ, zero, suc, ◌<◌, Bool, true, false, cond, not, List, [], ◌∷◌, ◌++◌, Option, Some, None, All, filter, find, length, get_or, set, refl, sym, ap, subst, arith}
 use Rattle.std.specs.Prelude.{option_and_then}
 use Rattle.std.specs.List.{AllWithin, cons_option, insert}
-use Rattle.property_store.proofs.ListLemmas.{filter_all, none_passes}
+use Rattle.property_store.proofs.ForCallers.{filter_all, none_passes}
 use Rattle.property_store.specs.declared.property.Property.{Property}
 use Rattle.property_store.specs.Property.{is_property}
 use Rattle.binding_values.specs.declared.kept.Done.{Done}

@@ -17,7 +17,7 @@ use Rattle.property_store.specs.Property.{among, is_property}
 use Rattle.binding_values.specs.declared.kept.Kept.{Kept}
 use Rattle.binding_values.specs.Kept.{at_hand, Agrees, IsClosed, IsKept, IsRight, IsRightAt, IsSteady, IsUnbound, IsWithin, Keeping, Knows, known}
 use Rattle.binding_values.specs.Laws.{IsSubset}
-use Rattle.term_evaluation.proofs.MetLemmas.{Follows, Turn, first_part, follows}
+use Rattle.term_evaluation.proofs.ForCallers.{Follows, Turn, first_part, follows}
 use Rattle.binding_values.proofs.MapLemmas.{each_given}
 use Rattle.binding_values.proofs.FuelLemmas.{by_unmet, plain_rule}
 use Rattle.binding_values.proofs.ValueLemmas.{IsLoop, IsSameOrLoop, goes_as, met_before, same_or_loop}

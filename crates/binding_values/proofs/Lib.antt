@@ -13,3 +13,4 @@ pub mod MemoryLemmas
 pub mod KeepingLemmas
 pub mod ReaderLemmas
 pub mod ReachedLemmas
+pub mod ForCallers

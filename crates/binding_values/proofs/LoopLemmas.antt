@@ -15,7 +15,7 @@ use Rattle.property_store.specs.Property.{among, is_property}
 use Rattle.binding_values.specs.Kept.{at_hand, Apart, IsClosed, IsKept, IsRight, IsUnbound, Keeping, kept_of, known}
 use Rattle.binding_values.specs.Laws.{IsChain, ReallyReads}
 use Rattle.binding_values.specs.Run.{IsSettled, IsTried, Stacked, WaitsFor, ats}
-use Rattle.term_evaluation.proofs.MetLemmas.{follows_back}
+use Rattle.term_evaluation.proofs.ForCallers.{follows_back}
 use Rattle.binding_values.proofs.MapLemmas.{each_given}
 use Rattle.binding_values.proofs.FuelLemmas.{is_itself, property_eq}
 use Rattle.binding_values.proofs.ValueLemmas.{IsLoop, IsSameOrLoop, met_before, turn}

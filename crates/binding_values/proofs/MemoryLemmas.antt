@@ -6,7 +6,7 @@ use Rattle.std.specs.Option.{option_map_or}
 use Rattle.std.proofs.lemmas.List.{get_or_append_left}
 use Rattle.std.proofs.lemmas.List.Elements.{All-append, All-cons, All-filter}
 use Rattle.std.proofs.lemmas.Option.{slice_get-get_or}
-use Rattle.property_store.proofs.ListLemmas.{found}
+use Rattle.property_store.proofs.ForCallers.{found}
 use Rattle.binding_values.specs.declared.kept.Done.{Done}
 use Rattle.binding_values.specs.declared.memory.Entry.{Entry}
 use Rattle.property_store.specs.declared.property.Property.{Property}

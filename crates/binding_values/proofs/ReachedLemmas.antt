@@ -7,7 +7,7 @@ use Rattle.std.proofs.lemmas.List.Elements.{All-contains, All-more, All-weaker, 
 use Rattle.std.proofs.lemmas.List.Folds.{list_any-append}
 use Rattle.shared_rows.specs.Links.{without_link}
 use Rattle.shared_rows.proofs.LinkedLemmas.{contains_first, contains_later, length-without}
-use Rattle.property_store.proofs.ListLemmas.{filter_all}
+use Rattle.property_store.proofs.ForCallers.{filter_all}
 use Rattle.property_store.specs.declared.property.Property.{Property}
 use Rattle.property_store.specs.Property.{among, is_property}
 use Rattle.binding_values.specs.declared.kept.Done.{Done}

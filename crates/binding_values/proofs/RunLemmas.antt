@@ -16,7 +16,7 @@ use Rattle.property_store.specs.Property.{among, is_property}
 use Rattle.binding_values.specs.Kept.{Apart, IsClosed, IsKept, IsRight, IsRightAt, IsUnbound, IsWithin, Keeping, kept_of, known}
 use Rattle.term_evaluation.specs.Met.{EachButLast}
 use Rattle.binding_values.specs.Run.{IsSettled, IsTried, Stacked, WaitsFor, ats}
-use Rattle.term_evaluation.proofs.MetLemmas.{IsValue, goes_on}
+use Rattle.term_evaluation.proofs.ForCallers.{IsValue, goes_on}
 use Rattle.binding_values.proofs.MapLemmas.{given_but_last}
 use Rattle.binding_values.proofs.FuelLemmas.{is_itself, property_eq}
 use Rattle.binding_values.proofs.KeptLemmas.{fresh_bound, fresh_unbound, hand_unbound, known_kept, known_none, known_unbound, more_is_right, none_some, right_is_known, same_evaluation, unbound_unkept}

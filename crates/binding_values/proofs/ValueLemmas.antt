@@ -13,7 +13,7 @@ use Rattle.term_evaluation.specs.Met.{met_by}
 use Rattle.binding_values.specs.Scene.{Cell, Outcome, Scene, by_rule, choose, evaluated, met, passed_on, plain, reader, reading, settled, term_at}
 use Rattle.property_store.specs.Property.{among, is_property}
 use Rattle.binding_values.specs.Laws.{IsSubset}
-use Rattle.term_evaluation.proofs.MetLemmas.{Ended, Follows, follows}
+use Rattle.term_evaluation.proofs.ForCallers.{Ended, Follows, follows}
 use Rattle.binding_values.proofs.MapLemmas.{each_given}
 use Rattle.binding_values.proofs.FuelLemmas.{by_unmet, plain_rule}
 

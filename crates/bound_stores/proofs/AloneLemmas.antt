@@ -7,7 +7,7 @@ use Rattle.refusals.specs.declared.code.Code.{Code}
 use Rattle.refusals.specs.declared.code.Code.TheVariants.{BadValue}
 use Rattle.std.specs.Option.{option_and_then, option_map_or}
 use Rattle.places.specs.Table.{IsPlace}
-use Rattle.places.proofs.TableLemmas as column
+use Rattle.places.proofs.ForCallers as column
 use Rattle.variant_value.specs.declared.value.Value.{Value}
 use Rattle.variant_value.specs.declared.value.Value.TheVariants.{Invalid}
 use Rattle.variant_value.specs.Values.{IsOfKind, IsShort, converted, is_same}
@@ -15,8 +15,7 @@ use Rattle.property_store.specs.declared.field.Field.{Field}
 use Rattle.property_store.specs.Store.{AreSound, IsSound, Properties, Store, changed, field_at, fitting, is_change, properties_of, value_at, with_value, without, write_refusal}
 use Rattle.property_store.specs.Store as stored
 use Rattle.property_store.specs.Table.{Shelves, store_at, with_store}
-use Rattle.property_store.proofs.KindLemmas.{converted_fits, with_value_sound}
-use Rattle.property_store.proofs.SoundLemmas.{sound_changed}
+use Rattle.property_store.proofs.ForCallers.{converted_fits, with_value_sound, sound_changed}
 use Rattle.binding_values.specs.declared.binding.Binding.{Binding}
 use Rattle.binding_graph.specs.declared.change.Change.{Change}
 use Rattle.binding_graph.specs.declared.change.Message.TheVariants as message
@@ -27,7 +26,7 @@ use Rattle.property_store.specs.Property.{is_property}
 use Rattle.binding_values.specs.Stored.{cell_in, cell_of}
 use Rattle.binding_graph.specs.Table.{Graphs, graph_at}
 use Rattle.thread_model.specs.State.{closed}
-use Rattle.thread_model.proofs.AloneLemmas.{going_told, its_cell, write_told}
+use Rattle.thread_model.proofs.ForCallers.{going_told, its_cell, write_told}
 use Rattle.bound_stores.specs.Bound.{all_closed, bound_at, seen_of, with_bound}
 use Rattle.bound_stores.specs.Changed.{alone, changes_in, told_at, told_of}
 use Rattle.bound_stores.specs.Named.{TellsWritten, with_written}

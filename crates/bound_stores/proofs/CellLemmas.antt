@@ -7,7 +7,7 @@ use Rattle.variant_value.specs.declared.value.Value.{Value}
 use Rattle.variant_value.specs.Values.{IsShort, kind_of}
 use Rattle.property_store.specs.declared.field.Field.{Field}
 use Rattle.property_store.specs.Store.{AreSound, IsSound, Properties, Store, properties_of, value_at}
-use Rattle.property_store.proofs.ListLemmas.{found}
+use Rattle.property_store.proofs.ForCallers.{found}
 use Rattle.property_store.specs.declared.property.Property.{Property}
 use Rattle.binding_values.specs.Scene.{Cell}
 use Rattle.binding_values.specs.Stored.{cell_in, cell_of}

@@ -8,7 +8,7 @@ use Rattle.variant_value.specs.declared.value.Value.{Value}
 use Rattle.variant_value.specs.declared.value.Value.TheVariants.{Invalid}
 use Rattle.property_store.specs.declared.field.Field.{Field}
 use Rattle.property_store.specs.Store.{IsSound, Properties, Store, declared_in, dynamic_value, field_number, named_value, properties_of}
-use Rattle.property_store.proofs.ListLemmas.{position_some}
+use Rattle.property_store.proofs.ForCallers.{position_some}
 use Rattle.binding_values.specs.declared.property.BindingError.{BindingError}
 use Rattle.property_store.specs.declared.property.Property.{Property}
 use Rattle.binding_graph.specs.Graph.{Graph, is_bound, value_in}

@@ -1,7 +1,7 @@
 -- What contracts see of a place after a change.
 use Rattle.std.proofs.Common.{◌≡◌, ◌∙◌, ℕ, Bool, true, false, cond, List, [], Option, refl, sym, ap}
 use Rattle.places.specs.Table.{ChangesAt, IsPlace, Table}
-use Rattle.places.proofs.TableLemmas as column
+use Rattle.places.proofs.ForCallers as column
 use Rattle.property_store.specs.Store.{Store}
 use Rattle.property_store.specs.Table.{Shelves, store_at, with_store}
 use Rattle.binding_values.specs.declared.binding.Binding.{Binding}

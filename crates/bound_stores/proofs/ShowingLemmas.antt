@@ -14,8 +14,7 @@ use Rattle.binding_graph.specs.Graph.{Graph, all_shown, fresh, is_bound, is_open
 use Rattle.binding_values.specs.Scene.{Cell, Outcome, term_at}
 use Rattle.binding_values.specs.Stored.{cell_in, outcome_in, scene_of}
 use Rattle.binding_graph.specs.Table.{graph_at}
-use Rattle.binding_values.proofs.KeptLemmas.{fresh_unbound}
-use Rattle.binding_values.proofs.StoredLemmas.{term_there}
+use Rattle.binding_values.proofs.ForCallers.{fresh_unbound, term_there}
 use Rattle.thread_model.specs.State.{closed}
 use Rattle.bound_stores.specs.Bound.{all_closed}
 use Rattle.bound_stores.proofs.SettledLemmas.{closed_at, closed_bindings}

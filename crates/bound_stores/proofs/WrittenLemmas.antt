@@ -6,7 +6,7 @@ use Rattle.variant_value.specs.declared.value.Value.{Value}
 use Rattle.variant_value.specs.Values.{converted}
 use Rattle.property_store.specs.declared.field.Field.{Field}
 use Rattle.property_store.specs.Store.{Properties, Store, changed, field_at, fitting, properties_of, with_value, written}
-use Rattle.property_store.proofs.SoundLemmas.{changed_fields}
+use Rattle.property_store.proofs.ForCallers.{changed_fields}
 use Rattle.property_store.specs.declared.property.Property.{Property}
 use Rattle.binding_graph.specs.Graph.{Graph, is_bound, taken, value_in}
 

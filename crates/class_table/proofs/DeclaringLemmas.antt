@@ -14,7 +14,7 @@ use Rattle.signature_core.specs.declared.signature.Signature.{Signature}
 use Rattle.signature_core.specs.Reading.{signature_of}
 use Rattle.term_core.specs.Bodies.{body_of}
 use Rattle.term_core.specs.declared.body.Body.{Body}
-use Rattle.term_core.proofs.BodyLemmas.{IsReadFor, body_read}
+use Rattle.term_core.proofs.ForCallers.{IsReadFor, body_read}
 use Rattle.serde_json.specs.Data.{Data}
 use Rattle.class_table.specs.declared.class.TheConstants.{METHODS, PROPERTIES}
 use Rattle.class_table.specs.declared.class.Class.{Class}

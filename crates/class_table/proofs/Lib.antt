@@ -7,3 +7,4 @@ pub mod SpelledLemmas
 pub mod SignalLemmas
 pub mod DeclaringLemmas
 pub mod EachLemmas
+pub mod ForCallers

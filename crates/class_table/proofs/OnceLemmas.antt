@@ -13,8 +13,7 @@ use Rattle.std.proofs.lemmas.Slice.Eq.{bytes_eq-Decides}
 use Rattle.signature_core.specs.declared.signature.Signature.{Signature}
 use Rattle.signature_core.specs.Kinds.{is_same_kind}
 use Rattle.signature_core.specs.Reading.{IsNormal, signature_of}
-use Rattle.signature_core.proofs.FitLemmas.{Decides-is_same_kind}
-use Rattle.signature_core.proofs.Normal.{normal_text_read}
+use Rattle.signature_core.proofs.ForCallers.{Decides-is_same_kind, normal_text_read}
 use Rattle.class_table.specs.declared.class.Method.{Method}
 use Rattle.class_table.specs.declared.class.Property.{Property}
 use Rattle.class_table.specs.declared.declare.Signed.{Signed}

@@ -7,7 +7,7 @@ use Rattle.std.proofs.lemmas.List.Elements.{All-head, All-tail}
 use Rattle.std.proofs.lemmas.Slice.Eq.{bytes_eq-Decides}
 use Rattle.signature_core.specs.declared.signature.Signature.{Signature}
 use Rattle.signature_core.specs.Reading.{IsNormal, signature_of}
-use Rattle.signature_core.proofs.Normal.{normal_text_read}
+use Rattle.signature_core.proofs.ForCallers.{normal_text_read}
 use Rattle.class_table.specs.declared.class.Class.{Class}
 use Rattle.class_table.specs.declared.class.Method.{Method}
 use Rattle.class_table.specs.Lookup.{are_distinct_methods, inherited, is_same, method_number, methods, signatures}

@@ -7,7 +7,7 @@ use Rattle.std.proofs.lemmas.List.Elements.{All-push, Contains-get_or}
 use Rattle.std.proofs.lemmas.List.Quantifiers.{all_pairs_push}
 use Rattle.places.specs.Paired.{paired_tables}
 use Rattle.places.specs.Table.{Table, with_place}
-use Rattle.places.proofs.TableLemmas.{with_same}
+use Rattle.places.proofs.ForCallers.{with_same}
 use Rattle.refusals.specs.declared.code.Code.TheVariants.{ConnectedAlready, Limit, NumbersUsedUp}
 use Rattle.shared_rows.specs.Rows.{Keyed, added, row_under}
 use Rattle.shared_rows.specs.Rows as shared

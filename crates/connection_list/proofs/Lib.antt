@@ -10,3 +10,4 @@ pub mod AddedLemmas
 pub mod LazyLemmas
 pub mod StateLemmas
 pub mod SteppedLemmas
+pub mod ForCallers

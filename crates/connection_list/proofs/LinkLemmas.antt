@@ -10,7 +10,7 @@ use Rattle.std.proofs.lemmas.Bool.{cases_Bool, cases_eq, cases_lt}
 use Rattle.std.proofs.lemmas.Bool.Decides.{nat_tests}
 use Rattle.std.proofs.lemmas.Cmp.{nat_cmp_total, on_total, ranked, then_total}
 use Rattle.shared_rows.specs.Links.{IsInOrder, first_from}
-use Rattle.shared_rows.proofs.LinkLemmas.{below_parted}
+use Rattle.shared_rows.proofs.ForCallers.{below_parted}
 use Rattle.shared_rows.proofs.LinkedLemmas.{all_from, any_of, first_none, first_some}
 use Rattle.connection_list.specs.declared.link.Link.{Link}
 use Rattle.connection_list.specs.Routes.{is_before, is_past, link_cmp}

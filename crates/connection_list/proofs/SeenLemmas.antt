@@ -8,9 +8,8 @@ use Rattle.std.proofs.lemmas.List.{get_or-set_same, get_or-set_other, get_or_app
 use Rattle.std.proofs.lemmas.List.Sums.{length-filter, count_by-le-length}
 use Rattle.places.specs.Paired.{paired, paired_tables}
 use Rattle.places.specs.Table.{IsPlace, Table, with_place, opened}
-use Rattle.places.proofs.TableLemmas.{changes_open}
+use Rattle.places.proofs.ForCallers.{changes_open, paired_at, paired_push, paired_set, length-paired}
 use Rattle.shared_rows.proofs.LinkedLemmas.{all_from}
-use Rattle.places.proofs.PairedLemmas.{paired_at, paired_push, paired_set, length-paired}
 use Rattle.shared_rows.specs.Rows.{Keyed, row_under}
 use Rattle.shared_rows.specs.Rows as shared
 use Rattle.connection_list.specs.declared.connection.Connection.{Connection}

@@ -9,7 +9,7 @@ use Rattle.std.proofs.lemmas.List.Edits.{get_or-remove_above, get_or-remove_belo
 use Rattle.std.proofs.lemmas.List.Elements.{All-contains}
 use Rattle.shared_rows.specs.Links.{AreLinked, IsInOrder, without_link}
 use Rattle.shared_rows.specs.Rows.{Keyed, row_under}
-use Rattle.shared_rows.proofs.LinkLemmas.{remove_link, seat_found}
+use Rattle.shared_rows.proofs.ForCallers.{remove_link, seat_found}
 use Rattle.shared_rows.proofs.LinkedLemmas.{all_from, contains_from}
 use Rattle.connection_list.specs.declared.connection.Connection.{Connection}
 use Rattle.connection_list.specs.declared.connection.NewConnection.{NewConnection}

@@ -4,3 +4,4 @@ pub mod LeftOut
 pub mod Reaching
 pub mod Sliced
 pub mod Piecewise
+pub mod ForCallers

@@ -6,3 +6,4 @@ pub mod Printing
 pub mod Standing
 pub mod CopyLemmas
 pub mod Together
+pub mod ForCallers

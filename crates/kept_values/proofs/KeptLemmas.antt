@@ -6,7 +6,7 @@ use Rattle.property_store.specs.Marks.{Marks, is_marked, no_marks}
 use Rattle.binding_values.specs.Scene.{Scene, plain, settled}
 use Rattle.binding_values.specs.declared.kept.Kept.{Kept}
 use Rattle.binding_values.specs.Kept.{IsClosed, IsKept, IsRight, IsUnbound, IsWithin, Keeping, known}
-use Rattle.binding_values.proofs.KeptLemmas.{fresh_unbound, hand_unbound, known_kept, known_none, known_unbound, none_some, same_evaluation, unbound_unkept}
+use Rattle.binding_values.proofs.ForCallers.{fresh_unbound, hand_unbound, known_kept, known_none, known_unbound, none_some, same_evaluation, unbound_unkept}
 use Rattle.kept_values.specs.Right.{AreMore, IsClear, IsComplete, IsRightBut, IsSpread, IsWhole, unmarked}
 
 -- a part of what is kept that has read none but its own is right too

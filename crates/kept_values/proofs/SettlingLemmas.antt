@@ -13,7 +13,7 @@ use Rattle.binding_values.specs.Reached.{AreKeptToo, IsLonger, IsReached}
 use Rattle.binding_values.specs.Run.{IsSettled}
 use Rattle.binding_values.specs.Scene.{Scene, term_at}
 use Rattle.binding_values.specs.Stored.{is_there, scene_of}
-use Rattle.binding_values.proofs.ReachedLemmas.{among_contains, longer_among}
+use Rattle.binding_values.proofs.ForCallers.{among_contains, longer_among}
 use Rattle.kept_values.specs.Right.{IsComplete, IsRightBut, IsSpread, IsWhole, only, unmarked}
 use Rattle.kept_values.proofs.KeptLemmas.{rest_is_right}
 

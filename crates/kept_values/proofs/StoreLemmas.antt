@@ -13,16 +13,13 @@ use Rattle.property_store.specs.declared.property.Property.{Property}
 use Rattle.property_store.specs.Marks.{Marks, is_marked, is_new, is_written}
 use Rattle.property_store.specs.Property.{among, is_property}
 use Rattle.property_store.specs.Store.{Properties, Store, added, changed, fitting, fresh, properties_of, with_dynamic, with_value, without, without_dynamic, written}
-use Rattle.property_store.proofs.SoundLemmas.{added_found, added_others}
+use Rattle.property_store.proofs.ForCallers.{added_found, added_others}
 use Rattle.binding_values.specs.declared.binding.Binding.{Binding}
 use Rattle.binding_values.specs.Binds.{with_binding}
 use Rattle.binding_values.specs.Scene.{Cell, term_at}
 use Rattle.binding_values.specs.Sorted.{is_before}
 use Rattle.binding_values.specs.Stored.{bindable_number, cell_in, cell_of, fields_at, is_there, meant, named_in, scene_of}
-use Rattle.binding_values.proofs.FuelLemmas.{is_itself, property_eq}
-use Rattle.binding_values.proofs.MapLemmas.{some_kept}
-use Rattle.binding_values.proofs.SortedLemmas.{is_behind, is_property_sym, not_behind}
-use Rattle.binding_values.proofs.StoredLemmas.{term_there}
+use Rattle.binding_values.proofs.ForCallers.{is_itself, property_eq, some_kept, is_behind, is_property_sym, not_behind, term_there}
 use Rattle.kept_values.specs.Right.{DiffersAt}
 use Rattle.kept_values.proofs.StepLemmas.{AreAlikeBut}
 

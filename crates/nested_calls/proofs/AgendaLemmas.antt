@@ -18,7 +18,7 @@ use Rattle.term_core.specs.declared.action.SingleAction.{SingleAction}
 use Rattle.term_core.specs.Term.{Term}
 use Rattle.connection_list.specs.declared.connection.Connection.{Connection}
 use Rattle.connection_list.specs.Rows.{IsRising, IsSound, has_number, is_next}
-use Rattle.connection_list.proofs.RowsLemmas.{rising_head, rising_tail}
+use Rattle.connection_list.proofs.ForCallers.{rising_head, rising_tail}
 use Rattle.object_tree.specs.declared.row.Row.{Row}
 use Rattle.object_tree.specs.Rows.{row_of}
 use Rattle.term_core.specs.Act.{Act, Acts, acts_of, single_action, when}
@@ -28,7 +28,6 @@ use Rattle.thread_model.specs.declared.line.Line.TheVariants.{Warning}
 use Rattle.thread_model.specs.Acts as model
 use Rattle.thread_model.specs.Agenda.{callee_called, connection_of, is_held_back, step}
 use Rattle.thread_model.specs.Targets.{truth_evaluated}
-use Rattle.thread_model.proofs.ActionLemmas as action
 use Rattle.thread_model.specs.declared.post.Post.{Post}
 use Rattle.class_table.specs.declared.class.Class.{Class}
 use Rattle.publish_board.specs.declared.publication.Publication.{Publication}
@@ -39,27 +38,19 @@ use Rattle.thread_model.specs.Items.{Call, Emit, Item, Next, Warn, puts}
 use Rattle.thread_model.specs.Run.{longest_functor, run}
 use Rattle.thread_model.specs.Settings.{Settings}
 use Rattle.thread_model.specs.State.{State, without_connections}
-use Rattle.thread_model.proofs.EmissionLemmas as rule
-use Rattle.thread_model.proofs.FilterLemmas.{find-passes}
-use Rattle.thread_model.proofs.LaterLemmas.{run_later}
-use Rattle.thread_model.proofs.LivingLemmas.{living_rows}
-use Rattle.thread_model.proofs.NextCallLemmas.{calls_to, emission_end, emission_first, emission_next}
-use Rattle.thread_model.proofs.RemainingLemmas.{remaining}
-use Rattle.thread_model.proofs.RunLemmas.{after_first, at_end, by_change, by_step, run_shrinks}
-use Rattle.thread_model.proofs.FallLemmas.{falls}
-use Rattle.thread_model.proofs.ShrinkLemmas.{Shrinks}
+use Rattle.thread_model.proofs.ForCallers as rule
+use Rattle.thread_model.proofs.ForCallers.{find-passes, run_later, living_rows, calls_to, emission_end, emission_first, emission_next, remaining, after_first, at_end, by_change, by_step, run_shrinks, falls, Shrinks}
 use Rattle.session_tables.specs.declared.tables.Tables.{Tables}
 use Rattle.session_tables.specs.Refused.{OnRefused}
 use Rattle.session_tables.specs.Tables.{IsPlaced, state_at, with_state}
-use Rattle.session_tables.proofs.TablesLemmas.{state_with}
+use Rattle.session_tables.proofs.ForCallers.{state_with}
 use Rattle.session_effects.specs.declared.slot.Slot.{Slot}
 use Rattle.nested_calls.specs.declared.telling.Telling.{Telling}
 use Rattle.session_effects.specs.Actions.{KeepsOthers, Tries, act_of}
-use Rattle.session_effects.proofs.ActionLemmas.{keeps_same, keeps_with}
+use Rattle.session_effects.proofs.ForCallers.{keeps_same, keeps_with, item_at}
 use Rattle.session_effects.specs.declared.caller.Caller.{Caller}
 use Rattle.session_effects.specs.Setup.{settings_of}
 use Rattle.nested_calls.specs.Telling.{Warns, doing_at, spent, with_line}
-use Rattle.session_effects.proofs.FoundLemmas.{item_at}
 
 -- how many calls and deletions there can still be
 abbrev pub left_at : ℕ → Tables → Telling → ℕ
@@ -281,7 +272,7 @@ module _ (settings : Settings) (slot : Slot) (place : ℕ) (tables : Tables) (be
   -- so a choice whose test has no truth
   pub test_warned : (test : Term) (held failed : Acts) (fault : Fault) → Answers {T = Bool} (Err fault) (truth_evaluated (state_at tables place) slot.object slot.sender slot.args.now test) → Warns fault slot.object before after
       → run settings (act_of slot (when test held failed) ∷ []) (doing_at place tables before earlier) ≡ doing_at place tables after earlier
-  test_warned test held failed (Refused code) why e = warned (act_of slot (when test held failed)) code (action.when_faulty settings slot.object slot.sender slot.args.now slot.depth (doing_at place tables before earlier) test held failed code why) e
+  test_warned test held failed (Refused code) why e = warned (act_of slot (when test held failed)) code (rule.when_faulty settings slot.object slot.sender slot.args.now slot.depth (doing_at place tables before earlier) test held failed code why) e
   test_warned test held failed Memory why e = absurd e
 
 -- so a single action that is refused
@@ -303,10 +294,10 @@ module _ (settings : Settings) (slot : Slot) (doing : Doing) (test : Term) (held
 
   -- the branch that is chosen is done
   pub held_done : (new : Doing) → truth_evaluated doing.state slot.object slot.sender slot.args.now test ≡ Ok true → run settings (its_acts held) doing ≡ new → run settings (act_of slot (when test held failed) ∷ []) doing ≡ new
-  held_done new is does = by_step settings (act_of slot (when test held failed)) doing _ (action.when_held settings slot.object slot.sender slot.args.now slot.depth doing test held failed is) ∙ does
+  held_done new is does = by_step settings (act_of slot (when test held failed)) doing _ (rule.when_held settings slot.object slot.sender slot.args.now slot.depth doing test held failed is) ∙ does
 
   pub failed_done : (new : Doing) → truth_evaluated doing.state slot.object slot.sender slot.args.now test ≡ Ok false → run settings (its_acts failed) doing ≡ new → run settings (act_of slot (when test held failed) ∷ []) doing ≡ new
-  failed_done new is does = by_step settings (act_of slot (when test held failed)) doing _ (action.when_failed settings slot.object slot.sender slot.args.now slot.depth doing test held failed is) ∙ does
+  failed_done new is does = by_step settings (act_of slot (when test held failed)) doing _ (rule.when_failed settings slot.object slot.sender slot.args.now slot.depth doing test held failed is) ∙ does
 
 -- an action is done, and then those behind it
 pub acts_go_on : (settings : Settings) (slot : Slot) (old middle new : Doing) (i : ℕ) (actions : List Act) (act : Act) → i < length actions → act ≡ get_or actions i act

@@ -6,9 +6,7 @@ use Rattle.variant_value.specs.declared.value.Value.{Value}
 use Rattle.term_core.specs.Act.{Act, acts_of, counts}
 use Rattle.term_evaluation.specs.Unfolding.{unfolded_body, unfolded_term}
 use Rattle.term_evaluation.specs.Stating.{after, with_state}
-use Rattle.term_evaluation.proofs.Branches.{branch_changed}
-use Rattle.term_evaluation.proofs.StatingLemmas.{state_counts}
-use Rattle.term_evaluation.proofs.SubstitutionLemmas.{actions_kept}
+use Rattle.term_evaluation.proofs.ForCallers.{branch_changed, state_counts, actions_kept}
 use Rattle.connection_types.specs.declared.callee.Callee.{Callee}
 use Rattle.connection_types.specs.declared.callee.Callee.TheVariants.{Functor, Method}
 use Rattle.connection_list.specs.declared.connection.Connection.{Connection}
@@ -27,17 +25,14 @@ use Rattle.thread_model.specs.Posting.{is_queued}
 use Rattle.thread_model.specs.Run.{longest_functor, run}
 use Rattle.thread_model.specs.Settings.{Settings}
 use Rattle.thread_model.specs.State.{State, functor_state, with_call, with_event, with_functor_state, with_lost}
-use Rattle.thread_model.proofs.EmissionLemmas as rule
-use Rattle.thread_model.proofs.InPlaceLemmas.{acts-put_in}
-use Rattle.thread_model.proofs.RunLemmas.{at_end, by_change, by_step}
-use Rattle.thread_model.proofs.WeightLemmas.{functor-size}
+use Rattle.thread_model.proofs.ForCallers as rule
+use Rattle.thread_model.proofs.ForCallers.{acts-put_in, at_end, by_change, by_step, functor-size, living_rows}
 use Rattle.session_tables.specs.declared.tables.Tables.{Tables}
 use Rattle.session_tables.specs.Tables as tables
 use Rattle.session_tables.specs.Tables.{IsPlaced, state_at}
-use Rattle.session_tables.proofs.TablesLemmas.{state_with}
+use Rattle.session_tables.proofs.ForCallers.{state_with}
 use Rattle.nested_calls.specs.declared.telling.Telling.{Telling}
 use Rattle.nested_calls.specs.Telling.{doing_at}
-use Rattle.thread_model.proofs.LivingLemmas.{living_rows}
 use Rattle.nested_calls.proofs.AgendaLemmas.{left_at}
 use Rattle.nested_calls.proofs.FrontLemmas.{PostsBehind, front_same}
 use Rattle.class_table.specs.declared.class.Method as class

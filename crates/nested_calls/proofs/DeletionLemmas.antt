@@ -13,20 +13,18 @@ use Rattle.thread_model.specs.Run.{run}
 use Rattle.thread_model.specs.Settings.{Settings}
 use Rattle.thread_model.specs.Showing.{changes}
 use Rattle.thread_model.specs.State.{State, without_object, without_ties}
-use Rattle.thread_model.proofs.DeletionLemmas as rule
-use Rattle.thread_model.proofs.LivingLemmas.{living_rows}
-use Rattle.thread_model.proofs.RunLemmas.{after_first, at_end, by_change, by_step}
-use Rattle.thread_model.proofs.ShrinkLemmas.{dying_less, severed_shrinks}
+use Rattle.thread_model.proofs.ForCallers as rule
+use Rattle.thread_model.proofs.ForCallers.{living_rows, after_first, at_end, by_change, by_step, dying_less, severed_shrinks}
 use Rattle.session_tables.specs.declared.tables.Tables.{Tables}
 use Rattle.session_tables.specs.Tables.{IsPlaced, state_at, with_state}
-use Rattle.session_tables.proofs.TablesLemmas.{state_with}
+use Rattle.session_tables.proofs.ForCallers.{state_with}
 use Rattle.nested_calls.specs.declared.telling.Telling.{Telling}
 use Rattle.nested_calls.specs.Agenda.{DoesNext}
 use Rattle.nested_calls.specs.Telling.{doing_at}
 use Rattle.session_effects.specs.declared.caller.Caller.{Caller}
 use Rattle.session_effects.specs.Setup.{settings_of}
 use Rattle.session_effects.specs.Writing.{told_items}
-use Rattle.session_effects.proofs.ActionLemmas.{keeps_with}
+use Rattle.session_effects.proofs.ForCallers.{keeps_with}
 use Rattle.nested_calls.proofs.AgendaLemmas.{left_at}
 use Rattle.nested_calls.proofs.DoesLemmas.{SoFar, far_item, far_none, here}
 

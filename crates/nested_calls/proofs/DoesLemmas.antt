@@ -6,11 +6,11 @@ use Rattle.thread_model.specs.declared.post.Post.{Post}
 use Rattle.thread_model.specs.Doing.{Doing}
 use Rattle.thread_model.specs.Items.{Item, Next, puts}
 use Rattle.thread_model.specs.Run.{run}
-use Rattle.thread_model.proofs.RunLemmas.{after_first}
+use Rattle.thread_model.proofs.ForCallers.{after_first}
 use Rattle.session_tables.specs.declared.tables.Tables.{Tables}
 use Rattle.session_tables.specs.Reaching.{Reaches}
 use Rattle.session_tables.specs.Tables.{IsPlaced}
-use Rattle.session_tables.proofs.ReachingLemmas.{placed_shaped, reaches_changed, reaches_twice}
+use Rattle.session_tables.proofs.ForCallers.{placed_shaped, reaches_changed, reaches_twice}
 use Rattle.session_effects.specs.Actions.{KeepsOthers}
 use Rattle.session_effects.specs.declared.caller.Caller.{Caller}
 use Rattle.session_effects.specs.Setup.{settings_of}

@@ -13,8 +13,7 @@ use Rattle.thread_model.specs.Items.{Item, Next}
 use Rattle.thread_model.specs.Run.{run}
 use Rattle.thread_model.specs.Settings.{Settings}
 use Rattle.thread_model.specs.State.{without_connections}
-use Rattle.thread_model.proofs.RunLemmas.{run_keeps}
-use Rattle.thread_model.proofs.StepLemmas.{Holds, step_holds}
+use Rattle.thread_model.proofs.ForCallers.{run_keeps, Holds, step_holds}
 use Rattle.nested_calls.specs.Front.{IsFront}
 
 pub front_same : (posts : List Post) → IsFront posts posts

@@ -4,3 +4,4 @@ pub mod DeletionLemmas
 pub mod NewsLemmas
 pub mod AgendaLemmas
 pub mod CalleeLemmas
+pub mod ForCallers

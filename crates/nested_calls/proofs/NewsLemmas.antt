@@ -10,13 +10,13 @@ use Rattle.thread_model.specs.Doing.{Doing}
 use Rattle.thread_model.specs.Items.{Item, WarnOf}
 use Rattle.thread_model.specs.Run.{run}
 use Rattle.thread_model.specs.Settings.{Settings}
-use Rattle.thread_model.proofs.EmissionLemmas as rule
-use Rattle.thread_model.proofs.RunLemmas.{after_first, at_end, by_change}
+use Rattle.thread_model.proofs.ForCallers as rule
+use Rattle.thread_model.proofs.ForCallers.{after_first, at_end, by_change}
 use Rattle.session_tables.specs.declared.tables.Tables.{Tables}
 use Rattle.session_tables.specs.Tables.{state_at}
 use Rattle.session_effects.specs.declared.announcing.Announcement.{Announcement}
 use Rattle.session_effects.specs.Writing.{announced, name_of}
-use Rattle.session_effects.proofs.FoundLemmas.{item_at}
+use Rattle.session_effects.proofs.ForCallers.{item_at}
 use Rattle.nested_calls.specs.declared.telling.Telling.{Telling}
 use Rattle.nested_calls.specs.Telling.{doing_at, with_line}
 use Rattle.nested_calls.proofs.AgendaLemmas.{told_is}

@@ -10,3 +10,4 @@ pub mod ForestLemmas
 pub mod RefusingLemmas
 pub mod NearestLemmas
 pub mod LawLemmas
+pub mod ForCallers

@@ -8,8 +8,7 @@ use Rattle.std.proofs.lemmas.List.Elements.{All-append, All-filter}
 use Rattle.std.proofs.lemmas.List.{length_push}
 use Rattle.places.specs.Paired.{paired}
 use Rattle.places.specs.Table.{IsPlace, Table, opened, with_place}
-use Rattle.places.proofs.PairedLemmas.{paired_push}
-use Rattle.places.proofs.TableLemmas.{default_pushed, with_same}
+use Rattle.places.proofs.ForCallers.{paired_push, default_pushed, with_same}
 use Rattle.shared_rows.specs.Rows.{Keyed, inserted, key_of, rows_at, without}
 use Rattle.property_store.specs.declared.field.Field.{Field}
 use Rattle.property_store.specs.declared.link.Head.{Head}

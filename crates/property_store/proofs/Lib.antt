@@ -15,3 +15,4 @@ pub mod TakenLemmas
 pub mod ComeLemmas
 pub mod DrainLemmas
 pub mod SoundLemmas
+pub mod ForCallers

@@ -4,7 +4,7 @@ use Rattle.std.specs.List.{list_any}
 use Rattle.std.proofs.lemmas.Bool.{or_parts}
 use Rattle.std.proofs.lemmas.List.Edits.{length-remove}
 use Rattle.places.specs.Table.{ChangesAt, IsPlace, Table}
-use Rattle.places.proofs.TableLemmas.{changes_open, changes_same, changes_twice, changes_with, with_there, with_twice}
+use Rattle.places.proofs.ForCallers.{changes_open, changes_same, changes_twice, changes_with, with_there, with_twice}
 use Rattle.publish_board.specs.declared.join.Going.{Going}
 use Rattle.publish_board.specs.declared.join.Going.TheVariants.{All, Object}
 use Rattle.publish_board.specs.declared.join.Join.{Join}

@@ -2,3 +2,4 @@ pub mod ServerLemmas
 pub mod RunLemmas
 pub mod NotesLemmas
 pub mod NotingLemmas
+pub mod ForCallers

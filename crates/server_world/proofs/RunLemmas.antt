@@ -10,16 +10,14 @@ use Rattle.isolation.specs.World.{entries_of, only, world_after, world_lines, at
 use Rattle.isolation.specs.Influence.{influences, KnowsAll}
 use Rattle.isolation.specs.Slice.{kept, slice}
 use Rattle.isolation.specs.Laws.{SameFor}
-use Rattle.isolation.proofs.Isolated.{first_half}
-use Rattle.isolation.proofs.Reaching.{second_half}
-use Rattle.isolation.proofs.Sliced.{slice_law}
+use Rattle.isolation.proofs.ForCallers.{first_half, second_half, slice_law}
 use Rattle.thread_model.specs.declared.command.Tagged.{Tagged as Given}
 use Rattle.thread_model.specs.declared.line.Line.{Line}
 use Rattle.thread_model.specs.State.{State}
 use Rattle.thread_model.specs.Asked.{Asked, tag}
 use Rattle.thread_model.specs.Thread.{Settings}
 use Rattle.thread_model.specs.Machine.{machine}
-use Rattle.thread_model.proofs.Lawful.{lawful}
+use Rattle.thread_model.proofs.ForCallers.{lawful}
 use Rattle.server_world.specs.declared.report.Entry.{Entry}
 use Rattle.server_world.specs.declared.report.Entry.TheVariants.{Lines, OutOfMemory}
 use Rattle.server_world.specs.Names.{with_name, with_names}

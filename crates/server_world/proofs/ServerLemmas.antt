@@ -15,7 +15,7 @@ use Rattle.thread_model.specs.Named.{AreNamed}
 use Rattle.thread_model.specs.State.{empty}
 use Rattle.thread_model.specs.Thread.{Settings, joins_name}
 use Rattle.session_tables.specs.Session.{Session, fresh}
-use Rattle.session_tables.proofs.ReachingLemmas.{heard-none, stays_failed}
+use Rattle.session_tables.proofs.ForCallers.{heard-none, stays_failed}
 use Rattle.session_tables.specs.Tables.{session_at}
 use Rattle.session_engine.specs.Core as engine
 use Rattle.session_engine.specs.Core.{EngineState, place}

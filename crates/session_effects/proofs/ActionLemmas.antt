@@ -6,7 +6,7 @@ use Rattle.thread_model.specs.Items.{puts}
 use Rattle.thread_model.specs.State.{State}
 use Rattle.session_tables.specs.declared.tables.Tables.{Tables}
 use Rattle.session_tables.specs.Tables.{IsPlaced, state_at, with_state}
-use Rattle.session_tables.proofs.TablesLemmas.{changes_same, changes_twice, changes_with, placed_after, state_with}
+use Rattle.session_tables.proofs.ForCallers.{changes_same, changes_twice, changes_with, placed_after, state_with}
 use Rattle.session_effects.specs.Actions.{KeepsOthers}
 
 -- where another state was put, the session is in it

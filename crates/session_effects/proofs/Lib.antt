@@ -3,3 +3,4 @@ pub mod FoundLemmas
 pub mod MethodLemmas
 pub mod WritingLemmas
 pub mod FunctorLemmas
+pub mod ForCallers

@@ -13,7 +13,7 @@ use Rattle.variant_value.specs.declared.value.Value.TheVariants as v
 use Rattle.variant_value.specs.declared.value.TheConstants.{TEXT_BYTES}
 use Rattle.variant_value.specs.Values.{IsShort, converted}
 use Rattle.property_store.specs.Store.{dynamic_refusal}
-use Rattle.property_store.proofs.KindLemmas.{converted_fits}
+use Rattle.property_store.proofs.ForCallers.{converted_fits}
 use Rattle.class_table.specs.Lookup.{properties}
 use Rattle.object_tree.specs.declared.row.Row.{Row}
 use Rattle.object_tree.specs.Rows.{is_there, row_of}
@@ -33,14 +33,13 @@ use Rattle.thread_model.specs.Showing.{changes, property_at, told_value}
 use Rattle.thread_model.specs.State.{State, shown}
 use Rattle.thread_model.specs.Targets.{evaluated, object_of}
 use Rattle.thread_model.specs.Writing.{Declared, Dynamic, DeclaredField, Removed, Writing, acted_writing, declared, dynamic_writing, short, with_writing, written}
-use Rattle.thread_model.proofs.ActionLemmas.{set_done, set_faulty}
-use Rattle.thread_model.proofs.WritingLemmas.{dynamic_removed, dynamic_set}
+use Rattle.thread_model.proofs.ForCallers.{set_done, set_faulty, dynamic_removed, dynamic_set}
 use Rattle.session_tables.specs.declared.tables.Tables.{Tables}
 use Rattle.session_tables.specs.Classes.{HasClass}
 use Rattle.session_tables.specs.Named.{Tells, WritesDeclared}
 use Rattle.session_tables.specs.Refused.{OnRefused}
 use Rattle.session_tables.specs.Tables.{IsPlaced, state_at, with_state}
-use Rattle.session_tables.proofs.TablesLemmas.{state_with}
+use Rattle.session_tables.proofs.ForCallers.{state_with}
 use Rattle.session_effects.specs.declared.announcing.News.{News}
 use Rattle.session_effects.specs.declared.announcing.News.TheVariants.{Nothing, One}
 use Rattle.session_effects.specs.declared.announcing.Notice.{Notice}

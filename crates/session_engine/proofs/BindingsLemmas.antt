@@ -24,7 +24,7 @@ use Rattle.thread_model.specs.Methods.{Found, ◌>>=◌}
 use Rattle.thread_model.specs.Settings.{Settings}
 use Rattle.thread_model.specs.Showing.{changes, comes_to, showing}
 use Rattle.thread_model.specs.State.{State}
-use Rattle.thread_model.proofs.ShowingLemmas.{tells}
+use Rattle.thread_model.proofs.ForCallers.{tells}
 use Rattle.session_tables.specs.declared.tables.Tables.{Tables}
 use Rattle.session_tables.specs.Tables.{state_at}
 use Rattle.session_effects.specs.declared.caller.Caller.{Caller}

@@ -14,9 +14,7 @@ use Rattle.session_tables.specs.declared.tables.Tables.{Tables}
 use Rattle.session_tables.specs.Reaching.{AreShaped, FailsBy, heard, takes_some}
 use Rattle.session_tables.specs.Session.{Session, fresh, gone}
 use Rattle.session_tables.specs.Tables.{ChangesOnly, session_at, with_session}
-use Rattle.session_tables.proofs.PostLemmas.{changes_session}
-use Rattle.session_tables.proofs.ReachingLemmas.{session_unchanged, shaped_changed}
-use Rattle.session_tables.proofs.TablesLemmas.{session_there}
+use Rattle.session_tables.proofs.ForCallers.{changes_session, session_unchanged, shaped_changed, session_there}
 use Rattle.session_engine.specs.Core.{EngineState, IsKept, IsWhole, place, seen_by_name, sessions}
 use Rattle.session_engine.specs.Items.{BeginsAnew, HasArrived}
 use Rattle.session_engine.specs.Sessions.{Fails}

@@ -8,7 +8,8 @@ use Rattle.class_table.specs.Lookup.{inherited, method_text, methods, names, ind
 use Rattle.thread_model.specs.declared.meta.MetaObject.{MetaObject}
 use Rattle.thread_model.specs.Classes.{class_name, class_index}
 use Rattle.thread_model.specs.Refusing.{class_refusal}
-use Rattle.thread_model.proofs.ClassLemmas.{class_there, described_by}
+use Rattle.thread_model.proofs.ClassLemmas.{described_by}
+use Rattle.thread_model.proofs.ForCallers.{class_there}
 
 -- whether a class is refused, by what was found
 abbrev refused : Option ℕ → Option Code

@@ -26,7 +26,7 @@ use Rattle.thread_model.specs.Fitting.{IsFittingAsked}
 use Rattle.thread_model.specs.Methods.{Found}
 use Rattle.thread_model.specs.Refusing.{refusal}
 use Rattle.thread_model.specs.State.{State, empty}
-use Rattle.thread_model.proofs.SharingLemmas.{performs_reset, refusal_reset}
+use Rattle.thread_model.proofs.ForCallers.{performs_reset, refusal_reset}
 use Rattle.thread_model.specs.Thread as thread
 use Rattle.thread_model.specs.Thread.{performs}
 use Rattle.session_tables.specs.declared.tables.Tables.{Tables}
@@ -34,15 +34,13 @@ use Rattle.session_tables.specs.Refused.{OnRefused}
 use Rattle.session_tables.specs.Session.{Session, fresh, gone}
 use Rattle.session_tables.specs.Tables.{ChangesOnly, IsPlaced, failed_at, session_at, state_at, with_session, with_state}
 use Rattle.session_tables.specs.Reaching.{Hears, Reaches, heard}
-use Rattle.session_tables.proofs.TablesLemmas.{changes_same, changes_twice, changes_with, session_there, state_with}
-use Rattle.session_tables.proofs.PostLemmas.{changes_session}
-use Rattle.session_tables.proofs.ReachingLemmas.{heard-none, placed_shaped, session_unchanged, shaped_changed, shaped_twice}
+use Rattle.session_tables.proofs.ForCallers.{changes_same, changes_twice, changes_with, session_there, state_with, changes_session, heard-none, placed_shaped, session_unchanged, shaped_changed, shaped_twice}
 use Rattle.session_effects.specs.declared.caller.Caller.{Caller}
 use Rattle.nested_calls.specs.declared.telling.Telling.{Telling}
 use Rattle.session_engine.specs.Commands.{Obeys, OthersHear, Performs, Reads, its_effect, its_refusal, reply_after, reply_lines}
 use Rattle.nested_calls.specs.Front.{IsFront}
 use Rattle.nested_calls.specs.Telling.{doing_at, fresh_telling}
-use Rattle.nested_calls.proofs.FrontLemmas.{front_none, front_same}
+use Rattle.nested_calls.proofs.ForCallers.{front_none, front_same}
 use Rattle.session_engine.specs.Core.{EngineState, IsWhole, engine_state, place, seen_by_name, sessions, states}
 use Rattle.session_engine.specs.Returning.{IsAnswered, Returns, answer_lines, wants_memory}
 use Rattle.session_engine.specs.Sessions.{IsStep, is_reset, is_shut, session_after, session_does, session_refusal}

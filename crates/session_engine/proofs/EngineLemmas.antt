@@ -24,7 +24,7 @@ use Rattle.session_tables.specs.declared.tables.Tables.{Tables}
 use Rattle.session_tables.specs.Session.{Session, fresh}
 use Rattle.session_tables.specs.Tables as tables
 use Rattle.session_tables.specs.Tables.{AreEven, AreSame, IsPlaced, session_at}
-use Rattle.session_tables.proofs.TablesLemmas.{even_opened, even_same, placed_by, session_opened, session_past, session_same}
+use Rattle.session_tables.proofs.ForCallers.{even_opened, even_same, placed_by, session_opened, session_past, session_same}
 use Rattle.session_engine.specs.Core.{EngineState, IsKept, IsWhole, place, seen_by_name, sessions}
 use Rattle.session_engine.specs.Sessions.{AreSound, IsSoundSession}
 use Rattle.session_engine.proofs.SessionLemmas.{kept_fresh}

@@ -1,8 +1,7 @@
 -- Taking events one after another.
-use Rattle.std.proofs.Common.{◌≡◌, ◌<◌, ◌≤◌, ◌+◌, ◌-◌, ℕ, true, false, List, [], ◌∷◌, ◌++◌, Option, Some, None, Ok, drop, length, nat_lt, refl, sym, subst, ap, ◌∙◌, arith}
+use Rattle.std.proofs.Common.{◌≡◌, ◌<◌, ◌≤◌, ◌+◌, ◌-◌, ℕ, List, [], ◌∷◌, ◌++◌, Option, Some, None, Ok, drop, length, refl, sym, subst, ap, ◌∙◌, arith}
 use Rattle.std.specs.List.{slice_get}
 use Rattle.std.specs.Option.{option_map_or}
-use Rattle.std.proofs.lemmas.Bool.Decides.{nat_tests}
 use Rattle.connection_types.specs.declared.callee.Callee.{Callee}
 use Rattle.connection_types.specs.declared.callee.Callee.TheVariants as callee
 use Rattle.event_queue.specs.declared.event.Event.{Event}
@@ -22,24 +21,21 @@ use Rattle.thread_model.specs.Methods.{method_at}
 use Rattle.thread_model.specs.Run.{run}
 use Rattle.thread_model.specs.Settings.{Settings}
 use Rattle.thread_model.specs.State.{State, without_first}
-use Rattle.thread_model.proofs.EventLemmas as rule
-use Rattle.thread_model.proofs.RunLemmas.{at_end, by_change, by_step, in_parts, run_shrinks}
-use Rattle.thread_model.proofs.ThreadLemmas.{spun_last}
+use Rattle.thread_model.proofs.ForCallers as rule
+use Rattle.thread_model.proofs.ForCallers.{at_end, by_change, by_step, in_parts, run_shrinks, spun_last}
 use Rattle.session_tables.specs.declared.tables.Tables.{Tables}
 use Rattle.session_tables.specs.Tables.{IsPlaced, state_at, with_state}
-use Rattle.session_tables.proofs.TablesLemmas.{state_with}
+use Rattle.session_tables.proofs.ForCallers.{state_with, reaches_twice}
 use Rattle.session_effects.specs.declared.caller.Caller.{Caller}
 use Rattle.session_effects.specs.Setup.{settings_of}
 use Rattle.session_engine.specs.Commands.{Performs, its_effect, reply_after}
 use Rattle.nested_calls.specs.declared.telling.Telling.{Telling}
 use Rattle.nested_calls.specs.Telling.{doing_at, fresh_telling, spent}
-use Rattle.nested_calls.proofs.AgendaLemmas.{spent_is}
+use Rattle.nested_calls.proofs.ForCallers.{spent_is, SoFar, here, reaches_none}
 use Rattle.session_engine.proofs.CommandsLemmas.{at_first_reaches, replied_last}
 use Rattle.nested_calls.specs.Agenda.{Does}
-use Rattle.nested_calls.proofs.DoesLemmas.{SoFar, here, reaches_none}
 use Rattle.session_tables.specs.Reaching.{Reaches}
-use Rattle.session_tables.proofs.ReachingLemmas.{reaches_twice}
-use Rattle.session_effects.proofs.ActionLemmas.{keeps_with}
+use Rattle.session_effects.proofs.ForCallers.{keeps_with}
 use Rattle.std.proofs.lemmas.List.{append-nil}
 use Rattle.thread_model.specs.declared.post.Post.{Post}
 use Rattle.thread_model.specs.Posting.{spin_after}
@@ -50,9 +46,9 @@ first_is [] first e = absurd (cc)
 first_is (event ∷ later) first e = let same : event ≡ first = cc in ap (λ event. event ∷ later) same
 
 -- where none waits, there is none
-pub none_waits : (events : List Event) → nat_lt 0 (length events) ≡ false → events ≡ []
-none_waits [] e = refl
-none_waits (event ∷ later) e = absurd (grind (arith, nat_tests, e))
+pub none_waits : (events : List Event) → length events ≤ 0 → events ≡ []
+none_waits [] none = refl
+none_waits (event ∷ later) none = absurd (omega (arith, none))
 
 -- what an event comes to does not go by the queue
 pub items_without_first : (settings : Settings) (state : State) (first : Event) → event_items settings (without_first state) first ≡ event_items settings state first
@@ -99,16 +95,16 @@ pub spin_goes_on : (settings : Settings) (items : List Item) (doing new done : D
 spin_goes_on settings items doing new done does begun = ap (run settings (Spin ∷ [])) (sym does) ∙ sym (in_parts settings items (Spin ∷ []) doing) ∙ begun
 
 -- with no event left all is done
-pub spin_ends : (settings : Settings) (doing : Doing) (start : Doing) → nat_lt 0 (length doing.state.queue.events) ≡ false → run settings (Spin ∷ []) doing ≡ start → start ≡ doing
+pub spin_ends : (settings : Settings) (doing : Doing) (start : Doing) → length doing.state.queue.events ≤ 0 → run settings (Spin ∷ []) doing ≡ start → start ≡ doing
 spin_ends settings doing start none begun = sym begun ∙ by_change settings Spin doing doing (rule.spin_empty settings doing (none_waits _ none))
 
 -- an event that finds no turn left is told of, and none is taken any more
-pub spin_spent : (settings : Settings) (place : ℕ) (tables : Tables) (before after : Telling) (earlier : List Post) → nat_lt 0 (length (state_at tables place).queue.events) ≡ true → before.turns ≡ 0 → after ≡ spent before
+pub spin_spent : (settings : Settings) (place : ℕ) (tables : Tables) (before after : Telling) (earlier : List Post) → 0 < length (state_at tables place).queue.events → before.turns ≡ 0 → after ≡ spent before
     → run settings (Spin ∷ []) (doing_at place tables before earlier) ≡ doing_at place tables after earlier
 spin_spent settings place tables before after earlier some none e = by (state_at tables place).queue.events refl
   where
     by : (events : List Event) → (state_at tables place).queue.events ≡ events → run settings (Spin ∷ []) (doing_at place tables before earlier) ≡ doing_at place tables after earlier
-    by [] is = let no : false ≡ true = ap (λ (events : List Event). nat_lt 0 (length events)) (sym is) ∙ some in absurd (cc)
+    by [] is = let none = ap (λ (events : List Event). length events) is in absurd (omega (arith, none, some))
     by (first ∷ later) is =
         by_change settings Spin (doing_at place tables before earlier) _ (rule.spin_spent settings (doing_at place tables before earlier) first later is none)
         ∙ spent_is place tables before after earlier e

@@ -35,14 +35,12 @@ use Rattle.thread_model.specs.Refusing.{later_refusal, values_refusal}
 use Rattle.thread_model.specs.Signals.{asked_method, asked_values, invoked, invoked_later, invokes}
 use Rattle.thread_model.specs.Thread.{performs}
 use Rattle.thread_model.specs.State.{State}
-use Rattle.thread_model.proofs.RunLemmas.{at_end}
-use Rattle.thread_model.proofs.SignalLemmas.{performs_invoke, refusal_invoke}
-use Rattle.thread_model.proofs.ThreadLemmas.{replies_last}
+use Rattle.thread_model.proofs.ForCallers.{at_end, performs_invoke, refusal_invoke, replies_last}
 use Rattle.session_tables.specs.declared.tables.Tables.{Tables}
 use Rattle.session_tables.specs.Classes.{HasClass}
 use Rattle.session_tables.specs.Tables.{state_at}
 use Rattle.session_effects.specs.Methods.{number_named}
-use Rattle.session_effects.proofs.MethodLemmas.{methods_by_class}
+use Rattle.session_effects.proofs.ForCallers.{methods_by_class}
 use Rattle.session_effects.specs.declared.caller.Caller.{Caller}
 use Rattle.nested_calls.specs.declared.telling.Telling.{Telling}
 use Rattle.session_engine.specs.Commands.{Performs, its_effect, its_refusal, reply_after}
@@ -51,7 +49,7 @@ use Rattle.nested_calls.specs.Telling.{doing_at, fresh_telling}
 use Rattle.session_engine.proofs.CommandsLemmas.{at_first_reaches, or_second, replied_last}
 use Rattle.nested_calls.specs.Agenda.{DoesNext}
 use Rattle.nested_calls.specs.Front.{IsFront}
-use Rattle.nested_calls.proofs.FrontLemmas.{front_same}
+use Rattle.nested_calls.proofs.ForCallers.{front_same}
 
 -- what a text names among the methods of an object's class
 pub record IsAsked (settings : Settings) (state : State) (target : ℕ) (text : List ℕ) (number : Option ℕ) : Type 0 where

@@ -10,8 +10,7 @@ use Rattle.std.proofs.lemmas.Slice.Eq.{bytes_eq-Decides}
 use Rattle.isolation.specs.Alone as theory
 use Rattle.isolation.specs.Alone.{alone_after, alone_lines, alone_posts}
 use Rattle.isolation.specs.World.{all_arrive}
-use Rattle.isolation.proofs.Isolated.{alone_after-append, alone_lines-append, alone_posts-append}
-use Rattle.isolation.proofs.Worlds.{after-other, after-own, all_arrive-append}
+use Rattle.isolation.proofs.ForCallers.{alone_after-append, alone_lines-append, alone_posts-append, after-other, after-own, all_arrive-append}
 use Rattle.class_table.specs.declared.class.Class.{Class}
 use Rattle.thread_model.specs.declared.line.Line.{Line}
 use Rattle.thread_model.specs.declared.post.Post.{Post}
@@ -19,7 +18,7 @@ use Rattle.thread_model.specs.Asked.{Asked}
 use Rattle.thread_model.specs.Machine.{machine}
 use Rattle.thread_model.specs.State.{State}
 use Rattle.thread_model.specs.Thread.{Settings, arrive_all}
-use Rattle.thread_model.proofs.Lawful.{lawful}
+use Rattle.thread_model.proofs.ForCallers.{lawful}
 use Rattle.session_tables.specs.Reaching.{Hears, heard}
 use Rattle.session_tables.specs.Session.{Session}
 use Rattle.session_engine.specs.declared.item.Item.{Item}

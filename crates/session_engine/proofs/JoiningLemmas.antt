@@ -13,7 +13,7 @@ use Rattle.thread_model.specs.Thread.{joins_name}
 use Rattle.session_tables.specs.Joining.{AreJoiners}
 use Rattle.session_tables.specs.Session.{Session, fresh}
 use Rattle.session_tables.specs.Tables.{session_at, state_at}
-use Rattle.session_tables.proofs.TablesLemmas.{session_past}
+use Rattle.session_tables.proofs.ForCallers.{session_past}
 use Rattle.session_engine.specs.Core.{AreJoinersOf, EngineState, IsWhole, name_at, names_at, place, states}
 use Rattle.session_engine.proofs.EngineLemmas.{position-None, sessions-place}
 

@@ -25,7 +25,7 @@ use Rattle.thread_model.specs.Methods.{Found, ◌>>=◌}
 use Rattle.thread_model.specs.Properties.{is_declared}
 use Rattle.thread_model.specs.State.{State}
 use Rattle.thread_model.specs.Writing.{Declared, Dynamic, Nothing, DeclaredField, Removed, Writing, asked_place, asked_writing, declared, dynamic_writing, written}
-use Rattle.thread_model.proofs.PropertyLemmas.{refusal_set, set_written}
+use Rattle.thread_model.proofs.ForCallers.{refusal_set, set_written, at_end}
 use Rattle.session_tables.specs.declared.tables.Tables.{Tables}
 use Rattle.session_tables.specs.Refused.{OnRefused}
 use Rattle.session_tables.specs.Tables.{ChangesOnly, IsPlaced, state_at}
@@ -40,9 +40,8 @@ use Rattle.nested_calls.specs.Telling.{doing_at, fresh_telling}
 use Rattle.session_engine.proofs.CommandsLemmas.{or_second, starved, stopped}
 use Rattle.session_engine.proofs.ToldLemmas.{performs_told, starved_told}
 use Rattle.nested_calls.specs.Agenda.{Does}
-use Rattle.nested_calls.proofs.DoesLemmas.{does_none}
-use Rattle.session_effects.proofs.ActionLemmas.{keeps_same}
-use Rattle.thread_model.proofs.RunLemmas.{at_end}
+use Rattle.nested_calls.proofs.ForCallers.{does_none}
+use Rattle.session_effects.proofs.ForCallers.{keeps_same}
 use Rattle.std.specs.declared.alloc.AllocError.{AllocError}
 
 pub is_null : (json : Data) → is_some (as_null json) ≡ true → json ≡ d.null

@@ -17,11 +17,7 @@ use Rattle.thread_model.specs.Named.{AreNamed, IsNamedAsked}
 use Rattle.thread_model.specs.Refusing.{refusal}
 use Rattle.thread_model.specs.State.{IsDeclared, IsSound, State}
 use Rattle.thread_model.specs.Thread.{Settings, arrive_all, arrives, does, performs}
-use Rattle.thread_model.proofs.ArrivingLemmas.{arrive_all-is}
-use Rattle.thread_model.proofs.DeclaredLemmas.{keeps_declared}
-use Rattle.thread_model.proofs.FittingCommandLemmas.{keeps_fitting}
-use Rattle.thread_model.proofs.LawLemmas.{keeps_sound}
-use Rattle.thread_model.proofs.NamedLemmas.{keeps_named}
+use Rattle.thread_model.proofs.ForCallers.{arrive_all-is, keeps_declared, keeps_fitting, keeps_sound, keeps_named}
 use Rattle.session_tables.specs.Session.{Session, fresh, gone}
 use Rattle.session_tables.specs.Reaching.{Hears, heard}
 use Rattle.nested_calls.specs.Front.{IsFront}

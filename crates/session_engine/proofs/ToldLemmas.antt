@@ -11,18 +11,18 @@ use Rattle.thread_model.specs.Doing.{begun, in_state, line_told}
 use Rattle.thread_model.specs.Effects.{does_next, ended}
 use Rattle.thread_model.specs.Items.{Item, Next, puts}
 use Rattle.thread_model.specs.Run.{run}
-use Rattle.thread_model.proofs.ThreadLemmas.{replies_last}
+use Rattle.thread_model.proofs.ForCallers.{replies_last}
 use Rattle.session_tables.specs.declared.tables.Tables.{Tables}
 use Rattle.session_tables.specs.Reaching.{Reaches}
 use Rattle.session_tables.specs.Tables.{IsPlaced, state_at}
-use Rattle.session_tables.proofs.ReachingLemmas.{reaches_twice}
+use Rattle.session_tables.proofs.ForCallers.{reaches_twice}
 use Rattle.session_effects.specs.Actions.{KeepsOthers}
 use Rattle.session_effects.specs.declared.caller.Caller.{Caller}
 use Rattle.session_effects.specs.Setup.{settings_of}
 use Rattle.nested_calls.specs.declared.telling.Telling.{Telling}
 use Rattle.nested_calls.specs.Agenda.{Does}
 use Rattle.nested_calls.specs.Telling.{doing_at, fresh_telling}
-use Rattle.nested_calls.proofs.DoesLemmas.{reaches_none}
+use Rattle.nested_calls.proofs.ForCallers.{reaches_none}
 use Rattle.session_engine.specs.Commands.{Performs, its_effect, its_refusal, reply_after}
 use Rattle.session_engine.proofs.CommandsLemmas.{at_first_reaches, replied_last, starved_last}
 

@@ -5,3 +5,4 @@ pub mod ReachingLemmas
 pub mod PostLemmas
 pub mod NamedLemmas
 pub mod JoiningLemmas
+pub mod ForCallers

@@ -1,13 +1,13 @@
 -- A write to the property of a name.
 use Rattle.std.proofs.Common.{◌≡◌, ◌∙◌, ℕ, List, Some, None, refl, sym, ap, subst}
-use Rattle.places.proofs.TableLemmas as column
+use Rattle.places.proofs.ForCallers as column
 use Rattle.signature_core.specs.declared.kind.Kind.{Kind}
 use Rattle.variant_value.specs.declared.value.Value.{Value}
 use Rattle.variant_value.specs.Values.{converted}
 use Rattle.property_store.specs.Named.{declared_at}
 use Rattle.property_store.specs.Store.{Store, with_value}
 use Rattle.property_store.specs.Store as store
-use Rattle.property_store.proofs.ListLemmas.{mapped, unmapped}
+use Rattle.property_store.proofs.ForCallers.{mapped, unmapped}
 use Rattle.connection_list.specs.Rows.{no_rows}
 use Rattle.event_queue.specs.Queue.{empty_queue}
 use Rattle.object_tree.specs.Forest.{empty_forest}

@@ -17,7 +17,7 @@ use Rattle.object_tree.specs.declared.row.Row.{Row}
 use Rattle.object_tree.specs.Forest.{empty_forest}
 use Rattle.object_tree.specs.Table.{forest_at}
 use Rattle.places.specs.Table.{ChangesAt, IsPlace, Table}
-use Rattle.places.proofs.TableLemmas as column
+use Rattle.places.proofs.ForCallers as column
 use Rattle.variant_value.specs.declared.value.Value.{Value}
 use Rattle.class_table.specs.declared.class.Class.{Class}
 use Rattle.signature_core.specs.declared.kind.Kind.{Kind}

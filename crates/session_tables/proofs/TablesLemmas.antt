@@ -4,7 +4,7 @@ use Rattle.std.proofs.lemmas.Bool.{cases_Bool}
 use Rattle.std.proofs.lemmas.Grind.{common_steps}
 use Rattle.std.proofs.lemmas.List.{get_or_past, get_or-set_other, length-set}
 use Rattle.places.specs.Table.{Table}
-use Rattle.places.proofs.TableLemmas as column
+use Rattle.places.proofs.ForCallers as column
 use Rattle.connection_list.specs.Rows.{Rows, no_rows}
 use Rattle.event_queue.specs.Queue.{Queue, empty_queue}
 use Rattle.object_tree.specs.Forest.{Forest, empty_forest}

@@ -11,7 +11,7 @@ use Rattle.std.proofs.lemmas.List.Quantifiers.{all_pairs_remove}
 use Rattle.std.proofs.lemmas.List.Sums.{sum_by-set, sum_by_push}
 use Rattle.std.proofs.lemmas.Option.{same_Some}
 use Rattle.places.specs.Table.{IsPlace, Table, with_place}
-use Rattle.places.proofs.TableLemmas.{with_same}
+use Rattle.places.proofs.ForCallers.{with_same}
 use Rattle.slab.specs.Slab.{Slab, Updates, slab_len}
 use Rattle.shared_rows.specs.declared.index.Entry.{Entry}
 use Rattle.shared_rows.specs.declared.index.Slot.{Slot}

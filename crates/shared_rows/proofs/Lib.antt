@@ -4,3 +4,4 @@ pub mod RowsLemmas
 pub mod PositionLemmas
 pub mod EntryLemmas
 pub mod KeptLemmas
+pub mod ForCallers

@@ -5,3 +5,4 @@ pub mod Pieces
 pub mod Complete
 pub mod Sound
 pub mod Normal
+pub mod ForCallers

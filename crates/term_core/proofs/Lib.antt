@@ -3,3 +3,4 @@ pub mod Concatenated
 pub mod Branches
 pub mod Counts
 pub mod BodyLemmas
+pub mod ForCallers

@@ -5,3 +5,4 @@ pub mod KnownLemmas
 pub mod ChangeLemmas
 pub mod SubstitutionLemmas
 pub mod StatingLemmas
+pub mod ForCallers

@@ -11,7 +11,7 @@ use Rattle.variant_value.specs.Values.{is_same}
 use Rattle.property_store.specs.declared.field.Field.{Field}
 use Rattle.property_store.specs.Store as store
 use Rattle.property_store.specs.Store.{Properties, Store, changed, properties_of, with_value, without}
-use Rattle.property_store.proofs.SoundLemmas.{without_others}
+use Rattle.property_store.proofs.ForCallers.{without_others}
 use Rattle.term_core.specs.Term.{Term}
 use Rattle.binding_graph.specs.declared.change.Change.{Change}
 use Rattle.binding_graph.specs.declared.change.Message.TheVariants as message
@@ -22,12 +22,8 @@ use Rattle.binding_values.specs.Scene.{Cell, Outcome, choose, evaluated, plain}
 use Rattle.property_store.specs.Property.{is_property}
 use Rattle.binding_values.specs.Sorted.{IsRising}
 use Rattle.binding_values.specs.Stored.{cell_in, cell_of, properties_in, scene_of}
-use Rattle.binding_values.proofs.FuelLemmas.{plain_rule, property_eq}
-use Rattle.binding_graph.proofs.FoundLemmas.{found_in_all}
-use Rattle.binding_graph.proofs.ShownLemmas.{all_shown_sound}
-use Rattle.binding_graph.proofs.TouchedLemmas.{same_value}
-use Rattle.binding_values.proofs.MapLemmas.{all_given}
-use Rattle.binding_values.proofs.SortedLemmas.{is_other}
+use Rattle.binding_values.proofs.ForCallers.{plain_rule, property_eq, all_given, is_other}
+use Rattle.binding_graph.proofs.ForCallers.{found_in_all, all_shown_sound, same_value}
 use Rattle.thread_model.proofs.BindingLemmas.{found_number, graph_sound_none}
 use Rattle.thread_model.proofs.QuietLemmas.{all_in_turn, changed_one, found_changed, none_made, quiet, rows_of_now}
 

@@ -14,8 +14,7 @@ use Rattle.variant_value.specs.Values.{IsShort, converted}
 use Rattle.property_store.specs.declared.field.Field.{Field}
 use Rattle.property_store.specs.Store as store
 use Rattle.property_store.specs.Store.{AreSound, Properties, Store, added, changed, field_at, fitting, properties_of, with_value, without}
-use Rattle.property_store.proofs.KindLemmas.{converted_fits, with_value_sound}
-use Rattle.property_store.proofs.SoundLemmas.{added_others, changed_fields, objects, without_others}
+use Rattle.property_store.proofs.ForCallers.{converted_fits, with_value_sound, added_others, changed_fields, objects, without_others}
 use Rattle.binding_values.specs.declared.binding.Binding.{Binding}
 use Rattle.property_store.specs.declared.property.Property.{Property}
 use Rattle.binding_graph.specs.Graph as graph
@@ -24,10 +23,8 @@ use Rattle.binding_values.specs.Binds.{with_binding}
 use Rattle.property_store.specs.Property.{is_property}
 use Rattle.binding_values.specs.Sorted.{is_before}
 use Rattle.binding_values.specs.Stored.{is_bindable, numbered, properties_in, properties_of_object}
-use Rattle.binding_values.proofs.BoundLemmas.{fewer_sound, with_limited}
-use Rattle.binding_values.proofs.FuelLemmas.{property_eq}
-use Rattle.binding_graph.proofs.ShownLemmas.{all_shown_sound}
-use Rattle.binding_values.proofs.SortedLemmas.{never_before, not_behind, with_rising}
+use Rattle.binding_values.proofs.ForCallers.{fewer_sound, with_limited, property_eq, never_before, not_behind, with_rising}
+use Rattle.binding_graph.proofs.ForCallers.{all_shown_sound}
 use Rattle.thread_model.specs.State.{closed}
 
 -- the properties that an object declares, where it is there

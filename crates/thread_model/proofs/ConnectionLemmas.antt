@@ -10,13 +10,13 @@ use Rattle.std.proofs.lemmas.List.Folds.{list_any-append}
 use Rattle.std.proofs.lemmas.List.Kept.{AllPairs-cons}
 use Rattle.refusals.specs.declared.code.Code.TheVariants.{ConnectedAlready, Limit, NumbersUsedUp}
 use Rattle.object_tree.specs.Rows.{is_there, numbers}
-use Rattle.object_tree.proofs.RowLemmas.{there_among}
+use Rattle.object_tree.proofs.ForCallers.{there_among}
 use Rattle.connection_list.specs.declared.connection.Connection.{Connection}
 use Rattle.connection_list.specs.declared.connection.NewConnection.{NewConnection}
 use Rattle.connection_list.specs.declared.limit.TheConstants.{CONNECTIONS}
 use Rattle.connection_list.specs.Ends.{same_ends}
 use Rattle.connection_list.specs.Rows.{IsRising, IsSound, Rows, connect_refusal, connected, no_rows, numbered}
-use Rattle.connection_list.proofs.RowsLemmas.{rising_head, rising_tail}
+use Rattle.connection_list.proofs.ForCallers.{rising_head, rising_tail}
 use Rattle.thread_model.specs.State.{IsTied, State}
 
 pub sound_empty : IsSound no_rows

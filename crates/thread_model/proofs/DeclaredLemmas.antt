@@ -24,7 +24,7 @@ use Rattle.property_store.specs.Store as stored
 use Rattle.property_store.specs.Store.{Properties, fitting, properties_of, with_value}
 use Rattle.property_store.specs.declared.property.Property.{Property as At}
 use Rattle.binding_graph.specs.Graph.{is_bound, unbound, value_in}
-use Rattle.property_store.proofs.SoundLemmas.{added_found, added_others, changed_fields, without_others}
+use Rattle.property_store.proofs.ForCallers.{added_found, added_others, changed_fields, without_others}
 use Rattle.publish_board.specs.declared.join.Join.{Join}
 use Rattle.publish_board.specs.declared.publication.Publication.{Publication}
 use Rattle.thread_model.specs.declared.line.Answer.{Answer}

@@ -21,7 +21,7 @@ use Rattle.object_tree.specs.Rows.{children, row_of}
 use Rattle.object_tree.specs.Changes.{marked}
 use Rattle.stored_slots.specs.declared.functor.Functor.{Functor}
 use Rattle.term_evaluation.specs.Stating.{after, with_state}
-use Rattle.term_evaluation.proofs.StatingLemmas.{state_counts}
+use Rattle.term_evaluation.proofs.ForCallers.{state_counts}
 use Rattle.thread_model.specs.declared.call.TheConstants.{DESTROYED, NESTED_SIGNALS}
 use Rattle.thread_model.specs.declared.line.Answer.TheVariants as a
 use Rattle.thread_model.specs.declared.line.Line.TheVariants as line

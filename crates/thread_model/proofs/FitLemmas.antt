@@ -15,8 +15,7 @@ use Rattle.variant_value.specs.declared.value.TheConstants.{TEXT_BYTES}
 use Rattle.variant_value.specs.Values.{IsOfKind, IsShort, converted, inferred, inferred_number, number_in, number_of, text_in, text_of, truth_in, value_of, whole_number}
 use Rattle.property_store.specs.declared.field.Field.{Field}
 use Rattle.property_store.specs.Store.{AreSound, Properties, dynamic_refusal, field_number, properties_of, refusal_of_name, with_dynamic, with_value, without_dynamic}
-use Rattle.property_store.proofs.DynamicLemmas.{with_dynamic_sound, without_dynamic_sound}
-use Rattle.property_store.proofs.KindLemmas.{with_value_sound}
+use Rattle.property_store.proofs.ForCallers.{with_dynamic_sound, without_dynamic_sound, with_value_sound}
 use Rattle.thread_model.specs.Methods.{Found, ◌>>=◌}
 use Rattle.thread_model.specs.State.{State}
 use Rattle.thread_model.specs.Writing.{Declared, Dynamic, Nothing, DeclaredField, Removed, Writing, acted_writing, asked_place, asked_writing, declared, dynamic_writing, short}

@@ -8,7 +8,7 @@ use Rattle.refusals.specs.declared.code.Code.TheVariants.{BadValue, Limit, NoSuc
 use Rattle.serde_json.specs.Data.{Data}
 use Rattle.signature_core.specs.declared.kind.Kind.{Kind}
 use Rattle.signature_core.specs.Kinds.{fits}
-use Rattle.signature_core.proofs.FitLemmas.{Decides-fits}
+use Rattle.signature_core.proofs.ForCallers.{Decides-fits}
 use Rattle.variant_value.specs.declared.value.Value.{Value}
 use Rattle.variant_value.specs.Values.{IsOfKind, IsShort, converted, value_of}
 use Rattle.term_core.specs.declared.target.Target.{Target}
@@ -16,14 +16,13 @@ use Rattle.term_core.specs.Forms.{is_within_limits}
 use Rattle.term_core.specs.Term.{Term}
 use Rattle.term_evaluation.specs.Evaluation.{eval_by}
 use Rattle.term_evaluation.specs.Outcomes.{Answer, own, refused}
-use Rattle.term_evaluation.proofs.EvaluationLemmas.{short_value}
+use Rattle.term_evaluation.proofs.ForCallers.{short_value}
 use Rattle.property_store.specs.declared.dynamic.Named.{Named}
 use Rattle.property_store.specs.Store as stored
 use Rattle.property_store.specs.Store.{AreSound, Properties, dynamic_value, field_number, properties_of}
-use Rattle.property_store.proofs.KindLemmas.{converted_fits}
-use Rattle.property_store.proofs.ListLemmas.{found}
+use Rattle.property_store.proofs.ForCallers.{converted_fits, found}
 use Rattle.binding_graph.specs.Graph as graph
-use Rattle.binding_graph.proofs.ShownLemmas.{value_short}
+use Rattle.binding_graph.proofs.ForCallers.{value_short}
 use Rattle.object_tree.specs.Rows.{is_there}
 use Rattle.stored_slots.specs.Functors.{AreArguments}
 use Rattle.thread_model.specs.Methods.{Found, ◌>>=◌}

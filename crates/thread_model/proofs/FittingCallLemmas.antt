@@ -14,7 +14,7 @@ use Rattle.connection_list.specs.declared.connection.Connection.{Connection}
 use Rattle.connection_list.specs.Ends.{calls}
 use Rattle.connection_list.specs.Rows as list
 use Rattle.connection_list.specs.Rows.{IsRising, has_number}
-use Rattle.connection_list.proofs.RowsLemmas.{rising_head, rising_tail}
+use Rattle.connection_list.proofs.ForCallers.{rising_head, rising_tail}
 use Rattle.event_queue.specs.declared.event.Event.{Event}
 use Rattle.event_queue.specs.declared.event.Event.TheVariants as event
 use Rattle.event_queue.specs.declared.event.QueuedCall.{QueuedCall}

@@ -18,8 +18,8 @@ use Rattle.object_tree.specs.declared.row.Row.{Row}
 use Rattle.object_tree.specs.Forest as tree
 use Rattle.object_tree.specs.Forest.{Forest}
 use Rattle.object_tree.specs.Rows.{has_number, is_there, row_of}
-use Rattle.object_tree.proofs.NumberLemmas.{at_place}
-use Rattle.property_store.proofs.ListLemmas.{found}
+use Rattle.object_tree.proofs.ForCallers.{at_place}
+use Rattle.property_store.proofs.ForCallers.{found}
 use Rattle.publish_board.specs.declared.join.Join.{Join}
 use Rattle.stored_slots.specs.Functors.{AreArguments}
 use Rattle.thread_model.specs.Arriving.{kinds_of}

@@ -20,7 +20,7 @@ use Rattle.object_tree.specs.declared.row.Row.{Row}
 use Rattle.object_tree.specs.Changes.{added}
 use Rattle.object_tree.specs.Refusing.{object_refusal, parent_refusal}
 use Rattle.object_tree.specs.Rows.{is_there}
-use Rattle.property_store.proofs.ListLemmas.{position_some}
+use Rattle.property_store.proofs.ForCallers.{position_some}
 use Rattle.publish_board.specs.declared.join.Join.{Join}
 use Rattle.publish_board.specs.declared.publication.Publication.{Publication}
 use Rattle.publish_board.specs.Rows.{has_name, is_join}

@@ -11,7 +11,7 @@ use Rattle.connection_types.specs.declared.callee.Callee.TheVariants as callee
 use Rattle.connection_list.specs.declared.connection.NewConnection.{NewConnection}
 use Rattle.connection_list.specs.declared.pattern.Pattern.{Pattern}
 use Rattle.object_tree.specs.declared.row.Row.{Row}
-use Rattle.property_store.proofs.ListLemmas.{position_some}
+use Rattle.property_store.proofs.ForCallers.{position_some}
 use Rattle.stored_slots.specs.Functors.{index_of}
 use Rattle.thread_model.specs.declared.deed.Deed.{Deed}
 use Rattle.thread_model.specs.declared.deed.Deed.TheVariants as d

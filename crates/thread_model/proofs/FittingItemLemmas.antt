@@ -20,7 +20,7 @@ use Rattle.connection_types.specs.declared.callee.Callee.TheVariants as callee
 use Rattle.object_tree.specs.declared.row.Row.{Row}
 use Rattle.object_tree.specs.Refusing.{object_refusal}
 use Rattle.object_tree.specs.Rows.{children, has_number, is_there, row_of}
-use Rattle.property_store.proofs.ListLemmas.{found}
+use Rattle.property_store.proofs.ForCallers.{found}
 use Rattle.stored_slots.specs.declared.functor.Functor.{Functor}
 use Rattle.stored_slots.specs.Functors.{AreArguments}
 use Rattle.term_evaluation.specs.Stating.{after, with_state}

@@ -12,7 +12,7 @@ use Rattle.connection_list.specs.Rows.{has_number, numbered}
 use Rattle.event_queue.specs.declared.event.Event.{Event}
 use Rattle.object_tree.specs.Rows.{is_there}
 use Rattle.stored_slots.specs.Functors.{AreArguments}
-use Rattle.connection_list.proofs.StateLemmas.{all_stepped}
+use Rattle.connection_list.proofs.ForCallers.{all_stepped}
 use Rattle.thread_model.specs.declared.deed.Deed.{Deed}
 use Rattle.thread_model.specs.declared.deed.Deed.TheVariants as d
 use Rattle.thread_model.specs.declared.line.Line.{Line}

@@ -9,14 +9,14 @@ use Rattle.std.proofs.lemmas.Option.{get_or_from_slice_get, slice_get-get_or, sl
 use Rattle.term_core.specs.declared.limits.TheConstants.{ACTIONS}
 use Rattle.term_core.specs.Act.{acts_of, are_limited, are_named, counts}
 use Rattle.term_evaluation.specs.Stating.{with_state}
-use Rattle.term_evaluation.proofs.StatingLemmas.{state_limits, state_named}
+use Rattle.term_evaluation.proofs.ForCallers.{state_limits, state_named}
 use Rattle.class_table.specs.declared.class.Class.{Class}
 use Rattle.class_table.specs.declared.class.Method.{Method}
 use Rattle.class_table.specs.declared.class.Property.{Property}
 use Rattle.class_table.specs.Declaring.{q_object, signal_of}
 use Rattle.class_table.specs.Lookup.{inherited, methods, properties}
 use Rattle.class_table.specs.Sound.{IsClassAt, IsMethod, IsTable, is_told}
-use Rattle.class_table.proofs.TableLemmas.{of_class-none, told_behind}
+use Rattle.class_table.proofs.ForCallers.{of_class-none, told_behind}
 use Rattle.stored_slots.specs.declared.functor.Functor.{Functor}
 use Rattle.stored_slots.specs.Functors.{IsFunctor}
 use Rattle.thread_model.specs.Fitting.{AreSettings}

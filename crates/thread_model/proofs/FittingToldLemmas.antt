@@ -7,7 +7,7 @@ use Rattle.std.proofs.lemmas.List.{length-map}
 use Rattle.std.proofs.lemmas.List.Elements.{All-cons, All-head, All-nil, All-tail}
 use Rattle.std.proofs.lemmas.Option.{slice_get-get_or, slice_get-map, slice_get_within}
 use Rattle.signature_core.specs.declared.kind.Kind.{Kind}
-use Rattle.signature_core.proofs.FitLemmas.{Decides-is_same_kind}
+use Rattle.signature_core.proofs.ForCallers.{Decides-is_same_kind}
 use Rattle.variant_value.specs.declared.value.Value.{Value}
 use Rattle.variant_value.specs.Values.{IsOfKind, kind_of}
 use Rattle.class_table.specs.declared.class.Method.{Method}
@@ -21,7 +21,7 @@ use Rattle.property_store.specs.declared.field.Field.{Field}
 use Rattle.property_store.specs.declared.property.Property.{Property as At}
 use Rattle.property_store.specs.Store as stored
 use Rattle.property_store.specs.Store.{AreSound, Properties, properties_of}
-use Rattle.property_store.proofs.ListLemmas.{found}
+use Rattle.property_store.proofs.ForCallers.{found}
 use Rattle.binding_values.specs.Scene.{Cell}
 use Rattle.binding_values.specs.Stored.{cell_in, cell_of}
 use Rattle.binding_graph.specs.declared.change.Change.{Change}
@@ -31,8 +31,7 @@ use Rattle.binding_graph.specs.declared.shown.Shown.{Shown}
 use Rattle.binding_graph.specs.Fitting as graph_fitting
 use Rattle.binding_graph.specs.Graph as graph
 use Rattle.binding_graph.specs.Graph.{Graph, AreShown, is_open}
-use Rattle.binding_graph.proofs.ShownLemmas.{all_shown_sound}
-use Rattle.binding_graph.proofs.ToldLemmas.{changes_fit}
+use Rattle.binding_graph.proofs.ForCallers.{all_shown_sound, changes_fit}
 use Rattle.stored_slots.specs.Functors.{AreArguments}
 use Rattle.thread_model.specs.Doing.{Doing}
 use Rattle.thread_model.specs.Fitting.{IsFittingItem, IsSent}

@@ -11,7 +11,7 @@ use Rattle.term_core.specs.Act as term
 use Rattle.term_core.specs.Act.{Acts, single_action, more, nothing, when}
 use Rattle.term_core.specs.Term.{Term}
 use Rattle.term_evaluation.specs.Unfolding.{unfolded, unfolded_acts, unfolded_effect, unfolded_term}
-use Rattle.term_evaluation.proofs.EvaluationLemmas.{in_place}
+use Rattle.term_evaluation.proofs.ForCallers.{in_place}
 use Rattle.thread_model.specs.Absence.{absence}
 use Rattle.thread_model.specs.Acts.{acts, chosen, warns_or, with_found}
 use Rattle.thread_model.specs.Agenda.{step}

@@ -12,7 +12,7 @@ use Rattle.connection_list.specs.declared.pattern.Pattern.{Pattern}
 use Rattle.connection_list.specs.declared.pattern.Receiver.{Receiver}
 use Rattle.connection_list.specs.Ends.{allows, allows_receiver, matches, touches}
 use Rattle.connection_list.specs.Rows.{Rows, has_number, numbered}
-use Rattle.connection_list.proofs.StateLemmas.{IsUnseen, filter-changed, stepped-same, stepped_row}
+use Rattle.connection_list.proofs.ForCallers.{IsUnseen, filter-changed, stepped-same, stepped_row}
 use Rattle.thread_model.specs.declared.line.Line.TheVariants.{Warning}
 use Rattle.thread_model.specs.declared.deed.Deed.{Deed}
 use Rattle.thread_model.specs.declared.deed.Deed.TheVariants as d

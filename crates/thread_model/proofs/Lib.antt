@@ -54,3 +54,4 @@ pub mod FittingRunLemmas
 pub mod FittingCommandLemmas
 pub mod FittingAskedLemmas
 pub mod NamedLemmas
+pub mod ForCallers

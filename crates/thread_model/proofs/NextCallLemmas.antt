@@ -12,7 +12,7 @@ use Rattle.variant_value.specs.declared.value.Value.{Value}
 use Rattle.connection_list.specs.declared.connection.Connection.{Connection}
 use Rattle.connection_list.specs.Ends.{calls}
 use Rattle.connection_list.specs.Rows.{IsSound, Rows, has_number, is_next}
-use Rattle.connection_list.proofs.StateLemmas.{filter-changed, find-changed, sound_changed}
+use Rattle.connection_list.proofs.ForCallers.{filter-changed, find-changed, sound_changed}
 use Rattle.thread_model.specs.Agenda.{calls_of}
 use Rattle.thread_model.specs.Doing.{Doing}
 use Rattle.thread_model.specs.Items.{Call, Item}

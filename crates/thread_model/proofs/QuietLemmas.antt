@@ -6,7 +6,7 @@ use Rattle.std.proofs.lemmas.List.Elements.{All-append, All-filter}
 use Rattle.variant_value.specs.Values.{is_same}
 use Rattle.property_store.specs.declared.field.Field.{Field}
 use Rattle.property_store.specs.Store.{Properties, Store, changed, default_of, properties_of}
-use Rattle.property_store.proofs.SoundLemmas.{changed_fields}
+use Rattle.property_store.proofs.ForCallers.{changed_fields}
 use Rattle.term_core.specs.declared.target.Target.{Target}
 use Rattle.binding_values.specs.declared.binding.Binding.{Binding}
 use Rattle.binding_graph.specs.declared.change.Change.{Change}
@@ -18,9 +18,8 @@ use Rattle.binding_graph.specs.declared.shown.Shown.{Shown}
 use Rattle.binding_graph.specs.Graph.{all_shown, before, changes, has_turn, in_turn, is_same_error, notice, shown_as, shown_now, warning}
 use Rattle.binding_values.specs.Scene.{Cell, plain}
 use Rattle.binding_values.specs.Stored.{bindable_number, cell_in, cell_of, fields_at, meant, properties_in}
-use Rattle.binding_values.proofs.MapLemmas.{all_given}
-use Rattle.binding_graph.proofs.FoundLemmas.{found_in_all, shown_of}
-use Rattle.binding_graph.proofs.TouchedLemmas.{same_value}
+use Rattle.binding_values.proofs.ForCallers.{all_given}
+use Rattle.binding_graph.proofs.ForCallers.{found_in_all, shown_of, same_value}
 use Rattle.thread_model.proofs.BindingLemmas.{properties_changed}
 
 -- an error is the same as itself

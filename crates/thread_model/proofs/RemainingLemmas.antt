@@ -7,7 +7,7 @@ use Rattle.std.proofs.lemmas.List.Elements.{recursion_from_All}
 use Rattle.connection_list.specs.declared.connection.Connection.{Connection}
 use Rattle.connection_list.specs.Ends.{calls}
 use Rattle.connection_list.specs.Rows.{IsRising, has_number, is_next}
-use Rattle.connection_list.proofs.RowsLemmas.{rising_head, rising_tail}
+use Rattle.connection_list.proofs.ForCallers.{rising_head, rising_tail}
 use Rattle.thread_model.proofs.FilterLemmas.{filter-alike}
 
 -- no connection above a number has it

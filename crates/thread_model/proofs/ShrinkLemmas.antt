@@ -7,7 +7,7 @@ use Rattle.connection_list.specs.declared.connection.Connection.{Connection}
 use Rattle.connection_list.specs.declared.limit.TheConstants.{CONNECTIONS}
 use Rattle.connection_list.specs.Ends.{matches, touches}
 use Rattle.connection_list.specs.Rows.{has_number, numbered}
-use Rattle.connection_list.proofs.StateLemmas.{stepped_row}
+use Rattle.connection_list.proofs.ForCallers.{stepped_row}
 use Rattle.object_tree.specs.Rows.{has_number as has_object}
 use Rattle.object_tree.specs.declared.row.Row.{Row}
 use Rattle.object_tree.specs.Refusing.{object_refusal}

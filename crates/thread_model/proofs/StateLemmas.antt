@@ -9,12 +9,11 @@ use Rattle.object_tree.specs.declared.row.Row.{Row}
 use Rattle.object_tree.specs.Rows.{is_there, numbers}
 use Rattle.object_tree.specs.Refusing.{add_refusal, set_parent_refusal}
 use Rattle.object_tree.specs.Changes.{marked}
-use Rattle.object_tree.proofs.LawLemmas.{keeps_numbers, keeps_sound}
+use Rattle.object_tree.proofs.ForCallers.{keeps_numbers, keeps_sound}
 use Rattle.connection_list.specs.declared.connection.Connection.{Connection}
 use Rattle.connection_list.specs.declared.connection.NewConnection.{NewConnection}
 use Rattle.connection_list.specs.Rows.{numbered}
-use Rattle.connection_list.proofs.StateLemmas.{all_stepped, sound_stepped}
-use Rattle.connection_list.proofs.WithoutLemmas.{IsSound-without}
+use Rattle.connection_list.proofs.ForCallers.{all_stepped, sound_stepped, IsSound-without}
 use Rattle.event_queue.specs.declared.event.Event.{Event}
 use Rattle.event_queue.specs.Queue as events
 use Rattle.event_queue.specs.Queue.{IsSound, Queue, dropped, object_of, posted, taken}
@@ -27,8 +26,8 @@ use Rattle.term_core.specs.Term.{Term}
 use Rattle.property_store.specs.declared.property.Property.{Property as At}
 use Rattle.binding_graph.specs.Graph as graph
 use Rattle.binding_graph.specs.Graph.{Graph, begin_refusal, begun, bind_refusal, bound, ended, is_bound, is_open, unbound, value_in}
-use Rattle.binding_graph.proofs.ShownLemmas.{value_short}
-use Rattle.property_store.proofs.SoundLemmas.{objects, objects_added, objects_changed, objects_without, sound_added, sound_changed, sound_empty, sound_without}
+use Rattle.binding_graph.proofs.ForCallers.{value_short}
+use Rattle.property_store.proofs.ForCallers.{objects, objects_added, objects_changed, objects_without, sound_added, sound_changed, sound_empty, sound_without}
 use Rattle.thread_model.specs.State.{IsMeant, IsTied, IsWhole, OfDesk, State, closed, empty, fields_of, with_binding, with_binding_taken, with_blocking, with_connection, with_desk, with_event, with_functor_state, with_group, with_lost, with_object, with_parent, with_properties, without_binding, without_connections, without_events, without_first, without_group, without_object, without_rows_of}
 use Rattle.thread_model.specs.Writing.{Declared, Dynamic, Nothing, Removed, Writing, with_writing}
 use Rattle.thread_model.proofs.BindingLemmas.{AreBindable, IsBindable, bindable_added, bindable_bound, bindable_changed, bindable_unbound, bindable_without, fit_sound, graph_sound_begun, graph_sound_bound, graph_sound_ended, graph_sound_none, graph_sound_unbound, graph_sound_without}

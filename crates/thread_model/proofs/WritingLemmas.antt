@@ -4,7 +4,7 @@ use Rattle.variant_value.specs.declared.value.Value.{Value}
 use Rattle.variant_value.specs.Values.{is_same}
 use Rattle.property_store.specs.Store as store
 use Rattle.property_store.specs.Store.{Store, changed, with_dynamic, with_value, without_dynamic}
-use Rattle.property_store.proofs.SoundLemmas.{sound_changed}
+use Rattle.property_store.proofs.ForCallers.{sound_changed}
 use Rattle.binding_values.specs.declared.binding.Binding.{Binding}
 use Rattle.binding_graph.specs.declared.change.Change.{Change}
 use Rattle.binding_graph.specs.declared.change.Message.TheVariants as message

@@ -10,7 +10,7 @@ use Rattle.serde_json.specs.Data.{Data, object}
 use Rattle.serde_json.specs.Find.{get, get_member}
 use Rattle.json_reading.specs.declared.field.Member.{Member}
 use Rattle.json_reading.specs.Members.{data_of, members_in}
-use Rattle.json_reading.proofs.MemberLemmas.{found_at_last, found_before_last}
+use Rattle.json_reading.proofs.ForCallers.{found_at_last, found_before_last}
 use Rattle.wire_commands.specs.declared.commands.Word.{Word}
 use Rattle.wire_commands.specs.declared.commands.Word.TheVariants as word
 use Rattle.wire_commands.specs.declared.keys.Key.{Key as KeyInCode}

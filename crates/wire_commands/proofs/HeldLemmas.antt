@@ -6,7 +6,7 @@ use Rattle.serde_json.specs.Data.{Data, object}
 use Rattle.json_reading.specs.Fields.{◌>>=◌}
 use Rattle.json_reading.specs.declared.field.Member.{Member}
 use Rattle.json_reading.specs.Members.{members_in}
-use Rattle.json_reading.proofs.KeyLemmas.{all_keys_in}
+use Rattle.json_reading.proofs.ForCallers.{all_keys_in}
 use Rattle.wire_commands.specs.declared.keys.Key.{Key as KeyInCode}
 use Rattle.wire_commands.specs.declared.held.Held.{Held as HeldInCode}
 use Rattle.wire_commands.specs.Held.{Held, all_held, held_seen, has_only, held_at, is_known}

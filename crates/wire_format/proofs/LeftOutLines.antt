@@ -6,11 +6,10 @@ use Rattle.std.proofs.lemmas.Bool.{cases_Bool, both_ways, false_from_ne_true, eq
 use Rattle.std.proofs.lemmas.Slice.Eq.{bytes_eq-Decides}
 use Rattle.isolation.specs.Pieces.{Told, Blamed, piece_passes, only_pieces, only_answers, commands_of, piece_answers}
 use Rattle.isolation.specs.Influence.{influences}
-use Rattle.isolation.proofs.Reaching.{influences-self, IsClosed-influences}
-use Rattle.isolation.proofs.Piecewise.{leaving_out_pieces}
+use Rattle.isolation.proofs.ForCallers.{influences-self, IsClosed-influences, leaving_out_pieces}
 use Rattle.thread_model.specs.Machine.{machine}
 use Rattle.thread_model.specs.declared.line.Line.{Line}
-use Rattle.thread_model.proofs.Lawful.{lawful}
+use Rattle.thread_model.proofs.ForCallers.{lawful}
 use Rattle.wire_format.specs.declared.fault.LineFault.{LineFault}
 use Rattle.wire_format.specs.Input.{Piece, NoEnd, in_front, whole_lines, bare, lines_of, piece_of, pieces_of, line_passes, without}
 use Rattle.wire_format.specs.Output.{Answer, Said, said_by, said_in, said_all, lines_said_to, LeavingOutLines, LeavingOutStrangers}

@@ -7,3 +7,4 @@ pub mod Outputs
 pub mod LeftOutLines
 pub mod Sessions
 pub mod NamedLemmas
+pub mod ForCallers

@@ -4,7 +4,7 @@ use Rattle.std.specs.Prelude.{Some}
 use Rattle.server_world.specs.Server.{Server}
 use Rattle.wire_format.specs.Command.{command_of, is_blank}
 use Rattle.wire_format.specs.Input.{NoEnd, piece_from, piece_of}
-use Rattle.wire_format.proofs.Cutting.{piece_of-blank, lines_of-line}
+use Rattle.wire_format.proofs.ForCallers.{piece_of-blank, lines_of-line}
 use Rattle.wire_lines.specs.declared.fault.RunFault.{RunFault}
 use Rattle.wire_lines.specs.declared.fault.RunFault.TheVariants.{Read, Write, Endless, Memory}
 use Rattle.wire_lines.specs.Sending.{Out, Sent, SentAll}

@@ -6,15 +6,14 @@ use Rattle.std.proofs.lemmas.List.{get_or_append_left}
 use Rattle.std.proofs.lemmas.List.Elements.{All-head, All-map, All-tail}
 use Rattle.std.proofs.lemmas.Bool.{both_ways, false_from_ne_true}
 use Rattle.isolation.specs.Pieces.{Given, Faulty}
-use Rattle.server_world.proofs.RunLemmas.{entry_is}
+use Rattle.server_world.proofs.ForCallers.{entry_is}
 use Rattle.server_world.specs.Server.{OnlyRefused, Server, seen_by_name, states, was_refused, settings}
 use Rattle.session_engine.specs.Sessions.{AllAreNamed}
 use Rattle.session_tables.specs.Session.{Session}
 use Rattle.thread_model.specs.Named.{AreNamed, IsNamedAsked}
 use Rattle.wire_format.specs.Input.{Piece, lines_of, piece_of, pieces_of}
 use Rattle.wire_format.specs.Output.{output, world_of, text_of_piece, world_after_piece}
-use Rattle.wire_format.proofs.NamedLemmas.{IsNamedPiece, piece_named}
-use Rattle.wire_format.proofs.Outputs.{text_of_pieces, text_of_pieces-cons, text_of_pieces-nothing, world_after_pieces, world_after_pieces-cons, world_after_pieces-nothing, by_pieces, world_by_pieces}
+use Rattle.wire_format.proofs.ForCallers.{IsNamedPiece, piece_named, text_of_pieces, text_of_pieces-cons, text_of_pieces-nothing, world_after_pieces, world_after_pieces-cons, world_after_pieces-nothing, by_pieces, world_by_pieces}
 use Rattle.wire_lines.specs.Sending.{IsFront}
 use Rattle.wire_lines.specs.Steps.{AreAnswered, IsAnswered, IsUnread, entry_text, read_lines}
 use Rattle.wire_lines.specs.Stream.{Later}

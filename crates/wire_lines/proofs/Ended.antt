@@ -4,7 +4,7 @@ use Rattle.std.specs.Prelude.{◌≢◌, filter}
 use Rattle.std.proofs.lemmas.List.{length-map}
 use Rattle.std.proofs.lemmas.Bool.{ne_eqb, cases_eq}
 use Rattle.wire_format.specs.Input.{in_front, lines_of, piece_of, NoEnd}
-use Rattle.wire_format.proofs.Cutting.{lines_of-empty, lines_of-line}
+use Rattle.wire_format.proofs.ForCallers.{lines_of-empty, lines_of-line}
 use Rattle.wire_lines.specs.Run.{line_ends}
 use Rattle.wire_lines.specs.Steps.{read_lines}
 use Rattle.wire_lines.specs.Stream.{Point, Fed}

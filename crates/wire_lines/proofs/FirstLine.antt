@@ -3,7 +3,7 @@ use Rattle.std.proofs.Common.{◌≡◌, ℕ, ◌==◌, ◌<◌, ◌-◌, false,
 use Rattle.std.proofs.lemmas.Bool.{cases_Bool, both_ways, false_from_ne_true, eqb-true}
 use Rattle.std.proofs.lemmas.List.{get_or_read, length-drop, take_all}
 use Rattle.wire_format.specs.Input.{NoEnd, bare, lines_of}
-use Rattle.wire_format.proofs.Cutting.{lines_of-empty, lines_of-last}
+use Rattle.wire_format.proofs.ForCallers.{lines_of-empty, lines_of-last}
 use Rattle.wire_lines.specs.Slicing.{ended}
 use Rattle.wire_lines.specs.Taking.{first_line, numbered}
 use Rattle.wire_lines.proofs.Begun.{NoEnd-tail}

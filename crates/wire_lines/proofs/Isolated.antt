@@ -1,15 +1,15 @@
 -- What a run writes keeps sessions apart.
 use Rattle.std.proofs.Common.{ℕ, List, sym}
-use Rattle.isolation.proofs.Piecewise.{told_alone}
+use Rattle.isolation.proofs.ForCallers.{told_alone}
 use Rattle.server_world.specs.Server.{Server, states, names, settings}
-use Rattle.server_world.proofs.ServerLemmas.{knows_all}
+use Rattle.server_world.proofs.ForCallers.{knows_all}
 use Rattle.thread_model.specs.Machine.{machine}
 use Rattle.thread_model.specs.Thread.{Settings}
-use Rattle.thread_model.proofs.Lawful.{lawful}
+use Rattle.thread_model.proofs.ForCallers.{lawful}
 use Rattle.wire_format.specs.declared.fault.LineFault.{LineFault}
 use Rattle.wire_format.specs.Input.{pieces_of}
 use Rattle.wire_format.specs.Output.{World}
-use Rattle.wire_format.proofs.LeftOutLines.{leaving_out_strangers}
+use Rattle.wire_format.proofs.ForCallers.{leaving_out_strangers}
 use Rattle.wire_lines.specs.Run.{IsToldAlone, IsToldAsWithout}
 
 -- each session is told what it would be told alone

@@ -3,7 +3,7 @@ use Rattle.std.proofs.Common.{◌≡◌, ℕ, ◌<◌, List, [], ◌∷◌, ◌+
 use Rattle.server_world.specs.Server.{Server}
 use Rattle.wire_format.specs.declared.line.TheConstants.{LINE_BYTES}
 use Rattle.wire_format.specs.Input.{NoEnd, lines_of, piece_of}
-use Rattle.wire_format.proofs.Cutting.{lines_of-empty, lines_of-line, lines_of-last}
+use Rattle.wire_format.proofs.ForCallers.{lines_of-empty, lines_of-line, lines_of-last}
 use Rattle.wire_lines.specs.declared.fault.RunFault.{RunFault}
 use Rattle.wire_lines.specs.Sending.{Out}
 use Rattle.wire_lines.specs.Steps.{AreAnswered, read_lines}

@@ -5,7 +5,7 @@ use Rattle.std.proofs.lemmas.List.{take_all, length-take, length-take-le, get_or
 use Rattle.std.proofs.lemmas.Bool.{cases_lt}
 use Rattle.wire_format.specs.declared.line.TheConstants.{LINE_BYTES}
 use Rattle.wire_format.specs.Input.{lines_of, piece_of, NoEnd}
-use Rattle.wire_format.proofs.Cutting.{piece_of-too_long}
+use Rattle.wire_format.proofs.ForCallers.{piece_of-too_long}
 use Rattle.wire_lines.specs.Steps.{read_lines}
 use Rattle.wire_lines.proofs.Begun.{with_front, lines_of-begun}
 

@@ -7,18 +7,18 @@ use Rattle.std.proofs.KnownBytes.{Appends-nil}
 use Rattle.isolation.specs.Machine.{Tagged}
 use Rattle.isolation.specs.Pieces.{commands_of}
 use Rattle.isolation.specs.Slice.{Slice, back, slice}
-use Rattle.isolation.proofs.Sliced.{notes_give_slice}
+use Rattle.isolation.proofs.ForCallers.{notes_give_slice}
 use Rattle.server_world.specs.Noting.{marked_from, named}
 use Rattle.server_world.specs.Runs.{AreSteps}
 use Rattle.server_world.specs.Server.{Server, names, settings, states, was_refused}
-use Rattle.server_world.proofs.RunLemmas.{steps_settings, steps_world}
+use Rattle.server_world.proofs.ForCallers.{steps_settings, steps_world}
 use Rattle.thread_model.specs.Asked.{Asked}
 use Rattle.thread_model.specs.Machine.{machine}
 use Rattle.thread_model.specs.Thread.{Settings}
-use Rattle.thread_model.proofs.Lawful.{lawful}
+use Rattle.thread_model.proofs.ForCallers.{lawful}
 use Rattle.wire_format.specs.Input.{lines_of, pieces_of}
 use Rattle.wire_format.specs.Output.{world_of}
-use Rattle.wire_format.proofs.Cutting.{lines_of-empty}
+use Rattle.wire_format.proofs.ForCallers.{lines_of-empty}
 use Rattle.wire_lines.specs.declared.fault.RunFault.{RunFault}
 use Rattle.wire_lines.specs.declared.fault.RunFault.TheVariants.{Read, Write, Endless, Memory}
 use Rattle.wire_lines.specs.declared.stream.Summary.{Summary}

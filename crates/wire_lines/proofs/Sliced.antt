@@ -9,16 +9,15 @@ use Rattle.isolation.specs.Machine.{Tagged}
 use Rattle.isolation.specs.Pieces.{Given, Faulty, commands_of}
 use Rattle.isolation.specs.Slice.{kept, slice}
 use Rattle.isolation.specs.World.{at_session, world_lines}
-use Rattle.isolation.proofs.Piecewise.{commands_of-append, told-piece_answers}
-use Rattle.isolation.proofs.Sliced.{kept-map, length-marks, slice_law}
+use Rattle.isolation.proofs.ForCallers.{commands_of-append, told-piece_answers, kept-map, length-marks, slice_law}
 use Rattle.server_world.specs.Noting.{marked_from}
 use Rattle.thread_model.specs.Asked.{Asked}
 use Rattle.thread_model.specs.Machine.{machine}
 use Rattle.thread_model.specs.Thread.{Settings}
-use Rattle.thread_model.proofs.Lawful.{lawful}
+use Rattle.thread_model.proofs.ForCallers.{lawful}
 use Rattle.wire_format.specs.Input.{NoEnd, Piece, bare, lines_of, piece_of, pieces_of, whole_lines}
 use Rattle.wire_format.specs.Output.{World}
-use Rattle.wire_format.proofs.Cutting.{lines_of-empty, lines_of-line}
+use Rattle.wire_format.proofs.ForCallers.{lines_of-empty, lines_of-line}
 use Rattle.wire_lines.specs.Slicing.{IsToldAsSliced, command_lines, ended, is_command, is_given, kept_lines, sliced}
 use Rattle.wire_lines.specs.Taking.{commands_in, line_at, numbered}
 use Rattle.wire_lines.proofs.FirstLine.{NoEnd-bare}

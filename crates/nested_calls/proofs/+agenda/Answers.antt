@@ -4,7 +4,7 @@ use Rattle.connection_types.specs.declared.callee.Callee.TheVariants as callee
 use Rattle.connection_list.specs.Rows.{is_next}
 use Rattle.term_core.specs.Act.{Act, acts_of, count, counts, single_action, when}
 use Rattle.term_core.specs.Steps.{act_at}
-use Rattle.term_core.proofs.Counts.{count_within}
+use Rattle.term_core.proofs.ForCallers.{count_within}
 use Rattle.refusals.specs.declared.code.Code.TheVariants.{Limit}
 use Rattle.term_core.specs.declared.action.SingleAction.TheVariants as e
 use Rattle.thread_model.specs.Acts as model
@@ -16,13 +16,10 @@ use Rattle.thread_model.specs.Doing.{Doing, line_told, stepped}
 use Rattle.thread_model.specs.Items.{Cut, Delete, Emit, Gone, Item}
 use Rattle.thread_model.specs.Run.{run}
 use Rattle.thread_model.specs.Targets.{truth_evaluated}
-use Rattle.thread_model.proofs.LivingLemmas.{living_rows}
-use Rattle.thread_model.proofs.RemainingLemmas.{remaining}
-use Rattle.thread_model.proofs.NextCallLemmas.{calls_to, emission_end}
+use Rattle.thread_model.proofs.ForCallers.{living_rows, remaining, calls_to, emission_end, at_end, by_change, by_step}
 use Rattle.thread_model.specs.State.{State}
 use Rattle.connection_list.specs.Rows.{IsSound}
 use Rattle.std.specs.List.{list_any}
-use Rattle.thread_model.proofs.RunLemmas.{at_end, by_change, by_step}
 use Rattle.session_tables.specs.Tables.{state_at}
 use Rattle.session_effects.specs.declared.effects.Emission.{Emission}
 use Rattle.session_effects.specs.declared.announcing.News.{News}
@@ -30,7 +27,7 @@ use Rattle.session_effects.specs.Actions.{act_of}
 use Rattle.session_effects.specs.Setup.{settings_of}
 use Rattle.session_effects.specs.Writing.{items_of, notice_args}
 use Rattle.nested_calls.specs.Telling.{doing_at}
-use Rattle.session_effects.proofs.ActionLemmas.{keeps_same, keeps_twice, keeps_with, placed_kept}
+use Rattle.session_effects.proofs.ForCallers.{keeps_same, keeps_twice, keeps_with, placed_kept}
 use Rattle.nested_calls.proofs.AgendaLemmas.{acts_end, acts_go_on, call_spent, call_taken, effect_done, effect_refused, effect_warned, emission_absent, emission_begins, emission_deep, emission_goes_on, emission_held_back, emission_unheard, failed_done, found_stands, held_done, is_held, is_let_through, keeps_posted, last_stays, left_at, left_falls, left_shot, left_stepped, longest_of, next_smaller, posting_is, posts_none, rank_falls, round_falls, taken, test_warned, told_is, warn_done}
 use Rattle.nested_calls.proofs.DoesLemmas.{OnOk-map, does_after, does_by, does_none, does_wanting, far_end, far_item, far_last, far_next, far_none, far_stopped, far_wanting, here, item_wanting, next_none, placed_reached}
 use Rattle.thread_model.specs.Agenda.{lives, lives_below}

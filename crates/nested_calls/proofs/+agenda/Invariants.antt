@@ -2,8 +2,7 @@ use Rattle.std.proofs.Common.{◌≤◌, ◌+◌, ◌-◌, ◌*◌, ◌∷◌, [
 use Rattle.term_core.specs.Act.{acts_of, count, counts}
 use Rattle.thread_model.specs.Acts as model
 use Rattle.thread_model.specs.Items.{Emit, Cut}
-use Rattle.thread_model.proofs.NextCallLemmas.{calls_to}
-use Rattle.thread_model.proofs.RemainingLemmas.{remaining}
+use Rattle.thread_model.proofs.ForCallers.{calls_to, remaining}
 use Rattle.session_tables.specs.Tables.{IsPlaced, state_at}
 use Rattle.session_effects.specs.Setup.{settings_of}
 use Rattle.session_effects.specs.Writing.{told_items}

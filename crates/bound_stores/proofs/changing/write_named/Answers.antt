@@ -1,6 +1,6 @@
 use Rattle.std.proofs.Common.{◌∙◌, ap, refl, sym, subst}
 use Rattle.property_store.specs.Table.{Stock, store_at}
-use Rattle.property_store.proofs.KindLemmas.{ok_or_none, ok_or_some}
+use Rattle.property_store.proofs.ForCallers.{ok_or_none, ok_or_some}
 use Rattle.bound_stores.specs.Bound.{seen_of}
 use Rattle.bound_stores.specs.Named.{WritesDeclared}
 use Rattle.bound_stores.proofs.NamedLemmas.{declared_field, fits_again, fitting_kind, named_alone, not_named}

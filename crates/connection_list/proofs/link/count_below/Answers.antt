@@ -2,7 +2,7 @@ use Rattle.std.proofs.Common.{rules}
 use Rattle.std.specs.Ordering.{is_lt}
 use Rattle.std.proofs.lemmas.List.Sorted.{IsPartitionPoint-from_clause}
 use Rattle.shared_rows.specs.Links.{IsInOrder}
-use Rattle.shared_rows.proofs.LinkLemmas.{below_parted}
+use Rattle.shared_rows.proofs.ForCallers.{below_parted}
 use Rattle.connection_list.specs.Routes.{link_cmp}
 use Rattle.connection_list.proofs.LinkLemmas.{link_total}
 use Rattle.connection_list.proofs.link.count_below.Goals as goal

@@ -1,6 +1,6 @@
 use Rattle.std.proofs.Common.{◌∙◌, Some, get_or, length, ap, sym, arith}
 use Rattle.std.proofs.lemmas.Option.{slice_get-get_or, slice_get_past}
-use Rattle.shared_rows.proofs.LinkLemmas.{first_at}
+use Rattle.shared_rows.proofs.ForCallers.{first_at}
 use Rattle.connection_list.proofs.LinkLemmas.{link_total}
 use Rattle.connection_list.proofs.link.first_near.Goals as goal
 

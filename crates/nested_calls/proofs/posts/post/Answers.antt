@@ -2,8 +2,7 @@ use Rattle.std.proofs.Common.{sym, subst, refl, ◌∙◌}
 use Rattle.thread_model.specs.Arriving.{posts_by}
 use Rattle.session_tables.specs.Reaching.{Reaches}
 use Rattle.session_tables.specs.Tables.{state_at}
-use Rattle.session_tables.proofs.ReachingLemmas.{reaches_changed}
-use Rattle.session_tables.proofs.TablesLemmas.{changes_same}
+use Rattle.session_tables.proofs.ForCallers.{reaches_changed, changes_same}
 use Rattle.nested_calls.proofs.AgendaLemmas.{posts_none}
 use Rattle.nested_calls.proofs.posts.post.Goals as goal
 

@@ -1,5 +1,5 @@
 use Rattle.std.proofs.Common.{◌∙◌, Ok, ap, sym}
-use Rattle.term_evaluation.proofs.EvaluationLemmas.{stands}
+use Rattle.term_evaluation.proofs.ForCallers.{stands}
 use Rattle.thread_model.specs.Targets.{evaluated, outcome}
 use Rattle.session_effects.proofs.evaluation.evaluated.Goals as goal
 

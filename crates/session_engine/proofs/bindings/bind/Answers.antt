@@ -4,10 +4,9 @@ use Rattle.thread_model.specs.declared.line.Answer.TheVariants as a
 use Rattle.thread_model.specs.Asked.{Bind}
 use Rattle.thread_model.specs.Binding.{binding_refusal}
 use Rattle.thread_model.specs.Methods.{◌>>=◌}
-use Rattle.thread_model.proofs.BindLemmas.{bind_done, bind_found, refusal_bind}
-use Rattle.thread_model.proofs.BindableLemmas.{may_be_bound}
+use Rattle.thread_model.proofs.ForCallers.{bind_done, bind_found, refusal_bind, may_be_bound}
 use Rattle.session_tables.specs.Tables.{state_at}
-use Rattle.session_tables.proofs.TablesLemmas.{state_with}
+use Rattle.session_tables.proofs.ForCallers.{state_with}
 use Rattle.session_effects.specs.Setup.{settings_of}
 use Rattle.session_effects.specs.Writing.{told_items}
 use Rattle.session_engine.proofs.BindingsLemmas.{behind_property, behind_term, bound_found, bound_to, comes_found, unbindable, with_term}

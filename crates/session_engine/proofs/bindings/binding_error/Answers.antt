@@ -1,6 +1,6 @@
 use Rattle.std.proofs.Common.{Option, ap, sym, ◌∙◌}
 use Rattle.std.specs.Result.{result_err}
-use Rattle.thread_model.proofs.BindLemmas.{binding_error_done, refusal_binding_error}
+use Rattle.thread_model.proofs.ForCallers.{binding_error_done, refusal_binding_error}
 use Rattle.variant_value.specs.declared.value.Value.{Value}
 use Rattle.binding_values.specs.declared.property.BindingError.{BindingError}
 use Rattle.thread_model.specs.declared.line.Answer.TheVariants as a

@@ -3,9 +3,9 @@ use Rattle.thread_model.specs.declared.line.Answer.TheVariants as a
 use Rattle.thread_model.specs.Asked.{End}
 use Rattle.thread_model.specs.Effects.{does_next}
 use Rattle.thread_model.specs.State.{State, without_group}
-use Rattle.thread_model.proofs.BindLemmas.{performs_end, refusal_end}
+use Rattle.thread_model.proofs.ForCallers.{performs_end, refusal_end}
 use Rattle.session_tables.specs.Tables.{state_at}
-use Rattle.session_tables.proofs.TablesLemmas.{state_with}
+use Rattle.session_tables.proofs.ForCallers.{state_with}
 use Rattle.session_effects.specs.Setup.{settings_of}
 use Rattle.session_effects.specs.Writing.{told_items}
 use Rattle.session_engine.proofs.BindingsLemmas.{comes_at_end, group_ends}

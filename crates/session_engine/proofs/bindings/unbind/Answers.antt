@@ -3,9 +3,9 @@ use Rattle.std.specs.Result.{result_err}
 use Rattle.thread_model.specs.declared.line.Answer.TheVariants as a
 use Rattle.thread_model.specs.Asked.{Unbind}
 use Rattle.thread_model.specs.Effects.{does_next}
-use Rattle.thread_model.proofs.BindLemmas.{refusal_unbind, unbind_done}
+use Rattle.thread_model.proofs.ForCallers.{refusal_unbind, unbind_done}
 use Rattle.session_tables.specs.Tables.{state_at}
-use Rattle.session_tables.proofs.TablesLemmas.{state_with}
+use Rattle.session_tables.proofs.ForCallers.{state_with}
 use Rattle.session_effects.specs.Setup.{settings_of}
 use Rattle.session_effects.specs.Writing.{told_items}
 use Rattle.session_engine.proofs.BindingsLemmas.{comes_found}

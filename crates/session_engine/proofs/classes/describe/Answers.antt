@@ -3,7 +3,7 @@ use Rattle.std.specs.Option.{option_copied}
 use Rattle.thread_model.specs.declared.line.Answer.TheVariants as a
 use Rattle.thread_model.specs.Classes.{described}
 use Rattle.thread_model.specs.Effects.{replies}
-use Rattle.thread_model.proofs.ClassLemmas.{described_at, performs_meta, refusal_meta}
+use Rattle.thread_model.proofs.ForCallers.{described_at, performs_meta, refusal_meta}
 use Rattle.session_tables.specs.Tables.{state_at}
 use Rattle.session_engine.proofs.ClassesLemmas.{class_index_there, described_is}
 use Rattle.session_engine.proofs.CommandsLemmas.{refused_reading}

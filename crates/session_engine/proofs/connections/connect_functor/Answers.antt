@@ -5,7 +5,7 @@ use Rattle.refusals.specs.declared.code.Code.TheVariants.{UniqueFunctor}
 use Rattle.std.specs.Prelude.{Err, false, if◌then◌else◌}
 use Rattle.thread_model.specs.Deeds.{found_refusal}
 use Rattle.thread_model.specs.Methods.{◌>>=◌}
-use Rattle.thread_model.proofs.SignalLemmas.{performs_connect_functor, refusal_connect_functor}
+use Rattle.thread_model.proofs.ForCallers.{performs_connect_functor, refusal_connect_functor}
 use Rattle.session_tables.specs.Tables.{state_at}
 use Rattle.session_engine.proofs.CommandsLemmas.{behind_first, behind_second, deed_performed, found_fault, stopped}
 use Rattle.session_engine.proofs.connections.connect_functor.Goals as goal

@@ -1,5 +1,5 @@
 use Rattle.std.proofs.Common.{[], ap}
-use Rattle.thread_model.proofs.EventLemmas.{refusal_spin}
+use Rattle.thread_model.proofs.ForCallers.{refusal_spin}
 use Rattle.nested_calls.specs.declared.telling.Telling.{Telling}
 use Rattle.session_engine.proofs.CommandsLemmas.{at_first_reaches, starved_last}
 use Rattle.session_engine.proofs.EventsLemmas.{performs_spun, spin_runs}

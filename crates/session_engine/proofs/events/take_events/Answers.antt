@@ -1,12 +1,12 @@
-use Rattle.std.proofs.Common.{[], ◌∷◌, refl, sym, arith}
+use Rattle.std.proofs.Common.{[], ◌∷◌, ap, refl, sym, arith}
+use Rattle.event_queue.specs.declared.table.Counts.{Counts}
 use Rattle.thread_model.specs.Agenda.{event_items}
 use Rattle.thread_model.specs.Items.{Spin}
 use Rattle.session_tables.specs.Tables.{state_at}
 use Rattle.session_effects.specs.Setup.{settings_of}
-use Rattle.session_effects.proofs.ActionLemmas.{keeps_same, keeps_with, placed_kept}
+use Rattle.session_effects.proofs.ForCallers.{keeps_same, keeps_with, placed_kept}
 use Rattle.nested_calls.specs.Telling.{doing_at}
-use Rattle.nested_calls.proofs.DoesLemmas.{OnOk-map, does_none, far_end, far_last, far_next, far_none, far_wanting, here, placed_reached}
-use Rattle.nested_calls.proofs.FrontLemmas.{part_front}
+use Rattle.nested_calls.proofs.ForCallers.{OnOk-map, does_none, far_end, far_last, far_next, far_none, far_wanting, here, placed_reached, part_front}
 use Rattle.std.proofs.lemmas.Grind.{common_steps}
 use Rattle.session_engine.proofs.EventsLemmas.{event_taken, few_taken, spin_ends, spin_goes_on, spin_spent, turns_left, with_event_taken}
 use Rattle.session_engine.proofs.events.take_events.Goals as goal
@@ -18,7 +18,7 @@ returns-then-telling-eq0 g c =
     let between = c.events.telling in
     far_last caller _ c.args.tables.now c.args.telling.now c.requires.placed _ now between c.events.invariant.so (here caller (Spin ∷ []) now between) now c.use_up.new.self c.use_up.result
     (does_none caller (Spin ∷ []) now between now c.use_up.new.self c.use_up.result (keeps_same now now caller.place refl) c.use_up.ensures.failing (OnOk-map c.use_up.result
-    (λ e earlier. spin_spent (settings_of caller.setup.now) caller.place now between c.use_up.new.self earlier (sym c.events-test.ensures.waits) (omega arith) e) c.use_up.ensures.told))
+    (λ e earlier. spin_spent (settings_of caller.setup.now) caller.place now between c.use_up.new.self earlier (let waits = ap (λ (counts : Counts). counts.queued) c.counts.ensures.counts in omega (arith, waits, c.events-test.true)) (omega arith) e) c.use_up.ensures.told))
     (λ posts done e. e)
 
 pub returns-in_err-deliver : goal.returns-in_err-deliver
@@ -63,7 +63,7 @@ pub returns : goal.returns
 returns g c =
     let caller = c.args.actor.now.caller in
     far_end caller _ c.args.tables.now c.args.telling.now c.requires.placed _ c.events.tables c.events.telling _ c.events.invariant.so
-    (λ posts done. spin_ends (settings_of caller.setup.now) (doing_at caller.place c.events.tables c.events.telling posts) done (sym c.events-test.ensures.waits))
+    (λ posts done. spin_ends (settings_of caller.setup.now) (doing_at caller.place c.events.tables c.events.telling posts) done (let waits = ap (λ (counts : Counts). counts.queued) c.counts.ensures.counts in omega (arith, waits, c.events-test.false)))
 
 pub events-init : goal.events-init
 events-init g c =

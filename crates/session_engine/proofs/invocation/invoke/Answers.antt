@@ -4,9 +4,9 @@ use Rattle.std.specs.Result.{result_err}
 use Rattle.serde_json.specs.View.{view}
 use Rattle.thread_model.specs.Refusing.{later_refusal, values_refusal}
 use Rattle.thread_model.specs.Signals.{asked_method, asked_values}
-use Rattle.thread_model.proofs.SignalLemmas.{invoke_none, refusal_invoke}
+use Rattle.thread_model.proofs.ForCallers.{invoke_none, refusal_invoke}
 use Rattle.session_tables.specs.Tables.{state_at}
-use Rattle.session_tables.proofs.TablesLemmas.{changes_same}
+use Rattle.session_tables.proofs.ForCallers.{changes_same}
 use Rattle.session_effects.specs.Setup.{settings_of}
 use Rattle.session_engine.proofs.CommandsLemmas.{at_first_reaches, found_fault, made_fault, quietly, starved_last, on_refused, or_first, or_second, replied, reads, silently, stopped}
 use Rattle.session_engine.proofs.InvocationLemmas.{invoke_runs, kinds_are, method_is, method_there, named_in, performs_invoked, posts_invoked, refusal_absent, refusal_found, refusal_later, refusal_now, unread}

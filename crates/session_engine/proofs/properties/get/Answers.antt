@@ -1,7 +1,7 @@
 use Rattle.std.proofs.Common.{sym, ap, ◌∙◌}
 use Rattle.thread_model.specs.declared.line.Answer.TheVariants as a
 use Rattle.thread_model.specs.Effects.{replies}
-use Rattle.thread_model.proofs.PropertyLemmas.{performs_get, refusal_get}
+use Rattle.thread_model.proofs.ForCallers.{performs_get, refusal_get}
 use Rattle.session_tables.specs.Tables.{state_at}
 use Rattle.session_engine.proofs.CommandsLemmas.{refused_reading}
 use Rattle.session_engine.proofs.properties.get.Goals as goal

@@ -4,12 +4,11 @@ use Rattle.serde_json.specs.View.{view}
 use Rattle.thread_model.specs.Doing.{in_state}
 use Rattle.thread_model.specs.Methods.{◌>>=◌}
 use Rattle.thread_model.specs.Writing.{Declared, Nothing, dynamic_writing}
-use Rattle.thread_model.proofs.PropertyLemmas.{refusal_set}
-use Rattle.thread_model.proofs.WritingLemmas.{nothing_written}
+use Rattle.thread_model.proofs.ForCallers.{refusal_set, nothing_written}
 use Rattle.session_tables.specs.Tables.{state_at}
 use Rattle.session_effects.specs.declared.announcing.News.TheVariants as news
 use Rattle.session_effects.specs.Setup.{settings_of}
-use Rattle.session_effects.proofs.ActionLemmas.{keeps_same}
+use Rattle.session_effects.proofs.ForCallers.{keeps_same}
 use Rattle.session_engine.proofs.CommandsLemmas.{found_fault, or_first, or_second, quietly, starved, stopped}
 use Rattle.session_engine.proofs.PropertiesLemmas.{asked_dynamic, asked_nothing, asked_value, dynamic_undeclared, performs_written, place_is, starved_written, tells_none, written_fault}
 use Rattle.session_engine.proofs.properties.set.Goals as goal

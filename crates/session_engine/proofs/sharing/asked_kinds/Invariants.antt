@@ -1,6 +1,6 @@
 use Rattle.std.proofs.Common.{◌≡◌, drop}
 use Rattle.thread_model.specs.Sharing.{kinds_named}
-use Rattle.session_effects.proofs.FoundLemmas.{behind}
+use Rattle.session_effects.proofs.ForCallers.{behind}
 use Rattle.session_engine.proofs.sharing.asked_kinds.Given as goal
 
 abbrev pub invariant-types : goal.invariant-types

@@ -6,10 +6,10 @@ use Rattle.thread_model.specs.Methods.{Found, ◌>>=◌, method_named, methods_o
 use Rattle.thread_model.specs.Settings.{Settings}
 use Rattle.thread_model.specs.State.{State}
 use Rattle.thread_model.specs.Sharing.{joining_refusal, joins_found}
-use Rattle.thread_model.proofs.SharingLemmas.{performs_join, refusal_join}
+use Rattle.thread_model.proofs.ForCallers.{performs_join, refusal_join}
 use Rattle.session_effects.specs.Setup.{settings_of}
 use Rattle.session_tables.specs.Tables.{state_at}
-use Rattle.session_tables.proofs.TablesLemmas.{changes_same}
+use Rattle.session_tables.proofs.ForCallers.{changes_same}
 use Rattle.session_engine.proofs.CommandsLemmas.{behind_first, behind_second, found_fault, made_fault, on_refused, replied, starved, stopped}
 use Rattle.session_engine.proofs.sharing.join.Goals as goal
 

@@ -3,7 +3,7 @@ use Rattle.thread_model.specs.declared.line.Answer.TheVariants as a
 use Rattle.object_tree.specs.Finding.{found_below}
 use Rattle.thread_model.specs.Effects.{replies}
 use Rattle.thread_model.specs.Trees.{has_title, is_of_class}
-use Rattle.thread_model.proofs.TreeLemmas.{performs_find, refusal_find}
+use Rattle.thread_model.proofs.ForCallers.{performs_find, refusal_find}
 use Rattle.session_tables.specs.Tables.{state_at}
 use Rattle.session_engine.proofs.CommandsLemmas.{or_first, or_second, refused_reading}
 use Rattle.session_engine.proofs.trees.find.Goals as goal

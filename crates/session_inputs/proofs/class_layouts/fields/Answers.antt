@@ -1,6 +1,6 @@
 use Rattle.std.proofs.Common.{◌∙◌, ◌++◌, ◌∷◌, ◌≤◌, [], sym, ap, arith, length, map}
 use Rattle.class_table.specs.Lookup.{properties}
-use Rattle.class_table.proofs.ListLemmas.{map-taken, taken-whole}
+use Rattle.class_table.proofs.ForCallers.{map-taken, taken-whole}
 use Rattle.thread_model.specs.State.{field_of}
 use Rattle.session_inputs.proofs.class_layouts.fields.Goals as goal
 

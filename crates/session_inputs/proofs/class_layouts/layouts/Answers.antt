@@ -3,7 +3,7 @@ use Rattle.std.proofs.lemmas.Bool.{cases_Bool}
 use Rattle.std.proofs.lemmas.Bool.Decides.{nat_tests}
 use Rattle.std.proofs.lemmas.List.{get_or_past}
 use Rattle.class_table.specs.declared.class.Class.{Class}
-use Rattle.class_table.proofs.TableLemmas.{of_class-none}
+use Rattle.class_table.proofs.ForCallers.{of_class-none}
 use Rattle.property_store.specs.declared.field.Field.{Field}
 use Rattle.property_store.specs.Store.{fields_in}
 use Rattle.thread_model.specs.State.{field_of, fields_of}

@@ -1,6 +1,6 @@
 use Rattle.std.proofs.Common.{◌≤◌, sym, subst, arith, rules}
 use Rattle.term_core.specs.Act.{acts_of, count, counts}
-use Rattle.term_core.proofs.Counts.{count_within}
+use Rattle.term_core.proofs.ForCallers.{count_within}
 use Rattle.term_evaluation.proofs.substitution.+put_in.Goals as goal
 
 pub put_in_actions-put_in_action-requires : goal.put_in_actions-put_in_action-requires

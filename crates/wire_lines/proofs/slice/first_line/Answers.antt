@@ -1,6 +1,6 @@
 use Rattle.std.proofs.Common.{[], ◌∷◌, ◌++◌, length-append, refl, sym, ap, ◌∙◌, arith, append_assoc}
 use Rattle.wire_format.specs.Input.{lines_of}
-use Rattle.wire_format.proofs.Cutting.{lines_of-line}
+use Rattle.wire_format.proofs.ForCallers.{lines_of-line}
 use Rattle.wire_lines.specs.Taking.{first_line}
 use Rattle.wire_lines.proofs.FirstLine.{first_line-ended, first_line-last, only_line}
 use Rattle.wire_lines.proofs.slice.first_line.Goals as goal

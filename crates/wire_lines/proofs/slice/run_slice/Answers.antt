@@ -1,5 +1,5 @@
 use Rattle.server_world.specs.Server.{seen_as, settings}
-use Rattle.server_world.proofs.ServerLemmas.{knows_all}
+use Rattle.server_world.proofs.ForCallers.{knows_all}
 use Rattle.wire_lines.proofs.slice.run_slice.Goals as goal
 
 pub returns-clause-knows : goal.returns-clause-knows

@@ -1,5 +1,5 @@
 use Rattle.server_world.specs.Server.{seen_as, states, settings}
-use Rattle.server_world.proofs.ServerLemmas.{knows_all}
+use Rattle.server_world.proofs.ForCallers.{knows_all}
 use Rattle.wire_lines.proofs.Whole.{Runs-answered, Runs-well, Runs-lines, Runs-prefix, Runs-endless, Runs-unread}
 use Rattle.wire_lines.proofs.Isolated.{told_as_alone, told_as_without}
 use Rattle.wire_lines.proofs.stream.run_bounded.Goals as goal

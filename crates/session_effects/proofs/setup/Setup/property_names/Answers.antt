@@ -1,6 +1,6 @@
 use Rattle.std.proofs.Common.{◌∙◌, ◌++◌, ◌∷◌, ◌≤◌, [], sym, ap, arith, length, map}
 use Rattle.class_table.specs.Lookup.{properties}
-use Rattle.class_table.proofs.ListLemmas.{map-taken, taken-whole}
+use Rattle.class_table.proofs.ForCallers.{map-taken, taken-whole}
 use Rattle.session_effects.proofs.setup.Setup.property_names.Goals as goal
 
 pub loop-number-preserved : goal.loop-number-preserved

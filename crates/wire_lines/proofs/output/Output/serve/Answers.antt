@@ -6,7 +6,7 @@ use Rattle.thread_model.specs.Asked.{tag}
 use Rattle.thread_model.specs.declared.line.Line.TheVariants.{Error}
 use Rattle.wire_format.specs.Command.{command_of}
 use Rattle.wire_format.specs.Text.{blamed, is_session_text, text_of_line}
-use Rattle.wire_format.proofs.Sessions.{session_is_name, blamed_is_session_text}
+use Rattle.wire_format.proofs.ForCallers.{session_is_name, blamed_is_session_text}
 use Rattle.wire_lines.proofs.Served.{answered-faulty, answered-given, answered-unread}
 use Rattle.wire_lines.proofs.output.Output.serve.Goals as goal
 

@@ -3,9 +3,7 @@ use Rattle.std.proofs.lemmas.Bool.{or_left}
 use Rattle.server_world.specs.Server.{seen_as}
 use Rattle.thread_model.specs.Asked.{tag}
 use Rattle.wire_format.specs.Input.{Piece, piece_of}
-use Rattle.wire_format.proofs.Cutting.{piece_of-blank, piece_of-faulty, piece_of-given}
-use Rattle.wire_format.proofs.NamedLemmas.{read_named}
-use Rattle.wire_format.proofs.Sessions.{session_is_name}
+use Rattle.wire_format.proofs.ForCallers.{piece_of-blank, piece_of-faulty, piece_of-given, read_named, session_is_name}
 use Rattle.wire_lines.specs.Taking.{Takes}
 use Rattle.wire_lines.specs.Standing.{noted}
 use Rattle.wire_lines.proofs.Answering.{Later-same, only_named}

@@ -1,0 +1,4 @@
+-- What other crates prove by.
+pub use Rattle.server_world.proofs.NotingLemmas.{noted_step, notes_begin}
+pub use Rattle.server_world.proofs.RunLemmas.{entry_is, steps_more, steps_settings, steps_world}
+pub use Rattle.server_world.proofs.ServerLemmas.{knows_all}
