@@ -4,8 +4,9 @@
 For each crate: its lines of code (contracts among them, without comments and blank lines), the lines of
 its definitions, how many lines of proof there are for one of code, its public functions, its edits and
 its longest contract. It fails at a contract of more than 8 clauses, a crate of more than 1,500 or a file
-of more than 800 lines of code, more than two edits for each public function, and more than 220 edits in
-all. An edit that begins with a line `wrong body: WORDS` is counted in all, and not with its crate's.
+of more than 800 lines of code, a line of code or definitions of more than 160 characters, more than two
+edits for each public function, and more than 220 edits in all. The crates of tests have lines that a
+program prints, and those may be longer. An edit that begins with a line `wrong body: WORDS` is counted in all, and not with its crate's.
 Usage: budget.py REPOSITORY
 """
 
@@ -22,6 +23,7 @@ LONGER = {
 }
 MOST_IN_CRATE = 1_500
 MOST_IN_FILE = 800
+MOST_IN_LINE = 160
 MOST_FOR_FUNCTION = 2
 MOST_EDITS = 220
 
@@ -39,6 +41,13 @@ def code_of(text):
 
 def lines_in(folder, ending):
     return sum(len(code_of(path.read_text())) for path in folder.rglob(f"*{ending}")) if folder.is_dir() else 0
+
+
+def long_lines_in(folder):
+    """Where lines of code and definitions stand that are longer than they may be."""
+    paths = [*folder.glob("src/**/*.rt"), *folder.glob("specs/**/*.antt")]
+    lines = ((path, number, line) for path in sorted(paths) for number, line in enumerate(path.read_text().splitlines(), 1))
+    return [f"{path.relative_to(folder)}:{number}" for path, number, line in lines if len(line) > MOST_IN_LINE]
 
 
 @dataclass
@@ -95,6 +104,7 @@ class Crate:
     name: str
     code: int
     longest_file: int
+    long_lines: list
     specs: int
     proofs: int
     functions: list
@@ -111,6 +121,8 @@ class Crate:
             yield f"{self.code:,} lines of code; at most {MOST_IN_CRATE:,}"
         if self.longest_file > MOST_IN_FILE:
             yield f"a file of {self.longest_file:,} lines of code; at most {MOST_IN_FILE:,}"
+        for place in self.long_lines:
+            yield f"{place} has more than {MOST_IN_LINE} characters"
         for function in self.functions:
             most = LONGER.get(self.name, {}).get(function.name, MOST_CLAUSES)
             if function.clauses > most:
@@ -135,6 +147,7 @@ def crate_in(folder):
         name=folder.name,
         code=sum(len(code_of(text)) for text in texts.values()),
         longest_file=max((len(code_of(text)) for text in texts.values()), default=0),
+        long_lines=[] if folder.name.startswith("tests_of_") else long_lines_in(folder),
         specs=lines_in(folder / "specs", ".antt"),
         proofs=lines_in(folder / "proofs", ".antt"),
         functions=functions,

@@ -20,17 +20,21 @@ coded_showing = coded_list shown.the_row.coded
 
 abbrev pub coded_graph : Coded Graph
 coded_graph =
-    code_by (List Binding × (List Shown × ℕ)) (coded× coded_bindings (coded× coded_showing coded_ℕ)) (λ g. (g.bindings, (g.last, g.depth))) (λ p. record { bindings = p.0; last = p.1.0; depth = p.1.1 }) (λ _. refl)
+    code_by (List Binding × (List Shown × ℕ)) (coded× coded_bindings (coded× coded_showing coded_ℕ))
+    (λ g. (g.bindings, (g.last, g.depth))) (λ p. record { bindings = p.0; last = p.1.0; depth = p.1.1 }) (λ _. refl)
 
 abbrev pub coded_marks : Coded Marks
-coded_marks = code_by (Bool × List Property) (coded× coded_bool (coded_list property.the_row.coded)) (λ m. (m.all, m.each)) (λ p. record { all = p.0; each = p.1 }) (λ _. refl)
+coded_marks = code_by (Bool × List Property) (coded× coded_bool (coded_list property.the_row.coded))
+    (λ m. (m.all, m.each)) (λ p. record { all = p.0; each = p.1 }) (λ _. refl)
 
 abbrev pub coded_cache : Coded Cache
 coded_cache =
-    code_by (List Done × (Marks × ℕ)) (coded× coded_memory (coded× coded_marks coded_ℕ)) (λ c. (c.kept, (c.pending, c.evaluations))) (λ p. record { kept = p.0; pending = p.1.0; evaluations = p.1.1 }) (λ _. refl)
+    code_by (List Done × (Marks × ℕ)) (coded× coded_memory (coded× coded_marks coded_ℕ))
+    (λ c. (c.kept, (c.pending, c.evaluations))) (λ p. record { kept = p.0; pending = p.1.0; evaluations = p.1.1 }) (λ _. refl)
 
 abbrev pub coded_woven : Coded Woven
 coded_woven = code_by (Graph × Cache) (coded× coded_graph coded_cache) (λ w. (w.graph, w.cache)) (λ p. record { graph = p.0; cache = p.1 }) (λ _. refl)
 
 abbrev pub coded_graphs : Coded Graphs
-coded_graphs = code_by (Table Graph × List Cache) (coded× (table_code coded_graph) (coded_list coded_cache)) (λ g. (g.graphs, g.caches)) (λ p. record { graphs = p.0; caches = p.1 }) (λ _. refl)
+coded_graphs = code_by (Table Graph × List Cache) (coded× (table_code coded_graph) (coded_list coded_cache))
+    (λ g. (g.graphs, g.caches)) (λ p. record { graphs = p.0; caches = p.1 }) (λ _. refl)

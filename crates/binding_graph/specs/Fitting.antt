@@ -20,7 +20,8 @@ IsFitting s at (Error error) = Unit {0}
 IsFitting s at (Value value) = IfSome (cell_in s at) (λ cell. IsOfKind cell.kind value)
 
 abbrev pub ChangesFit : Type 0
-ChangesFit = (s : Store) (g : Graph) → store.IsSound s → graph.IsSound g → (written : Option Property) → All (λ change. IsFitting s change.at change.told) (settled_changes s g written)
+ChangesFit = (s : Store) (g : Graph) → store.IsSound s → graph.IsSound g
+    → (written : Option Property) → All (λ change. IsFitting s change.at change.told) (settled_changes s g written)
 
 -- a settled graph is sound
 abbrev pub SettlingIsSound : Type 0

@@ -1,5 +1,6 @@
 -- What contracts see of the bindings of a place.
-use Rattle.std.specs.Prelude.{ℕ, suc, ◌-◌, ◌≤◌, ◌==◌, ◌&&◌, ◌++◌, Bool, true, false, not, nat_le, nat_lt, if◌then◌else◌, List, [], All, filter, filter_map, find, length, Option, Some, None, Ok, Err, option_and_then, option_map}
+use Rattle.std.specs.Prelude.{ℕ, suc, ◌-◌, ◌≤◌, ◌==◌, ◌&&◌, ◌++◌, Bool, true, false, not, nat_le, nat_lt, if◌then◌else◌, List, [], All}
+use Rattle.std.specs.Prelude.{filter, filter_map, find, length, Option, Some, None, Ok, Err, option_and_then, option_map}
 use Rattle.std.specs.Option.{is_some, option_map_or}
 use Rattle.refusals.specs.declared.code.Code.{Code}
 use Rattle.refusals.specs.declared.code.Code.TheVariants.{Limit, NoGroup}
@@ -66,7 +67,8 @@ fresh at kind = shown_as at kind (Ok (default_of kind))
 -- in a group a bound property shows what it showed when the outermost began
 abbrev pub shown_in : Store → Graph → Property → Option Shown
 shown_in store graph q =
-    if is_open graph && is_bound graph.bindings q then option_map (λ cell. option_map_or (λ shown. shown) (shown_at graph.last q) (fresh q cell.kind)) (cell_in store q)
+    if is_open graph && is_bound graph.bindings q
+    then option_map (λ cell. option_map_or (λ shown. shown) (shown_at graph.last q) (fresh q cell.kind)) (cell_in store q)
     else shown_now store graph.bindings q
 
 -- the value of a property, with the error that it stands for
@@ -86,7 +88,8 @@ before last shown = option_map_or (λ stood. stood) (shown_at last shown.at) (fr
 -- a warning, where the error is new or another one
 abbrev pub warning : List Shown → Shown → Option Change
 warning last shown =
-    option_and_then (λ error. if option_map_or (is_same_error error) (before last shown).error false then None else Some (record { at = shown.at; told = message.Error error })) shown.error
+    option_and_then (λ error. if option_map_or (is_same_error error) (before last shown).error false then None
+    else Some (record { at = shown.at; told = message.Error error })) shown.error
 
 -- a notification, where the value is another one
 abbrev pub notice : List Shown → Shown → Option Change

@@ -18,7 +18,10 @@ no_woven = record { graph = no_graph; cache = no_cache }
 
 -- the graphs of all places in one list, and what is kept in another
 abbrev pub unwoven : Table Woven → Graphs
-unwoven table = record { graphs = record { places = map (λ woven. woven.graph) table.places; room = table.room }; caches = map (λ woven. woven.cache) table.places }
+unwoven table = record {
+  graphs = record { places = map (λ woven. woven.graph) table.places; room = table.room };
+  caches = map (λ woven. woven.cache) table.places;
+}
 
 -- it is in step with the store of a place
 abbrev pub IsAt : Stock → ℕ → Woven → Type 0
@@ -30,7 +33,9 @@ without_shown object graph = record graph { last = filter (λ shown. not (shown.
 
 -- where more is marked and less is kept, a place stays in step, whatever its store and its graph are
 abbrev pub StaysKept : Marks → List Done → Marks → List Done → Type 0
-StaysKept pending kept more less = (store : Store) (marks : Marks) (graph : Graph) (evaluations : ℕ) → IsInStep store marks graph (record { kept = kept; pending = pending; evaluations = evaluations }) → IsInStep store marks graph (record { kept = less; pending = more; evaluations = evaluations })
+StaysKept pending kept more less = (store : Store) (marks : Marks) (graph : Graph) (evaluations : ℕ)
+    → IsInStep store marks graph (record { kept = kept; pending = pending; evaluations = evaluations })
+    → IsInStep store marks graph (record { kept = less; pending = more; evaluations = evaluations })
 
 -- it stays in step with whatever store it was
 abbrev pub StaysAt : Woven → Woven → Type 0

@@ -11,7 +11,8 @@ ghost use Rattle.property_store.specs.Table.{Stock, store_at};
 ghost use Rattle.variant_value.specs.Values.{IsShort};
 ghost use Rattle.binding_graph.specs.Cache.{cache_at, no_cache};
 ghost use Rattle.binding_graph.specs.Drained.{IsDrained, IsStored};
-ghost use Rattle.binding_graph.specs.Graph.{IsSound, begin_refusal, begun, bind_refusal, bound, end_refusal, ended, is_bound, no_graph, settled_changes, settled_graph, taken, unbound, value_in, without_object};
+ghost use Rattle.binding_graph.specs.Graph.{IsSound, begin_refusal, begun, bind_refusal, bound, end_refusal, ended, is_bound, no_graph};
+ghost use Rattle.binding_graph.specs.Graph.{settled_changes, settled_graph, taken, unbound, value_in, without_object};
 ghost use Rattle.binding_graph.specs.Step.{InStep, LeavesInStep};
 ghost use Rattle.binding_values.specs.Stored.{is_bindable};
 ghost use Rattle.binding_graph.specs.Table.{OthersKept, graph_at, with_graph};
@@ -204,7 +205,8 @@ impl Bindings {
         requires places { IsPlace self.old.graphs place × IsPlace stores.old.shelves.table place }
         requires step { InStep stores.old self.old }
         ensures told { IfOk result (λ told. told ≡ settled_changes (store_at stores.old.shelves place) (graph_at self.old.graphs place) written) }
-        ensures ok { OnOk result (self.new.graphs ≡ with_graph self.old.graphs place (settled_graph (store_at stores.old.shelves place) (graph_at self.old.graphs place))) }
+        ensures ok { OnOk result (self.new.graphs
+            ≡ with_graph self.old.graphs place (settled_graph (store_at stores.old.shelves place) (graph_at self.old.graphs place))) }
         ensures stores { IsDrained place stores.old stores.new }
         ensures err { OnErr result (self.new.graphs ≡ self.old.graphs) }
         ensures step { LeavesInStep place stores.new self.old self.new }
@@ -220,7 +222,8 @@ impl Bindings {
         requires step { InStep stores.old self.old }
         ensures refused { RefusedBy (begin_refusal (graph_at self.old.graphs place)) result }
         ensures depth { IfOk result (λ depth. depth ≡ (graph_at self.old.graphs place).depth + 1) }
-        ensures ok { OnOk result (self.new.graphs ≡ with_graph self.old.graphs place (begun (store_at stores.old.shelves place) (graph_at self.old.graphs place))) }
+        ensures ok { OnOk result (self.new.graphs
+            ≡ with_graph self.old.graphs place (begun (store_at stores.old.shelves place) (graph_at self.old.graphs place))) }
         ensures stores { IsDrained place stores.old stores.new }
         ensures err { OnErr result (self.new.graphs ≡ self.old.graphs) }
         ensures step { LeavesInStep place stores.new self.old self.new }
@@ -252,8 +255,10 @@ impl Bindings {
     ) -> Result<Items<Change>, AllocError>
         requires places { IsPlace self.old.graphs place × IsPlace stores.old.shelves.table place }
         requires step { InStep stores.old self.old }
-        ensures told { IfOk result (λ told. told ≡ settled_changes (without object (store_at stores.old.shelves place)) (without_object object (graph_at self.old.graphs place)) None) }
-        ensures ok { OnOk result (self.new.graphs ≡ with_graph self.old.graphs place (settled_graph (without object (store_at stores.old.shelves place)) (without_object object (graph_at self.old.graphs place)))) }
+        ensures told { IfOk result (λ told. told ≡ settled_changes (without object (store_at stores.old.shelves place))
+            (without_object object (graph_at self.old.graphs place)) None) }
+        ensures ok { OnOk result (self.new.graphs ≡ with_graph self.old.graphs place
+            (settled_graph (without object (store_at stores.old.shelves place)) (without_object object (graph_at self.old.graphs place)))) }
         ensures stores { IsStored place (without object (store_at stores.old.shelves place)) stores.old stores.new }
         ensures only { ChangesAt no_graph place self.old.graphs self.new.graphs }
         ensures step { LeavesInStep place stores.new self.old self.new }

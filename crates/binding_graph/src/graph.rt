@@ -5,7 +5,8 @@ ghost use Rattle.std.specs.Result.{result_err};
 ghost use Rattle.places.specs.Table.{IsPlace};
 ghost use Rattle.term_core.specs.Forms.{is_within_limits};
 ghost use Rattle.property_store.specs.Table.{store_at};
-ghost use Rattle.binding_graph.specs.Graph.{IsSound, bind_refusal, bound, end_refusal, ended, fresh, is_bound, is_open, shown_at, shown_in, shown_now, unbound, value_in, without_object};
+ghost use Rattle.binding_graph.specs.Graph.{IsSound, bind_refusal, bound, end_refusal, ended, fresh, is_bound, is_open};
+ghost use Rattle.binding_graph.specs.Graph.{shown_at, shown_in, shown_now, unbound, value_in, without_object};
 ghost use Rattle.binding_graph.specs.Woven.{IsAt, StaysAt, no_woven};
 
 use crate::pending::Pending;
@@ -43,7 +44,10 @@ impl Model for Web {
 
     ghost coded = { coded_woven };
 
-    ghost view = { λ web. record { graph = record { bindings = web.bindings; last = web.last; depth = web.depth }; cache = record { kept = web.kept; pending = web.pending; evaluations = web.evaluations } } };
+    ghost view = { λ web. record {
+      graph = record { bindings = web.bindings; last = web.last; depth = web.depth };
+      cache = record { kept = web.kept; pending = web.pending; evaluations = web.evaluations };
+    } };
 
     ghost invariant = { λ web. web.depth ≤ 1000 };
 }

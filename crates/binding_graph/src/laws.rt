@@ -1,7 +1,8 @@
 //! What holds of what properties show, and of stores and bindings that are in step. There is nothing to run
 //! in these functions: their clauses are theorems.
 ghost use Rattle.binding_graph.specs.Fitting.{ChangesFit, SettlingIsSound, ValuesAreShort};
-ghost use Rattle.binding_graph.specs.Step.{AdditionStaysInStep, ClearingStaysInStep, DynamicStaysInStep, NamedWriteStaysInStep, NoDynamicStaysInStep, OpeningStaysInStep, RemovalStaysInStep, RoomStaysInStep, WriteStaysInStep};
+ghost use Rattle.binding_graph.specs.Step.{AdditionStaysInStep, ClearingStaysInStep, DynamicStaysInStep, NamedWriteStaysInStep};
+ghost use Rattle.binding_graph.specs.Step.{NoDynamicStaysInStep, OpeningStaysInStep, RemovalStaysInStep, RoomStaysInStep, WriteStaysInStep};
 
 /// Over a sound store and a sound graph the value of each property is short, and each value that a settling
 /// tells is one of the property's kind; the graph after it is sound.

@@ -6,7 +6,8 @@ ghost use Rattle.refusals.specs.Answers.{RefusedBy};
 ghost use Rattle.term_core.specs.Forms.{is_within_limits};
 ghost use Rattle.property_store.specs.Store.{without};
 ghost use Rattle.property_store.specs.Table.{store_at};
-ghost use Rattle.binding_graph.specs.Graph.{IsSound, begin_refusal, begun, bind_refusal, bound, end_refusal, ended, is_bound, settled_changes, settled_graph, unbound, value_in, without_object};
+ghost use Rattle.binding_graph.specs.Graph.{IsSound, begin_refusal, begun, bind_refusal, bound, end_refusal, ended, is_bound};
+ghost use Rattle.binding_graph.specs.Graph.{settled_changes, settled_graph, unbound, value_in, without_object};
 ghost use Rattle.binding_graph.specs.Inside.{woven_of};
 ghost use Rattle.binding_graph.specs.Drained.{IsDrained, IsStored};
 ghost use Rattle.binding_graph.specs.Woven.{IsAt, StaysAt, no_woven};
@@ -137,7 +138,8 @@ impl LazyGraph {
     ) -> Result<Items<Change>, AllocError>
         requires ready { IsPlace stores.old.shelves.table place }
         requires step { IsAt stores.old place self.old }
-        ensures told { IfOk result (λ told. told ≡ settled_changes (without object (store_at stores.old.shelves place)) (without_object object self.old.graph) None) }
+        ensures told { IfOk result (λ told.
+            told ≡ settled_changes (without object (store_at stores.old.shelves place)) (without_object object self.old.graph) None) }
         ensures ok { OnOk result (self.new.graph ≡ settled_graph (without object (store_at stores.old.shelves place)) (without_object object self.old.graph)) }
         ensures stores { IsStored place (without object (store_at stores.old.shelves place)) stores.old stores.new }
         ensures step { IsAt stores.new place self.new }

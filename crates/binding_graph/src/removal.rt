@@ -63,7 +63,8 @@ impl Web {
     /// properties is marked.
     fn let_go(&mut self, object: u32, count: usize)
         ensures graph { self.new.graph ≡ without_shown object (without_object object self.old.graph) }
-        ensures step { (store : Store) (marks : Marks) → length (fields_at store object) ≤ count → IsInStep store marks self.old.graph self.old.cache → IsInStep (without object store) marks self.new.graph self.new.cache }
+        ensures step { (store : Store) (marks : Marks) → length (fields_at store object) ≤ count
+            → IsInStep store marks self.old.graph self.old.cache → IsInStep (without object store) marks self.new.graph self.new.cache }
     {
         forget_object(&mut self.pending, &mut self.kept, object, count);
         self.bindings.remove_object(object);
@@ -81,7 +82,8 @@ impl Web {
     ) -> Result<Items<Change>, AllocError>
         requires ready { IsPlace stores.old.shelves.table place }
         requires step { IsAt stores.old place self.old }
-        ensures told { IfOk result (λ told. told ≡ settled_changes (without object (store_at stores.old.shelves place)) (without_object object self.old.graph) None) }
+        ensures told { IfOk result (λ told.
+            told ≡ settled_changes (without object (store_at stores.old.shelves place)) (without_object object self.old.graph) None) }
         ensures ok { OnOk result (self.new.graph ≡ settled_graph (without object (store_at stores.old.shelves place)) (without_object object self.old.graph)) }
         ensures stores { IsStored place (without object (store_at stores.old.shelves place)) stores.old stores.new }
         ensures step { IsAt stores.new place self.new }

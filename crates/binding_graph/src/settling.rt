@@ -44,7 +44,8 @@ impl Web {
         written: Option<Property>,
     ) -> Result<Items<Change>, AllocError>
         requires ready { IsPlace stores.now.shelves.table place }
-        ensures told { IfOk result (λ told. IsTrue tells → told ≡ changes self.old.graph.last (all_shown (store_at stores.now.shelves place) self.old.graph.bindings) written) }
+        ensures told { IfOk result (λ told. IsTrue tells
+            → told ≡ changes self.old.graph.last (all_shown (store_at stores.now.shelves place) self.old.graph.bindings) written) }
         ensures ok { OnOk result (self.new.graph ≡ record self.old.graph { last = all_shown (store_at stores.now.shelves place) self.old.graph.bindings }) }
         ensures err { OnErr result (self.new.graph ≡ self.old.graph) }
         ensures step { OnOk result (IsAt stores.now place self.new) }
@@ -71,7 +72,8 @@ impl Web {
         requires taken { has_marks (marks_at stores.now.marks place) ≡ false }
         requires some { self.old.cache.pending.all ≡ false }
         requires step { IsAt stores.now place self.old }
-        ensures told { IfOk result (λ told. IsTrue tells → told ≡ changes self.old.graph.last (all_shown (store_at stores.now.shelves place) self.old.graph.bindings) written) }
+        ensures told { IfOk result (λ told. IsTrue tells
+            → told ≡ changes self.old.graph.last (all_shown (store_at stores.now.shelves place) self.old.graph.bindings) written) }
         ensures ok { OnOk result (self.new.graph ≡ record self.old.graph { last = all_shown (store_at stores.now.shelves place) self.old.graph.bindings }) }
         ensures err { OnErr result (self.new.graph ≡ self.old.graph) }
         ensures step { OnOk result (IsAt stores.now place self.new) }
@@ -107,7 +109,8 @@ impl Web {
     ) -> Result<Items<Change>, AllocError>
         requires ready { IsPlace stores.old.shelves.table place }
         requires step { IsAt stores.old place self.old }
-        ensures told { IfOk result (λ told. IsTrue tells → told ≡ changes self.old.graph.last (all_shown (store_at stores.old.shelves place) self.old.graph.bindings) written) }
+        ensures told { IfOk result (λ told. IsTrue tells
+            → told ≡ changes self.old.graph.last (all_shown (store_at stores.old.shelves place) self.old.graph.bindings) written) }
         ensures ok { OnOk result (self.new.graph ≡ record self.old.graph { last = all_shown (store_at stores.old.shelves place) self.old.graph.bindings }) }
         ensures err { OnErr result (self.new.graph ≡ self.old.graph) }
         ensures stores { IsDrained place stores.old stores.new }

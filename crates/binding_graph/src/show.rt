@@ -131,7 +131,8 @@ fn show_object(
     requires ready { IsPlace stores.now.shelves.table place }
     requires stands { position < length (store_at stores.now.shelves place) }
     requires complete { IsComplete (scene_of (store_at stores.now.shelves place) bindings.now) (kept_of kept.now) }
-    ensures { OnOk result ((default : Properties) → rows.new.items ≡ rows.old.items ++ filter_map (shown_now (store_at stores.now.shelves place) bindings.now) (properties_of_object (slice_index_or (store_at stores.now.shelves place) position default))) }
+    ensures { OnOk result ((default : Properties) → rows.new.items ≡ rows.old.items ++ filter_map (shown_now (store_at stores.now.shelves place)
+        bindings.now) (properties_of_object (slice_index_or (store_at stores.now.shelves place) position default))) }
 {
     let (object, fields) = stores.object_at(place, position);
     let mut number = 0;
@@ -174,7 +175,8 @@ fn show_each(
 ) -> Result<Showing, AllocError>
     requires ready { IsPlace stores.now.shelves.table place }
     requires complete { IsComplete (scene_of (store_at stores.now.shelves place) bindings.now) (kept_of kept.now) }
-    ensures { IfOk result (λ showing. (q : Property) → shown_at showing q ≡ (if among q touched.now then shown_now (store_at stores.now.shelves place) bindings.now q else None)) }
+    ensures { IfOk result (λ showing. (q : Property)
+        → shown_at showing q ≡ (if among q touched.now then shown_now (store_at stores.now.shelves place) bindings.now q else None)) }
 {
     let mut now = Showing::new(alloc);
     let _ = (bindings.len(), stores.count(place));
@@ -205,7 +207,8 @@ pub(crate) fn show_touched(
 ) -> Result<Showing, AllocError>
     requires ready { IsPlace stores.now.shelves.table place }
     requires complete { IsComplete (scene_of (store_at stores.now.shelves place) bindings.now) (kept_of kept.now) }
-    ensures { IfOk result (λ showing. (q : Property) → shown_at showing q ≡ (if among q touched.old then shown_now (store_at stores.now.shelves place) bindings.now q else None)) }
+    ensures { IfOk result (λ showing. (q : Property)
+        → shown_at showing q ≡ (if among q touched.old then shown_now (store_at stores.now.shelves place) bindings.now q else None)) }
 {
     put_in_order(touched);
     show_each(alloc, stores, place, bindings, kept, touched)

@@ -58,7 +58,8 @@ pub record Apart (scene : Scene) (keeping : Keeping) (seen : List Property) : Ty
 
 -- what is kept is the value, whatever was seen apart from it
 abbrev pub Knows : Scene → Keeping → Type 0
-Knows scene keeping = (q : Property) (kept : Kept) → keeping q ≡ Some kept → (seen : List Property) → Apart scene keeping seen → plain scene seen q ≡ kept.outcome
+Knows scene keeping =
+    (q : Property) (kept : Kept) → keeping q ≡ Some kept → (seen : List Property) → Apart scene keeping seen → plain scene seen q ≡ kept.outcome
 
 -- less is kept, and nothing else
 abbrev pub IsWithin : Keeping → Keeping → Type 0
@@ -73,7 +74,8 @@ IsSteady a b keeping r = IsKept keeping r ⊎ (IsUnbound a r × IsUnbound b r ×
 pub record AgreesAt (a b : Scene) (keeping : Keeping) (q : Property) (kept : Kept) : Type 0 where
   pub kind : option_map (λ cell. cell.kind) (a.cell_at q) ≡ option_map (λ cell. cell.kind) (b.cell_at q)
   pub term : term_at a.bindings q ≡ term_at b.bindings q
-  pub names : (term : Term) → term_at a.bindings q ≡ Some term → All (λ read. a.named q.object read.target read.name ≡ b.named q.object read.target read.name) (met_by [] (reader a (known a keeping) q.object) term)
+  pub names : (term : Term) → term_at a.bindings q ≡ Some term → All (λ read. a.named q.object read.target read.name
+      ≡ b.named q.object read.target read.name) (met_by [] (reader a (known a keeping) q.object) term)
   pub reads : All (IsSteady a b keeping) kept.reads
 
 abbrev pub Agrees : Scene → Scene → Keeping → Type 0

@@ -15,7 +15,8 @@ abbrev pub IsSubset : List Property → List Property → Type 0
 IsSubset some more = (q : Property) → among q some ≡ true → among q more ≡ true
 
 abbrev pub SameOrLoop : Type 0
-SameOrLoop = (scene : Scene) (some more : List Property) → IsSubset some more → (q : Property) → (plain scene more q ≡ plain scene some q) ⊎ (plain scene more q ≡ Err BindingLoop)
+SameOrLoop = (scene : Scene) (some more : List Property)
+    → IsSubset some more → (q : Property) → (plain scene more q ≡ plain scene some q) ⊎ (plain scene more q ≡ Err BindingLoop)
 
 -- with those before it seen, the evaluation of p really reads q
 pub record ReallyReads (scene : Scene) (before : List Property) (p q : Property) : Type 0 where

@@ -10,4 +10,5 @@ use Rattle.binding_values.specs.Sorted.{IsRising}
 pub record IsOrdered (rows : List Done) (order : List Entry) : Type 0 where
   pub rising : IsRising (λ entry. entry.at) order
   pub within : All (λ entry. entry.row < length rows) order
-  pub first : (q : Property) → option_and_then (λ entry. slice_get rows entry.row) (find (λ entry. is_property q entry.at) order) ≡ find (λ row. is_property q row.at) rows
+  pub first : (q : Property) → option_and_then (λ entry. slice_get rows entry.row) (find (λ entry. is_property q entry.at) order)
+      ≡ find (λ row. is_property q row.at) rows

@@ -11,7 +11,8 @@ edge_of read reader = record { read_object = read.object; read_number = read.num
 
 -- the edges of a property that was read stand together
 abbrev pub edge_cmp : Edge → Edge → Ordering
-edge_cmp x y = ordering_then (nat_cmp x.read_object y.read_object) (ordering_then (nat_cmp x.read_number y.read_number) (ordering_then (nat_cmp x.reader_object y.reader_object) (nat_cmp x.reader_number y.reader_number)))
+edge_cmp x y = ordering_then (nat_cmp x.read_object y.read_object) (ordering_then (nat_cmp x.read_number y.read_number)
+    (ordering_then (nat_cmp x.reader_object y.reader_object) (nat_cmp x.reader_number y.reader_number)))
 
 -- the edges of one list are among another's
 abbrev pub AreAmong : List Edge → List Edge → Type 0

@@ -71,4 +71,5 @@ abbrev pub Stepped : Scene → List Done → List Done → Property → List Don
 Stepped scene done below top done' below' None =
     IsRight scene (kept_of done') × IsClosed scene (kept_of done') × IsWithin (kept_of done) (kept_of done') × IsKept (kept_of done') (bottom below top)
 Stepped scene done below top done' below' (Some next) =
-    IsRunning scene done' below' next × IsWithin (kept_of done) (kept_of done') × (bottom below' next ≡ bottom below top) × (work scene done' below' next < work scene done below top)
+    IsRunning scene done' below' next × IsWithin (kept_of done) (kept_of done')
+    × (bottom below' next ≡ bottom below top) × (work scene done' below' next < work scene done below top)

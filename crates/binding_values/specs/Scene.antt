@@ -79,7 +79,8 @@ choose false (Some cell) (Some term) evaluate = evaluate cell term
 
 -- the value of a property, by the values that others have with this one seen too
 abbrev pub by_rule : Scene → (List Property → Property → Outcome) → List Property → Property → Outcome
-by_rule scene value seen q = choose (among q seen) (scene.cell_at q) (term_at scene.bindings q) (λ cell term. evaluated scene (value (q ∷ seen)) q.object cell.kind term)
+by_rule scene value seen q =
+    choose (among q seen) (scene.cell_at q) (term_at scene.bindings q) (λ cell term. evaluated scene (value (q ∷ seen)) q.object cell.kind term)
 
 abbrev pub within : Scene → ℕ → List Property → Property → Outcome
 within scene zero = by_rule scene (λ seen q. Err BindingLoop)

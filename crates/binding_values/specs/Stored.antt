@@ -12,7 +12,8 @@ use Rattle.binding_values.specs.Scene.{Cell, Outcome, Scene, plain}
 
 -- a declared property of an object's
 abbrev pub cell_of : ℕ → Properties → Option Cell
-cell_of number of = option_map_or (λ field. option_map (λ value. record { kind = field.kind; value = value }) (slice_get of.values number)) (slice_get of.fields number) None
+cell_of number of = option_map_or (λ field. option_map (λ value. record { kind = field.kind; value = value }) (slice_get of.values number))
+    (slice_get of.fields number) None
 
 abbrev pub cell_in : Store → Property → Option Cell
 cell_in store q = option_map_or (cell_of q.number) (properties_of store q.object) None
@@ -33,7 +34,8 @@ meant object (Child name) = None
 meant object (Object number) = Some number
 
 abbrev pub named_in : Store → ℕ → Target → List ℕ → Option Property
-named_in store object target name = option_map (λ number. record { object = number; number = bindable_number name (fields_at store number) }) (meant object target)
+named_in store object target name =
+    option_map (λ number. record { object = number; number = bindable_number name (fields_at store number) }) (meant object target)
 
 -- is the property there that a binding binds
 abbrev pub is_there : Store → Binding → Bool

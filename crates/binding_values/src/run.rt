@@ -101,8 +101,10 @@ fn look(
     requires bound { IsSome (term_at (scene_of (store_at stores.now.shelves place) bindings.now).bindings at) }
     requires absent { kept_of done.now at ≡ None }
     ensures tried { IfOk result (λ found. IsTried (scene_of (store_at stores.now.shelves place) bindings.now) (kept_of done.now) at found.0) }
-    ensures next { IfOk result (λ found. IfSome found.1 (WaitsFor (scene_of (store_at stores.now.shelves place) bindings.now) (kept_of done.now) found.0.reads)) }
-    ensures settled { IfOk result (λ found. IfNone found.1 (All (IsSettled (scene_of (store_at stores.now.shelves place) bindings.now) (kept_of done.now)) found.0.reads)) }
+    ensures next { IfOk result (λ found.
+        IfSome found.1 (WaitsFor (scene_of (store_at stores.now.shelves place) bindings.now) (kept_of done.now) found.0.reads)) }
+    ensures settled { IfOk result (λ found.
+        IfNone found.1 (All (IsSettled (scene_of (store_at stores.now.shelves place) bindings.now) (kept_of done.now)) found.0.reads)) }
 {
     let known = Known {
         stores,

@@ -12,7 +12,8 @@ use Rattle.bound_stores.specs.Bound.{BoundShelves, bound_at, stored_at}
 
 -- what changes where a place comes to another store and another graph: in a group nothing is told
 abbrev pub told_of : Store → Graph → Store → Graph → Option Property → List Change
-told_of store graph new_store new_graph written = if is_open new_graph then [] else changes (all_shown store graph.bindings) (all_shown new_store new_graph.bindings) written
+told_of store graph new_store new_graph written =
+    if is_open new_graph then [] else changes (all_shown store graph.bindings) (all_shown new_store new_graph.bindings) written
 
 -- so at a place
 abbrev pub told_at : ℕ → BoundShelves → BoundShelves → Option Property → List Change

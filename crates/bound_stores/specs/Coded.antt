@@ -10,4 +10,5 @@ use Rattle.bound_stores.specs.Bound.{BoundShelves}
 
 abbrev pub coded_bound : Coded BoundShelves
 coded_bound =
-    code_by (Stock × Table Graph) (coded× stores.the_row.coded (table_code coded_graph)) (λ bound. (record { shelves = bound.shelves; marks = [] }, bound.graphs)) (λ p. record { shelves = p.0.shelves; graphs = p.1 }) (λ _. refl)
+    code_by (Stock × Table Graph) (coded× stores.the_row.coded (table_code coded_graph))
+    (λ bound. (record { shelves = bound.shelves; marks = [] }, bound.graphs)) (λ p. record { shelves = p.0.shelves; graphs = p.1 }) (λ _. refl)

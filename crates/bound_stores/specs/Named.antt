@@ -21,7 +21,8 @@ TellsWritten place at old new changed = changes_in at (value_in (stored_at new p
 
 -- a declared property was given a value of its kind, and is bound no longer
 abbrev pub with_written : BoundShelves → ℕ → Property → Value → BoundShelves
-with_written bound place at value = with_bound bound place (store.changed (with_value at.number value) at.object (stored_at bound place)) (unbound (bound_at bound place) at)
+with_written bound place at value =
+    with_bound bound place (store.changed (with_value at.number value) at.object (stored_at bound place)) (unbound (bound_at bound place) at)
 
 module _ (place object : ℕ) (name : List ℕ) (value : Value) (old : BoundShelves) where
   -- a declared property of this name was given the value as one of its kind

@@ -12,9 +12,11 @@ use Rattle.binding_graph.specs.Graph.{Graph, is_bound, value_in}
 -- was set to
 abbrev pub named_in : Store → Graph → ℕ → List ℕ → Option Value
 named_in store graph object name =
-    option_and_then (λ of. option_map_or (λ number. Some (value_in store graph (record { object = object; number = number })).0) (field_number name of.fields) (dynamic_value name of.dynamic)) (properties_of store object)
+    option_and_then (λ of. option_map_or (λ number. Some (value_in store graph (record { object = object; number = number })).0)
+    (field_number name of.fields) (dynamic_value name of.dynamic)) (properties_of store object)
 
 -- the declared property of a name, where it is bound
 abbrev pub bound_named : Store → Graph → ℕ → List ℕ → Option Property
 bound_named store graph object name =
-    option_and_then (λ at. if is_bound graph.bindings (record { object = object; number = at.0 }) then Some (record { object = object; number = at.0 }) else None) (declared_at store object name)
+    option_and_then (λ at. if is_bound graph.bindings (record { object = object; number = at.0 })
+    then Some (record { object = object; number = at.0 }) else None) (declared_at store object name)

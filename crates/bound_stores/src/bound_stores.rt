@@ -6,7 +6,8 @@ ghost use Rattle.term_core.specs.Forms.{is_within_limits};
 ghost use Rattle.variant_value.specs.Values.{IsShort};
 ghost use Rattle.property_store.specs.Store.{added, changed, dynamic_refusal, fitting, properties_of, with_dynamic, without, without_dynamic};
 ghost use Rattle.property_store.specs.Table.{fields_of};
-ghost use Rattle.binding_graph.specs.Graph.{all_shown, begin_refusal, begun, bind_refusal, bound, changes, end_refusal, ended, is_open, no_graph, taken, unbound, without_object};
+ghost use Rattle.binding_graph.specs.Graph.{all_shown, begin_refusal, begun, bind_refusal, bound, changes, end_refusal};
+ghost use Rattle.binding_graph.specs.Graph.{ended, is_open, no_graph, taken, unbound, without_object};
 ghost use Rattle.binding_values.specs.Stored.{is_bindable};
 ghost use Rattle.thread_model.specs.State.{closed};
 ghost use Rattle.bound_stores.specs.Bound.{ChangesBound, bound_at, stored_at, with_bound};
@@ -163,7 +164,8 @@ impl BoundStores {
         requires place { IsPlace self.old.shelves.table place }
         requires short { IsShort value }
         ensures refused { RefusedBy (dynamic_refusal (stored_at self.old place) object name) result }
-        ensures ok { OnOk result (self.new ≡ with_bound self.old place (changed (with_dynamic name value) object (stored_at self.old place)) (bound_at self.old place)) }
+        ensures ok { OnOk result (self.new
+            ≡ with_bound self.old place (changed (with_dynamic name value) object (stored_at self.old place)) (bound_at self.old place)) }
         ensures err { OnErr result (self.new ≡ self.old) }
     {
         binding_graph::steps();
@@ -234,7 +236,8 @@ impl BoundStores {
         requires graph { IsPlace self.old.graphs place }
         ensures refusal { RefusedBy (begin_refusal (bound_at self.old place)) result }
         ensures depth { IfOk result (λ depth. depth ≡ (bound_at self.new place).depth) }
-        ensures ok { OnOk result (self.new ≡ with_bound self.old place (stored_at self.old place) (begun (stored_at self.old place) (bound_at self.old place))) }
+        ensures ok { OnOk result (self.new
+            ≡ with_bound self.old place (stored_at self.old place) (begun (stored_at self.old place) (bound_at self.old place))) }
         ensures err { OnErr result (self.new ≡ self.old) }
         ensures only { ChangesBound place self.old self.new }
     {

@@ -6,7 +6,8 @@ ghost use Rattle.term_core.specs.Forms.{is_within_limits};
 ghost use Rattle.variant_value.specs.Values.{IsShort};
 ghost use Rattle.property_store.specs.Store.{IsSound, added, fitting, properties_of, without};
 ghost use Rattle.property_store.specs.Table.{fields_of, store_at};
-ghost use Rattle.binding_graph.specs.Graph.{all_shown, begin_refusal, begun, bind_refusal, bound, changes, end_refusal, ended, is_open, no_graph, taken, unbound, without_object};
+ghost use Rattle.binding_graph.specs.Graph.{all_shown, begin_refusal, begun, bind_refusal, bound, changes, end_refusal};
+ghost use Rattle.binding_graph.specs.Graph.{ended, is_open, no_graph, taken, unbound, without_object};
 ghost use Rattle.binding_values.specs.Stored.{is_bindable};
 ghost use Rattle.binding_graph.specs.Table.{graph_at};
 ghost use Rattle.thread_model.specs.State.{closed};
@@ -126,7 +127,8 @@ pub(crate) fn write_named(
 ) -> Result<Result<(usize, Changed), Unwritten>, AllocError>
     requires ready { IsReady place stores.old bindings.old }
     requires short { IsShort value }
-    ensures writes { IfOk result (λ answer. WritesNamed place object name.now value (without_marks stores.old bindings.old) answer (without_marks stores.new bindings.new)) }
+    ensures writes { IfOk result (λ answer.
+        WritesNamed place object name.now value (without_marks stores.old bindings.old) answer (without_marks stores.new bindings.new)) }
     ensures idle { OnErr result (IsFalse (is_idle (graph_at bindings.old.graphs place))) }
     ensures stays { StaysSettled place stores.old stores.new bindings.old bindings.new }
 {
@@ -216,7 +218,8 @@ pub(crate) fn unbind(
     requires ready { IsReady place stores.old bindings.old }
     ensures told { IfOk result (λ told. told ≡ told_at place (without_marks stores.old bindings.old) (without_marks stores.new bindings.new) (Some at)) }
     ensures ok { OnOk result (without_marks stores.new bindings.new ≡ with_bound (without_marks stores.old bindings.old) place
-        (taken (store_at stores.old.shelves place) (bound_at (without_marks stores.old bindings.old) place) at) (unbound (bound_at (without_marks stores.old bindings.old) place) at)) }
+        (taken (store_at stores.old.shelves place) (bound_at (without_marks stores.old bindings.old) place) at)
+        (unbound (bound_at (without_marks stores.old bindings.old) place) at)) }
     ensures stays { StaysSettled place stores.old stores.new bindings.old bindings.new }
 {
     match settling::unbind(stores, bindings, place, at) {
@@ -256,7 +259,8 @@ pub(crate) fn end(
     ensures refusal { RefusedBy (end_refusal (bound_at (without_marks stores.old bindings.old) place)) result }
     ensures depth { IfOk result (λ left. left.0 ≡ (bound_at (without_marks stores.new bindings.new) place).depth) }
     ensures told { IfOk result (λ left. left.1 ≡ (if is_open (bound_at (without_marks stores.new bindings.new) place) then []
-        else changes (bound_at (without_marks stores.old bindings.old) place).last (all_shown (store_at stores.new.shelves place) (bound_at (without_marks stores.new bindings.new) place).bindings) None)) }
+        else changes (bound_at (without_marks stores.old bindings.old) place).last
+        (all_shown (store_at stores.new.shelves place) (bound_at (without_marks stores.new bindings.new) place).bindings) None)) }
     ensures ok { OnOk result (without_marks stores.new bindings.new ≡ with_bound (without_marks stores.old bindings.old) place
         (store_at stores.old.shelves place) (closed (ended (bound_at (without_marks stores.old bindings.old) place)))) }
     ensures refused { IfSome (end_refusal (bound_at (without_marks stores.old bindings.old) place))

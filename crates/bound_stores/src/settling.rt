@@ -1,5 +1,5 @@
 //! How a place is changed, and what is told of that.
-ghost use Rattle.std.specs.Prelude.{◌≡◌, [], IfOk, IfSome, IsTrue, Some, None, OnErr, OnOk, if◌then◌else◌};
+ghost use Rattle.std.specs.Prelude.{◌≡◌, IfOk, IfSome, IsTrue, Some, None, OnErr, OnOk};
 ghost use Rattle.std.specs.Result.{result_err};
 ghost use Rattle.places.specs.Table.{IsPlace};
 ghost use Rattle.refusals.specs.Answers.{RefusedBy};
@@ -7,10 +7,12 @@ ghost use Rattle.term_core.specs.Forms.{is_within_limits};
 ghost use Rattle.property_store.specs.Store.{Store, fitting, without, written};
 ghost use Rattle.variant_value.specs.Values.{IsShort};
 ghost use Rattle.property_store.specs.Table.{Stock, store_at, with_store};
-ghost use Rattle.binding_graph.specs.Graph.{Graph, all_shown, bind_refusal, bound, changes, end_refusal, ended, is_open, no_graph, settled_changes, settled_graph, taken, unbound, without_object};
+ghost use Rattle.binding_graph.specs.Graph.{Graph, bind_refusal, bound, end_refusal, ended, no_graph};
+ghost use Rattle.binding_graph.specs.Graph.{settled_changes, settled_graph, taken, unbound, without_object};
 ghost use Rattle.binding_graph.specs.Step.{InStep};
 ghost use Rattle.binding_values.specs.Stored.{is_bindable};
 ghost use Rattle.binding_graph.specs.Table.{graph_at, with_graph};
+ghost use Rattle.bound_stores.specs.Changed.{told_of};
 ghost use Rattle.bound_stores.specs.Settled.{ChangesInStep, IsInStepAt, IsSettledAt, LeavesStores, settled_in};
 
 use binding_graph::{BINDINGS, Bindings, Change, steps};
@@ -24,7 +26,8 @@ use variant_value::Value;
 /// Keeps nothing of a place that is settled, where nothing is bound and no group is open.
 fn tidy(bindings: &mut Bindings, place: usize)
     requires { IsPlace bindings.old.graphs place }
-    ensures tidied { (store : Store) (graph : Graph) → graph_at bindings.old.graphs place ≡ settled_graph store graph → bindings.new.graphs ≡ with_graph bindings.old.graphs place (settled_in store graph) }
+    ensures tidied { (store : Store) (graph : Graph) → graph_at bindings.old.graphs place ≡ settled_graph store graph
+        → bindings.new.graphs ≡ with_graph bindings.old.graphs place (settled_in store graph) }
     ensures step { (stores : Stock) → InStep stores bindings.old → InStep stores bindings.new }
 {
     if bindings.count(place) == 0 && bindings.depth(place) == 0 {
@@ -41,7 +44,8 @@ pub(crate) fn settle(
 ) -> Result<Items<Change>, AllocError>
     requires ready { IsInStepAt place stores.old bindings.old }
     ensures told { IfOk result (λ told. told ≡ settled_changes (store_at stores.old.shelves place) (graph_at bindings.old.graphs place) written) }
-    ensures ok { OnOk result (bindings.new.graphs ≡ with_graph bindings.old.graphs place (settled_in (store_at stores.old.shelves place) (graph_at bindings.old.graphs place))) }
+    ensures ok { OnOk result (bindings.new.graphs
+        ≡ with_graph bindings.old.graphs place (settled_in (store_at stores.old.shelves place) (graph_at bindings.old.graphs place))) }
     ensures stores { stores.new.shelves ≡ stores.old.shelves }
     ensures err { OnErr result (bindings.new.graphs ≡ bindings.old.graphs) }
     ensures step { InStep stores.new bindings.new }
@@ -58,7 +62,8 @@ pub(crate) fn note(
     place: usize,
 ) -> Result<(), AllocError>
     requires ready { IsSettledAt place stores.old bindings.old }
-    ensures ok { OnOk result (bindings.new.graphs ≡ with_graph bindings.old.graphs place (settled_graph (store_at stores.old.shelves place) (graph_at bindings.old.graphs place))) }
+    ensures ok { OnOk result (bindings.new.graphs
+        ≡ with_graph bindings.old.graphs place (settled_graph (store_at stores.old.shelves place) (graph_at bindings.old.graphs place))) }
     ensures stores { stores.new.shelves ≡ stores.old.shelves }
     ensures err { OnErr result (bindings.new.graphs ≡ bindings.old.graphs) }
     ensures step { InStep stores.new bindings.new }
@@ -93,10 +98,10 @@ pub(crate) fn bind(
     requires limited { IsTrue (is_within_limits expr) }
     ensures refused { RefusedBy (bind_refusal (graph_at bindings.old.graphs place) at) result }
     ensures unchanged { IfSome (bind_refusal (graph_at bindings.old.graphs place) at) (λ code. bindings.new.graphs ≡ bindings.old.graphs) }
-    ensures told { IfOk result (λ told. told ≡ (if is_open (graph_at bindings.old.graphs place) then []
-        else changes (all_shown (store_at stores.old.shelves place) (graph_at bindings.old.graphs place).bindings)
-        (all_shown (store_at stores.old.shelves place) (bound (graph_at bindings.old.graphs place) at expr).bindings) (Some at))) }
-    ensures ok { OnOk result (bindings.new.graphs ≡ with_graph bindings.old.graphs place (settled_in (store_at stores.old.shelves place) (bound (graph_at bindings.old.graphs place) at expr))) }
+    ensures told { IfOk result (λ told. told ≡ told_of (store_at stores.old.shelves place) (graph_at bindings.old.graphs place)
+        (store_at stores.old.shelves place) (bound (graph_at bindings.old.graphs place) at expr) (Some at)) }
+    ensures ok { OnOk result (bindings.new.graphs ≡ with_graph bindings.old.graphs place
+        (settled_in (store_at stores.old.shelves place) (bound (graph_at bindings.old.graphs place) at expr))) }
     ensures stays { LeavesStores place stores.old stores.new bindings.old bindings.new }
 {
     may_bind(bindings, place, at)?;
@@ -113,12 +118,12 @@ pub(crate) fn unbind(
     at: Property,
 ) -> Result<Items<Change>, AllocError>
     requires ready { IsSettledAt place stores.old bindings.old }
-    ensures told { IfOk result (λ told. told ≡ (if is_open (graph_at bindings.old.graphs place) then []
-        else changes (all_shown (store_at stores.old.shelves place) (graph_at bindings.old.graphs place).bindings)
-        (all_shown (taken (store_at stores.old.shelves place) (graph_at bindings.old.graphs place) at) (unbound (graph_at bindings.old.graphs place) at).bindings) (Some at))) }
+    ensures told { IfOk result (λ told. told ≡ told_of (store_at stores.old.shelves place) (graph_at bindings.old.graphs place)
+        (taken (store_at stores.old.shelves place) (graph_at bindings.old.graphs place) at) (unbound (graph_at bindings.old.graphs place) at) (Some at)) }
     ensures ok { OnOk result (bindings.new.graphs ≡ with_graph bindings.old.graphs place
         (settled_in (taken (store_at stores.old.shelves place) (graph_at bindings.old.graphs place) at) (unbound (graph_at bindings.old.graphs place) at))) }
-    ensures stores { OnOk result (stores.new.shelves ≡ with_store stores.old.shelves place (taken (store_at stores.old.shelves place) (graph_at bindings.old.graphs place) at)) }
+    ensures stores { OnOk result (stores.new.shelves
+        ≡ with_store stores.old.shelves place (taken (store_at stores.old.shelves place) (graph_at bindings.old.graphs place) at)) }
     ensures stays { ChangesInStep place stores.old stores.new bindings.old bindings.new }
 {
     note(stores, bindings, place)?;
@@ -138,12 +143,12 @@ pub(crate) fn write(
     requires ready { IsSettledAt place stores.old bindings.old }
     requires fits { fitting (store_at stores.old.shelves place) at.object at.number value ≡ Some value }
     requires short { IsShort value }
-    ensures told { IfOk result (λ told. told ≡ (if is_open (graph_at bindings.old.graphs place) then []
-        else changes (all_shown (store_at stores.old.shelves place) (graph_at bindings.old.graphs place).bindings)
-        (all_shown (written (store_at stores.old.shelves place) at.object at.number value) (unbound (graph_at bindings.old.graphs place) at).bindings) (Some at))) }
+    ensures told { IfOk result (λ told. told ≡ told_of (store_at stores.old.shelves place) (graph_at bindings.old.graphs place)
+        (written (store_at stores.old.shelves place) at.object at.number value) (unbound (graph_at bindings.old.graphs place) at) (Some at)) }
     ensures ok { OnOk result (bindings.new.graphs ≡ with_graph bindings.old.graphs place
         (settled_in (written (store_at stores.old.shelves place) at.object at.number value) (unbound (graph_at bindings.old.graphs place) at))) }
-    ensures stores { OnOk result (stores.new.shelves ≡ with_store stores.old.shelves place (written (store_at stores.old.shelves place) at.object at.number value)) }
+    ensures stores { OnOk result (stores.new.shelves
+        ≡ with_store stores.old.shelves place (written (store_at stores.old.shelves place) at.object at.number value)) }
     ensures stays { ChangesInStep place stores.old stores.new bindings.old bindings.new }
 {
     steps();
@@ -161,9 +166,8 @@ pub(crate) fn remove(
     object: u32,
 ) -> Result<Items<Change>, AllocError>
     requires ready { IsSettledAt place stores.old bindings.old }
-    ensures told { IfOk result (λ told. told ≡ (if is_open (graph_at bindings.old.graphs place) then []
-        else changes (all_shown (store_at stores.old.shelves place) (graph_at bindings.old.graphs place).bindings)
-        (all_shown (without object (store_at stores.old.shelves place)) (without_object object (graph_at bindings.old.graphs place)).bindings) None)) }
+    ensures told { IfOk result (λ told. told ≡ told_of (store_at stores.old.shelves place) (graph_at bindings.old.graphs place)
+        (without object (store_at stores.old.shelves place)) (without_object object (graph_at bindings.old.graphs place)) None) }
     ensures ok { OnOk result (bindings.new.graphs ≡ with_graph bindings.old.graphs place
         (settled_in (without object (store_at stores.old.shelves place)) (without_object object (graph_at bindings.old.graphs place)))) }
     ensures stores { OnOk result (stores.new.shelves ≡ with_store stores.old.shelves place (without object (store_at stores.old.shelves place))) }
@@ -187,7 +191,8 @@ pub(crate) fn end(
     ensures unchanged { IfSome (end_refusal (graph_at bindings.old.graphs place)) (λ code. bindings.new.graphs ≡ bindings.old.graphs) }
     ensures depth { IfOk result (λ left. left.0 ≡ (ended (graph_at bindings.old.graphs place)).depth) }
     ensures told { IfOk result (λ told. told.1 ≡ settled_changes (store_at stores.old.shelves place) (ended (graph_at bindings.old.graphs place)) None) }
-    ensures ok { OnOk result (bindings.new.graphs ≡ with_graph bindings.old.graphs place (settled_in (store_at stores.old.shelves place) (ended (graph_at bindings.old.graphs place)))) }
+    ensures ok { OnOk result (bindings.new.graphs
+        ≡ with_graph bindings.old.graphs place (settled_in (store_at stores.old.shelves place) (ended (graph_at bindings.old.graphs place)))) }
     ensures stays { LeavesStores place stores.old stores.new bindings.old bindings.new }
 {
     let left = bindings.end(place, stores)?;

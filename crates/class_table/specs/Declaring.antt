@@ -1,5 +1,6 @@
 -- What a written class declares, behind the classes that are there.
-use Rattle.std.specs.Prelude.{◌&&◌, ◌+◌, ℕ, Bool, true, false, List, [], ◌∷◌, ◌++◌, Option, Some, None, Result, Ok, Err, codes, length, map, position, slice_get, nat_le, is_none}
+use Rattle.std.specs.Prelude.{◌&&◌, ◌+◌, ℕ, Bool, true, false, List, [], ◌∷◌, ◌++◌, Option, Some, None, Result}
+use Rattle.std.specs.Prelude.{Ok, Err, codes, length, map, position, slice_get, nat_le, is_none}
 use Rattle.std.specs.Option.{ok_or, option_map_or}
 use Rattle.serde_json.specs.Data.{Data}
 use Rattle.refusals.specs.declared.code.Code.{Code}
@@ -124,7 +125,14 @@ abbrev pub class_with : List Class → ℕ → WrittenClass → List SignedMetho
 class_with classes base written new =
     each (property_of (methods classes base) new) written.properties >>= λ own_properties.
     each method_of new >>= λ own_methods.
-    Ok (record { name = written.name; superclass = Some base; method_offset = length (methods classes base); property_offset = length (properties classes base); methods = own_methods; properties = own_properties })
+    Ok (record {
+      name = written.name;
+      superclass = Some base;
+      method_offset = length (methods classes base);
+      property_offset = length (properties classes base);
+      methods = own_methods;
+      properties = own_properties;
+    })
 
 -- the class that is declared below a superclass
 unfoldable pub class_below : List Class → ℕ → WrittenClass → Read Class

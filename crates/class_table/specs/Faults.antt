@@ -1,7 +1,8 @@
 -- How faults of a class file are printed, and what a call that may find one answers.
 use Rattle.std.specs.Prelude.{◌≡◌, ℕ, List, Result, Ok, Err, codes}
 use Rattle.class_table.specs.declared.fault.ClassFaultKind.{ClassFaultKind}
-use Rattle.class_table.specs.declared.fault.ClassFaultKind.TheVariants.{NotJson, BadForm, NameTaken, NoSuperclass, BadSignature, DeclaredTwice, BadNotify, BadBody, Limit}
+use Rattle.class_table.specs.declared.fault.ClassFaultKind.TheVariants.{NotJson, BadForm, NameTaken, NoSuperclass, BadSignature}
+use Rattle.class_table.specs.declared.fault.ClassFaultKind.TheVariants.{DeclaredTwice, BadNotify, BadBody, Limit}
 use Rattle.class_table.specs.declared.fault.ClassFault.{ClassFault}
 use Rattle.class_table.specs.declared.fault.ClassError.{ClassError}
 use Rattle.class_table.specs.declared.fault.ClassError.TheVariants.{Fault, Memory}

@@ -13,4 +13,9 @@ abbrev pub property_seen : PropertyForm → WrittenProperty
 property_seen form = record { name = form.name.now; kind = form.kind; notify = option_map (λ text. text.now) form.notify; bindable = form.bindable }
 
 abbrev pub class_seen : ClassForm → WrittenClass
-class_seen form = record { name = form.name.now; base = form.base.now; methods = map method_seen form.methods.items; properties = map property_seen form.properties.items }
+class_seen form = record {
+  name = form.name.now;
+  base = form.base.now;
+  methods = map method_seen form.methods.items;
+  properties = map property_seen form.properties.items;
+}

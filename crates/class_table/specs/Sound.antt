@@ -9,7 +9,8 @@ use Rattle.class_table.specs.declared.class.Class.{Class}
 use Rattle.class_table.specs.declared.class.Method.{Method}
 use Rattle.class_table.specs.declared.class.Property.{Property}
 use Rattle.class_table.specs.Declaring.{q_object, tells}
-use Rattle.class_table.specs.Lookup.{are_distinct_methods, are_distinct_properties, inherited, line, method_text, methods, names, index_of, properties, signatures}
+use Rattle.class_table.specs.Lookup.{are_distinct_methods, are_distinct_properties, inherited, line}
+use Rattle.class_table.specs.Lookup.{method_text, methods, names, index_of, properties, signatures}
 
 -- a method is kept with the text of its signature; its body keeps to the limits, takes no argument but the
 -- method's parameters, and sets only what has a name

@@ -8,7 +8,8 @@ ghost use Rattle.term_core.specs.Json.{has_only};
 ghost use Rattle.class_table.specs.Faults.{Gives};
 ghost use Rattle.class_table.specs.Forms.{class_seen, method_seen, property_seen};
 ghost use Rattle.class_table.specs.Steps.{each, in_front};
-ghost use Rattle.class_table.specs.Written.{array_in, at_key, class_in, class_keys, kind_at, member_text, methods_in, name_at, optional, properties_in, property_in, property_keys, signal_in, slot_in, slot_keys, some_text_in, text_in, truth_in};
+ghost use Rattle.class_table.specs.Written.{array_in, at_key, class_in, class_keys, kind_at, member_text, methods_in, name_at, optional, properties_in};
+ghost use Rattle.class_table.specs.Written.{property_in, property_keys, signal_in, slot_in, slot_keys, some_text_in, text_in, truth_in};
 
 use crate::fault::{ClassFaultKind, Stop};
 use plain_types::is_name;

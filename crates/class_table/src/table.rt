@@ -1,9 +1,11 @@
 //! The table of classes, and what is looked up in it.
-ghost use Rattle.std.specs.Prelude.{◌≡◌, ◌+◌, ◌≤◌, ◌++◌, ◌∷◌, List, [], Some, None, IsTrue, IfSome, IfNone, IfOk, OnOk, IfErr, length, map, slice_get, string_bytes};
+ghost use Rattle.std.specs.Prelude.{◌≡◌, ◌+◌, ◌≤◌, ◌++◌, ◌∷◌, List, [], Some, None, IsTrue, IfSome, IfNone};
+ghost use Rattle.std.specs.Prelude.{IfOk, OnOk, IfErr, length, map, slice_get, string_bytes};
 ghost use Rattle.std.specs.Option.{option_copied};
 ghost use Rattle.class_table.specs.declared.fault.ClassError.TheVariants.{Memory};
 ghost use Rattle.class_table.specs.Declaring.{q_object};
-ghost use Rattle.class_table.specs.Lookup.{are_distinct_methods, are_distinct_properties, inherits, line, method_number, method_text, methods, names, index_of, properties, property_number, signatures};
+ghost use Rattle.class_table.specs.Lookup.{are_distinct_methods, are_distinct_properties, inherits, line, method_number};
+ghost use Rattle.class_table.specs.Lookup.{method_text, methods, names, index_of, properties, property_number, signatures};
 ghost use Rattle.indexmap.specs.IndexMap.{keys, values};
 ghost use Rattle.class_table.specs.Sound.{FitsBehind, IsClassAt, IsMethod, IsTable, is_told};
 ghost use Rattle.class_table.specs.Spelled.{IsSpelled};

@@ -1,5 +1,6 @@
 -- How the connections of a place are found from their ends. No public clause cites this module.
-use Rattle.std.specs.Prelude.{◌≡◌, ◌≢◌, ℕ, ◌<◌, ◌≤◌, ◌^◌, not, nat_lt, ◌==◌, ◌&&◌, ◌||◌, Bool, true, false, List, [], All, AllPairs, filter, length, map, slice_index_or, Option, Some, None}
+use Rattle.std.specs.Prelude.{◌≡◌, ◌≢◌, ℕ, ◌<◌, ◌≤◌, ◌^◌, not, nat_lt, ◌==◌, ◌&&◌, ◌||◌, Bool, true, false, List, []}
+use Rattle.std.specs.Prelude.{All, AllPairs, filter, length, map, slice_index_or, Option, Some, None}
 use Rattle.std.specs.List.{AllWithin}
 use Rattle.std.specs.Ordering.{nat_cmp, ordering_then}
 use Rattle.std.specs.declared.alloc.Global.{Global}
@@ -32,7 +33,8 @@ link_of false keyed = sent_of keyed
 
 -- links stand by object, then by signal, by number and by key
 abbrev pub link_cmp : Link → Link → Ordering
-link_cmp x y = ordering_then (nat_cmp x.object y.object) (ordering_then (nat_cmp x.signal y.signal) (ordering_then (nat_cmp x.number y.number) (nat_cmp x.key y.key)))
+link_cmp x y = ordering_then (nat_cmp x.object y.object)
+    (ordering_then (nat_cmp x.signal y.signal) (ordering_then (nat_cmp x.number y.number) (nat_cmp x.key y.key)))
 
 -- does a link stand before all of an object, or of one of its signals, and does it stand behind them
 abbrev pub is_before : ℕ → Option ℕ → Link → Bool

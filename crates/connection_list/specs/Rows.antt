@@ -1,5 +1,6 @@
 -- What contracts see of the connections of a place.
-use Rattle.std.specs.Prelude.{ℕ, ◌+◌, ◌-◌, ◌^◌, ◌<◌, ◌≤◌, Bool, not, nat_lt, nat_le, ◌==◌, ◌&&◌, if◌then◌else◌, List, [], ◌∷◌, ◌++◌, length, filter, find, map, All, AllPairs, Option, Some, None, option_and_then}
+use Rattle.std.specs.Prelude.{ℕ, ◌+◌, ◌-◌, ◌^◌, ◌<◌, ◌≤◌, Bool, not, nat_lt, nat_le, ◌==◌, ◌&&◌, if◌then◌else◌, List, [], ◌∷◌}
+use Rattle.std.specs.Prelude.{◌++◌, length, filter, find, map, All, AllPairs, Option, Some, None, option_and_then}
 use Rattle.std.specs.List.{list_any}
 use Rattle.refusals.specs.declared.code.Code.{Code}
 use Rattle.refusals.specs.declared.code.Code.TheVariants.{ConnectedAlready, Limit, NumbersUsedUp}
@@ -40,7 +41,16 @@ connect_refusal place new unique =
 
 -- the new connection under its number, whose functor has the state 0
 abbrev pub numbered : ℕ → NewConnection → Connection
-numbered number new = record { number = number; sender = new.sender; signal = new.signal; receiver = new.receiver; callee = new.callee; mode = new.mode; single = new.single; state = 0 }
+numbered number new = record {
+  number = number;
+  sender = new.sender;
+  signal = new.signal;
+  receiver = new.receiver;
+  callee = new.callee;
+  mode = new.mode;
+  single = new.single;
+  state = 0;
+}
 
 -- the place with one more connection, which has the next number
 abbrev pub connected : Rows → NewConnection → Rows

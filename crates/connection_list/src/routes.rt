@@ -1,5 +1,6 @@
 //! How the connections of a place are found from both ends.
-ghost use Rattle.std.specs.Prelude.{◌≡◌, ◌≢◌, ◌<◌, ◌^◌, ◌==◌, [], All, Any, Bool, IfNone, IfSome, IsSome, List, OnOk, Some, false, find, length, slice_index_or, true};
+ghost use Rattle.std.specs.Prelude.{◌≡◌, ◌≢◌, ◌<◌, ◌^◌, ◌==◌, [], All, Any, Bool, IfNone, IfSome, IsSome};
+ghost use Rattle.std.specs.Prelude.{List, OnOk, Some, false, find, length, slice_index_or, true};
 ghost use Rattle.std.specs.List.{list_any};
 ghost use Rattle.std.specs.Option.{option_map};
 ghost use Rattle.places.specs.Table.{IsPlace};
@@ -9,7 +10,8 @@ ghost use Rattle.connection_list.specs.declared.connection.Connection.{Connectio
 ghost use Rattle.connection_list.specs.declared.link.Link.{Link};
 ghost use Rattle.connection_list.specs.Ends.{matches, same_ends, touches};
 ghost use Rattle.connection_list.specs.Rows.{is_next};
-ghost use Rattle.connection_list.specs.Routes.{AreGone, AreSame, HaveRoom, IsGroup, IsPlaceKept, IsRouted, link_cmp, link_of, links_of, no_routes, received_of, sent_of};
+ghost use Rattle.connection_list.specs.Routes.{AreGone, AreSame, HaveRoom, IsGroup, IsPlaceKept, IsRouted, link_cmp};
+ghost use Rattle.connection_list.specs.Routes.{link_of, links_of, no_routes, received_of, sent_of};
 
 use crate::connection::{Connection, NewConnection};
 use crate::ends::{matches, same_ends};

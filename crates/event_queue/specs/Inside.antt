@@ -1,5 +1,6 @@
 -- How the queues stand in rows and logs. No public clause cites this module.
-use Rattle.std.specs.Prelude.{◌≡◌, ℕ, ◌+◌, ◌*◌, ◌%◌, ◌^◌, ◌<◌, ◌≤◌, ◌==◌, ◌⊎◌, Bool, false, not, if◌then◌else◌, List, [], length, map, filter, count_by, slice_index_or}
+use Rattle.std.specs.Prelude.{◌≡◌, ℕ, ◌+◌, ◌*◌, ◌%◌, ◌^◌, ◌<◌, ◌≤◌, ◌==◌, ◌⊎◌, Bool, false, not}
+use Rattle.std.specs.Prelude.{if◌then◌else◌, List, [], length, map, filter, count_by, slice_index_or}
 use Rattle.std.specs.List.{All, AllWithin}
 use Rattle.std.specs.Option.{unwrap_or}
 use Rattle.std.specs.Ordering.{nat_cmp}

@@ -277,7 +277,8 @@ pub(crate) fn removed<T: Copy>(places: &mut Vec<T>, gap: Gap, at: usize) -> Gap
 /// Makes room for one more element where there is none.
 pub(crate) fn reserved<T: Copy>(places: &mut Vec<T>, gap: Gap) -> Result<Gap, AllocError>
     requires { IsGapOf places.old.items gap }
-    ensures ok { IfOk result (λ now. (listed places.new.items now ≡ listed places.old.items gap) × IsGapOf places.new.items now × HasRoom places.new (length (listed places.new.items now))) }
+    ensures ok { IfOk result (λ now. (listed places.new.items now ≡ listed places.old.items gap)
+        × IsGapOf places.new.items now × HasRoom places.new (length (listed places.new.items now))) }
     ensures err { OnErr result ((places.new.items ≡ places.old.items) × (vec_capacity places.new ≡ vec_capacity places.old)) }
     ensures kept { vec_capacity places.old ≤ vec_capacity places.new }
 {
@@ -292,7 +293,8 @@ pub(crate) fn reserved<T: Copy>(places: &mut Vec<T>, gap: Gap) -> Result<Gap, Al
 #[inline(never)]
 fn with_more_room<T: Copy>(places: &mut Vec<T>, gap: Gap) -> Result<Gap, AllocError>
     requires { IsGapOf places.old.items gap }
-    ensures ok { IfOk result (λ now. (listed places.new.items now ≡ listed places.old.items gap) × IsGapOf places.new.items now × HasRoom places.new (length (listed places.new.items now))) }
+    ensures ok { IfOk result (λ now. (listed places.new.items now ≡ listed places.old.items gap)
+        × IsGapOf places.new.items now × HasRoom places.new (length (listed places.new.items now))) }
     ensures err { OnErr result ((places.new.items ≡ places.old.items) × (vec_capacity places.new ≡ vec_capacity places.old)) }
     ensures kept { vec_capacity places.old ≤ vec_capacity places.new }
 {

@@ -11,7 +11,8 @@ pub(crate) fn point<T: Copy, P: FnMut(&T) -> bool>(places: &Vec<T>, gap: Gap, mu
     requires gap { IsGapOf places.now.items gap }
     requires callable { P.IsAlwaysCallable pred }
     ensures bound { result ≤ length (listed places.now.items gap) }
-    ensures partitioned { (p : T → Bool) → ComputesKey P.FnMut p pred → IsPartitionedBy p (listed places.now.items gap) → IsPartitionPoint (λ y. p y ≡ true) (λ y. p y ≡ false) (listed places.now.items gap) result }
+    ensures partitioned { (p : T → Bool) → ComputesKey P.FnMut p pred → IsPartitionedBy p (listed places.now.items gap)
+        → IsPartitionPoint (λ y. p y ≡ true) (λ y. p y ≡ false) (listed places.now.items gap) result }
 {
     let mut size = count(places, gap);
     if size == 0 {

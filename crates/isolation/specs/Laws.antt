@@ -16,12 +16,14 @@ module _ {Name State Command Line Post : Type 0} (m : Machine Name State Command
     pub state : world_after m world ts s ≡ alone_after m s (world s) (items m s world ts)
 
   -- s is told the same in both runs, and has the same state after both
-  pub record SameFor (s : Name) (world : Name → State) (ts : List (Tagged Name Command)) (other : Name → State) (fewer : List (Tagged Name Command)) : Type 0 where
+  pub record SameFor (s : Name) (world : Name → State)
+      (ts : List (Tagged Name Command)) (other : Name → State) (fewer : List (Tagged Name Command)) : Type 0 where
     pub lines : at_session m s fewer (world_lines m other fewer) ≡ at_session m s ts (world_lines m world ts)
     pub state : world_after m other fewer s ≡ world_after m world ts s
 
   -- all sessions that pass the test are told the same in both runs, in one order, and have the same states after both
-  pub record SameForAll (keep : Name → Bool) (world : Name → State) (ts : List (Tagged Name Command)) (other : Name → State) (fewer : List (Tagged Name Command)) : Type 0 where
+  pub record SameForAll (keep : Name → Bool) (world : Name → State)
+      (ts : List (Tagged Name Command)) (other : Name → State) (fewer : List (Tagged Name Command)) : Type 0 where
     pub lines : world_lines m other fewer ≡ entries_of keep ts (world_lines m world ts)
     pub states : Agree keep (world_after m world ts) (world_after m other fewer)
 

@@ -25,8 +25,10 @@ pub record IsLawful {Name State Command Line Post : Type 0} (m : Machine Name St
   pub equal : (a b : Name) → m.same a b ≡ true → a ≡ b
   pub itself : (a : Name) → m.same a a ≡ true
   pub stranger : (state : State) (from : Name) (post : Post) → m.names state from ≡ false → m.arrives state from post ≡ state
-  pub made : (self : Name) (state : State) (command : Command) (name : Name) → m.names (m.does self state command).state name ≡ true → (m.names state name ≡ true) ⊎ (m.accepts self state command name ≡ true)
-  pub stands : (self : Name) (state : State) (command : Command) (name : Name) → m.accepts self state command name ≡ true → m.names (m.does self state command).state name ≡ true
+  pub made : (self : Name) (state : State) (command : Command) (name : Name) → m.names (m.does self state command).state name ≡ true
+      → (m.names state name ≡ true) ⊎ (m.accepts self state command name ≡ true)
+  pub stands : (self : Name) (state : State) (command : Command) (name : Name)
+      → m.accepts self state command name ≡ true → m.names (m.does self state command).state name ≡ true
   pub arrived : (state : State) (from : Name) (post : Post) (name : Name) → m.names (m.arrives state from post) name ≡ true → m.names state name ≡ true
 
 -- a command, and the session that gives it

@@ -8,7 +8,9 @@
 #![tactic(auto)]
 
 ghost use Rattle.isolation.specs.Machine.{Machine, IsLawful};
-ghost use Rattle.isolation.specs.Laws.{FirstHalf, LeavingOut, FinalStates, SecondHalf, InfluencedStates, InfluenceIsLeast, JoinsStood, InfluenceOfStanding, SliceLaw, SliceFromMembers, SliceWithinInfluence, NotesGiveSlice, NotesAreRight, LeavingOutPieces, SaidStays, SaidByInfluence, ToldAlone};
+ghost use Rattle.isolation.specs.Laws.{FirstHalf, LeavingOut, FinalStates, SecondHalf, InfluencedStates, InfluenceIsLeast};
+ghost use Rattle.isolation.specs.Laws.{JoinsStood, InfluenceOfStanding, SliceLaw, SliceFromMembers, SliceWithinInfluence};
+ghost use Rattle.isolation.specs.Laws.{NotesGiveSlice, NotesAreRight, LeavingOutPieces, SaidStays, SaidByInfluence, ToldAlone};
 
 /// The laws of runs: each session is as if alone, and it does not see the commands of sessions
 /// that no chain of joins from it leads to.

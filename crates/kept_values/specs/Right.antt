@@ -47,7 +47,8 @@ pub record DiffersAt (marks : Marks) (a b : Scene) : Type 0 where
   pub cells : (q : Property) → is_marked marks q ≡ false → a.cell_at q ≡ b.cell_at q
   pub terms : (q : Property) → is_marked marks q ≡ false → term_at a.bindings q ≡ term_at b.bindings q
   -- a name stands for what it stood for, unless that is marked
-  pub names : (object : ℕ) (target : Target) (name : List ℕ) (q : Property) → a.named object target name ≡ Some q → is_marked marks q ≡ false → b.named object target name ≡ Some q
+  pub names : (object : ℕ) (target : Target) (name : List ℕ) (q : Property)
+      → a.named object target name ≡ Some q → is_marked marks q ≡ false → b.named object target name ≡ Some q
   pub nameless : (object : ℕ) (target : Target) (name : List ℕ) → a.named object target name ≡ None → b.named object target name ≡ None
   -- and unless all is marked no property goes
   pub there : marks.all ≡ false → (q : Property) → b.cell_at q ≡ None → a.cell_at q ≡ None

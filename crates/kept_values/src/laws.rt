@@ -1,5 +1,7 @@
 //! What holds of what is kept. There is nothing to run in these functions: their clauses are theorems.
-ghost use Rattle.kept_values.specs.Laws.{AdditionIsMarked, AllMayChange, BindingIsMarked, CompleteIsKnown, CompleteIsRight, DynamicIsNothing, KeptStaysRight, NoDynamicIsNothing, RestIsRight, StaysRight, StaysWhole, UnbindingIsMarked, UnmarkedIsComplete, WriteIsMarked};
+ghost use Rattle.kept_values.specs.Laws.{AdditionIsMarked, AllMayChange, BindingIsMarked, CompleteIsKnown, CompleteIsRight};
+ghost use Rattle.kept_values.specs.Laws.{DynamicIsNothing, KeptStaysRight, NoDynamicIsNothing, RestIsRight, StaysRight};
+ghost use Rattle.kept_values.specs.Laws.{StaysWhole, UnbindingIsMarked, UnmarkedIsComplete, WriteIsMarked};
 
 /// What is kept stays right where nothing that it has read has changed. Where all that is bound is kept and right,
 /// what is known by it is the value of each property. A change whose properties are marked leaves what is kept right

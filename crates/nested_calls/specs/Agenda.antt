@@ -16,8 +16,10 @@ use Rattle.nested_calls.specs.Telling.{doing_at}
 -- these are the first of those that all of it posts
 pub record DoesNext {T E : Type 0} (caller : Caller) (next : List Post → Next) (old new : Tables) (before after : Telling) (result : Result T E) : Type 0 where
   pub posts : List Post
-  pub runs : OnOk result ((earlier : List Post) → run (settings_of caller.setup.now) (next earlier).items (next earlier).doing ≡ doing_at caller.place new after (earlier ++ posts))
-  pub front : OnErr result ((earlier : List Post) → IsFront (earlier ++ posts) (run (settings_of caller.setup.now) (next earlier).items (next earlier).doing).posts)
+  pub runs : OnOk result ((earlier : List Post)
+      → run (settings_of caller.setup.now) (next earlier).items (next earlier).doing ≡ doing_at caller.place new after (earlier ++ posts))
+  pub front : OnErr result ((earlier : List Post)
+      → IsFront (earlier ++ posts) (run (settings_of caller.setup.now) (next earlier).items (next earlier).doing).posts)
   pub reaches : Reaches caller.setup.now.classes caller.name.now caller.place posts old new before.failing after.failing
 
 -- these items are done

@@ -17,11 +17,23 @@ fresh_telling turns = record { lines = []; turns = turns; spent = false; taken =
 
 -- with one more line
 abbrev pub with_line : Telling → Line → Telling
-with_line telling line = record { lines = telling.lines ++ line ∷ []; turns = telling.turns; spent = telling.spent; taken = telling.taken; failing = telling.failing }
+with_line telling line = record {
+  lines = telling.lines ++ line ∷ [];
+  turns = telling.turns;
+  spent = telling.spent;
+  taken = telling.taken;
+  failing = telling.failing;
+}
 
 -- where a turn is wanted and none is left
 abbrev pub spent : Telling → Telling
-spent telling = if telling.spent then telling else record { lines = telling.lines ++ Warning TurnsUsedUp None ∷ []; turns = telling.turns; spent = true; taken = telling.taken; failing = telling.failing }
+spent telling = if telling.spent then telling else record {
+  lines = telling.lines ++ Warning TurnsUsedUp None ∷ [];
+  turns = telling.turns;
+  spent = true;
+  taken = telling.taken;
+  failing = telling.failing;
+}
 
 -- what an action of the slot of an object was refused for is told; where memory was wanted there is nothing to tell
 abbrev pub Warns : Fault → ℕ → Telling → Telling → Type 0
@@ -30,4 +42,11 @@ Warns Memory object old new = ⊥
 
 -- the session at a place while it does a command, where it has made these posts; they are kept nowhere
 abbrev pub doing_at : ℕ → Tables → Telling → List Post → Doing
-doing_at place tables telling posts = record { state = state_at tables place; turns = telling.turns; spent = telling.spent; taken = telling.taken; lines = telling.lines; posts = posts }
+doing_at place tables telling posts = record {
+  state = state_at tables place;
+  turns = telling.turns;
+  spent = telling.spent;
+  taken = telling.taken;
+  lines = telling.lines;
+  posts = posts;
+}

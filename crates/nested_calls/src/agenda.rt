@@ -167,7 +167,14 @@ fn call_later(
 ) -> Result<(), AllocError>
     requires { IsPlaced tables.old caller.now.place }
     ensures ok { OnOk result (tables.new ≡ session.with_state tables.old caller.now.place (with_call (state_at tables.old caller.now.place)
-        (record { object = connection.now.receiver; callee = connection.now.callee; sender = connection.now.sender; connection = connection.now.number; priority = Normal; args = args.now }))) }
+        (record {
+          object = connection.now.receiver;
+          callee = connection.now.callee;
+          sender = connection.now.sender;
+          connection = connection.now.number;
+          priority = Normal;
+          args = args.now;
+        }))) }
     ensures err { OnErr result (tables.new ≡ tables.old) }
 {
     let call = QueuedCall {

@@ -12,7 +12,9 @@ changed change number rows = map (λ row. if has_number number row then change r
 -- one more object, behind all others in number and in age
 unfoldable pub added : Forest → Option ℕ → ℕ → Forest
 added forest parent class = record {
-  rows = forest.rows ++ record { number = forest.last_number + 1; class = class; parent = parent; stamp = forest.last_stamp + 1; dying = false; blocked = false } ∷ [];
+  rows = forest.rows
+      ++ record { number = forest.last_number + 1; class = class; parent = parent; stamp = forest.last_stamp + 1; dying = false; blocked = false } ∷
+      [];
   last_number = forest.last_number + 1;
   last_stamp = forest.last_stamp + 1;
 }

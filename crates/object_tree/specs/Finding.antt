@@ -1,5 +1,6 @@
 -- The object below another one that passes a test.
-use Rattle.std.specs.Prelude.{ℕ, suc, zero, ◌≡◌, ◌<◌, ◌==◌, ◌^◌, ◌&&◌, Bool, List, [], ◌∷◌, Option, Some, None, Result, IsFalse, IfOk, length, find, drop, nat_lt}
+use Rattle.std.specs.Prelude.{ℕ, suc, zero, ◌≡◌, ◌<◌, ◌==◌, ◌^◌, ◌&&◌, Bool, List, [], ◌∷◌, Option}
+use Rattle.std.specs.Prelude.{Some, None, Result, IsFalse, IfOk, length, find, drop, nat_lt}
 use Rattle.std.specs.declared.alloc.AllocError.{AllocError}
 use Rattle.std.specs.List.{flat_map, list_any}
 use Rattle.std.specs.Option.{option_or}
@@ -43,4 +44,5 @@ IsNearest rows object passes found = IsFirstAtLeast (depth rows) (all_below rows
 
 -- each answer of a test is that of `passes`
 abbrev pub AnswersBy : (ℕ → Result Bool AllocError → Type 0) → (ℕ → Bool) → Type 0
-AnswersBy answers passes = (number : ℕ) (answer : Result Bool AllocError) → number < 2 ^ 32 → answers number answer → IfOk answer (λ passed. passed ≡ passes number)
+AnswersBy answers passes =
+    (number : ℕ) (answer : Result Bool AllocError) → number < 2 ^ 32 → answers number answer → IfOk answer (λ passed. passed ≡ passes number)

@@ -9,14 +9,16 @@ use Rattle.object_tree.specs.Changes.{added, marked, removed, reparented, with_b
 pub record KeepsSound : Type 0 where
   pub at_first : IsSound empty_forest
   pub by_added : (forest : Forest) (parent : Option ℕ) (class : ℕ) → add_refusal forest parent ≡ None → IsSound forest → IsSound (added forest parent class)
-  pub by_reparented : (forest : Forest) (object : ℕ) (parent : Option ℕ) → set_parent_refusal forest object parent ≡ None → IsSound forest → IsSound (reparented forest object parent)
+  pub by_reparented : (forest : Forest) (object : ℕ) (parent : Option ℕ)
+      → set_parent_refusal forest object parent ≡ None → IsSound forest → IsSound (reparented forest object parent)
   pub by_marked : (forest : Forest) (object : ℕ) → IsSound forest → IsSound (marked forest object)
   pub by_blocked : (forest : Forest) (object : ℕ) (on : Bool) → IsSound forest → IsSound (with_blocked forest object on)
   pub by_removed : (forest : Forest) (object : ℕ) → IsSound forest → IsSound (removed forest object)
 
 -- only what is added has a new number, and only what is removed loses its own
 pub record KeepsNumbers : Type 0 where
-  pub by_added : (forest : Forest) (parent : Option ℕ) (class : ℕ) → numbers (added forest parent class).rows ≡ numbers forest.rows ++ (forest.last_number + 1) ∷ []
+  pub by_added : (forest : Forest) (parent : Option ℕ) (class : ℕ)
+      → numbers (added forest parent class).rows ≡ numbers forest.rows ++ (forest.last_number + 1) ∷ []
   pub by_reparented : (forest : Forest) (object : ℕ) (parent : Option ℕ) → numbers (reparented forest object parent).rows ≡ numbers forest.rows
   pub by_marked : (forest : Forest) (object : ℕ) → numbers (marked forest object).rows ≡ numbers forest.rows
   pub by_blocked : (forest : Forest) (object : ℕ) (on : Bool) → numbers (with_blocked forest object on).rows ≡ numbers forest.rows

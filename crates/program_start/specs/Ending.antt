@@ -73,7 +73,8 @@ Takes old new text = (Appends old.received new.received text × (new.failures �
 -- standard output took all of the text, or it failed: then standard error is told, and the status is 4
 abbrev pub Shows : Ending → ℕ → Sunk → Sunk → Sunk → Sunk → Type 0
 Shows ending status output output_after error error_after =
-    ((status ≡ ending.status) × Appends output.received output_after.received (cow_str_bytes ending.text) × (output_after.failures ≡ output.failures) × (error_after ≡ error))
+    ((status ≡ ending.status) × Appends output.received output_after.received (cow_str_bytes ending.text)
+    × (output_after.failures ≡ output.failures) × (error_after ≡ error))
     ⊎ ((status ≡ 4) × FailsOnce output.failures output_after.failures × Takes error error_after (line (codes "metad: write fault")))
 
 -- standard error is told the text, and standard output nothing

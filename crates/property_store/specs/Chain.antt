@@ -51,7 +51,8 @@ head_of (Some at) = head.First at
 -- the links lead over these properties, each of which is linked, and to an end
 abbrev pub IsChain : (Property → Option Link) → Option Property → List Property → Type 0
 IsChain at first [] = first ≡ None
-IsChain at first (property ∷ rest) = (first ≡ Some property) × (is_linked (at property) ≡ true) × (among property rest ≡ false) × IsChain at (next_of (at property)) rest
+IsChain at first (property ∷ rest) =
+    (first ≡ Some property) × (is_linked (at property) ≡ true) × (among property rest ≡ false) × IsChain at (next_of (at property)) rest
 
 -- and every property that is linked is one of them
 pub record AreLinked (at : Property → Option Link) (first : Option Property) : Type 0 where
@@ -62,7 +63,8 @@ pub record AreLinked (at : Property → Option Link) (first : Option Property) :
 -- the link of a number among so many of a new object
 abbrev pub new_link : ℕ → ℕ → Head → ℕ → Link
 new_link object count head.None number = if nat_lt (number + 1) count then link.Before (record { object = object; number = number + 1 }) else link.Last
-new_link object count (head.First before) number = if nat_lt (number + 1) count then link.Before (record { object = object; number = number + 1 }) else link.Before before
+new_link object count (head.First before) number =
+    if nat_lt (number + 1) count then link.Before (record { object = object; number = number + 1 }) else link.Before before
 new_link object count head.All number = link.Unmarked
 
 pub record AreNew (object count : ℕ) (head : Head) (links : List Link) : Type 0 where
@@ -76,5 +78,6 @@ IsLinking head old new false = (new ≡ old) × (is_all head ≡ false → is_li
 
 -- and so the link of a number
 abbrev pub IsMarking : Head → ℕ → List Link → List Link → Bool → Type 0
-IsMarking head number old new true = (slice_get old number ≡ Some link.Unmarked) × (is_all head ≡ false) × (new ≡ slice_set old number (link_to (first_of head)))
+IsMarking head number old new true =
+    (slice_get old number ≡ Some link.Unmarked) × (is_all head ≡ false) × (new ≡ slice_set old number (link_to (first_of head)))
 IsMarking head number old new false = (new ≡ old) × (is_all head ≡ false → is_linked (slice_get old number) ≡ true)

@@ -1,5 +1,6 @@
 -- How stores stand in rows. No public clause cites this module.
-use Rattle.std.specs.Prelude.{ℕ, ◌≡◌, ◌==◌, ◌<◌, ◌≤◌, if◌then◌else◌, List, length, All, Option, filter, find, map, min, nat_lt, option_and_then, option_map, slice_get, slice_index_or, slice_set}
+use Rattle.std.specs.Prelude.{ℕ, ◌≡◌, ◌==◌, ◌<◌, ◌≤◌, if◌then◌else◌, List, length, All, Option, filter, find, map, min}
+use Rattle.std.specs.Prelude.{nat_lt, option_and_then, option_map, slice_get, slice_index_or, slice_set}
 use Rattle.std.specs.List.{AllWithin, flat_map, range_with_len}
 use Rattle.places.specs.Paired.{paired}
 use Rattle.places.specs.Table.{Table}

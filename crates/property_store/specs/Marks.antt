@@ -60,5 +60,6 @@ is_new object fields q = (q.object == object) && nat_lt q.number (length fields)
 -- a mark is taken: none where there is none, all of them at once, or that of one property
 abbrev pub IsTaken : Marks → Marks → Written → Type 0
 IsTaken old new told.None = (has_marks old ≡ false) × (new ≡ old)
-IsTaken old new (told.One at) = (old.all ≡ false) × (among at old.each ≡ true) × (new ≡ record { all = false; each = filter (λ q. not (is_property at q)) old.each })
+IsTaken old new (told.One at) =
+    (old.all ≡ false) × (among at old.each ≡ true) × (new ≡ record { all = false; each = filter (λ q. not (is_property at q)) old.each })
 IsTaken old new told.All = (old.all ≡ true) × (new ≡ no_marks)

@@ -11,11 +11,15 @@ use Rattle.property_store.specs.Store.{Store, declared_in, is_change, properties
 abbrev pub declared_at : Store → ℕ → List ℕ → Option (ℕ × Kind)
 declared_at store object name = option_and_then (λ of. declared_in name of.fields) (properties_of store object)
 
--- what writing a value to the property of a name comes to: its number, and whether that is a change
+-- what writing a value to a declared property comes to: its number, and whether that is a change
+abbrev pub answer_at : Store → ℕ → Value → ℕ → Result (ℕ × Bool) Unwritten
+answer_at store object value number =
+    option_map_or (λ code. Err (Refused code)) (write_refusal store object number value) (Ok (number, is_change store object number value))
+
+-- so to the property of a name
 abbrev pub answer_named : Store → ℕ → List ℕ → Value → Result (ℕ × Bool) Unwritten
 answer_named store object name value =
-    option_map_or (λ (at : ℕ × Kind). option_map_or (λ code. Err (Refused code)) (write_refusal store object at.0 value) (Ok (at.0, is_change store object at.0 value)))
-    (declared_at store object name) (Err (Undeclared value))
+    option_map_or (λ (at : ℕ × Kind). answer_at store object value at.0) (declared_at store object name) (Err (Undeclared value))
 
 -- with a value written to the property of a name
 abbrev pub written_named : Store → ℕ → List ℕ → Value → Store

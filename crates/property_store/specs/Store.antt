@@ -1,5 +1,7 @@
 -- What contracts see of the properties of a place's objects.
-use Rattle.std.specs.Prelude.{◌≡◌, ◌≢◌, ◌<◌, ◌≤◌, ℕ, pos, Bool, false, not, nat_lt, bytes_eq, if◌then◌else◌, List, [], ◌∷◌, ◌++◌, length, map, filter, find, position, All, AllPairs, Option, Some, None, option_map, option_and_then, slice_get, slice_set, slice_index_or, ◌==◌}
+use Rattle.std.specs.Prelude.{◌≡◌, ◌≢◌, ◌<◌, ◌≤◌, ℕ, pos, Bool, false, not, nat_lt, bytes_eq, if◌then◌else◌, List, []}
+use Rattle.std.specs.Prelude.{◌∷◌, ◌++◌, length, map, filter, find, position, All, AllPairs, Option, Some, None}
+use Rattle.std.specs.Prelude.{option_map, option_and_then, slice_get, slice_set, slice_index_or, ◌==◌}
 use Rattle.std.specs.Option.{is_some, option_map_or}
 use Rattle.signature_core.specs.declared.kind.Kind.{Kind}
 use Rattle.signature_core.specs.declared.kind.Kind.TheVariants as k
@@ -128,7 +130,8 @@ dynamic_refusal store object name = option_and_then (λ of. refusal_of_name name
 -- with a dynamic property, in the place of that of this name, or behind the others
 abbrev pub with_name : List ℕ → Value → List Named → List Named
 with_name name value dynamic =
-    option_map_or (λ number. slice_set dynamic number (record { name = name; value = value })) (dynamic_number name dynamic) (dynamic ++ record { name = name; value = value } ∷ [])
+    option_map_or (λ number. slice_set dynamic number (record { name = name; value = value }))
+    (dynamic_number name dynamic) (dynamic ++ record { name = name; value = value } ∷ [])
 
 abbrev pub with_dynamic : List ℕ → Value → Properties → Properties
 with_dynamic name value of = record of { dynamic = with_name name value of.dynamic }

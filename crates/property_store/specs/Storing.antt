@@ -1,5 +1,6 @@
 -- What is written to the row of one object. No public clause cites this module.
-use Rattle.std.specs.Prelude.{◌≡◌, ◌<◌, ℕ, Bool, false, not, is_some, if◌then◌else◌, IfOk, OnErr, OnOk, List, length, Option, Some, None, Result, Ok, Err, option_and_then, slice_get, slice_set}
+use Rattle.std.specs.Prelude.{◌≡◌, ◌<◌, ℕ, Bool, false, not, is_some, if◌then◌else◌, IfOk, OnErr, OnOk, List, length}
+use Rattle.std.specs.Prelude.{Option, Some, None, Result, Ok, Err, option_and_then, slice_get, slice_set}
 use Rattle.std.specs.Option.{option_map_or}
 use Rattle.std.specs.Result.{result_err}
 use Rattle.signature_core.specs.declared.kind.Kind.{Kind}
@@ -64,7 +65,8 @@ pub record IsStored (fields : List Field) (number : ℕ) (value : Value) (head :
   pub marked : IsMarkedWith (fit_in fields number value) head number old.links new.links (was_linked result)
 
 -- so it was done in the row under a key, and no other row has changed
-pub record IsStoredUnder (layouts : List (List Field)) (rows new : Table (List (Keyed Row))) (place key number : ℕ) (value : Value) (head : Head) (result : Result Stored Code) : Type 0 where
+pub record IsStoredUnder (layouts : List (List Field)) (rows new : Table (List (Keyed Row)))
+    (place key number : ℕ) (value : Value) (head : Head) (result : Result Stored Code) : Type 0 where
   pub row : Row
   pub changed : Row
   pub under : row_under (rows_at rows place) key ≡ Some row
@@ -79,7 +81,8 @@ numbered number (Err code) = Err (Refused code)
 -- a value was stored as that of the property whose number was found, or is not, and all else stays
 abbrev pub IsNumbered : List Field → Value → Head → Row → Row → Result (ℕ × Stored) Unwritten → Option ℕ → Type 0
 IsNumbered fields value head old new result None = (result ≡ Err (Undeclared value)) × (new ≡ old)
-IsNumbered fields value head old new result (Some number) = (number < length fields) × ((done : Result Stored Code) × (result ≡ numbered number done) × IsStored fields number value head old new done)
+IsNumbered fields value head old new result (Some number) =
+    (number < length fields) × ((done : Result Stored Code) × (result ≡ numbered number done) × IsStored fields number value head old new done)
 
 -- and as that of the property of a name
 abbrev pub IsNamed : List Field → List ℕ → Value → Head → Row → Row → Result (ℕ × Stored) Unwritten → Type 0

@@ -1,11 +1,14 @@
 //! The stores of all places.
-ghost use Rattle.std.specs.Prelude.{◌≡◌, ◌≢◌, ◌&&◌, ◌<◌, ◌≤◌, ◌++◌, ◌∷◌, [], ℕ, IfOk, IfSome, None, OnOk, OnErr, Some, if◌then◌else◌, is_some, length, nat_lt, not, option_and_then, slice_index_or};
+ghost use Rattle.std.specs.Prelude.{◌≡◌, ◌≢◌, ◌&&◌, ◌<◌, ◌≤◌, ◌++◌, ◌∷◌, [], ℕ, IfOk, IfSome, None, OnOk, OnErr, Some};
+ghost use Rattle.std.specs.Prelude.{if◌then◌else◌, is_some, length, nat_lt, not, option_and_then, slice_index_or};
 ghost use Rattle.std.specs.Option.{option_map};
 ghost use Rattle.std.specs.Result.{result_err};
 ghost use Rattle.places.specs.Table.{IsPlace, MakesRoom, Opens, with_place};
 ghost use Rattle.refusals.specs.Answers.{RefusedBy};
 ghost use Rattle.variant_value.specs.Values.{IsOfKind, IsShort};
-ghost use Rattle.property_store.specs.Store.{AreDistinct, IsSound, Properties, added, changed, declared_in, dynamic_names, dynamic_refusal, field_at, fields_in, is_change, named_value, next_object, properties_of, value_at, value_named, with_dynamic, without, without_dynamic, write_refusal, written};
+ghost use Rattle.property_store.specs.Store.{AreDistinct, IsSound, Properties, added, changed, declared_in, dynamic_names};
+ghost use Rattle.property_store.specs.Store.{dynamic_refusal, field_at, fields_in, is_change, named_value, next_object, properties_of};
+ghost use Rattle.property_store.specs.Store.{value_at, value_named, with_dynamic, without, without_dynamic, write_refusal, written};
 ghost use Rattle.property_store.specs.Named.{answer_named, written_named};
 ghost use Rattle.property_store.specs.Marks.{AreMarked, HasMarks, IsTaken, all_marks, has_marks, is_new, is_written, is_written_named, marks_at, no_marks};
 ghost use Rattle.property_store.specs.Chain.{head_of, is_all, next_of};
@@ -103,7 +106,8 @@ impl Stores {
     pub fn add_object(&mut self, place: usize, object: u32, class: u32) -> Result<(), AllocError>
         requires place { IsPlace self.old.shelves.table place }
         requires absent { properties_of (store_at self.old.shelves place) object ≡ None }
-        ensures ok { OnOk result (self.new.shelves ≡ with_store self.old.shelves place (added (store_at self.old.shelves place) object (fields_of self.old.shelves class))) }
+        ensures ok { OnOk result (self.new.shelves
+            ≡ with_store self.old.shelves place (added (store_at self.old.shelves place) object (fields_of self.old.shelves class))) }
         ensures err { OnErr result (self.new ≡ self.old) }
         ensures marks { OnOk result (AreMarked place (is_new object (fields_of self.old.shelves class)) self.old.marks self.new.marks) }
     {
@@ -270,7 +274,8 @@ impl Stores {
         requires place { IsPlace self.old.shelves.table place }
         requires short { IsShort value }
         ensures refused { RefusedBy (dynamic_refusal (store_at self.old.shelves place) object name) result }
-        ensures ok { OnOk result (self.new.shelves ≡ with_store self.old.shelves place (changed (with_dynamic name value) object (store_at self.old.shelves place))) }
+        ensures ok { OnOk result (self.new.shelves
+            ≡ with_store self.old.shelves place (changed (with_dynamic name value) object (store_at self.old.shelves place))) }
         ensures err { OnErr result (self.new ≡ self.old) }
         ensures marks { self.new.marks ≡ self.old.marks }
     {
@@ -314,7 +319,8 @@ impl Stores {
     pub fn drop_object(&mut self, place: usize, object: u32)
         requires { IsPlace self.old.shelves.table place }
         ensures stores { self.new.shelves ≡ with_store self.old.shelves place (without object (store_at self.old.shelves place)) }
-        ensures marks { HasMarks place (if is_some (properties_of (store_at self.old.shelves place) object) then all_marks else marks_at self.old.marks place) self.old.marks self.new.marks }
+        ensures marks { HasMarks place (if is_some (properties_of (store_at self.old.shelves place) object) then all_marks
+            else marks_at self.old.marks place) self.old.marks self.new.marks }
     {
         if self.fields(place, object).is_some() {
             self.take_all(place);

@@ -1,7 +1,10 @@
 -- How the protocol prints its codes.
 use Rattle.std.specs.Prelude.{ℕ, List, codes}
 use Rattle.refusals.specs.declared.code.Code.{Code}
-use Rattle.refusals.specs.declared.code.Code.TheVariants.{UnreadableLine, NotACommand, NoSuchClass, NoSuchObject, NoSuchMethod, BadSignature, DoesNotFit, ConnectedAlready, UniqueFunctor, NoSuchFunctor, NoSuchProperty, Cycle, Dying, Limit, NameTaken, OwnSession, NoGroup, NotBindable, NumbersUsedUp, SessionFailed, OutOfMemory, BadValue, TurnsUsedUp}
+use Rattle.refusals.specs.declared.code.Code.TheVariants.{UnreadableLine, NotACommand, NoSuchClass, NoSuchObject, NoSuchMethod}
+use Rattle.refusals.specs.declared.code.Code.TheVariants.{BadSignature, DoesNotFit, ConnectedAlready, UniqueFunctor, NoSuchFunctor}
+use Rattle.refusals.specs.declared.code.Code.TheVariants.{NoSuchProperty, Cycle, Dying, Limit, NameTaken, OwnSession, NoGroup, NotBindable}
+use Rattle.refusals.specs.declared.code.Code.TheVariants.{NumbersUsedUp, SessionFailed, OutOfMemory, BadValue, TurnsUsedUp}
 
 -- the bytes that stand for a code
 abbrev pub code_text : Code → List ℕ

@@ -12,7 +12,8 @@ ghost use Rattle.session_engine.specs.Engine.{seen_engine};
 ghost use Rattle.session_engine.specs.Items.{BeginsAnew};
 ghost use Rattle.session_engine.specs.Sessions.{AreSound, AreWell, IsStep};
 ghost use Rattle.server_world.specs.Names.{with_name};
-ghost use Rattle.server_world.specs.Server.{IsLost, IsNew, KnowsAtMost, OnlyRefused, StaysOut, failed, names, seen_by_name, seen_as, settings, states, was_refused};
+ghost use Rattle.server_world.specs.Server.{IsLost, IsNew, KnowsAtMost, OnlyRefused, StaysOut, failed, names};
+ghost use Rattle.server_world.specs.Server.{seen_by_name, seen_as, settings, states, was_refused};
 ghost use Rattle.server_world.specs.Runs.{AreSteps, IsBlamed, IsEntry, IsIsolated, IsLater, IsWorldRun, tags};
 ghost use Rattle.server_world.specs.Noting.{IsNoted, IsWithin, StopsShort, kept_places, marked_from, name_at, named};
 ghost use Rattle.server_world.specs.NotedRuns.{IsKeptRun, Stops};
@@ -74,7 +75,8 @@ impl Server {
     /// Does one command. A refusal is told by one line; where memory is wanted and not found, the
     /// command's session has failed, or is not there if this was its first command.
     pub fn step(&mut self, given: &Tagged) -> Result<Items<Line>, AllocError>
-        ensures step { IsStep (seen_by_name (seen_as self.old)) (seen_by_name (seen_as self.new)) given.now.session (asked given.now.command) (result_ok result) }
+        ensures step { IsStep (seen_by_name (seen_as self.old))
+            (seen_by_name (seen_as self.new)) given.now.session (asked given.now.command) (result_ok result) }
         ensures known { KnowsAtMost (seen_as self.old) (seen_as self.new) given.now.session }
         ensures there { OnOk result (names (seen_as self.new) ≡ with_name (names (seen_as self.old)) given.now.session) }
         ensures lost { OnErr result (IsLost (seen_as self.old) (seen_as self.new) given.now.session) }
@@ -144,7 +146,8 @@ impl Server {
     /// Which of the noted commands the slice of a session keeps: their places from 0 on, rising.
     pub fn kept(&self, session: &Text, notes: &Notes) -> Result<Vec<usize>, AllocError>
         requires { All (IsWithin (length (names (seen_as self.now)))) notes.now }
-        ensures { IfOk result (λ places. places.items ≡ marked_from 0 (back (machine (settings (seen_as self.now))) session.now (map (named (names (seen_as self.now))) notes.now)).marks) }
+        ensures { IfOk result (λ places. places.items
+            ≡ marked_from 0 (back (machine (settings (seen_as self.now))) session.now (map (named (names (seen_as self.now))) notes.now)).marks) }
     {
         match self.engine.find(session) {
             Some(place) => notes.kept(place, self.engine.len()),
@@ -167,7 +170,8 @@ impl Server {
         ensures refused { IfOk result (λ told. told.0.memory_refused ≡ was_refused (seen_as self.new)) }
         ensures steps { IfOk result (λ told. AreSteps (seen_as self.old) (tags list.now) told.0.lines (seen_as self.new)) }
         ensures world { IfOk result (λ told. IsFalse told.0.memory_refused → IsWorldRun (seen_as self.old) (seen_as self.new) (tags list.now) told.0.lines) }
-        ensures isolated { IfOk result (λ told. IsFalse told.0.memory_refused → (s : List ℕ) → IsIsolated (seen_as self.old) (seen_as self.new) (tags list.now) told.0.lines s) }
+        ensures isolated { IfOk result (λ told. IsFalse told.0.memory_refused
+            → (s : List ℕ) → IsIsolated (seen_as self.old) (seen_as self.new) (tags list.now) told.0.lines s) }
         // Exactly the places that the slice keeps,
         ensures kept { IfOk result (λ told. IsFalse told.0.memory_refused
             → told.1.items ≡ kept_places (settings (seen_as self.old)) (states (seen_as self.old)) (tags list.now) session.now) }

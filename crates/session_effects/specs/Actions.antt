@@ -40,17 +40,22 @@ is_nested _ = false
 -- the call has found exactly the deed that an action is, with its ends, or is refused as it is, unless memory
 -- was wanted
 abbrev pub FindsDeed : Caller → Slot → SingleAction → Tables → Result Deed Fault → Type 0
-FindsDeed caller slot plain tables (Ok deed) = (act_deed (settings_of caller.setup.now) (state_at tables caller.place) slot.object slot.sender plain ≡ Some (Ok deed)) × HasEnds (state_at tables caller.place) deed
-FindsDeed caller slot plain tables (Err (Refused code)) = act_deed (settings_of caller.setup.now) (state_at tables caller.place) slot.object slot.sender plain ≡ Some (Err code)
+FindsDeed caller slot plain tables (Ok deed) =
+    (act_deed (settings_of caller.setup.now) (state_at tables caller.place) slot.object slot.sender plain ≡ Some (Ok deed))
+    × HasEnds (state_at tables caller.place) deed
+FindsDeed caller slot plain tables (Err (Refused code)) =
+    act_deed (settings_of caller.setup.now) (state_at tables caller.place) slot.object slot.sender plain ≡ Some (Err code)
 FindsDeed caller slot plain tables (Err Memory) = Unit {0}
 
 -- an action comes to these items and these tables by what the call returns, or to a warning where it is refused,
 -- whatever was told before and however many turns are left
 abbrev pub Tries : {T : Type 0} → Caller → Slot → SingleAction → Tables → (T → List Item) → Tables → Result T Fault → Type 0
 Tries caller slot plain old items new (Ok value) = (doing : Doing) →
-    step (settings_of caller.setup.now) (act_of slot (single_action plain)) (in_state doing (state_at old caller.place)) ≡ puts (items value) (in_state doing (state_at new caller.place))
+    step (settings_of caller.setup.now) (act_of slot (single_action plain)) (in_state doing (state_at old caller.place))
+    ≡ puts (items value) (in_state doing (state_at new caller.place))
 Tries caller slot plain old items new (Err (Refused code)) = (doing : Doing) →
-    step (settings_of caller.setup.now) (act_of slot (single_action plain)) (in_state doing (state_at old caller.place)) ≡ puts (Warn code (Some slot.object) ∷ []) (in_state doing (state_at old caller.place))
+    step (settings_of caller.setup.now) (act_of slot (single_action plain)) (in_state doing (state_at old caller.place))
+    ≡ puts (Warn code (Some slot.object) ∷ []) (in_state doing (state_at old caller.place))
 Tries caller slot plain old items new (Err Memory) = Unit {0}
 
 -- the call has found exactly this emission of the object, or is refused as it is, unless memory was wanted

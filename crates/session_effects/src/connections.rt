@@ -113,7 +113,8 @@ fn check_fits(
     method: u32,
 ) -> Result<(), Code>
     requires { IsPlaced tables.now caller.now.place }
-    ensures { result_err result ≡ (if fits_at (settings_of caller.now.setup.now) (state_at tables.now caller.now.place) sender signal receiver method then None else Some DoesNotFit) }
+    ensures { result_err result ≡ (if fits_at (settings_of caller.now.setup.now) (state_at tables.now caller.now.place) sender signal receiver method
+        then None else Some DoesNotFit) }
 {
     let sent = kinds_at(caller, tables, sender, signal);
     let taken = kinds_at(caller, tables, receiver, method);

@@ -59,7 +59,8 @@ pub fn sent(
     args: &[Expr],
 ) -> Result<Emission, Fault>
     requires { IsPlaced tables.now caller.now.place }
-    ensures { Tries caller.now slot.now (e.Emit of.now signal.now args.now) tables.now (λ sent. Emit sent.object sent.signal sent.args slot.now.depth ∷ []) tables.now result }
+    ensures { Tries caller.now slot.now (e.Emit of.now signal.now args.now) tables.now
+        (λ sent. Emit sent.object sent.signal sent.args slot.now.depth ∷ []) tables.now result }
 {
     let reader = reader(caller, tables, slot);
     let object = object_of(&reader, of)?;
@@ -77,7 +78,8 @@ fn emission_of(
     args: &[Expr],
 ) -> Result<Emission, Fault>
     requires { reader.now.place ≡ caller.now.place }
-    ensures { IsSent object (emission (settings_of caller.now.setup.now) (state_at reader.now.tables.now caller.now.place) reader.now.object reader.now.sender slot.now.args.now object signal.now args.now) result }
+    ensures { IsSent object (emission (settings_of caller.now.setup.now) (state_at reader.now.tables.now caller.now.place)
+        reader.now.object reader.now.sender slot.now.args.now object signal.now args.now) result }
 {
     let alloc = caller.setup.alloc;
     let signal = signal_with(caller, reader.tables, object, signal)?;

@@ -67,7 +67,8 @@ pub fn object_of(reader: &Reader, target: &Target) -> Result<u32, AllocError>
 
 /// The same of a target that need not be named.
 pub fn named_object_of(reader: &Reader, target: &Option<Target>) -> Result<Option<u32>, AllocError>
-    ensures { IfOk result (λ object. object ≡ named_object_of (state_at reader.now.tables.now reader.now.place) reader.now.object reader.now.sender target.now) }
+    ensures { IfOk result (λ object.
+        object ≡ named_object_of (state_at reader.now.tables.now reader.now.place) reader.now.object reader.now.sender target.now) }
 {
     match target {
         Some(target) => Ok(Some(object_of(reader, target)?)),

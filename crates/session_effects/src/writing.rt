@@ -60,7 +60,8 @@ fn write(
 ) -> Result<News, Fault>
     requires placed { IsPlaced tables.old caller.now.place }
     requires class { HasClass (state_at tables.old caller.now.place) object class }
-    ensures writes { TriesToWrite caller.now object (acted_writing (state_at tables.old caller.now.place) object property.now value) tables.old (λ told. told) tables.new result }
+    ensures writes { TriesToWrite caller.now object
+        (acted_writing (state_at tables.old caller.now.place) object property.now value) tables.old (λ told. told) tables.new result }
     ensures refused { OnRefused result (tables.new ≡ tables.old) }
     ensures keeps { KeepsOthers caller.now.place tables.old tables.new }
 {
@@ -124,7 +125,8 @@ pub fn write_dynamic(
 ) -> Result<(), Fault>
     requires placed { IsPlaced tables.old caller.now.place }
     requires short { IsShort value }
-    ensures writes { TriesToWrite caller.now object (dynamic_writing (state_at tables.old caller.now.place) object name.now value) tables.old (λ _. Nothing) tables.new result }
+    ensures writes { TriesToWrite caller.now object
+        (dynamic_writing (state_at tables.old caller.now.place) object name.now value) tables.old (λ _. Nothing) tables.new result }
     ensures refused { OnRefused result (tables.new ≡ tables.old) }
     ensures keeps { KeepsOthers caller.now.place tables.old tables.new }
 {

@@ -84,7 +84,8 @@ pub record Reads (caller : Caller) (asked : Asked) (tables : Tables) (result : R
 
 -- a command of a session that has not failed; `failing` says whether another session has failed by its posts,
 -- and `lines` what is told by what the call returns
-pub record Performs {T : Type 0} (caller : Caller) (asked : Asked) (old new : Tables) (failing : Bool) (lines : T → List Line) (result : Result T Fault) : Type 0 where
+pub record Performs {T : Type 0} (caller : Caller)
+    (asked : Asked) (old new : Tables) (failing : Bool) (lines : T → List Line) (result : Result T Fault) : Type 0 where
   -- it is refused exactly by its refusal, and else tells its lines, unless memory was wanted
   pub returns : Returns (its_refusal caller asked old) (λ value. (its_effect caller asked old).lines ≡ lines value) result
   -- its posts; where memory was wanted, the first of them

@@ -63,7 +63,8 @@ abbrev pub HaveCome : Sessions → Sessions → List ℕ → List Coming → Opt
 HaveCome old new name [] told = (new ≡ old) × (told ≡ Some [])
 HaveCome old new name (item ∷ items) told =
     (HasCome old new name item None × (told ≡ None))
-    ⊎ ((between : Sessions) × (lines : List Line) × (rest : Option (List Line)) × HasCome old between name item (Some lines) × HaveCome between new name items rest × (told ≡ option_map (λ more. lines ++ more) rest))
+    ⊎ ((between : Sessions) × (lines : List Line) × (rest : Option (List Line)) × HasCome old between name item (Some lines)
+    × HaveCome between new name items rest × (told ≡ option_map (λ more. lines ++ more) rest))
 
 -- what comes of items for a session and for all others
 pub record RunsAlone (old new : Sessions) (name : List ℕ) (items : List Coming) (told : Option (List Line)) : Type 0 where
@@ -73,7 +74,8 @@ pub record RunsAlone (old new : Sessions) (name : List ℕ) (items : List Coming
   pub lines : IsFalse new.memory_refused → told ≡ Some (all_lines (alone_lines (machine old.settings) name (states_of old name) items))
   pub own : IsFalse new.memory_refused → states_of new name ≡ alone_after (machine old.settings) name (states_of old name) items
   -- and every other session has heard what it posts
-  pub others : IsFalse new.memory_refused → (other : List ℕ) → IsFalse (bytes_eq other name) → states_of new other ≡ all_arrive (machine old.settings) (states_of old other) name (alone_posts (machine old.settings) name (states_of old name) items)
+  pub others : IsFalse new.memory_refused → (other : List ℕ) → IsFalse (bytes_eq other name) → states_of new other
+      ≡ all_arrive (machine old.settings) (states_of old other) name (alone_posts (machine old.settings) name (states_of old name) items)
   -- memory is refused first only for an item that has found none, or for another session that has failed by a post
   pub blame : IsFalse old.memory_refused → IsTrue new.memory_refused → (told ≡ None) ⊎ AnotherFails old new name
   pub sound : AreSound new

@@ -22,7 +22,8 @@ Returns refusal Holds (Err Memory) = Unit {0}
 -- what a command of the session of this name returns, and what that leaves
 pub record IsAnswered (old new : EngineState) (name : List ℕ) (asked : Asked) (result : Result (List Line) Fault) : Type 0 where
   -- it is refused exactly by its refusal, and else returns what it tells,
-  pub returns : Returns (session_refusal (settings old) name (sessions old name) asked) (λ lines. lines ≡ (performs (settings old) name (states old name) asked).lines) result
+  pub returns : Returns (session_refusal (settings old) name (sessions old name) asked)
+      (λ lines. lines ≡ (performs (settings old) name (states old name) asked).lines) result
   -- and a refused command changes nothing
   pub refused : OnRefused result (sessions new ≡ sessions old)
   pub fails : OnMemory result (sessions new name ≡ gone)

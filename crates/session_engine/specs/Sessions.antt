@@ -1,5 +1,6 @@
 -- The sessions of an engine or a server, by name, and what a command of one of them makes of all.
-use Rattle.std.specs.Prelude.{◌≡◌, ◌⊎◌, ◌&&◌, ℕ, Bool, true, false, not, List, Option, Some, None, IfSome, OnSome, IsSome, IsTrue, IsFalse, bytes_eq, if◌then◌else◌}
+use Rattle.std.specs.Prelude.{◌≡◌, ◌⊎◌, ◌&&◌, ℕ, Bool, true, false, not, List, Option, Some, None}
+use Rattle.std.specs.Prelude.{IfSome, OnSome, IsSome, IsTrue, IsFalse, bytes_eq, if◌then◌else◌}
 use Rattle.isolation.specs.Machine.{Effect, Tagged}
 use Rattle.isolation.specs.World.{effect, after}
 use Rattle.refusals.specs.declared.code.Code.{Code}

@@ -33,7 +33,8 @@ pub fn bind<F: Answering>(
 ) -> Result<Answer, Fault>
     requires placed { IsPlaced tables.old actor.now.caller.place }
     requires fresh { telling.old ≡ fresh_telling actor.now.caller.setup.now.turns }
-    ensures { Performs actor.now.caller (Bind object property.now (view to.now)) tables.old tables.new telling.new.failing (reply_after telling.new.lines) result }
+    ensures { Performs actor.now.caller (Bind object property.now (view to.now)) tables.old tables.new telling.new.failing
+        (reply_after telling.new.lines) result }
 {
     let (alloc, place) = (actor.caller.setup.alloc, actor.caller.place);
     let at = tables.bindable_property(place, object, property.as_str())?;

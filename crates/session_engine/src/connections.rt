@@ -23,7 +23,8 @@ pub fn connect(
     options: Options,
 ) -> Result<Answer, Fault>
     requires { IsPlaced tables.old caller.now.place }
-    ensures { Performs caller.now (Connect sender signal.now receiver method.now options.mode options.unique options.single) tables.old tables.new false reply_lines result }
+    ensures { Performs caller.now (Connect sender signal.now receiver method.now options.mode options.unique options.single)
+        tables.old tables.new false reply_lines result }
 {
     tables.forests.check_living(caller.place, sender)?;
     tables.forests.check_living(caller.place, receiver)?;
@@ -47,7 +48,8 @@ pub fn connect_functor(
     options: Options,
 ) -> Result<Answer, Fault>
     requires { IsPlaced tables.old caller.now.place }
-    ensures { Performs caller.now (ConnectFunctor sender signal.now context functor.now options.mode options.unique options.single) tables.old tables.new false reply_lines result }
+    ensures { Performs caller.now (ConnectFunctor sender signal.now context functor.now options.mode options.unique options.single)
+        tables.old tables.new false reply_lines result }
 {
     tables.forests.check_living(caller.place, sender)?;
     tables.forests.check_living(caller.place, context)?;

@@ -75,7 +75,8 @@ impl Engine {
     ghost use Rattle.session_engine.specs.Items.{BeginsAnew, HasAdded, HasArrived, HasCome, IsRightItem, RunsAlone, item_of};
     ghost use Rattle.session_engine.specs.Returning.{IsAnswered, answer_lines};
     ghost use Rattle.session_engine.specs.Sessions.{AreSound, AreWell, Fails, IsStep};
-    ghost use Rattle.session_engine.specs.Core.{AreJoinersOf, IsPlace, KeepsPlaces, name_at, OfSession, failed, names, place, seen_by_name, sessions, was_refused};
+    ghost use Rattle.session_engine.specs.Core.{AreJoinersOf, IsPlace, KeepsPlaces, name_at, OfSession, failed};
+    ghost use Rattle.session_engine.specs.Core.{names, place, seen_by_name, sessions, was_refused};
     ghost use Rattle.session_engine.specs.Engine.{seen_engine};
 
     /// An engine with no session. Its objects may have these classes, its signals may be connected to
@@ -94,7 +95,8 @@ impl Engine {
         requires each { All IsFunctor rows }
         ensures sessions { IfOk result (λ engine. (name : List ℕ) → sessions (seen_engine engine) name ≡ fresh) }
         ensures names { IfOk result (λ engine. names (seen_engine engine) ≡ []) }
-        ensures settings { IfOk result (λ engine. settings (seen_engine engine) ≡ record { turns = turns; classes = classes; functors = functors_of functors }) }
+        ensures settings { IfOk result (λ engine.
+            settings (seen_engine engine) ≡ record { turns = turns; classes = classes; functors = functors_of functors }) }
         ensures refused { IfOk result (λ engine. IsFalse (was_refused (seen_engine engine))) }
     {
         // The look-up is for the proof, which then knows what holds of the table.
@@ -174,8 +176,10 @@ impl Engine {
     /// command; where memory is wanted now and not found, the session has failed.
     pub fn command(&mut self, at: usize, command: &Command) -> Result<Items<Line>, Fault>
         requires { IsPlace (seen_engine self.old) at }
-        ensures step { OfSession (seen_engine self.old) at (λ name. IsStep (seen_by_name (seen_engine self.old)) (seen_by_name (seen_engine self.new)) name (asked command.now) (answer_lines result)) }
-        ensures answered { OfSession (seen_engine self.old) at (λ name. IsAnswered (seen_engine self.old) (seen_engine self.new) name (asked command.now) result) }
+        ensures step { OfSession (seen_engine self.old) at (λ name.
+            IsStep (seen_by_name (seen_engine self.old)) (seen_by_name (seen_engine self.new)) name (asked command.now) (answer_lines result)) }
+        ensures answered { OfSession (seen_engine self.old) at (λ name.
+            IsAnswered (seen_engine self.old) (seen_engine self.new) name (asked command.now) result) }
         ensures places { KeepsPlaces (seen_engine self.old) (seen_engine self.new) at }
     {
         let Some(name) = self.core.names.get_index(at) else {
@@ -199,7 +203,8 @@ impl Engine {
     /// memory, the session has failed too.
     pub fn told(&mut self, at: usize, command: &Command) -> Result<Items<Line>, AllocError>
         requires { IsPlace (seen_engine self.old) at }
-        ensures step { OfSession (seen_engine self.old) at (λ name. IsStep (seen_by_name (seen_engine self.old)) (seen_by_name (seen_engine self.new)) name (asked command.now) (result_ok result)) }
+        ensures step { OfSession (seen_engine self.old) at (λ name.
+            IsStep (seen_by_name (seen_engine self.old)) (seen_by_name (seen_engine self.new)) name (asked command.now) (result_ok result)) }
         ensures fails { OfSession (seen_engine self.old) at (λ name. OnErr result (sessions (seen_engine self.new) name ≡ gone)) }
         ensures places { KeepsPlaces (seen_engine self.old) (seen_engine self.new) at }
     {
@@ -222,7 +227,8 @@ impl Engine {
     pub fn arrive(&mut self, at: usize, from: &Text, post: &Post) -> Result<(), AllocError>
         requires there { IsPlace (seen_engine self.old) at }
         requires right { IsRightPost post.now }
-        ensures arrives { OfSession (seen_engine self.old) at (λ name. HasArrived (seen_by_name (seen_engine self.old)) (seen_by_name (seen_engine self.new)) name from.now post.now (result_ok result)) }
+        ensures arrives { OfSession (seen_engine self.old) at (λ name.
+            HasArrived (seen_by_name (seen_engine self.old)) (seen_by_name (seen_engine self.new)) name from.now post.now (result_ok result)) }
         ensures places { KeepsPlaces (seen_engine self.old) (seen_engine self.new) at }
     {
         let setup = &self.core.setup;
@@ -239,7 +245,8 @@ impl Engine {
     pub fn alone(&mut self, at: usize, items: &[Item]) -> Result<Items<Line>, AllocError>
         requires there { IsPlace (seen_engine self.old) at }
         requires right { All IsRightItem items.now }
-        ensures alone { OfSession (seen_engine self.old) at (λ name. RunsAlone (seen_by_name (seen_engine self.old)) (seen_by_name (seen_engine self.new)) name (map item_of items.now) (result_ok result)) }
+        ensures alone { OfSession (seen_engine self.old) at (λ name.
+            RunsAlone (seen_by_name (seen_engine self.old)) (seen_by_name (seen_engine self.new)) name (map item_of items.now) (result_ok result)) }
         ensures fails { OfSession (seen_engine self.old) at (λ name. OnErr result (sessions (seen_engine self.new) name ≡ gone)) }
         ensures places { KeepsPlaces (seen_engine self.old) (seen_engine self.new) at }
     {
@@ -278,7 +285,8 @@ impl Engine {
     /// sessions have joined stays.
     pub fn reset(&mut self, at: usize)
         requires { IsPlace (seen_engine self.old) at }
-        ensures anew { OfSession (seen_engine self.old) at (λ name. BeginsAnew (seen_by_name (seen_engine self.old)) (seen_by_name (seen_engine self.new)) name) }
+        ensures anew { OfSession (seen_engine self.old) at (λ name.
+            BeginsAnew (seen_by_name (seen_engine self.old)) (seen_by_name (seen_engine self.new)) name) }
         ensures places { KeepsPlaces (seen_engine self.old) (seen_engine self.new) at }
     {
         self.core.tables.renew(at);

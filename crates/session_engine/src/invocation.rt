@@ -45,7 +45,8 @@ pub fn invoke<F: Answering>(
 ) -> Result<Answer, Fault>
     requires placed { IsPlaced tables.old actor.now.caller.place }
     requires fresh { telling.old ≡ fresh_telling actor.now.caller.setup.now.turns }
-    ensures { Performs actor.now.caller (Invoke object method.now (map view args.now) mode priority) tables.old tables.new telling.new.failing (reply_after telling.new.lines) result }
+    ensures { Performs actor.now.caller (Invoke object method.now (map view args.now) mode priority)
+        tables.old tables.new telling.new.failing (reply_after telling.new.lines) result }
 {
     let class = tables.class_there(actor.caller.place, object)?;
     let Some(index) = method_in(&actor.caller, class, method)? else {
@@ -77,7 +78,8 @@ fn post(
     requires { IsPlaced tables.old caller.now.place }
     ensures refusal { RefusedBy (post_refusal (state_at tables.old caller.now.place).queue) result }
     ensures ok { OnOk result (tables.new ≡ with_state tables.old caller.now.place
-        (with_event (state_at tables.old caller.now.place) (Call (record { object = object; callee = callee.Method index; sender = 0; connection = 0; priority = priority; args = values.now })))) }
+        (with_event (state_at tables.old caller.now.place)
+        (Call (record { object = object; callee = callee.Method index; sender = 0; connection = 0; priority = priority; args = values.now })))) }
     ensures err { OnErr result (tables.new ≡ tables.old) }
 {
     tables.check_room(caller.place)?;

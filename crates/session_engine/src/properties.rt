@@ -26,7 +26,8 @@ pub fn set<F: Answering>(
 ) -> Result<Answer, Fault>
     requires placed { IsPlaced tables.old actor.now.caller.place }
     requires fresh { telling.old ≡ fresh_telling actor.now.caller.setup.now.turns }
-    ensures { Performs actor.now.caller (Set object property.now (view value.now)) tables.old tables.new telling.new.failing (reply_after telling.new.lines) result }
+    ensures { Performs actor.now.caller (Set object property.now (view value.now)) tables.old tables.new telling.new.failing
+        (reply_after telling.new.lines) result }
 {
     let class = tables.class_there(actor.caller.place, object)?;
     let Some((number, kind)) = tables.declared(actor.caller.place, object, property.as_str()) else {

@@ -67,7 +67,8 @@ pub record ReachesBy (classes : List Class) (from : List ℕ) (place : ℕ) (pos
   -- every other one hears its posts
   pub others : (at : ℕ) → IsFalse (eqb at place) → IsPlaced old at → Hears classes from (posts at) (session_at old at) (session_at new at)
   -- where none is said to have failed, none has
-  pub all : IsFalse after → IsFalse before × ((at : ℕ) → IsFalse (eqb at place) → IsPlaced old at → session_at new at ≡ heard classes from (posts at) (session_at old at))
+  pub all : IsFalse after → IsFalse before
+      × ((at : ℕ) → IsFalse (eqb at place) → IsPlaced old at → session_at new at ≡ heard classes from (posts at) (session_at old at))
   -- and where one is said to have, one has
   pub one : IsFalse before → IsTrue after → (at : ℕ) × IsFalse (eqb at place) × IsPlaced old at × IsFalse (failed_at old at) × IsTrue (failed_at new at)
 

@@ -32,19 +32,38 @@ pub record AreEven (tables : Tables) : Type 0 where
 
 -- the place has been opened in each table, and so has any place that one of them has
 abbrev pub IsPlaced : Tables → ℕ → Type 0
-IsPlaced tables place = IsPlace tables.forests place × IsPlace tables.stores.shelves.table place × IsPlace tables.connections place × IsPlace tables.queues place × IsPlace tables.failed place × IsPlace tables.desks place × IsPlace tables.stores.graphs place × AreEven tables
+IsPlaced tables place = IsPlace tables.forests place × IsPlace tables.stores.shelves.table place × IsPlace tables.connections place
+    × IsPlace tables.queues place × IsPlace tables.failed place × IsPlace tables.desks place × IsPlace tables.stores.graphs place × AreEven tables
 
 -- one more place can be opened in each without memory
 abbrev pub HasRoom : Tables → Type 0
-HasRoom tables = (1 ≤ tables.forests.room) × (1 ≤ tables.stores.shelves.table.room) × (1 ≤ tables.stores.graphs.room) × (1 ≤ tables.connections.room) × (1 ≤ tables.queues.room) × (1 ≤ tables.desks.room) × (1 ≤ tables.failed.room)
+HasRoom tables = (1 ≤ tables.forests.room) × (1 ≤ tables.stores.shelves.table.room) × (1 ≤ tables.stores.graphs.room)
+    × (1 ≤ tables.connections.room) × (1 ≤ tables.queues.room) × (1 ≤ tables.desks.room) × (1 ≤ tables.failed.room)
 
 -- with one more place, for a session that has had no command
 abbrev pub opened : Tables → Tables
-opened tables = record { forests = places.opened tables.forests empty_forest; stores = record { shelves = record tables.stores.shelves { table = places.opened tables.stores.shelves.table [] }; graphs = places.opened tables.stores.graphs no_graph }; connections = places.opened tables.connections no_rows; queues = places.opened tables.queues empty_queue; desks = places.opened tables.desks no_desk; failed = places.opened tables.failed false }
+opened tables = record {
+  forests = places.opened tables.forests empty_forest;
+  stores = record {
+    shelves = record tables.stores.shelves { table = places.opened tables.stores.shelves.table [] };
+    graphs = places.opened tables.stores.graphs no_graph;
+  };
+  connections = places.opened tables.connections no_rows;
+  queues = places.opened tables.queues empty_queue;
+  desks = places.opened tables.desks no_desk;
+  failed = places.opened tables.failed false;
+}
 
 -- the state of the session at a place
 abbrev pub state_at : Tables → ℕ → State
-state_at tables place = record { forest = forest_at tables.forests place; store = store_at tables.stores.shelves place; graph = graph_at tables.stores.graphs place; connections = rows_at tables.connections place; queue = queue_at tables.queues place; desk = desk_at tables.desks place }
+state_at tables place = record {
+  forest = forest_at tables.forests place;
+  store = store_at tables.stores.shelves place;
+  graph = graph_at tables.stores.graphs place;
+  connections = rows_at tables.connections place;
+  queue = queue_at tables.queues place;
+  desk = desk_at tables.desks place;
+}
 
 -- has the session at a place failed
 abbrev pub failed_at : Tables → ℕ → Bool
@@ -56,11 +75,18 @@ session_at tables place = record { state = state_at tables place; failed = faile
 
 -- with another state at a place, and all else as before
 abbrev pub with_state : Tables → ℕ → State → Tables
-with_state tables place state = record { forests = with_forest tables.forests place state.forest; stores = with_bound tables.stores place state.store state.graph; connections = with_rows tables.connections place state.connections; queues = with_queue tables.queues place state.queue; desks = with_desk tables.desks place state.desk; failed = tables.failed }
+with_state tables place state = record {
+  forests = with_forest tables.forests place state.forest;
+  stores = with_bound tables.stores place state.store state.graph;
+  connections = with_rows tables.connections place state.connections;
+  queues = with_queue tables.queues place state.queue;
+  desks = with_desk tables.desks place state.desk;
+  failed = tables.failed;
+}
 
--- with another session at a place, and all else as before
+-- with another session there
 abbrev pub with_session : Tables → ℕ → Session → Tables
-with_session tables place session = record { forests = with_forest tables.forests place session.state.forest; stores = with_bound tables.stores place session.state.store session.state.graph; connections = with_rows tables.connections place session.state.connections; queues = with_queue tables.queues place session.state.queue; desks = with_desk tables.desks place session.state.desk; failed = with_place tables.failed place session.failed }
+with_session tables place session = record (with_state tables place session.state) { failed = with_place tables.failed place session.failed }
 
 -- no session but the one at this place has changed
 pub record ChangesOnly (place : ℕ) (old new : Tables) : Type 0 where

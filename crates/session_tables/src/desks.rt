@@ -62,7 +62,8 @@ impl Tables {
     ) -> bool
         requires { IsPlaced self.old place }
         ensures was { result ≡ list_any (is_join from.now name.now object method) (state_at self.old place).desk.joins }
-        ensures is { self.new ≡ with_state self.old place (with_desk (state_at self.old place) (left (state_at self.old place).desk from.now name.now object method)) }
+        ensures is { self.new ≡ with_state self.old place
+            (with_desk (state_at self.old place) (left (state_at self.old place).desk from.now name.now object method)) }
     {
         self.desks.leave(place, from, name, object, method)
     }

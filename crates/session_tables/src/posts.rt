@@ -87,7 +87,8 @@ impl Tables {
         requires within { index < length (desk_at self.old.desks sending.now.place).publications }
         requires there { IsPlaced self.old at }
         ensures reaches { ReachesBy sending.now.classes.now sending.now.from.now sending.now.place
-            (only_at at (post_at (desk_at self.old.desks sending.now.place) index sending.now.kinds.now sending.now.args.now)) self.old self.new failing result }
+            (only_at at (post_at (desk_at self.old.desks sending.now.place) index sending.now.kinds.now sending.now.args.now))
+            self.old self.new failing result }
         ensures only { ChangesOnly at self.old self.new }
         ensures own { state_at self.new sending.now.place ≡ state_at self.old sending.now.place }
     {

@@ -33,7 +33,8 @@ module _ {N : Type 0} (value : N → ℕ) where
   pub record IsWindow (entries : List (Entry N)) (number : ℕ) (window : Window) : Type 0 where
     pub in_range : window.high ≤ length entries
     pub guess : window.low < window.high → (window.low ≤ window.guess) × (window.guess < window.high)
-    pub only : (k : ℕ) (default : Entry N) → k < length entries → value (slice_index_or entries k default).number ≡ number → (window.low ≤ k) × (k < window.high)
+    pub only : (k : ℕ) (default : Entry N)
+        → k < length entries → value (slice_index_or entries k default).number ≡ number → (window.low ≤ k) × (k < window.high)
 
   -- so many entries, the first ones, are below a number
   pub record IsCountBelow (entries : List (Entry N)) (number count : ℕ) : Type 0 where

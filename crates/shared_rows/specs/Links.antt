@@ -14,7 +14,8 @@ pub record Linked (K : Type 0) : Type 0 where
 
 -- links are stored as the pair of these fields
 abbrev pub linked_code : {K : Type 0} → Coded K → Coded (Linked K)
-linked_code {K} code = code_by (List K × ℕ) (coded× (coded_list code) coded_ℕ) (λ l. (l.links, l.capacity)) (λ p. record { links = p.0; capacity = p.1 }) (λ _. refl)
+linked_code {K} code =
+    code_by (List K × ℕ) (coded× (coded_list code) coded_ℕ) (λ l. (l.links, l.capacity)) (λ p. record { links = p.0; capacity = p.1 }) (λ _. refl)
 
 -- there is memory for so many, and no more are there
 abbrev pub HasMemory : {K : Type 0} → ℕ → Gapped K → Type 0

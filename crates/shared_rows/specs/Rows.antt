@@ -45,7 +45,8 @@ module _ {R : Type 0} where
 
   -- with one more row between those below its number and those above
   abbrev pub inserted : (R → ℕ) → List (Keyed R) → ℕ → R → List (Keyed R)
-  inserted number rows key row = filter (λ keyed. nat_lt (number keyed.row) (number row)) rows ++ record { key = key; row = row } ∷ filter (λ keyed. nat_lt (number row) (number keyed.row)) rows
+  inserted number rows key row = filter (λ keyed. nat_lt (number keyed.row) (number row)) rows
+      ++ record { key = key; row = row } ∷ filter (λ keyed. nat_lt (number row) (number keyed.row)) rows
 
   -- with another row under a key
   abbrev pub with_row : List (Keyed R) → ℕ → R → List (Keyed R)

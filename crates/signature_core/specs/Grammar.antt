@@ -34,7 +34,8 @@ pub data Param : List ℕ → Kind → Type 0 where
 -- one parameter or more, with commas between them
 pub data Params : List ℕ → List Kind → Type 0 where
   last : (kind : Kind) (param : List ℕ) → Param param kind → Params param (kind ∷ [])
-  more : (kind : Kind) (kinds : List Kind) (param gap between rest : List ℕ) → Param param kind → IsBlank gap → IsBlank between → Params rest kinds → Params (param ++ (gap ++ (codes "," ++ (between ++ rest)))) (kind ∷ kinds)
+  more : (kind : Kind) (kinds : List Kind) (param gap between rest : List ℕ) → Param param kind → IsBlank gap
+      → IsBlank between → Params rest kinds → Params (param ++ (gap ++ (codes "," ++ (between ++ rest)))) (kind ∷ kinds)
 
 -- what stands between the parentheses: nothing, `void`, or not too many parameters
 pub data Inside : List ℕ → List Kind → Type 0 where
@@ -44,7 +45,9 @@ pub data Inside : List ℕ → List Kind → Type 0 where
 
 -- the text is a signature of this name with parameters of these kinds
 pub data Spells : List ℕ → List ℕ → List Kind → Type 0 where
-  spells : (name : List ℕ) (kinds : List Kind) (before gap opening inside closing after : List ℕ) → IsBlank before → IsTrue (is_name name) → IsBlank gap → IsBlank opening → Inside inside kinds → IsBlank closing → IsBlank after → Spells (before ++ (name ++ (gap ++ (codes "(" ++ (opening ++ (inside ++ (closing ++ (codes ")" ++ after)))))))) name kinds
+  spells : (name : List ℕ) (kinds : List Kind) (before gap opening inside closing after : List ℕ) → IsBlank before
+      → IsTrue (is_name name) → IsBlank gap → IsBlank opening → Inside inside kinds → IsBlank closing → IsBlank after
+      → Spells (before ++ (name ++ (gap ++ (codes "(" ++ (opening ++ (inside ++ (closing ++ (codes ")" ++ after)))))))) name kinds
 
 -- a signature with no white space in it and no `const`; 44 is the comma
 abbrev pub normal_text : List ℕ → List Kind → List ℕ

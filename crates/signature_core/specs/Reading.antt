@@ -1,6 +1,7 @@
 -- Reading a signature from the front, a word or a mark at a time. White space is passed over behind each,
 -- so that what is left never begins with any.
-use Rattle.std.specs.Prelude.{◌≤◌, ◌==◌, IsTrue, ℕ, zero, suc, Bool, false, List, [], ◌∷◌, Option, Some, None, codes, length, bytes_eq, drop, if◌then◌else◌, option_map, option_and_then, take_while}
+use Rattle.std.specs.Prelude.{◌≤◌, ◌==◌, IsTrue, ℕ, zero, suc, Bool, false, List, [], ◌∷◌, Option, Some, None, codes}
+use Rattle.std.specs.Prelude.{length, bytes_eq, drop, if◌then◌else◌, option_map, option_and_then, take_while}
 use Rattle.std.specs.Option.{option_map_or}
 use Rattle.std.specs.List.{prefix_len}
 use Rattle.plain_types.specs.Names.{is_name, is_name_byte}
@@ -38,12 +39,16 @@ behind_mark mark (first ∷ rest) = if first == mark then Some (skip rest) else 
 unfoldable pub behind_reference : List ℕ → List ℕ
 behind_reference s = option_map_or (λ rest. rest) (behind_mark 38 s) s
 
+-- what stands behind the name of a kind, which `const` and a reference may follow
+abbrev pub behind_kind : List ℕ → List ℕ
+behind_kind s = if bytes_eq (word (behind_word s)) (codes "const") then behind_reference (behind_word (behind_word s)) else behind_word s
+
 -- one parameter, which is told by its first two words
 unfoldable pub param_at : List ℕ → Read Kind
 param_at s =
     if bytes_eq (word s) (codes "const")
     then option_map (λ kind. (kind, behind_reference (behind_word (behind_word s)))) (kind_named (word (behind_word s)))
-    else option_map (λ kind. (kind, if bytes_eq (word (behind_word s)) (codes "const") then behind_reference (behind_word (behind_word s)) else behind_word s)) (kind_named (word s))
+    else option_map (λ kind. (kind, behind_kind s)) (kind_named (word s))
 
 -- one parameter or more, at most n, with commas (44) between them
 unfoldable pub params_at : ℕ → List ℕ → Read (List Kind)

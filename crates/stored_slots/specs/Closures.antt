@@ -19,8 +19,10 @@ MayBeCalled pre params = (alloc : Global) (state : ℕ) (args : Bor (List Value)
 
 -- whatever it answers to that, unless memory is wanted, is the body with the state and the arguments put in
 abbrev pub GivesBody : (Global → ℕ → Bor (List Value) → Result (Vec Act × ℕ) AllocError → Type 0) → List Kind → Body → Type 0
-GivesBody post params body = (alloc : Global) (state : ℕ) (args : Bor (List Value)) (answer : Vec Act × ℕ) → state < 2 ^ 64 → AreArguments params args.now → post alloc state args (Ok answer) → answer.0.items ≡ unfolded_body args.now (with_state state body)
+GivesBody post params body = (alloc : Global) (state : ℕ) (args : Bor (List Value)) (answer : Vec Act × ℕ) → state < 2 ^ 64
+    → AreArguments params args.now → post alloc state args (Ok answer) → answer.0.items ≡ unfolded_body args.now (with_state state body)
 
 -- and the state that follows
 abbrev pub GivesNext : (Global → ℕ → Bor (List Value) → Result (Vec Act × ℕ) AllocError → Type 0) → List Kind → Term → Type 0
-GivesNext post params next = (alloc : Global) (state : ℕ) (args : Bor (List Value)) (answer : Vec Act × ℕ) → state < 2 ^ 64 → AreArguments params args.now → post alloc state args (Ok answer) → answer.1 ≡ after next state args.now
+GivesNext post params next = (alloc : Global) (state : ℕ) (args : Bor (List Value)) (answer : Vec Act × ℕ)
+    → state < 2 ^ 64 → AreArguments params args.now → post alloc state args (Ok answer) → answer.1 ≡ after next state args.now

@@ -1,5 +1,6 @@
 -- The bodies of slots in JSON.
-use Rattle.std.specs.Prelude.{◌&&◌, ℕ, Bool, List, [], ◌∷◌, Option, Some, None, Ok, Err, IsTrue, codes, bytes_eq, if◌then◌else◌, is_some, nat_le, option_map, unwrap_or}
+use Rattle.std.specs.Prelude.{◌&&◌, ℕ, Bool, List, [], ◌∷◌, Option, Some, None, Ok, Err, IsTrue, codes}
+use Rattle.std.specs.Prelude.{bytes_eq, if◌then◌else◌, is_some, nat_le, option_map, unwrap_or}
 use Rattle.serde_json.specs.Data.{Data, array, object, Items, no_items, item, Members, no_members, member}
 use Rattle.serde_json.specs.Find.{get}
 use Rattle.refusals.specs.declared.code.Code.TheVariants.{BadValue, Limit}
@@ -25,7 +26,8 @@ choice_in scope json held failed = where_only (codes "when" ∷ codes "then" ∷
 
 -- an action, by the same
 abbrev pub made : Scope → Data → Option (Read (List Act)) → Option (Read (List Act)) → Read Act
-made scope json held failed = if is_some (get (codes "when") json) then choice_in scope json held failed else (effect_in scope json >>= λ plain. Ok (single_action plain))
+made scope json held failed =
+    if is_some (get (codes "when") json) then choice_in scope json held failed else (effect_in scope json >>= λ plain. Ok (single_action plain))
 
 abbrev mutual
   -- the action that a piece of JSON is, however large

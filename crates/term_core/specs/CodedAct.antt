@@ -20,7 +20,8 @@ mutual
   act_inj (single_action a0) (single_action b0) p = λ i. single_action (an_action.the_row.coded.inj a0 b0 (ap (λ g. tail g) p) i)
   act_inj (single_action a0) (when b0 b1 b2) p = absurd (apart 0 1 p (omega arith))
   act_inj (when a0 a1 a2) (single_action b0) p = absurd (apart 1 0 p (omega arith))
-  act_inj (when a0 a1 a2) (when b0 b1 b2) p = λ i. when (coded_term.inj a0 b0 (ap (λ g. head (tail g)) p) i) (acts_inj a1 b1 (ap (λ g. head (tail (tail g))) p) i) (acts_inj a2 b2 (ap (λ g. tail (tail (tail g))) p) i)
+  act_inj (when a0 a1 a2) (when b0 b1 b2) p = λ i. when (coded_term.inj a0 b0 (ap (λ g. head (tail g)) p) i)
+      (acts_inj a1 b1 (ap (λ g. head (tail (tail g))) p) i) (acts_inj a2 b2 (ap (λ g. tail (tail (tail g))) p) i)
 
   pub acts_inj : (x y : Acts) → acts_code x ≡ acts_code y → x ≡ y
   acts_inj nothing nothing p = refl

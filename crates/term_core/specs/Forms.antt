@@ -1,5 +1,6 @@
 -- The forms of expressions in JSON.
-use Rattle.std.specs.Prelude.{◌&&◌, ℕ, Bool, true, false, List, [], ◌∷◌, Option, Some, None, Ok, Err, codes, bytes_eq, if◌then◌else◌, nat_le, nat_lt, is_some, unwrap_or}
+use Rattle.std.specs.Prelude.{◌&&◌, ℕ, Bool, true, false, List, [], ◌∷◌, Option, Some, None, Ok, Err, codes}
+use Rattle.std.specs.Prelude.{bytes_eq, if◌then◌else◌, nat_le, nat_lt, is_some, unwrap_or}
 use Rattle.std.specs.Option.{option_map_or}
 use Rattle.serde_json.specs.Data.{Data, array, object, no_items, item, Members, no_members, member}
 use Rattle.serde_json.specs.Find.{get, as_bool}
@@ -94,7 +95,8 @@ abbrev mutual
 
   -- an expression with one member, whose key is its form
   pub only_member : Scope → Members → Read Term
-  only_member scope (member key json no_members) = option_map_or (λ form. made scope form json (λ operator. binary_in scope operator json) (choice_in scope json)) (form_named key) (Err BadValue)
+  only_member scope (member key json no_members) =
+      option_map_or (λ form. made scope form json (λ operator. binary_in scope operator json) (choice_in scope json)) (form_named key) (Err BadValue)
   only_member scope _ = Err BadValue
 
   -- two operands
@@ -104,7 +106,8 @@ abbrev mutual
 
   -- three operands, the first of them a test
   pub choice_in : Scope → Data → Read Term
-  choice_in scope (array (item test (item a (item b no_items)))) = term_in scope test >>= λ t. term_in scope a >>= λ x. term_in scope b >>= λ y. Ok (choice t x y)
+  choice_in scope (array (item test (item a (item b no_items)))) =
+      term_in scope test >>= λ t. term_in scope a >>= λ x. term_in scope b >>= λ y. Ok (choice t x y)
   choice_in scope _ = Err BadValue
 
 -- an expression keeps to the limits

@@ -3,7 +3,8 @@ ghost use Rattle.std.specs.Prelude.{◌≡◌, codes};
 ghost use Rattle.serde_json.specs.View.{view, items_view};
 ghost use Rattle.refusals.specs.Answers.{Answers};
 ghost use Rattle.term_core.specs.Json.{target_in};
-ghost use Rattle.term_core.specs.Effects.{signature_in, unless_null, optional, flag_in, mode_in, terms_in, set_in, emit_in, connect_in, has_receiver, disconnect_in, delete_in, delete_later_in, block_in, set_parent_in, effect_in};
+ghost use Rattle.term_core.specs.Effects.{signature_in, unless_null, optional, flag_in, mode_in, terms_in, set_in, emit_in, connect_in};
+ghost use Rattle.term_core.specs.Effects.{has_receiver, disconnect_in, delete_in, delete_later_in, block_in, set_parent_in, effect_in};
 
 use crate::action::SingleAction;
 use crate::expr::Expr;

@@ -24,11 +24,13 @@ AgreeOn reads one other = All (λ read. one read.target read.name ≡ other read
 
 -- the value of an expression depends on no property but those that it reads
 abbrev pub ReadsSuffice : Type 0 → Type 0
-ReadsSuffice O = (term : Term) (args : List Value) (one other : Target → List ℕ → Answer O) → AgreeOn (reads_of term) one other → eval_by args one term ≡ eval_by args other term
+ReadsSuffice O = (term : Term) (args : List Value) (one other : Target → List ℕ → Answer O)
+    → AgreeOn (reads_of term) one other → eval_by args one term ≡ eval_by args other term
 
 -- nor on any but those that it really comes to: with the same answers there it comes to these again
 abbrev pub MetSuffice : Type 0 → Type 0
-MetSuffice O = (term : Term) (args : List Value) (one other : Target → List ℕ → Answer O) → AgreeOn (met_by args one term) one other → (eval_by args other term ≡ eval_by args one term) × (met_by args other term ≡ met_by args one term)
+MetSuffice O = (term : Term) (args : List Value) (one other : Target → List ℕ → Answer O) → AgreeOn (met_by args one term) one other
+    → (eval_by args other term ≡ eval_by args one term) × (met_by args other term ≡ met_by args one term)
 
 -- what a reader answers at a property, as a row of finitely many
 abbrev pub known_by : {O : Type 0} → (Target → List ℕ → Answer O) → Read → Known O
@@ -36,7 +38,8 @@ known_by read property = record { target = property.target; name = property.name
 
 -- a reader may be replaced by the finite map of what it answers at the properties that the expression reads
 abbrev pub FiniteReadsSuffice : Type 0 → Type 0
-FiniteReadsSuffice O = (term : Term) (args : List Value) (read : Target → List ℕ → Answer O) → eval_by args (read_of (map (known_by read) (reads_of term))) term ≡ eval_by args read term
+FiniteReadsSuffice O = (term : Term) (args : List Value) (read : Target → List ℕ → Answer O)
+    → eval_by args (read_of (map (known_by read) (reads_of term))) term ≡ eval_by args read term
 
 -- evaluating over arguments is evaluating what has them put in
 abbrev pub EvaluatesInPlace : Type 0 → Type 0
@@ -44,12 +47,14 @@ EvaluatesInPlace O = (term : Term) (args : List Value) (read : Target → List �
 
 -- where constants, arguments and what is read are short, so is a value that comes of them
 abbrev pub ValuesAreShort : Type 0 → Type 0
-ValuesAreShort O = (term : Term) (args : List Value) (read : Target → List ℕ → Answer O) → IsTrue (has_short_texts term) → All IsShort args → ((target : Target) (name : List ℕ) → IfOk (read target name) IsShort) → IfOk (eval_by args read term) IsShort
+ValuesAreShort O = (term : Term) (args : List Value) (read : Target → List ℕ → Answer O) → IsTrue (has_short_texts term)
+    → All IsShort args → ((target : Target) (name : List ℕ) → IfOk (read target name) IsShort) → IfOk (eval_by args read term) IsShort
 
 -- a body that takes no argument but its parameters has none left where it is unfolded with as many
 -- arguments, or more
 abbrev pub UnfoldingLeavesNoArgument : Type 0
-UnfoldingLeavesNoArgument = (body : Body) (args : List Value) → ActsTakeAtMost body.params (acts_of body.actions) → body.params ≤ length args → ActsTakeAtMost 0 (acts_of (unfolded_body args body))
+UnfoldingLeavesNoArgument = (body : Body) (args : List Value) → ActsTakeAtMost body.params (acts_of body.actions)
+    → body.params ≤ length args → ActsTakeAtMost 0 (acts_of (unfolded_body args body))
 
 -- unfolding keeps how many forms an expression is made of, and how many actions a body has
 abbrev pub UnfoldingKeepsNodes : Type 0
@@ -60,12 +65,14 @@ UnfoldingKeepsActions = (body : Body) (args : List Value) → counts (acts_of (u
 
 -- so with short arguments it keeps to the limits
 abbrev pub UnfoldingKeepsLimits : Type 0
-UnfoldingKeepsLimits = (body : Body) (args : List Value) → All IsShort args → IsTrue (is_body_limited body.actions) → IsTrue (is_body_limited (unfolded_body args body))
+UnfoldingKeepsLimits =
+    (body : Body) (args : List Value) → All IsShort args → IsTrue (is_body_limited body.actions) → IsTrue (is_body_limited (unfolded_body args body))
 
 -- a body with a number in the place of the state takes no argument more, has as many actions, and keeps to
 -- the limits as it did
 abbrev pub StateTakesNoArgument : Type 0
-StateTakesNoArgument = (body : Body) (n : ℕ) → ActsTakeAtMost body.params (acts_of body.actions) → ActsTakeAtMost body.params (acts_of (with_state n body).actions)
+StateTakesNoArgument =
+    (body : Body) (n : ℕ) → ActsTakeAtMost body.params (acts_of body.actions) → ActsTakeAtMost body.params (acts_of (with_state n body).actions)
 
 abbrev pub StateKeepsActions : Type 0
 StateKeepsActions = (body : Body) (n : ℕ) → counts (acts_of (with_state n body).actions) ≡ counts (acts_of body.actions)

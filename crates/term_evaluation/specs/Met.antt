@@ -27,7 +27,8 @@ met_by args read (arg place) = []
 met_by args read state = []
 met_by args read (prop target name) = record { target = target; name = name } ∷ []
 met_by args read (binary operator a b) = met_by args read a ++ behind (eval_by args read a) (λ x. met_by args read b)
-met_by args read (choice test a b) = met_by args read test ++ behind (eval_by args read test) (λ t. in_branch (truth_in t) (met_by args read a) (met_by args read b))
+met_by args read (choice test a b) =
+    met_by args read test ++ behind (eval_by args read test) (λ t. in_branch (truth_in t) (met_by args read a) (met_by args read b))
 
 -- it is true of all but the last
 abbrev pub EachButLast : {X : Type 0} → (X → Type 0) → List X → Type 0

@@ -1,6 +1,8 @@
 //! What holds of evaluation and of unfolding. There is nothing to run in these functions: the clause of each
 //! is a theorem.
-ghost use Rattle.term_evaluation.specs.Laws.{EvaluatesInPlace, FiniteReadsSuffice, MetSuffice, ReadsSuffice, StateKeepsActions, StateKeepsLimits, StateTakesNoArgument, UnfoldingKeepsActions, UnfoldingKeepsLimits, UnfoldingKeepsNodes, UnfoldingLeavesNoArgument, ValuesAreShort};
+ghost use Rattle.term_evaluation.specs.Laws.{EvaluatesInPlace, FiniteReadsSuffice, MetSuffice, ReadsSuffice, StateKeepsActions};
+ghost use Rattle.term_evaluation.specs.Laws.{StateKeepsLimits, StateTakesNoArgument, UnfoldingKeepsActions, UnfoldingKeepsLimits};
+ghost use Rattle.term_evaluation.specs.Laws.{UnfoldingKeepsNodes, UnfoldingLeavesNoArgument, ValuesAreShort};
 
 /// The value of an expression depends on no property but those that `reads_of` names: readers that
 /// answer the same at these, whatever they answer elsewhere and whatever faults of their own they

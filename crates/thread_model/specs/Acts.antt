@@ -63,14 +63,16 @@ abbrev pub act_deed : Settings → State → ℕ → ℕ → SingleAction → Op
 act_deed settings state self sender (e.Connect of signal to method mode unique single) = Some (
     behind (object_refusal state.forest.rows (object_of state self sender of)) (
     behind (object_refusal state.forest.rows (object_of state self sender to))
-    (connection settings state (object_of state self sender of) signal (object_of state self sender to) method mode single >>= λ new. Ok (d.Connect new unique))))
+    (connection settings state (object_of state self sender of) signal (object_of state self sender to) method mode single >>= λ new.
+    Ok (d.Connect new unique))))
 act_deed settings state self sender (e.Disconnect of signal to method) = Some (
     behind (absence state (object_of state self sender of)) (
     behind (named_absence state (named_object_of state self sender to))
     (pattern settings state (object_of state self sender of) signal (named_object_of state self sender to) method >>= λ pattern. Ok (d.Disconnect pattern))))
 act_deed settings state self sender (e.DeleteLater target) = Some (Ok (d.DeleteLater (object_of state self sender target)))
 act_deed settings state self sender (e.Block of on) = Some (Ok (d.Block (object_of state self sender of) on))
-act_deed settings state self sender (e.SetParent of parent) = Some (Ok (d.SetParent (object_of state self sender of) (named_object_of state self sender parent)))
+act_deed settings state self sender (e.SetParent of parent) =
+    Some (Ok (d.SetParent (object_of state self sender of) (named_object_of state self sender parent)))
 act_deed settings state self sender _ = None
 
 module _ (settings : Settings) (state : State) (self sender : ℕ) (args : List Value) where
@@ -108,7 +110,8 @@ module _ (settings : Settings) (doing : Doing) (self sender : ℕ) (args : List 
       with_found (emission settings doing.state self sender args (acted_object of) signal sent)
       (λ emitted. puts (Emit (acted_object of) emitted.0 emitted.1 depth ∷ []) doing) doing
   acted (e.Delete target) = puts (Delete (acted_object target) depth ∷ []) doing
-  acted plain = option_map_or (λ found. with_found found (λ deed. puts [] (deed_done doing deed)) doing) (act_deed settings doing.state self sender plain) (puts [] doing)
+  acted plain = option_map_or (λ found. with_found found (λ deed. puts [] (deed_done doing deed)) doing)
+      (act_deed settings doing.state self sender plain) (puts [] doing)
 
 -- a refused action warns of its code for the object whose slot is run, and does nothing
 abbrev pub warns_or : Option Code → ℕ → Doing → Next → Next

@@ -1,5 +1,6 @@
 -- How a session does what it has to do, item by item.
-use Rattle.std.specs.Prelude.{◌+◌, ◌==◌, ◌&&◌, ℕ, Bool, false, not, List, [], ◌∷◌, ◌++◌, map, filter, find, take, length, nat_le, Option, Some, None, if◌then◌else◌}
+use Rattle.std.specs.Prelude.{◌+◌, ◌==◌, ◌&&◌, ℕ, Bool, false, not, List, [], ◌∷◌, ◌++◌, map, filter}
+use Rattle.std.specs.Prelude.{find, take, length, nat_le, Option, Some, None, if◌then◌else◌}
 use Rattle.std.specs.Option.{option_map_or}
 use Rattle.refusals.specs.declared.code.Code.TheVariants.{Limit}
 use Rattle.variant_value.specs.declared.value.Value.{Value}
@@ -88,13 +89,24 @@ method_items target index sender args sent_at run_at method =
 abbrev pub queued : Doing → QueuedCall → Doing
 queued doing call = if has_room doing.state.queue then posted doing (event.Call call) else lost doing
 
+-- the call of what a connection calls, as it is queued
+abbrev pub queued_call : Connection → Callee → List Value → QueuedCall
+queued_call connection callee args = record {
+  object = connection.receiver;
+  callee = callee;
+  sender = connection.sender;
+  connection = connection.number;
+  priority = Normal;
+  args = args;
+}
+
 -- a method is called with as many of the first arguments as it has parameters: later, or at once, where
 -- a signal is sent one level deeper
 abbrev pub method_called : Connection → ℕ → List Value → ℕ → Doing → Method → Next
 method_called connection index args depth doing method =
     let given = take (length method.signature.kinds) args in
     if is_queued connection.mode
-    then puts [] (queued doing (record { object = connection.receiver; callee = callee.Method index; sender = connection.sender; connection = connection.number; priority = Normal; args = given }))
+    then puts [] (queued doing (queued_call connection (callee.Method index) given))
     else puts (method_items connection.receiver index connection.sender given (depth + 1) depth method) doing
 
 -- the same of a functor, whose context object is the receiver
@@ -102,13 +114,15 @@ abbrev pub functor_called : Connection → ℕ → List Value → ℕ → Doing 
 functor_called connection index args depth doing functor =
     let given = take (length functor.params) args in
     if is_queued connection.mode
-    then puts [] (queued doing (record { object = connection.receiver; callee = callee.Functor index; sender = connection.sender; connection = connection.number; priority = Normal; args = given }))
+    then puts [] (queued doing (queued_call connection (callee.Functor index) given))
     else puts (RunFunctor connection.receiver index connection.sender connection.number given depth ∷ []) doing
 
 -- what a connection calls
 abbrev pub callee_called : Settings → Connection → List Value → ℕ → Doing → Callee → Next
-callee_called settings connection args depth doing (callee.Method index) = option_map_or (method_called connection index args depth doing) (method_at settings doing.state connection.receiver index) (puts [] doing)
-callee_called settings connection args depth doing (callee.Functor index) = option_map_or (functor_called connection index args depth doing) (functor_at settings index) (puts [] doing)
+callee_called settings connection args depth doing (callee.Method index) =
+    option_map_or (method_called connection index args depth doing) (method_at settings doing.state connection.receiver index) (puts [] doing)
+callee_called settings connection args depth doing (callee.Functor index) =
+    option_map_or (functor_called connection index args depth doing) (functor_at settings index) (puts [] doing)
 
 -- a connection's call; a single-shot connection goes first
 abbrev pub called : Settings → Connection → List Value → ℕ → Doing → Next
@@ -116,7 +130,8 @@ called settings connection args depth doing = callee_called settings connection 
 
 -- what an event comes to: all that it does is done at depth 0
 abbrev pub call_items : Settings → State → QueuedCall → Callee → List Item
-call_items settings state call (callee.Method index) = option_map_or (method_items call.object index call.sender call.args 0 0) (method_at settings state call.object index) []
+call_items settings state call (callee.Method index) =
+    option_map_or (method_items call.object index call.sender call.args 0 0) (method_at settings state call.object index) []
 call_items settings state call (callee.Functor index) = RunFunctor call.object index call.sender call.connection call.args 0 ∷ []
 
 abbrev pub event_items : Settings → State → Event → List Item
@@ -138,7 +153,8 @@ functor_line functor target sender args = line.Call (record { method = functor.n
 
 -- a slot is told of, and then does what its body says, one level deeper
 abbrev pub ran : Doing → ℕ → ℕ → List Value → ℕ → Method → Next
-ran doing target sender args depth method = puts (acts (acts_of method.body.actions) args target sender (depth + 1)) (line_told doing (call_line method target sender args))
+ran doing target sender args depth method =
+    puts (acts (acts_of method.body.actions) args target sender (depth + 1)) (line_told doing (call_line method target sender args))
 
 -- and so does a functor for its context object, over the state that its connection keeps; the state that
 -- follows is kept there before that
@@ -150,19 +166,27 @@ functor_ran doing target sender connection args depth functor =
 
 -- the line that warns of the error of a bound property, by its name
 abbrev pub binding_line : Settings → State → Property → BindingError → Line
-binding_line settings state at error = line.BindingWarning at.object (option_map_or (λ property. property.name) (property_at settings state at.object at.number) []) error
+binding_line settings state at error =
+    line.BindingWarning at.object (option_map_or (λ property. property.name) (property_at settings state at.object at.number) []) error
 
 -- what an item comes to
 abbrev pub step : Settings → Item → Doing → Next
-step settings (Emit target signal args depth) doing = option_map_or (emitted settings doing target signal args depth) (row_of doing.state.forest.rows target) (puts [] doing)
-step settings (Call number args depth) doing = option_map_or (λ connection. with_turn doing (called settings connection args depth)) (connection_of doing number) (puts [] doing)
-step settings (Run target method sender args depth) doing = option_map_or (ran doing target sender args depth) (method_at settings doing.state target method) (puts [] doing)
-step settings (RunFunctor target functor sender connection args depth) doing = option_map_or (functor_ran doing target sender connection args depth) (functor_at settings functor) (puts [] doing)
-step settings (Act (single_action plain) args self sender depth) doing = warns_or (act_refusal settings doing.state self sender args plain) self doing (acted settings doing self sender args depth plain)
-step settings (Act (when test held failed) args self sender depth) doing = chosen (truth_evaluated doing.state self sender args test) held failed args self sender depth doing
+step settings (Emit target signal args depth) doing =
+    option_map_or (emitted settings doing target signal args depth) (row_of doing.state.forest.rows target) (puts [] doing)
+step settings (Call number args depth) doing =
+    option_map_or (λ connection. with_turn doing (called settings connection args depth)) (connection_of doing number) (puts [] doing)
+step settings (Run target method sender args depth) doing =
+    option_map_or (ran doing target sender args depth) (method_at settings doing.state target method) (puts [] doing)
+step settings (RunFunctor target functor sender connection args depth) doing =
+    option_map_or (functor_ran doing target sender connection args depth) (functor_at settings functor) (puts [] doing)
+step settings (Act (single_action plain) args self sender depth) doing =
+    warns_or (act_refusal settings doing.state self sender args plain) self doing (acted settings doing self sender args depth plain)
+step settings (Act (when test held failed) args self sender depth) doing =
+    chosen (truth_evaluated doing.state self sender args test) held failed args self sender depth doing
 step settings (Warn code object) doing = puts [] (line_told doing (line.Warning code object))
 step settings (WarnOf at error) doing = puts [] (line_told doing (binding_line settings doing.state at error))
-step settings (Delete target depth) doing = if lives doing target then puts (Emit target DESTROYED [] depth ∷ Cut target depth ∷ Gone target depth ∷ []) (dying doing target) else puts [] doing
+step settings (Delete target depth) doing = if lives doing target
+    then puts (Emit target DESTROYED [] depth ∷ Cut target depth ∷ Gone target depth ∷ []) (dying doing target) else puts [] doing
 step settings (Cut target depth) doing = puts (kins doing target depth) (severed doing target)
 step settings (Kin parent child depth) doing = if lives_below doing parent child then puts (Delete child depth ∷ []) doing else puts [] doing
 step settings (Gone target depth) doing = comes_to settings doing depth (without_object doing.state target) None

@@ -39,7 +39,14 @@ is_matched kinds join = fits kinds join.kinds && fits join.kinds kinds
 
 -- the call of a join, which no object has sent: its method gets as many of the first arguments as it has parameters
 abbrev pub joined_call : List Class → List Row → List Value → Join → QueuedCall
-joined_call classes rows args join = record { object = join.object; callee = Method join.method; sender = 0; connection = 0; priority = Normal; args = take (length (kinds_of classes rows join.object join.method)) args }
+joined_call classes rows args join = record {
+  object = join.object;
+  callee = Method join.method;
+  sender = 0;
+  connection = 0;
+  priority = Normal;
+  args = take (length (kinds_of classes rows join.object join.method)) args;
+}
 
 -- a call among all events; where there is no room for it, it is lost
 abbrev pub with_call : Queue → QueuedCall → Queue

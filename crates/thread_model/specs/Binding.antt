@@ -1,7 +1,6 @@
 -- What the commands for bindings and groups do, where they are not refused.
 use Rattle.std.specs.Prelude.{ℕ, true, false, List, [], ◌∷◌, Option, Some, None, Ok, Err, option_map, if◌then◌else◌}
 use Rattle.std.specs.Option.{ok_or, option_map_or, option_or}
-use Rattle.std.specs.List.{filter_map}
 use Rattle.isolation.specs.Machine.{Effect}
 use Rattle.refusals.specs.declared.code.Code.{Code}
 use Rattle.refusals.specs.declared.code.Code.TheVariants.{NoSuchObject, NoSuchProperty, NotBindable}
@@ -25,14 +24,15 @@ use Rattle.thread_model.specs.Effects.{does_next, refuses, replies}
 use Rattle.thread_model.specs.Items.{puts}
 use Rattle.thread_model.specs.Methods.{Found, ◌>>=◌}
 use Rattle.thread_model.specs.Settings.{Settings}
-use Rattle.thread_model.specs.Showing.{comes_to, showing, told_as}
+use Rattle.thread_model.specs.Showing.{comes_to, showing, tellings}
 use Rattle.thread_model.specs.State.{State, shown, with_binding, with_binding_taken, with_group, without_group}
 
 -- the property of this name that an object's class declares
 abbrev pub asked_property : State → ℕ → List ℕ → Found Property
 asked_property state target name =
     behind (absence state target)
-    (option_map_or (λ of. ok_or (option_map (λ number. record { object = target; number = number }) (field_number name of.fields)) NoSuchProperty) (properties_of state.store target) (Err NoSuchProperty))
+    (option_map_or (λ of. ok_or (option_map (λ number. record { object = target; number = number }) (field_number name of.fields)) NoSuchProperty)
+    (properties_of state.store target) (Err NoSuchProperty))
 
 -- the same of one that may be bound, and be read in a binding
 abbrev pub bindable_property : State → ℕ → List ℕ → Found Property
@@ -69,12 +69,14 @@ binding_refusal state (Err code) = Some code
 
 -- binding a property tells of what has changed by it, of the property first
 abbrev pub binds_found : Settings → State → Found Bound → Effect State Line Post
-binds_found settings state (Ok bound) = does_next settings (comes_to settings (begun settings state) 0 (with_binding state bound.at bound.term) (Some bound.at)) (a.Truth true)
+binds_found settings state (Ok bound) =
+    does_next settings (comes_to settings (begun settings state) 0 (with_binding state bound.at bound.term) (Some bound.at)) (a.Truth true)
 binds_found settings state (Err code) = refuses state code
 
 -- a property that is bound no longer keeps the value that it shows; it replies whether it was bound
 abbrev pub unbinds_found : Settings → State → Found Property → Effect State Line Post
-unbinds_found settings state (Ok at) = does_next settings (comes_to settings (begun settings state) 0 (with_binding_taken state at) (Some at)) (a.Truth (is_bound state.graph.bindings at))
+unbinds_found settings state (Ok at) = does_next settings
+    (comes_to settings (begun settings state) 0 (with_binding_taken state at) (Some at)) (a.Truth (is_bound state.graph.bindings at))
 unbinds_found settings state (Err code) = refuses state code
 
 -- the error that a property stands for
@@ -90,5 +92,5 @@ begins state = replies (with_group state) (a.Number (with_group state).graph.dep
 abbrev pub ends : Settings → State → Effect State Line Post
 ends settings state =
     let after = without_group state in
-    let told = if is_open after.graph then [] else filter_map (λ change. told_as settings after 0 change.at change.told) (graph.changes state.graph.last (showing after) None) in
+    let told = if is_open after.graph then [] else tellings settings after 0 (graph.changes state.graph.last (showing after) None) in
     does_next settings (puts told (in_state (begun settings state) after)) (a.Number after.graph.depth)

@@ -15,7 +15,8 @@ use Rattle.thread_model.specs.State.{State}
 
 -- the signal's parameters fit those of the method
 abbrev pub fits_at : Settings → State → ℕ → ℕ → ℕ → ℕ → Bool
-fits_at settings state sender signal receiver method = fits (kinds_at (methods_of settings state sender) signal) (kinds_at (methods_of settings state receiver) method)
+fits_at settings state sender signal receiver method =
+    fits (kinds_at (methods_of settings state sender) signal) (kinds_at (methods_of settings state receiver) method)
 
 -- and those of the functor
 abbrev pub fits_functor : Settings → State → ℕ → ℕ → ℕ → Bool
@@ -40,7 +41,8 @@ new_functor_connection settings state sender signal context functor mode single 
 
 -- the receiving end of a pattern; a method is looked for only where a receiver is named
 abbrev pub receiver_with : (ℕ → Option (Found ℕ)) → Option ℕ → Found (Option Receiver)
-receiver_with method receiver = option_map_or (λ object. option_transpose (method object) >>= λ m. Ok (Some (record { object = object; method = m }))) receiver (Ok None)
+receiver_with method receiver =
+    option_map_or (λ object. option_transpose (method object) >>= λ m. Ok (Some (record { object = object; method = m }))) receiver (Ok None)
 
 -- the connections of a sender that match a signal, a receiver and a method that were looked for
 abbrev pub pattern_with : ℕ → Option (Found ℕ) → Option ℕ → (ℕ → Option (Found ℕ)) → Found Pattern

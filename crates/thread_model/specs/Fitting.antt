@@ -108,14 +108,16 @@ IsRightPost post = AreArguments post.kinds post.arguments
 -- so is never given to another one
 pub record IsCalledBy (settings : Settings) (state : State) (number : ℕ) (args : List Value) : Type 0 where
   pub given : number ≤ state.connections.last_number
-  pub arguments : All (λ row. row.number ≡ number → AreArguments (kinds_of settings.classes state.forest.rows row.sender row.signal) args) state.connections.rows
+  pub arguments : All (λ row. row.number ≡ number
+      → AreArguments (kinds_of settings.classes state.forest.rows row.sender row.signal) args) state.connections.rows
 
 -- what is to be done fits, where the object that it names still stands: a signal that is sent, a slot that is
 -- run, and an action over the arguments of its slot
 abbrev pub IsFittingItem : Settings → State → Item → Type 0
 IsFittingItem settings state (Emit target signal args depth) = IsTrue (is_there state.forest.rows target) → IsSent settings state.forest.rows target signal args
 IsFittingItem settings state (Call number args depth) = IsCalledBy settings state number args
-IsFittingItem settings state (Run target method sender args depth) = IsTrue (is_there state.forest.rows target) → IsCall settings state.forest.rows target (callee.Method method) args
+IsFittingItem settings state (Run target method sender args depth) =
+    IsTrue (is_there state.forest.rows target) → IsCall settings state.forest.rows target (callee.Method method) args
 IsFittingItem settings state (RunFunctor target functor sender connection args depth) = IsCall settings state.forest.rows target (callee.Functor functor) args
 IsFittingItem settings state (Act action args self sender depth) = IsTrue (is_limited action) × All IsShort args
 IsFittingItem settings state _ = Unit {0}

@@ -30,31 +30,43 @@ pub record KeepsSound : Type 0 where
 -- connection has lost an end, and no event names an object that is gone
 pub record KeepsUnderWay : Type 0 where
   pub at_first : (agenda : List Item) (state : State) → IsFalse (list_any is_gone agenda) → IsSound state → IsUnderWay agenda state
-  pub by_item : (settings : Settings) (item : Item) (agenda : List Item) (doing : Doing) → IsUnderWay (item ∷ agenda) doing.state → IsUnderWay ((step settings item doing).items ++ agenda) (step settings item doing).doing.state
+  pub by_item : (settings : Settings) (item : Item) (agenda : List Item) (doing : Doing) → IsUnderWay (item ∷ agenda) doing.state
+      → IsUnderWay ((step settings item doing).items ++ agenda) (step settings item doing).doing.state
   pub at_end : (state : State) → IsUnderWay [] state → IsSound state
 
 -- each object has the properties that its class declares: before the first command, item by item while a
 -- command is done, after it, and after each post of another session
 pub record KeepsDeclared : Type 0 where
   pub at_first : (classes : List Class) → IsDeclared classes empty
-  pub by_item : (settings : Settings) (item : Item) (doing : Doing) → IsDeclared settings.classes doing.state → IsDeclared settings.classes (step settings item doing).doing.state
-  pub by_command : (settings : Settings) (self : List ℕ) (state : State) (asked : Asked) → IsSound state → IsDeclared settings.classes state → IsDeclared settings.classes (does settings self state asked).state
-  pub by_post : (classes : List Class) (state : State) (from : List ℕ) (post : Post) → IsDeclared classes state → IsDeclared classes (arrives classes state from post)
+  pub by_item : (settings : Settings) (item : Item) (doing : Doing)
+      → IsDeclared settings.classes doing.state → IsDeclared settings.classes (step settings item doing).doing.state
+  pub by_command : (settings : Settings) (self : List ℕ) (state : State) (asked : Asked)
+      → IsSound state → IsDeclared settings.classes state → IsDeclared settings.classes (does settings self state asked).state
+  pub by_post : (classes : List Class) (state : State) (from : List ℕ) (post : Post)
+      → IsDeclared classes state → IsDeclared classes (arrives classes state from post)
 
 -- what a session holds fits the classes and the functors: before the first command, item by item while a command
 -- is done, after it, and after each right post of another session; what a command posts is right
 pub record KeepsFitting : Type 0 where
   pub at_first : (settings : Settings) → IsFitting settings empty
-  pub by_item : (settings : Settings) (item : Item) (agenda : List Item) (doing : Doing) → AreSettings settings → IsFittingUnderWay settings (item ∷ agenda) doing → IsFittingUnderWay settings ((step settings item doing).items ++ agenda) (step settings item doing).doing
-  pub by_command : (settings : Settings) (self : List ℕ) (state : State) (asked : Asked) → AreSettings settings → IsFittingAsked settings state asked → IsSound state → IsDeclared settings.classes state → IsFitting settings state → IsFitting settings (does settings self state asked).state × All IsRightPost (does settings self state asked).posts
-  pub by_post : (settings : Settings) (state : State) (from : List ℕ) (post : Post) → IsFitting settings state → IsRightPost post → IsFitting settings (arrives settings.classes state from post)
+  pub by_item : (settings : Settings) (item : Item) (agenda : List Item) (doing : Doing)
+      → AreSettings settings → IsFittingUnderWay settings (item ∷ agenda) doing
+      → IsFittingUnderWay settings ((step settings item doing).items ++ agenda) (step settings item doing).doing
+  pub by_command : (settings : Settings) (self : List ℕ) (state : State) (asked : Asked) → AreSettings settings
+      → IsFittingAsked settings state asked → IsSound state → IsDeclared settings.classes state → IsFitting settings state
+      → IsFitting settings (does settings self state asked).state × All IsRightPost (does settings self state asked).posts
+  pub by_post : (settings : Settings) (state : State) (from : List ℕ) (post : Post)
+      → IsFitting settings state → IsRightPost post → IsFitting settings (arrives settings.classes state from post)
 
 -- dynamic properties are called by names: before the first command, item by item while a command is done, after
 -- one that sets what has a name, if it sets anything, and after each post of another session
 pub record KeepsNamed : Type 0 where
   pub at_first : AreNamed empty
-  pub by_item : (settings : Settings) (item : Item) (agenda : List Item) (doing : Doing) → AreSettings settings → All IsNamedItem (item ∷ agenda) → AreNamed doing.state → All IsNamedItem ((step settings item doing).items ++ agenda) × AreNamed (step settings item doing).doing.state
-  pub by_command : (settings : Settings) (self : List ℕ) (state : State) (asked : Asked) → AreSettings settings → IsNamedAsked asked → AreNamed state → AreNamed (does settings self state asked).state
+  pub by_item : (settings : Settings) (item : Item) (agenda : List Item) (doing : Doing)
+      → AreSettings settings → All IsNamedItem (item ∷ agenda) → AreNamed doing.state
+      → All IsNamedItem ((step settings item doing).items ++ agenda) × AreNamed (step settings item doing).doing.state
+  pub by_command : (settings : Settings) (self : List ℕ) (state : State) (asked : Asked)
+      → AreSettings settings → IsNamedAsked asked → AreNamed state → AreNamed (does settings self state asked).state
   pub by_post : (classes : List Class) (state : State) (from : List ℕ) (post : Post) → AreNamed state → AreNamed (arrives classes state from post)
 
 -- an action over the arguments of its slot does what it does with them put in, over none

@@ -12,7 +12,9 @@ use Rattle.class_table.specs.Lookup.{index_of}
 use Rattle.connection_types.specs.declared.connection_type.ConnectionType.{ConnectionType}
 use Rattle.object_tree.specs.Refusing.{add_refusal, parent_refusal}
 use Rattle.thread_model.specs.Absence.{absence, named_absence}
-use Rattle.thread_model.specs.Asked.{Asked, New, Delete, Children, Find, Set, Get, DynamicNames, Meta, Connect, ConnectFunctor, DisconnectOne, Disconnect, Invoke, Spin, Do, Status, Publish, Unpublish, Join, Leave, Reset, Bind, Unbind, BindingError, Begin, End}
+use Rattle.thread_model.specs.Asked.{Asked, New, Delete, Children, Find, Set, Get, DynamicNames, Meta, Connect}
+use Rattle.thread_model.specs.Asked.{ConnectFunctor, DisconnectOne, Disconnect, Invoke, Spin, Do, Status, Publish}
+use Rattle.thread_model.specs.Asked.{Unpublish, Join, Leave, Reset, Bind, Unbind, BindingError, Begin, End}
 use Rattle.thread_model.specs.Deeds.{deed_refusal, found_refusal}
 use Rattle.thread_model.specs.Methods.{signature_in}
 use Rattle.thread_model.specs.Posting.{is_queued, post_refusal}
@@ -55,8 +57,10 @@ refusal settings self state (Set target property value) =
 refusal settings self state (Get target property) = absence state target
 refusal settings self state (DynamicNames target) = absence state target
 refusal settings self state (Meta class) = class_refusal settings.classes class
-refusal settings self state (Connect sender signal receiver method mode unique single) = found_refusal state (asked_connect settings state sender signal receiver method mode unique single)
-refusal settings self state (ConnectFunctor sender signal context functor mode unique single) = found_refusal state (asked_connect_functor settings state sender signal context functor mode unique single)
+refusal settings self state (Connect sender signal receiver method mode unique single) =
+    found_refusal state (asked_connect settings state sender signal receiver method mode unique single)
+refusal settings self state (ConnectFunctor sender signal context functor mode unique single) =
+    found_refusal state (asked_connect_functor settings state sender signal context functor mode unique single)
 refusal settings self state (DisconnectOne connection) = None
 refusal settings self state (Disconnect sender signal receiver method) = found_refusal state (asked_disconnect settings state sender signal receiver method)
 refusal settings self state (Invoke target method args mode priority) =

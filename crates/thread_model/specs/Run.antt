@@ -84,7 +84,8 @@ deletion_weight most = 2 * most.objects + change_weight most + most.connections 
 
 -- enough steps to come to the end
 unfoldable pub enough : Settings → List Item → Doing → ℕ
-enough settings agenda doing = doing.turns * turn_weight (most settings doing) + living doing * deletion_weight (most settings doing) + weights (most settings doing) agenda
+enough settings agenda doing =
+    doing.turns * turn_weight (most settings doing) + living doing * deletion_weight (most settings doing) + weights (most settings doing) agenda
 
 -- an agenda done to its end
 unfoldable pub run : Settings → List Item → Doing → Doing
@@ -94,5 +95,6 @@ run settings agenda doing = steps settings (enough settings agenda doing) agenda
 -- agendas are done one after the other
 pub record RunsToItsEnd : Type 0 where
   pub at_end : (settings : Settings) (doing : Doing) → run settings [] doing ≡ doing
-  pub at_item : (settings : Settings) (item : Item) (agenda : List Item) (doing : Doing) → run settings (item ∷ agenda) doing ≡ run settings ((step settings item doing).items ++ agenda) (step settings item doing).doing
+  pub at_item : (settings : Settings) (item : Item) (agenda : List Item) (doing : Doing)
+      → run settings (item ∷ agenda) doing ≡ run settings ((step settings item doing).items ++ agenda) (step settings item doing).doing
   pub in_parts : (settings : Settings) (one other : List Item) (doing : Doing) → run settings (one ++ other) doing ≡ run settings other (run settings one doing)

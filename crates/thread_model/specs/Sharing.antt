@@ -72,5 +72,6 @@ joins_found state (Err code) = refuses state code
 
 -- it replies whether there was one
 abbrev pub leaves : State → List ℕ → List ℕ → ℕ → Found ℕ → Effect State Line Post
-leaves state from name target (Ok method) = replies (with_desk state (left state.desk from name target method)) (Truth (list_any (is_join from name target method) state.desk.joins))
+leaves state from name target (Ok method) =
+    replies (with_desk state (left state.desk from name target method)) (Truth (list_any (is_join from name target method) state.desk.joins))
 leaves state from name target (Err code) = refuses state code

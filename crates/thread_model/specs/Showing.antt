@@ -24,7 +24,8 @@ use Rattle.thread_model.specs.State.{State, shown}
 -- was set to
 abbrev pub named_value : State → ℕ → List ℕ → Option Value
 named_value state object name =
-    option_and_then (λ of. option_map_or (λ number. Some (shown state object number).0) (field_number name of.fields) (dynamic_value name of.dynamic)) (properties_of state.store object)
+    option_and_then (λ of. option_map_or (λ number. Some (shown state object number).0) (field_number name of.fields) (dynamic_value name of.dynamic))
+    (properties_of state.store object)
 
 -- what all declared properties show
 abbrev pub showing : State → List Shown
@@ -50,6 +51,10 @@ told_as settings state depth at (message.Value value) =
     option_map (λ signal. Emit at.object signal (told_value settings state at.object value signal) depth)
     (option_and_then (λ property. property.notify) (property_at settings state at.object at.number))
 
+-- what tells of changes, in their order
+abbrev pub tellings : Settings → State → ℕ → List Change → List Item
+tellings settings state depth changes = filter_map (λ change. told_as settings state depth change.at change.told) changes
+
 -- the session comes to another state, and tells of what has changed
 abbrev pub comes_to : Settings → Doing → ℕ → State → Option At → Next
-comes_to settings doing depth after written = puts (filter_map (λ change. told_as settings after depth change.at change.told) (changes doing.state after written)) (in_state doing after)
+comes_to settings doing depth after written = puts (tellings settings after depth (changes doing.state after written)) (in_state doing after)

@@ -15,6 +15,7 @@ use Rattle.connection_types.specs.declared.connection_type.ConnectionType.{Conne
 use Rattle.connection_types.specs.declared.callee.Callee.TheVariants.{Method}
 use Rattle.event_queue.specs.declared.event.Priority.{Priority}
 use Rattle.event_queue.specs.declared.event.Event.TheVariants.{Call}
+use Rattle.event_queue.specs.declared.event.QueuedCall.{QueuedCall}
 use Rattle.connection_list.specs.declared.connection.NewConnection.{NewConnection}
 use Rattle.connection_list.specs.declared.pattern.Pattern.{Pattern}
 use Rattle.connection_list.specs.Rows.{has_number}
@@ -64,7 +65,8 @@ abbrev pub asked_connect_functor : Settings → State → ℕ → List ℕ → �
 asked_connect_functor settings state sender signal context functor mode unique single =
     behind (object_refusal state.forest.rows sender) (
     behind (object_refusal state.forest.rows context)
-    (asked_functor_connection settings state sender signal context functor mode single >>= λ new. if unique then Err UniqueFunctor else Ok (d.Connect new false)))
+    (asked_functor_connection settings state sender signal context functor mode single >>= λ new. if unique then Err UniqueFunctor
+    else Ok (d.Connect new false)))
 
 -- breaking the connection of a number replies whether it stood
 abbrev pub disconnects_one : State → ℕ → Effect State Line Post
@@ -116,9 +118,20 @@ invoked settings state target index values =
     if is_signal_at (methods_of settings state target) index then puts (Emit target index values 0 ∷ []) (begun settings state)
     else with_turn (begun settings state) (puts (Run target index 0 values 0 ∷ []))
 
--- a call that is asked for later is posted as an event, which no object has sent
+-- the call of a method that is asked for later, which no object has sent
+abbrev pub invoked_call : ℕ → ℕ → List Value → Priority → QueuedCall
+invoked_call target index values priority = record {
+  object = target;
+  callee = Method index;
+  sender = 0;
+  connection = 0;
+  priority = priority;
+  args = values;
+}
+
+-- it is posted as an event
 abbrev pub invoked_later : State → ℕ → ℕ → List Value → Priority → Effect State Line Post
-invoked_later state target index values priority = replies (with_event state (Call (record { object = target; callee = Method index; sender = 0; connection = 0; priority = priority; args = values }))) (a.Truth true)
+invoked_later state target index values priority = replies (with_event state (Call (invoked_call target index values priority))) (a.Truth true)
 
 -- invoking a method replies true at the end, and false where the object has no such method
 abbrev pub invokes : Settings → State → ℕ → List Data → ConnectionType → Priority → Option ℕ → Effect State Line Post

@@ -79,7 +79,10 @@ is_text wanted _ = false
 
 -- the state with one more object, whose properties have their defaults
 abbrev pub with_object : List Class → State → Option ℕ → ℕ → State
-with_object classes state parent class = record state { forest = added state.forest parent class; store = stored.added state.store (state.forest.last_number + 1) (fields_of classes class) }
+with_object classes state parent class = record state {
+  forest = added state.forest parent class;
+  store = stored.added state.store (state.forest.last_number + 1) (fields_of classes class);
+}
 
 -- the state with another parent of an object
 abbrev pub with_parent : State → ℕ → Option ℕ → State
@@ -91,7 +94,11 @@ with_properties state number change = record state { store = changed change numb
 
 -- the state without an object: its children have become roots, and its bindings are gone
 abbrev pub without_object : State → ℕ → State
-without_object state number = record state { forest = removed state.forest number; store = stored.without number state.store; graph = graph.without_object number state.graph }
+without_object state number = record state {
+  forest = removed state.forest number;
+  store = stored.without number state.store;
+  graph = graph.without_object number state.graph;
+}
 
 -- the state where a property is bound no longer
 abbrev pub without_binding : State → At → State
@@ -208,7 +215,8 @@ pub record IsWhole (state : State) : Type 0 where
 
 -- each object has the properties that its class declares
 abbrev pub IsDeclared : List Class → State → Type 0
-IsDeclared classes state = All (λ row. option_map (λ of. of.fields) (properties_of state.store row.number) ≡ Some (fields_of classes row.class)) state.forest.rows
+IsDeclared classes state =
+    All (λ row. option_map (λ of. of.fields) (properties_of state.store row.number) ≡ Some (fields_of classes row.class)) state.forest.rows
 
 -- what holds of every session between commands
 pub record IsSound (state : State) : Type 0 where

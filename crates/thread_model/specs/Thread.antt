@@ -8,7 +8,9 @@ use Rattle.publish_board.specs.Desk.{names_session}
 use Rattle.thread_model.specs.declared.line.Answer.TheVariants.{Truth}
 use Rattle.thread_model.specs.declared.line.Line.{Line}
 use Rattle.thread_model.specs.declared.post.Post.{Post}
-use Rattle.thread_model.specs.Asked.{Asked, New, Delete, Children, Find, Set, Get, DynamicNames, Meta, Connect, ConnectFunctor, DisconnectOne, Disconnect, Invoke, Spin, Do, Status, Publish, Unpublish, Join, Leave, Reset, Bind, Unbind, BindingError, Begin, End}
+use Rattle.thread_model.specs.Asked.{Asked, New, Delete, Children, Find, Set, Get, DynamicNames, Meta, Connect}
+use Rattle.thread_model.specs.Asked.{ConnectFunctor, DisconnectOne, Disconnect, Invoke, Spin, Do, Status, Publish}
+use Rattle.thread_model.specs.Asked.{Unpublish, Join, Leave, Reset, Bind, Unbind, BindingError, Begin, End}
 use Rattle.thread_model.specs.Arriving.{reached_by}
 use Rattle.thread_model.specs.Classes.{describes}
 use Rattle.thread_model.specs.Effects.{replies, unless}
@@ -32,11 +34,14 @@ performs settings self state (Set target property value) = sets settings state t
 performs settings self state (Get target property) = gets state target property
 performs settings self state (DynamicNames target) = names state target
 performs settings self state (Meta class) = describes settings.classes state class
-performs settings self state (Connect sender signal receiver method mode unique single) = does_found state (asked_connect settings state sender signal receiver method mode unique single)
-performs settings self state (ConnectFunctor sender signal context functor mode unique single) = does_found state (asked_connect_functor settings state sender signal context functor mode unique single)
+performs settings self state (Connect sender signal receiver method mode unique single) =
+    does_found state (asked_connect settings state sender signal receiver method mode unique single)
+performs settings self state (ConnectFunctor sender signal context functor mode unique single) =
+    does_found state (asked_connect_functor settings state sender signal context functor mode unique single)
 performs settings self state (DisconnectOne connection) = disconnects_one state connection
 performs settings self state (Disconnect sender signal receiver method) = does_found state (asked_disconnect settings state sender signal receiver method)
-performs settings self state (Invoke target method args mode priority) = invokes settings state target args mode priority (asked_method settings state target method)
+performs settings self state (Invoke target method args mode priority) =
+    invokes settings state target args mode priority (asked_method settings state target method)
 performs settings self state Spin = spins settings state
 performs settings self state (Do deed) = does_found state (Ok deed)
 performs settings self state Status = counts state
@@ -70,5 +75,6 @@ joins_name state from = names_session from state.desk
 
 -- is a command accepted as a join of this session
 unfoldable pub accepts_join : Settings → List ℕ → State → Asked → List ℕ → Bool
-accepts_join settings self state (Join from name types target method) other = is_none (refusal settings self state (Join from name types target method)) && bytes_eq from other
+accepts_join settings self state (Join from name types target method) other =
+    is_none (refusal settings self state (Join from name types target method)) && bytes_eq from other
 accepts_join settings self state asked other = false

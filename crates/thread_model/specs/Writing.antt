@@ -69,7 +69,8 @@ acted_writing state object name value =
 
 -- the state with what is written; a declared property that is written is bound no longer
 abbrev pub with_writing : State → ℕ → Writing → State
-with_writing state object (Declared number value) = without_binding (with_properties state object (with_value number value)) (record { object = object; number = number })
+with_writing state object (Declared number value) =
+    without_binding (with_properties state object (with_value number value)) (record { object = object; number = number })
 with_writing state object (Dynamic name value) = with_properties state object (with_dynamic name value)
 with_writing state object (Removed name) = with_properties state object (without_dynamic name)
 with_writing state object Nothing = state

@@ -1,5 +1,6 @@
 -- Values, their kinds and their JSON.
-use Rattle.std.specs.Prelude.{◌≡◌, ◌≤◌, ◌&&◌, ◌^◌, ◌-◌, ℕ, ℤ, pos, neg_ℤ, Bool, List, length, true, false, not, bytes_eq, ◌==◌, Option, Some, None, Result, Ok, Err, option_map, option_and_then, if◌then◌else◌, int_le, nat_le, unsigned_abs}
+use Rattle.std.specs.Prelude.{◌≡◌, ◌≤◌, ◌&&◌, ◌^◌, ◌-◌, ℕ, ℤ, pos, neg_ℤ, Bool, List, length, true, false, not, bytes_eq, ◌==◌, Option, Some}
+use Rattle.std.specs.Prelude.{None, Result, Ok, Err, option_map, option_and_then, if◌then◌else◌, int_le, nat_le, unsigned_abs}
 use Rattle.std.specs.Option.{ok_or, option_or, option_map_or}
 use Rattle.std.specs.Ordering.{int_eq}
 use Rattle.serde_json.specs.Data.{Data, null, boolean, number, string, array, object, unsigned}

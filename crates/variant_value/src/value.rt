@@ -3,7 +3,8 @@ ghost use Rattle.std.specs.Prelude.{◌≡◌, ◌↔◌, Some, Ok, IfOk, IsTrue
 ghost use Rattle.std.specs.Option.{ok_or};
 ghost use Rattle.serde_json.specs.View.{view};
 ghost use Rattle.refusals.specs.Answers.{Answers};
-ghost use Rattle.variant_value.specs.Values.{IsOfKind, IsShort, is_same, value_of, json_of, kind_of, inferred, converted, number_of, inferred_number, number_in, whole_number, text_of};
+ghost use Rattle.variant_value.specs.Values.{IsOfKind, IsShort, is_same, value_of, json_of, kind_of, inferred, converted};
+ghost use Rattle.variant_value.specs.Values.{number_of, inferred_number, number_in, whole_number, text_of};
 
 use plain_types::Text;
 use refusals::{Code, Fault};

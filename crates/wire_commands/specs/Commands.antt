@@ -5,7 +5,9 @@ use Rattle.serde_json.specs.Data.{Data}
 use Rattle.json_reading.specs.Fields.{◌>>=◌, text_at}
 use Rattle.thread_model.specs.Asked.{Asked}
 use Rattle.wire_commands.specs.declared.commands.Word.{Word}
-use Rattle.wire_commands.specs.declared.commands.Word.TheVariants.{New, Delete, SetParent, Children, Find, Set, Get, DynamicNames, Bind, Unbind, BindingError, Begin, End, Meta, Connect, ConnectFunctor, Disconnect, Invoke, Spin, DeleteLater, Block, Status, Publish, Unpublish, Join, Leave, Reset}
+use Rattle.wire_commands.specs.declared.commands.Word.TheVariants.{New, Delete, SetParent, Children, Find, Set, Get, DynamicNames, Bind, Unbind}
+use Rattle.wire_commands.specs.declared.commands.Word.TheVariants.{BindingError, Begin, End, Meta, Connect, ConnectFunctor, Disconnect, Invoke, Spin}
+use Rattle.wire_commands.specs.declared.commands.Word.TheVariants.{DeleteLater, Block, Status, Publish, Unpublish, Join, Leave, Reset}
 use Rattle.wire_commands.specs.Form.{Form}
 use Rattle.wire_commands.specs.Held.{held_by}
 use Rattle.wire_commands.specs.Trees as trees
@@ -46,7 +48,8 @@ form_of Leave = sharing.leave
 form_of Reset = sharing.reset
 
 abbrev pub all_words : List Word
-all_words = New ∷ Delete ∷ SetParent ∷ Children ∷ Find ∷ Set ∷ Get ∷ DynamicNames ∷ Bind ∷ Unbind ∷ BindingError ∷ Begin ∷ End ∷ Meta ∷ Connect ∷ ConnectFunctor ∷ Disconnect ∷ Invoke ∷ Spin ∷ DeleteLater ∷ Block ∷ Status ∷ Publish ∷ Unpublish ∷ Join ∷ Leave ∷ Reset ∷ []
+all_words = New ∷ Delete ∷ SetParent ∷ Children ∷ Find ∷ Set ∷ Get ∷ DynamicNames ∷ Bind ∷ Unbind ∷ BindingError ∷ Begin ∷ End ∷
+    Meta ∷ Connect ∷ ConnectFunctor ∷ Disconnect ∷ Invoke ∷ Spin ∷ DeleteLater ∷ Block ∷ Status ∷ Publish ∷ Unpublish ∷ Join ∷ Leave ∷ Reset ∷ []
 
 -- the command of this name
 abbrev pub word_named : List ℕ → Option Word

@@ -1,5 +1,6 @@
 -- What is found at keys, in front of how they hold it. Only private clauses cite it.
-use Rattle.std.specs.Prelude.{◌≡◌, ◌&&◌, ◌<◌, ℕ, Bool, true, not, List, [], ◌∷◌, bytes_eq, codes, get_or, length, map, Option, Some, None, option_and_then, option_map}
+use Rattle.std.specs.Prelude.{◌≡◌, ◌&&◌, ◌<◌, ℕ, Bool, true, not, List, [], ◌∷◌, bytes_eq, codes, get_or}
+use Rattle.std.specs.Prelude.{length, map, Option, Some, None, option_and_then, option_map}
 use Rattle.std.specs.List.{list_any}
 use Rattle.std.specs.Option.{option_map_or}
 use Rattle.serde_json.specs.Data.{Data}
@@ -30,4 +31,5 @@ held_as found (optional word holds) = option_map_or (reads holds) found (Some ab
 
 -- at the place of each word is what the members have at it
 abbrev pub AreFound : {A : Type 0} → (A → Data) → List (List ℕ) → List Member → List (Option A) → Type 0
-AreFound seen words members found = (place : ℕ) → place < length words → option_map seen (get_or found place None) ≡ get_member (get_or words place []) (members_in members)
+AreFound seen words members found =
+    (place : ℕ) → place < length words → option_map seen (get_or found place None) ≡ get_member (get_or words place []) (members_in members)

@@ -19,7 +19,11 @@ publish_of (target ∷ signal ∷ name ∷ []) = do
 publish_of held = None
 
 abbrev pub publish : Form
-publish = record { word = codes "publish"; keys = needed (codes "object") Number ∷ needed (codes "signal") Text ∷ needed (codes "name") Name ∷ []; asks = publish_of }
+publish = record {
+  word = codes "publish";
+  keys = needed (codes "object") Number ∷ needed (codes "signal") Text ∷ needed (codes "name") Name ∷ [];
+  asks = publish_of;
+}
 
 -- `unpublish` publishes nothing under a name any more
 abbrev pub unpublish_of : List Held → Option Asked
@@ -50,7 +54,12 @@ join_of (from ∷ name ∷ types ∷ target ∷ method ∷ []) = do
 join_of held = None
 
 abbrev pub join : Form
-join = record { word = codes "join"; keys = needed (codes "from") Name ∷ needed (codes "name") Name ∷ needed (codes "types") AList ∷ needed (codes "object") Number ∷ needed (codes "method") Text ∷ []; asks = join_of }
+join = record {
+  word = codes "join";
+  keys = needed (codes "from") Name ∷ needed (codes "name") Name ∷
+      needed (codes "types") AList ∷ needed (codes "object") Number ∷ needed (codes "method") Text ∷ [];
+  asks = join_of;
+}
 
 -- `leave` takes the joins out that were made with these four
 abbrev pub leave_of : List Held → Option Asked
@@ -63,7 +72,11 @@ leave_of (from ∷ name ∷ target ∷ method ∷ []) = do
 leave_of held = None
 
 abbrev pub leave : Form
-leave = record { word = codes "leave"; keys = needed (codes "from") Name ∷ needed (codes "name") Name ∷ needed (codes "object") Number ∷ needed (codes "method") Text ∷ []; asks = leave_of }
+leave = record {
+  word = codes "leave";
+  keys = needed (codes "from") Name ∷ needed (codes "name") Name ∷ needed (codes "object") Number ∷ needed (codes "method") Text ∷ [];
+  asks = leave_of;
+}
 
 -- `reset` begins anew
 abbrev pub reset_of : List Held → Option Asked

@@ -18,7 +18,12 @@ connect_of (sender ∷ signal ∷ receiver ∷ method ∷ calls ∷ unique ∷ s
 connect_of held = None
 
 abbrev pub connect : Form
-connect = record { word = codes "connect"; keys = needed (codes "sender") Number ∷ needed (codes "signal") Text ∷ needed (codes "receiver") Number ∷ needed (codes "method") Text ∷ optional (codes "type") Mode ∷ optional (codes "unique") Truth ∷ optional (codes "single") Truth ∷ []; asks = connect_of }
+connect = record {
+  word = codes "connect";
+  keys = needed (codes "sender") Number ∷ needed (codes "signal") Text ∷ needed (codes "receiver") Number ∷ needed (codes "method") Text ∷
+      optional (codes "type") Mode ∷ optional (codes "unique") Truth ∷ optional (codes "single") Truth ∷ [];
+  asks = connect_of;
+}
 
 -- `connectFunctor` connects a signal of the sender to a functor, for a context object
 abbrev pub connect_functor_of : List Held → Option Asked
@@ -31,7 +36,12 @@ connect_functor_of (sender ∷ signal ∷ context ∷ functor ∷ calls ∷ uniq
 connect_functor_of held = None
 
 abbrev pub connect_functor : Form
-connect_functor = record { word = codes "connectFunctor"; keys = needed (codes "sender") Number ∷ needed (codes "signal") Text ∷ needed (codes "context") Number ∷ needed (codes "functor") Name ∷ optional (codes "type") Mode ∷ optional (codes "unique") Truth ∷ optional (codes "single") Truth ∷ []; asks = connect_functor_of }
+connect_functor = record {
+  word = codes "connectFunctor";
+  keys = needed (codes "sender") Number ∷ needed (codes "signal") Text ∷ needed (codes "context") Number ∷ needed (codes "functor") Name ∷
+      optional (codes "type") Mode ∷ optional (codes "unique") Truth ∷ optional (codes "single") Truth ∷ [];
+  asks = connect_functor_of;
+}
 
 -- `disconnect` breaks a connection by its number alone, or those of a sender that match; a method is named only beside a receiver
 abbrev pub disconnect_of : List Held → Option Asked
@@ -41,7 +51,12 @@ disconnect_of (absent ∷ number sender ∷ signal ∷ number receiver ∷ metho
 disconnect_of held = None
 
 abbrev pub disconnect : Form
-disconnect = record { word = codes "disconnect"; keys = optional (codes "connection") Number ∷ optional (codes "sender") Number ∷ optional (codes "signal") Text ∷ optional (codes "receiver") Number ∷ optional (codes "method") Text ∷ []; asks = disconnect_of }
+disconnect = record {
+  word = codes "disconnect";
+  keys = optional (codes "connection") Number ∷ optional (codes "sender") Number ∷
+      optional (codes "signal") Text ∷ optional (codes "receiver") Number ∷ optional (codes "method") Text ∷ [];
+  asks = disconnect_of;
+}
 
 -- `invoke` calls a slot of an object, or sends a signal of it, at once or later, and then with a priority
 abbrev pub invoke_of : List Held → Option Asked
@@ -54,4 +69,9 @@ invoke_of (target ∷ method ∷ args ∷ calls ∷ soon ∷ []) = do
 invoke_of held = None
 
 abbrev pub invoke : Form
-invoke = record { word = codes "invoke"; keys = needed (codes "object") Number ∷ needed (codes "method") Text ∷ needed (codes "args") AList ∷ optional (codes "type") Mode ∷ optional (codes "priority") Priority ∷ []; asks = invoke_of }
+invoke = record {
+  word = codes "invoke";
+  keys = needed (codes "object") Number ∷ needed (codes "method") Text ∷
+      needed (codes "args") AList ∷ optional (codes "type") Mode ∷ optional (codes "priority") Priority ∷ [];
+  asks = invoke_of;
+}

@@ -6,7 +6,8 @@ ghost use Rattle.json_reading.specs.Members.{data_of, members_in};
 ghost use Rattle.wire_commands.specs.Found.{are_distinct, held_as, with_common, words_of};
 ghost use Rattle.wire_commands.specs.Keys.{Key, key_seen};
 ghost use Rattle.wire_commands.specs.declared.keys.TheConstants.{MOST_KEYS};
-ghost use Rattle.wire_commands.specs.Held.{held_by, held_seen, json_of, list_of, mode_of, number_in, number_of, priority_for, priority_in, reads, signed_in, text_of, truth_of};
+ghost use Rattle.wire_commands.specs.Held.{held_by, held_seen, json_of, list_of, mode_of, number_in, number_of};
+ghost use Rattle.wire_commands.specs.Held.{priority_for, priority_in, reads, signed_in, text_of, truth_of};
 
 use crate::found::find_values;
 use crate::keys::{Holds, Key, MOST_KEYS};

@@ -8,7 +8,8 @@ use Rattle.refusals.specs.Codes.{code_text}
 use Rattle.binding_values.specs.declared.property.BindingError.{BindingError}
 use Rattle.binding_values.specs.declared.property.BindingError.TheVariants.{BindingLoop, EvaluationError}
 use Rattle.thread_model.specs.declared.line.Answer.{Answer}
-use Rattle.thread_model.specs.declared.line.Answer.TheVariants.{Number, Found, Numbers, Truth, BindingError as StoodFor, Value, Names, Meta, Spun, Status as Counted}
+use Rattle.thread_model.specs.declared.line.Answer.TheVariants.{Number, Found, Numbers, Truth, BindingError as StoodFor}
+use Rattle.thread_model.specs.declared.line.Answer.TheVariants.{Value, Names, Meta, Spun, Status as Counted}
 use Rattle.thread_model.specs.declared.line.Spin.{Spin}
 use Rattle.thread_model.specs.declared.line.Status.{Status}
 use Rattle.thread_model.specs.declared.line.Line.{Line}

@@ -76,7 +76,8 @@ fn put_front(memory: &mut [u8], word: &str, method: &str) -> usize
 fn put_back(memory: &mut [u8], at: usize, object: u32, sender: u32, session: &str) -> usize
     requires memory { length memory.old ≡ CALL_BYTES }
     requires texts { (at ≤ 146) × (length session.now ≤ 64) }
-    ensures { Placed memory.old memory.new at (decimal object ++ (codes ",\"sender\":" ++ (decimal sender ++ (codes ",\"session\":\"" ++ (session.now ++ codes "\"}\n"))))) result }
+    ensures { Placed memory.old memory.new at
+        (decimal object ++ (codes ",\"sender\":" ++ (decimal sender ++ (codes ",\"session\":\"" ++ (session.now ++ codes "\"}\n"))))) result }
 {
     let end = put_number(memory, at, object);
     let end = put(memory, end, ",\"sender\":");

@@ -5,7 +5,8 @@ ghost use Rattle.serde_json.specs.Data.{string};
 ghost use Rattle.serde_json.specs.Written.{compact_text};
 ghost use Rattle.variant_value.specs.Values.{json_of};
 ghost use Rattle.wire_format.specs.Shown.{text_of_shown};
-ghost use Rattle.wire_format.specs.Text.{array_of, error_name, json_of_meta, json_of_name, json_of_number, json_of_spin, json_of_status, text_of_line, is_plain_byte};
+ghost use Rattle.wire_format.specs.Text.{array_of, error_name, json_of_meta, json_of_name, json_of_number};
+ghost use Rattle.wire_format.specs.Text.{json_of_spin, json_of_status, text_of_line, is_plain_byte};
 
 use crate::shown::{Shown, error_name, shown_as, shown_value};
 use binding_values::BindingError;

@@ -1,5 +1,6 @@
 -- What a run over a whole input promises.
-use Rattle.std.specs.Prelude.{◌≡◌, ◌⊎◌, ◌<◌, ◌≤◌, ◌+◌, ◌==◌, ◌++◌, ℕ, Bool, true, false, List, [], length, take, filter, min, Option, Some, Result, Ok, Err, IsOk, IsErr, IfOk, MatchResult, IsFalse}
+use Rattle.std.specs.Prelude.{◌≡◌, ◌⊎◌, ◌<◌, ◌≤◌, ◌+◌, ◌==◌, ◌++◌, ℕ, Bool, true, false, List, [], length, take, filter}
+use Rattle.std.specs.Prelude.{min, Option, Some, Result, Ok, Err, IsOk, IsErr, IfOk, MatchResult, IsFalse}
 use Rattle.std.specs.Io.KnownBytes.{Appends}
 use Rattle.isolation.specs.Alone.{items, alone_lines}
 use Rattle.isolation.specs.Influence.{influences}
@@ -107,7 +108,8 @@ IsPastReads max_reads bytes calls calls_after =
     (min calls_after greatest_count ≡ min (calls + max_reads) greatest_count) × (max_reads ≤ length bytes)
 
 -- what a run over these bytes comes to, which reads no more than so many lines, and by no more than so many calls
-pub record RunsOver (max_lines max_reads : ℕ) (input : List ℕ) (old new : Server) (held held_after left_after : Option (List ℕ)) (calls calls_after : ℕ) (result : Result Summary RunFault) : Type 0 where
+pub record RunsOver (max_lines max_reads : ℕ) (input : List ℕ) (old new : Server)
+    (held held_after left_after : Option (List ℕ)) (calls calls_after : ℕ) (result : Result Summary RunFault) : Type 0 where
   pub well : WentWell result new → AnswersAll input old new held held_after
   -- where it stops, it has written a front of that output,
   pub stopped : IsErr result → IsFalse (was_refused new) → AppendsSome held held_after (output (settings old) (states old) input)

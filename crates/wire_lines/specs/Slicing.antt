@@ -1,5 +1,6 @@
 -- The slice of an input: the lines by which a session is told the same.
-use Rattle.std.specs.Prelude.{◌≡◌, ◌≢◌, ◌⊎◌, ◌≤◌, ◌<◌, ◌^◌, ◌++◌, ℕ, Bool, true, false, List, [], ◌∷◌, length, filter, take, Option, Some, Result, Err, IsOk, IfOk, IsFalse}
+use Rattle.std.specs.Prelude.{◌≡◌, ◌≢◌, ◌⊎◌, ◌≤◌, ◌<◌, ◌^◌, ◌++◌, ℕ, Bool, true, false, List, [], ◌∷◌}
+use Rattle.std.specs.Prelude.{length, filter, take, Option, Some, Result, Err, IsOk, IfOk, IsFalse}
 use Rattle.std.specs.List.{flat_map}
 use Rattle.std.specs.Option.{option_map_or}
 use Rattle.std.specs.Io.KnownBytes.{Appends}
@@ -56,7 +57,8 @@ pub record HasRun (bytes : List ℕ) (old new : Server) : Type 0 where
   pub left : (new ≡ between) ⊎ OnlyRefused between new
 
 -- what a run for the slice of s over these bytes comes to
-pub record SlicesOver (s bytes : List ℕ) (old new : Server) (held held_after left_after : Option (List ℕ)) (calls calls_after : ℕ) (result : Result Summary RunFault) : Type 0 where
+pub record SlicesOver (s bytes : List ℕ) (old new : Server)
+    (held held_after left_after : Option (List ℕ)) (calls calls_after : ℕ) (result : Result Summary RunFault) : Type 0 where
   pub runs : HasRun bytes old new
   -- at its end it has written exactly the slice, where the sink failed a front of it, and after another fault nothing
   pub written : IsOk result → Appends held held_after (sliced (settings old) (states old) s bytes)

@@ -1,5 +1,6 @@
 -- What a run for a slice knows of its input, line by line. No public clause cites it.
-use Rattle.std.specs.Prelude.{◌≡◌, ◌⊎◌, ◌<◌, ◌^◌, ◌==◌, ◌++◌, ℕ, List, [], ◌∷◌, All, drop, filter, length, map, slice_index, if◌then◌else◌, IsFalse, Option, Some, None}
+use Rattle.std.specs.Prelude.{◌≡◌, ◌⊎◌, ◌<◌, ◌^◌, ◌==◌, ◌++◌, ℕ, List, [], ◌∷◌, All, drop, filter, length}
+use Rattle.std.specs.Prelude.{map, slice_index, if◌then◌else◌, IsFalse, Option, Some, None}
 use Rattle.std.specs.List.{filter_map}
 use Rattle.isolation.specs.Machine.{Tagged}
 use Rattle.isolation.specs.Pieces.{Given, Faulty, commands_of}

@@ -3,7 +3,7 @@ ghost use Rattle.std.specs.Prelude.{◌≡◌, ◌+◌, ◌-◌, ◌≤◌, ◌+
 ghost use Rattle.wire_devices.specs.Bytes.{AppendsAll};
 ghost use Rattle.wire_devices.specs.Counts.{CountsErrors};
 ghost use Rattle.wire_lines.specs.declared.buffer.TheConstants.{BUFFER_BYTES};
-ghost use Rattle.wire_lines.specs.Sending.{SentAll};
+ghost use Rattle.wire_lines.specs.Sending.{SentAll, out};
 
 use std::alloc::{AllocError, Global};
 use std::marker::Model;
@@ -99,7 +99,7 @@ impl Buffer {
     /// with the rest where there is no room for it.
     #[inline(always)]
     pub fn send<W: Sink>(&mut self, writer: &mut W, text: &[u8]) -> Result<(), Failed>
-        ensures bytes { SentAll (record { received = W.held writer.old; gathered = self.old }) (record { received = W.held writer.new; gathered = self.new }) result text.now }
+        ensures bytes { SentAll (out (W.held writer.old) self.old) (out (W.held writer.new) self.new) result text.now }
         ensures counted { CountsErrors (W.failures writer.old) (W.failures writer.new) result }
     {
         if text.len() <= self.room() {
@@ -113,7 +113,7 @@ impl Buffer {
     #[cold]
     #[inline(never)]
     fn send_past<W: Sink>(&mut self, writer: &mut W, text: &[u8]) -> Result<(), Failed>
-        ensures bytes { SentAll (record { received = W.held writer.old; gathered = self.old }) (record { received = W.held writer.new; gathered = self.new }) result text.now }
+        ensures bytes { SentAll (out (W.held writer.old) self.old) (out (W.held writer.new) self.new) result text.now }
         ensures counted { CountsErrors (W.failures writer.old) (W.failures writer.new) result }
     {
         self.flush(writer)?;

@@ -177,7 +177,8 @@ fn send_line<W: Sink>(line: &[u8], buffer: &mut Buffer, writer: &mut W) -> Resul
 /// All bytes of a source.
 fn read_all<R: Source>(alloc: Global, reader: &mut R) -> Result<Vec<u8>, RunFault>
     ensures bytes { IfOk result (λ bytes. (input : List ℕ) → R.left reader.old ≡ Some input → (bytes.items ≡ input) × (R.left reader.new ≡ Some [])) }
-    ensures endless { (input : List ℕ) → R.left reader.old ≡ Some input → result ≡ Err Endless → IsPastReads (2 ^ 40) input (R.calls reader.old) (R.calls reader.new) }
+    ensures endless { (input : List ℕ) → R.left reader.old ≡ Some input
+        → result ≡ Err Endless → IsPastReads (2 ^ 40) input (R.calls reader.old) (R.calls reader.new) }
     ensures unwritten { result ≢ Err Write }
     ensures asked { R.calls reader.new ≤ R.calls reader.old + 2 ^ 40 }
     ensures failed { ReadFails (R.failures reader.old) (R.failures reader.new) result }
@@ -190,7 +191,8 @@ fn read_all<R: Source>(alloc: Global, reader: &mut R) -> Result<Vec<u8>, RunFaul
 fn read_by<R: Source>(alloc: Global, chunk: &mut [u8], reader: &mut R) -> Result<Vec<u8>, RunFault>
     requires { 0 < length chunk.old }
     ensures bytes { IfOk result (λ bytes. (input : List ℕ) → R.left reader.old ≡ Some input → (bytes.items ≡ input) × (R.left reader.new ≡ Some [])) }
-    ensures endless { (input : List ℕ) → R.left reader.old ≡ Some input → result ≡ Err Endless → IsPastReads (2 ^ 40) input (R.calls reader.old) (R.calls reader.new) }
+    ensures endless { (input : List ℕ) → R.left reader.old ≡ Some input
+        → result ≡ Err Endless → IsPastReads (2 ^ 40) input (R.calls reader.old) (R.calls reader.new) }
     ensures unwritten { result ≢ Err Write }
     ensures asked { R.calls reader.new ≤ R.calls reader.old + 2 ^ 40 }
     ensures failed { ReadFails (R.failures reader.old) (R.failures reader.new) result }
@@ -228,8 +230,10 @@ pub fn run_slice<R: Source, W: Sink>(
 ) -> Result<Summary, RunFault>
     // Where the bytes of the source are known.
     ensures slices { (input : List ℕ) → R.left reader.old ≡ Some input
-        → SlicesOver session.now input (seen_as server.old) (seen_as server.new) (W.held writer.old) (W.held writer.new) (R.left reader.new) (R.calls reader.old) (R.calls reader.new) result }
-    ensures devices { UsesDevices (2 ^ 40) (R.calls reader.old) (R.calls reader.new) (R.failures reader.old) (R.failures reader.new) (W.failures writer.old) (W.failures writer.new) result }
+        → SlicesOver session.now input (seen_as server.old) (seen_as server.new)
+        (W.held writer.old) (W.held writer.new) (R.left reader.new) (R.calls reader.old) (R.calls reader.new) result }
+    ensures devices { UsesDevices (2 ^ 40) (R.calls reader.old) (R.calls reader.new)
+        (R.failures reader.old) (R.failures reader.new) (W.failures writer.old) (W.failures writer.new) result }
     ensures memory { IfOk result (λ summary. summary.memory_refused ≡ false) }
     ensures later { Later (seen_as server.old) (seen_as server.new) }
     ensures knows { KnowsItsSessions (seen_as server.new) }
@@ -249,8 +253,10 @@ fn slice_input<R: Source, W: Sink>(
     session: &Text,
 ) -> Result<Summary, RunFault>
     ensures slices { (input : List ℕ) → R.left reader.old ≡ Some input
-        → SlicesOver session.now input (seen_as server.old) (seen_as server.new) (W.held writer.old) (W.held writer.new) (R.left reader.new) (R.calls reader.old) (R.calls reader.new) result }
-    ensures devices { UsesDevices (2 ^ 40) (R.calls reader.old) (R.calls reader.new) (R.failures reader.old) (R.failures reader.new) (W.failures writer.old) (W.failures writer.new) result }
+        → SlicesOver session.now input (seen_as server.old) (seen_as server.new)
+        (W.held writer.old) (W.held writer.new) (R.left reader.new) (R.calls reader.old) (R.calls reader.new) result }
+    ensures devices { UsesDevices (2 ^ 40) (R.calls reader.old) (R.calls reader.new)
+        (R.failures reader.old) (R.failures reader.new) (W.failures writer.old) (W.failures writer.new) result }
     ensures memory { IfOk result (λ summary. summary.memory_refused ≡ false) }
     ensures later { Later (seen_as server.old) (seen_as server.new) }
 {

@@ -125,7 +125,8 @@ impl Stream {
         requires { 0 < length chunk.old }
         ensures later { Later (seen_as server.old) (seen_as server.new) }
         ensures ends { (input : List ℕ) → R.left reader.old ≡ Some input
-            → Ends self.old.lines.most max_reads (R.calls reader.old) (R.calls reader.new) (R.left reader.new) (at (W.held writer.old) self.old.lines (seen_as server.old) (self.old.begun ++ input))
+            → Ends self.old.lines.most max_reads (R.calls reader.old) (R.calls reader.new)
+            (R.left reader.new) (at (W.held writer.old) self.old.lines (seen_as server.old) (self.old.begun ++ input))
             (at (W.held writer.new) self.new.lines (seen_as server.new) []) result }
         ensures written { result ≡ Err Read → self.new.lines.output.gathered ≡ [] }
         ensures within { self.new.lines.count ≤ self.old.lines.most }
@@ -158,7 +159,8 @@ impl Stream {
         requires { 0 < length chunk.old }
         ensures later { Later (seen_as server.old) (seen_as server.new) }
         ensures ends { (input : List ℕ) → R.left reader.old ≡ Some input
-            → Ends self.old.lines.most max_reads (R.calls reader.old) (R.calls reader.new) (R.left reader.new) (at (W.held writer.old) self.old.lines (seen_as server.old) (self.old.begun ++ input))
+            → Ends self.old.lines.most max_reads (R.calls reader.old) (R.calls reader.new)
+            (R.left reader.new) (at (W.held writer.old) self.old.lines (seen_as server.old) (self.old.begun ++ input))
             (at (W.held writer.new) self.new.lines (seen_as server.new) []) result }
         ensures written { IsWrittenOut result self.new.lines.output.gathered }
         ensures within { self.new.lines.count ≤ self.old.lines.most }
@@ -219,8 +221,10 @@ pub fn run<R: Source, W: Sink>(
 ) -> Result<Summary, RunFault>
     // As of `run_bounded`, at these bounds.
     ensures runs { (input : List ℕ) → R.left reader.old ≡ Some input
-        → RunsOver (2 ^ 32) (2 ^ 40) input (seen_as server.old) (seen_as server.new) (W.held writer.old) (W.held writer.new) (R.left reader.new) (R.calls reader.old) (R.calls reader.new) result }
-    ensures devices { UsesDevices (2 ^ 40) (R.calls reader.old) (R.calls reader.new) (R.failures reader.old) (R.failures reader.new) (W.failures writer.old) (W.failures writer.new) result }
+        → RunsOver (2 ^ 32) (2 ^ 40) input (seen_as server.old) (seen_as server.new)
+        (W.held writer.old) (W.held writer.new) (R.left reader.new) (R.calls reader.old) (R.calls reader.new) result }
+    ensures devices { UsesDevices (2 ^ 40) (R.calls reader.old) (R.calls reader.new)
+        (R.failures reader.old) (R.failures reader.new) (W.failures writer.old) (W.failures writer.new) result }
     ensures memory { IfOk result (λ summary. summary.memory_refused ≡ was_refused (seen_as server.new)) }
     ensures later { Later (seen_as server.old) (seen_as server.new) }
     ensures knows { KnowsItsSessions (seen_as server.new) }
@@ -247,8 +251,10 @@ pub fn run_bounded<R: Source, W: Sink>(
     // Where the bytes of the source are known: what is answered to each line, and where memory was found, the output,
     // and that it keeps the sessions apart.
     ensures runs { (input : List ℕ) → R.left reader.old ≡ Some input
-        → RunsOver max_lines max_reads input (seen_as server.old) (seen_as server.new) (W.held writer.old) (W.held writer.new) (R.left reader.new) (R.calls reader.old) (R.calls reader.new) result }
-    ensures devices { UsesDevices max_reads (R.calls reader.old) (R.calls reader.new) (R.failures reader.old) (R.failures reader.new) (W.failures writer.old) (W.failures writer.new) result }
+        → RunsOver max_lines max_reads input (seen_as server.old) (seen_as server.new)
+        (W.held writer.old) (W.held writer.new) (R.left reader.new) (R.calls reader.old) (R.calls reader.new) result }
+    ensures devices { UsesDevices max_reads (R.calls reader.old) (R.calls reader.new)
+        (R.failures reader.old) (R.failures reader.new) (W.failures writer.old) (W.failures writer.new) result }
     ensures memory { IfOk result (λ summary. summary.memory_refused ≡ was_refused (seen_as server.new)) }
     ensures later { Later (seen_as server.old) (seen_as server.new) }
     // The names of the server are those of all sessions that may have a join, so a later run has its influence too.
@@ -270,7 +276,8 @@ fn run_buffered<R: Source, W: Sink>(
     max_reads: u64,
 ) -> Result<Summary, RunFault>
     ensures runs { (input : List ℕ) → R.left reader.old ≡ Some input
-        → Runs max_lines max_reads (R.calls reader.old) (R.calls reader.new) input (R.left reader.new) (W.held writer.old) (seen_as server.old) (W.held writer.new) (seen_as server.new) result }
+        → Runs max_lines max_reads (R.calls reader.old) (R.calls reader.new) input
+        (R.left reader.new) (W.held writer.old) (seen_as server.old) (W.held writer.new) (seen_as server.new) result }
     ensures all_read { (input : List ℕ) → R.left reader.old ≡ Some input → IsOk result → R.left reader.new ≡ Some [] }
     ensures asked { R.calls reader.new ≤ R.calls reader.old + max_reads }
     ensures failed { DevicesFail (R.failures reader.old) (R.failures reader.new) (W.failures writer.old) (W.failures writer.new) result }
