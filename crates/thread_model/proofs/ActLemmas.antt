@@ -62,9 +62,5 @@ module _ (settings : Settings) (doing : Doing) (self sender : ℕ) (args : List 
     acted_cases (e.Set of property value) =
         written_by (object_of doing.state self sender of) (is_there doing.state.forest.rows (object_of doing.state self sender of)) property (evaluated doing.state self sender args value) refl
     acted_cases (e.Emit of signal sent) = sent_by (object_of doing.state self sender of) (is_there doing.state.forest.rows (object_of doing.state self sender of)) (emission settings doing.state self sender args (object_of doing.state self sender of) signal sent)
-    acted_cases (e.Connect of signal to method mode unique single) = found_by (its (e.Connect of signal to method mode unique single))
-    acted_cases (e.Disconnect of signal to method) = found_by (its (e.Disconnect of signal to method))
     acted_cases (e.Delete target) = deleted_by (object_of doing.state self sender target) (object_refusal doing.state.forest.rows (object_of doing.state self sender target))
-    acted_cases (e.DeleteLater target) = found_by (its (e.DeleteLater target))
-    acted_cases (e.Block of on) = found_by (its (e.Block of on))
-    acted_cases (e.SetParent of parent) = found_by (its (e.SetParent of parent))
+    acted_cases plain = found_by (its plain)

@@ -85,14 +85,10 @@ module _ (settings : Settings) (self sender : ℕ) (args : List Value) (depth : 
 
   pub by_deed : (plain : SingleAction) (found : Found Deed) → act_deed settings doing.state self sender plain ≡ Some found → comes_to plain ≡ found_next found
   unfolding next_of
-  by_deed (e.Connect of signal to method mode unique single) found is = ap next_of is
-  by_deed (e.Disconnect of signal to method) found is = ap next_of is
-  by_deed (e.DeleteLater of) found is = ap next_of is
-  by_deed (e.Block of on) found is = ap next_of is
-  by_deed (e.SetParent of above) found is = ap next_of is
   by_deed (e.Set of property value) found is = absurd (cc)
   by_deed (e.Emit of signal sent) found is = absurd (cc)
   by_deed (e.Delete of) found is = absurd (cc)
+  by_deed _ found is = ap next_of is
 
   -- doing a deed
   module _ (plain : SingleAction) where

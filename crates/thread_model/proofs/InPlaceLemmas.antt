@@ -52,12 +52,7 @@ module _ (settings : Settings) (self sender : ℕ) (args : List Value) where
       (λ found. let emission : Found (ℕ × List Value) = signal_with methods signal >>= λ index. found >>= λ values. all_converted (kinds_at methods index) values >>= λ converted. Ok (index, converted) in
       warns_or (option_or (absence doing.state object) (result_err emission)) self doing (with_found emission (λ emitted. puts (Emit object emitted.0 emitted.1 depth ∷ []) doing) doing))
       (all_evaluated-put_in doing.state sent)
-  effect-put_in depth doing (e.Connect of signal to method mode unique single) = refl
-  effect-put_in depth doing (e.Disconnect of signal to method) = refl
-  effect-put_in depth doing (e.Delete target) = refl
-  effect-put_in depth doing (e.DeleteLater target) = refl
-  effect-put_in depth doing (e.Block of on) = refl
-  effect-put_in depth doing (e.SetParent of parent) = refl
+  effect-put_in depth doing _ = refl
 
   -- a choice, by its test and what its branches come to
   choice-put_in : (test : Term) (held failed : Acts) (depth : ℕ) (doing : Doing)

@@ -67,10 +67,7 @@ module _ (settings : Settings) (state : State) where
 
   deed_falls : (deed : Deed) → Falls state (with_deed state deed)
   deed_falls (d.Connect new unique) = λ test held. held
-  deed_falls (d.Disconnect pattern) = λ test held. held
-  deed_falls (d.SetParent target parent) = λ test held. held
-  deed_falls (d.DeleteLater target) = λ test held. held
-  deed_falls (d.Block target on) = λ test held. held
+  deed_falls _ = λ test held. held
 
   found_falls : (found : Found Deed) → Falls state (does_found state found).state
   found_falls (Ok deed) = deed_falls deed

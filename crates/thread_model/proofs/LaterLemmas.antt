@@ -108,9 +108,7 @@ deed_later : (doing : Doing) (deed : Deed) → Later doing (deed_done doing deed
 unfolding deed_done
 deed_later doing (d.Connect new unique) = bare_linked doing.state.connections new
 deed_later doing (d.Disconnect pattern) = bare_without (matches pattern) (bare_matches pattern) doing.state.connections
-deed_later doing (d.SetParent target parent) = unchanged doing
-deed_later doing (d.DeleteLater target) = unchanged doing
-deed_later doing (d.Block target on) = unchanged doing
+deed_later doing _ = unchanged doing
 
 written_later : (doing : Doing) (target : ℕ) (writing : Writing) → Later doing (in_state doing (with_writing doing.state target writing))
 written_later doing target (Declared number value) = unchanged doing

@@ -2,13 +2,13 @@
 use Rattle.std.proofs.Common.{◌≡◌, ◌+◌, ◌==◌, ℕ, Bool, true, false, not, cond, List, [], ◌∷◌, ◌++◌, Option, Some, None, Ok, Err, IsTrue, bytes_eq, filter, length, nat_le, nat_lt, set, slice_get, take, refl, if◌then◌else◌}
 use Rattle.std.specs.Prelude.{IfOk}
 use Rattle.std.specs.List.{All, cons_option}
-use Rattle.std.specs.Option.{ok_or, option_and_then, option_map, option_map_or}
+use Rattle.std.specs.Option.{ok_or, option_and_then, option_map, option_map_or, unwrap_or}
 use Rattle.std.proofs.lemmas.Bool.{and_parts, cond_both}
 use Rattle.std.proofs.lemmas.List.Elements.{All-append, All-cons, All-filter, All-head, All-map, All-nil, All-push, All-set, All-tail, All-weaker}
 use Rattle.isolation.specs.Machine.{Effect}
 use Rattle.plain_types.specs.Names.{is_name}
 use Rattle.refusals.specs.declared.code.Code.{Code}
-use Rattle.refusals.specs.declared.code.Code.TheVariants.{BadValue, Limit}
+use Rattle.refusals.specs.declared.code.Code.TheVariants.{BadValue, Limit, NoSuchObject}
 use Rattle.serde_json.specs.Data.{Data}
 use Rattle.serde_json.specs.Data as json
 use Rattle.variant_value.specs.declared.value.Value.{Value}
@@ -56,7 +56,7 @@ use Rattle.thread_model.specs.declared.line.Answer.TheVariants as a
 use Rattle.thread_model.specs.declared.line.Line.{Line}
 use Rattle.thread_model.specs.declared.line.Line.TheVariants as line
 use Rattle.thread_model.specs.declared.post.Post.{Post}
-use Rattle.thread_model.specs.Acts.{act_refusal, acted, acts, chosen, emission, warns_or, with_found, writing}
+use Rattle.thread_model.specs.Acts.{act_deed, act_refusal, acted, acts, chosen, emission, warns_or, with_found, writing}
 use Rattle.thread_model.specs.Agenda.{binding_line, call_line, call_items, callee_called, called, calls_of, connection_of, emitted, event_items, functor_called, functor_line, functor_ran, is_held_back, kins, lives, lives_below, method_called, method_items, queued, ran, spun, step, with_turn}
 use Rattle.thread_model.specs.Arriving.{posts_of}
 use Rattle.thread_model.specs.Asked.{Asked, New, Delete, Children, Find, Set, Get, DynamicNames, Meta, Connect, ConnectFunctor, DisconnectOne, Disconnect, Invoke, Spin, Do, Status, Publish, Unpublish, Join as AsksJoin, Leave, Reset, Bind, Unbind, BindingError, Begin, End}
@@ -235,10 +235,7 @@ module _ (doing : Doing) (named : AreNamed doing.state) where
 
   deed_named : (deed : Deed) → AreNamed (with_deed doing.state deed)
   deed_named (d.Connect new unique) = named
-  deed_named (d.Disconnect pattern) = named
-  deed_named (d.SetParent target parent) = named
-  deed_named (d.DeleteLater target) = named
-  deed_named (d.Block target on) = named
+  deed_named _ = named
 
   deed_done_named : (deed : Deed) → AreNamed (deed_done doing deed).state
   unfolding deed_done
@@ -381,12 +378,8 @@ module _ (settings : Settings) (are : AreSettings settings) where
           sets_found (object_of doing.state self sender of) (writing doing.state self sender args (object_of doing.state self sender of) property value)
           (found_always IsNamedWriting (evaluated doing.state self sender args value) (acted_writing doing.state (object_of doing.state self sender of) property) (acted_named doing.state (object_of doing.state self sender of) property is))
       acts_out (e.Emit of signal sent) is = sends_found (object_of doing.state self sender of) (emission settings doing.state self sender args (object_of doing.state self sender of) signal sent)
-      acts_out (e.Connect of signal to method mode unique single) is = does_deed _
-      acts_out (e.Disconnect of signal to method) is = does_deed _
       acts_out (e.Delete target) is = one (to_do.Delete (object_of doing.state self sender target) depth) tt
-      acts_out (e.DeleteLater target) is = does_deed (Ok (d.DeleteLater (object_of doing.state self sender target)))
-      acts_out (e.Block of on) is = does_deed (Ok (d.Block (object_of doing.state self sender of) on))
-      acts_out (e.SetParent of parent) is = does_deed (Ok (d.SetParent (object_of doing.state self sender of) (named_object_of doing.state self sender parent)))
+      acts_out plain is = does_deed (unwrap_or (act_deed settings doing.state self sender plain) (Err NoSuchObject))
 
     kins_named : (target depth : ℕ) → LeavesNamed (puts (kins doing target depth) (severed doing target))
     unfolding kins
