@@ -3,7 +3,7 @@
 import re
 from collections import Counter
 from pathlib import Path
-from typing import Iterator, List, Tuple
+from typing import Iterator, List, Set, Tuple
 
 from .support.cases import Cases
 from .support.markdown import all_pages, anchors_in, links_in, table_in
@@ -11,6 +11,7 @@ from .support.program import ROOT
 from .support.sources import CRATES, GLOSSARY, OF_CODE, OF_SPECS, Entry
 from .support.sources import all_declared, all_functions, definitions_in, glossary, names_of
 
+ARCHITECTURE = ROOT / "docs" / "ARCHITECTURE.md"
 CHANGING = ROOT / "docs" / "CHANGING.md"
 DEFINITIONS = ROOT / "docs" / "DEFINITIONS.md"
 DEFINITION = re.compile(r"`([A-Z]\w+)\.(\w+)`")
@@ -18,6 +19,7 @@ CALL = re.compile(r"`(?:\w+::)?([a-z]\w*)`")
 NAMED = re.compile(r"`([^`\n]+)`")
 OF_CRATE = re.compile(r"(?:src|specs|proofs|must-fail)(?:/[\w.]+)*/?")
 LEMMAS = re.compile(r"(\w+Lemmas)(?:\.antt)?")
+IMPORT = re.compile(r"^use Rattle\.(\w+)\.proofs\.", re.MULTILINE)
 LAYOUT = "\n## How a crate is laid out\n"  # which names files that stand for others
 
 
@@ -69,6 +71,23 @@ class Changing(Cases):
         named = list(files_of_crates(CHANGING.read_text().partition(LAYOUT)[0]))
         self.assertGreater(len(named), 0, "it names no file of a crate")
         self.assertEqual([name for name, path in named if not path.exists()], [], "files that are not there")
+
+
+def lenders(crate: Path) -> Set[str]:
+    """The crates whose proofs a crate's own import, but for the standard library."""
+    texts = [path.read_text() for path in crate.joinpath("proofs").rglob("*.antt")]
+    return {name for text in texts for name in IMPORT.findall(text)} - {crate.name, "std"}
+
+
+class Imports(Cases):
+    """Whose lemmas are imported."""
+
+    def test_table(self) -> None:
+        """docs/ARCHITECTURE.md names for each crate those whose proofs its own import."""
+        section = ARCHITECTURE.read_text().partition("\n## Who sees what of whom\n")[2].partition("\n## ")[0]
+        rows = [[NAMED.findall(cell) for cell in row] for row in table_in(section, 2)]
+        said = {crate: set(of) for crates, of in rows for crate in crates}
+        self.assertEqual(said, {path.name: found for path in CRATES.iterdir() if (found := lenders(path))})
 
 
 class Definitions(Cases):
