@@ -2,9 +2,9 @@
 use Rattle.std.proofs.Common.{◌≡◌, ◌⊎◌, Bool, true, false, ◌&&◌, List, [], ◌∷◌, length, refl, sym, ap, ap₂, cond, ◌∙◌, ⊎_elim, inl, inr, arith}
 use Rattle.std.proofs.lemmas.Bool.{cases_Bool, both_ways, false_from_ne_true, or_cases, or_left, or_right, and_from}
 use Rattle.isolation.specs.Machine.{Effect, Machine, IsLawful, Tagged}
-use Rattle.isolation.specs.World.{entries_of, only, effect, all_arrive, after, world_lines, at_session}
+use Rattle.isolation.specs.World.{world_after, entries_of, only, effect, all_arrive, after, world_lines, at_session}
 use Rattle.isolation.specs.Influence.{joined, IsClosed, Agree}
-use Rattle.isolation.specs.Laws.{SameForAll, FinalStates, LeavingOut}
+use Rattle.isolation.specs.Laws.{InterleavingLaw, SameForAll, FinalStates, LeavingOut}
 use Rattle.isolation.proofs.Worlds.{after-other, after-own, strangers, names-all_arrive, length-world_lines}
 
 -- of the kept entries, those that pass a narrower test
@@ -103,4 +103,13 @@ module _ {Name State Command Line Post : Type 0} (m : Machine Name State Command
       record {
         lines = ap (at_session m s (only keep ts)) all.lines ∙ entries_of-only (m.same s) keep own ts (world_lines m world ts) (length-world_lines m world ts);
         state = all.states s passes;
+      }
+
+  pub interleaving : InterleavingLaw m
+  interleaving keep world ts us closed too same =
+      let one = final_states keep world world ts closed (λ name passes. refl) in
+      let other = final_states keep world world us too (λ name passes. refl) in
+      record {
+        lines = sym one.lines ∙ ap (world_lines m world) same ∙ other.lines;
+        states = λ name passes. sym (other.states name passes) ∙ ap (λ cs. world_after m world cs name) (sym same) ∙ one.states name passes;
       }

@@ -3,5 +3,7 @@ pub mod Isolated
 pub mod LeftOut
 pub mod Reaching
 pub mod Sliced
+pub mod Between
+pub mod Spared
 pub mod Piecewise
 pub mod ForCallers

@@ -31,7 +31,7 @@ module _ {Name State Command Line Post : Type 0} (m : Machine Name State Command
       one_more ∙ ap suc (length-marks s (after m world t) ts)
 
   -- no member joins a session that does not matter
-  unknown_to_members : (world : Name → State) (members : List Name) (t : Name) → list_any (λ r. m.names (world r) t) members ≡ false → (r : Name) → IsLawful m → is_in m r members ≡ true → m.names (world r) t ≡ false
+  pub unknown_to_members : (world : Name → State) (members : List Name) (t : Name) → list_any (λ r. m.names (world r) t) members ≡ false → (r : Name) → IsLawful m → is_in m r members ≡ true → m.names (world r) t ≡ false
   unknown_to_members world [] t none r lawful listed = absurd cc
   unknown_to_members world (member ∷ members) t none r lawful listed =
       let both = or_parts (m.names (world member) t) _ none in

@@ -5,7 +5,7 @@ use Rattle.isolation.specs.Machine.{Machine, Tagged}
 use Rattle.isolation.specs.World.{entries_of, only, world_after, world_lines, world_posts, at_session, is_in}
 use Rattle.isolation.specs.Alone.{items, alone_after, alone_lines, alone_posts}
 use Rattle.isolation.specs.Influence.{Reached, joined, stood, Influences, influences, KnowsAll, IsClosed, Agree}
-use Rattle.isolation.specs.Slice.{Note, kept, slice, AreNotes, notes_of, back}
+use Rattle.isolation.specs.Slice.{KeepsAtLeast, Note, kept, slice, AreNotes, notes_of, back}
 use Rattle.isolation.specs.Pieces.{Piece, commands_of, only_pieces, only_answers, piece_answers, said, told}
 
 module _ {Name State Command Line Post : Type 0} (m : Machine Name State Command Line Post) where
@@ -45,6 +45,18 @@ module _ {Name State Command Line Post : Type 0} (m : Machine Name State Command
       IsClosed m keep world ts → Agree keep world other →
       SameForAll keep world ts other (only keep ts)
 
+  -- sessions that pass the test are told the same in two runs from one world, and have the same states after both
+  pub record AreAlike (keep : Name → Bool) (world : Name → State) (ts us : List (Tagged Name Command)) : Type 0 where
+    pub lines : entries_of keep ts (world_lines m world ts) ≡ entries_of keep us (world_lines m world us)
+    pub states : Agree keep (world_after m world ts) (world_after m world us)
+
+  -- so it is with sessions that are closed under joins where both runs have their commands in one order, however the
+  -- commands of others stand between
+  abbrev pub InterleavingLaw : Type 0
+  InterleavingLaw =
+      (keep : Name → Bool) (world : Name → State) (ts us : List (Tagged Name Command)) →
+      IsClosed m keep world ts → IsClosed m keep world us → only keep ts ≡ only keep us → AreAlike keep world ts us
+
   -- a session does not see the commands of sessions that no chain of joins from it leads to
   abbrev pub SecondHalf : Type 0
   SecondHalf =
@@ -82,6 +94,12 @@ module _ {Name State Command Line Post : Type 0} (m : Machine Name State Command
   SliceLaw =
       (s : Name) (world : Name → State) (ts : List (Tagged Name Command)) →
       SameFor s world ts world (kept (slice m s world ts).marks ts)
+
+  -- nor is it told anything else by a list between the slice and the whole, whichever of the other commands that list keeps
+  abbrev pub BetweenLaw : Type 0
+  BetweenLaw =
+      (s : Name) (world : Name → State) (ts : List (Tagged Name Command)) (more : List Bool) →
+      KeepsAtLeast (slice m s world ts).marks more → SameFor s world ts world (kept more ts)
 
   -- also from another world that is alike at the members of the slice
   abbrev pub SliceFromMembers : Type 0

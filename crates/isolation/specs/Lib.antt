@@ -5,3 +5,4 @@ pub mod Influence
 pub mod Slice
 pub mod Pieces
 pub mod Laws
+pub mod Spared

@@ -25,6 +25,13 @@ abbrev pub with_mark : {Name : Type 0} → Bool → Name → Slice Name → Slic
 with_mark true name rest = record { members = name ∷ rest.members; marks = true ∷ rest.marks }
 with_mark false name rest = record { members = rest.members; marks = false ∷ rest.marks }
 
+-- marks of as many entries, which keep all that these keep
+abbrev pub KeepsAtLeast : List Bool → List Bool → Type 0
+KeepsAtLeast [] [] = Unit {0}
+KeepsAtLeast [] (more ∷ mores) = ⊥
+KeepsAtLeast (mark ∷ marks) [] = ⊥
+KeepsAtLeast (mark ∷ marks) (more ∷ mores) = (mark ≡ true → more ≡ true) × KeepsAtLeast marks mores
+
 module _ {Name State Command Line Post : Type 0} (m : Machine Name State Command Line Post) where
   -- does a command of t matter to the members: it is one of them, or a join of one of them names it
   abbrev pub matters : (Name → State) → List Name → Name → Bool

@@ -7,9 +7,11 @@
 //! its calls do what the machine does.
 #![tactic(auto)]
 
+ghost use Rattle.std.specs.Prelude.{Bool};
 ghost use Rattle.isolation.specs.Machine.{Machine, IsLawful};
-ghost use Rattle.isolation.specs.Laws.{FirstHalf, LeavingOut, FinalStates, SecondHalf, InfluencedStates, InfluenceIsLeast};
-ghost use Rattle.isolation.specs.Laws.{JoinsStood, InfluenceOfStanding, SliceLaw, SliceFromMembers, SliceWithinInfluence};
+ghost use Rattle.isolation.specs.Laws.{FirstHalf, LeavingOut, FinalStates, InterleavingLaw, SecondHalf, InfluencedStates, InfluenceIsLeast};
+ghost use Rattle.isolation.specs.Laws.{JoinsStood, InfluenceOfStanding, SliceLaw, SliceFromMembers, BetweenLaw, SliceWithinInfluence};
+ghost use Rattle.isolation.specs.Spared.{SparedLaw};
 ghost use Rattle.isolation.specs.Laws.{NotesGiveSlice, NotesAreRight, LeavingOutPieces, SaidStays, SaidByInfluence, ToldAlone};
 
 /// The laws of runs: each session is as if alone, and it does not see the commands of sessions
@@ -40,6 +42,15 @@ pub fn slice_laws<Name, State, Command, Line, Post>()
     ensures notes_are_right { (m : Machine Name State Command Line Post) → IsLawful m → NotesAreRight m }
 {}
 
+/// The laws of other lists that tell a session the same: those between its slice and the whole, and those
+/// in which only the commands of others stand elsewhere.
+///
+/// There is nothing to run, as in `laws`.
+pub fn list_laws<Name, State, Command, Line, Post>()
+    ensures between { (m : Machine Name State Command Line Post) → IsLawful m → BetweenLaw m }
+    ensures interleaving { (m : Machine Name State Command Line Post) → IsLawful m → InterleavingLaw m }
+{}
+
 /// The laws of inputs in pieces, where some pieces are faults: what is said to a session is what
 /// its commands are told alone, and stays the same where the commands of sessions are left out
 /// that no chain of joins from it leads to.
@@ -50,4 +61,12 @@ pub fn piece_laws<Name, State, Command, Line, Post, Fault>()
     ensures said_stays { (m : Machine Name State Command Line Post) → IsLawful m → SaidStays Fault m }
     ensures said_by_influence { (m : Machine Name State Command Line Post) → IsLawful m → SaidByInfluence Fault m }
     ensures told_alone { (m : Machine Name State Command Line Post) → IsLawful m → ToldAlone Fault m }
+{}
+
+/// The law of runs in which memory runs out: sessions that are closed under joins, and whose own commands
+/// were all done, are told what the machine tells them, whatever memory other sessions did not find.
+///
+/// There is nothing to run, as in `laws`. `anew` says which commands begin a failed session anew.
+pub fn spared_laws<Name, State, Command, Line, Post>()
+    ensures spared { (m : Machine Name State Command Line Post) (anew : Command → Bool) → IsLawful m → SparedLaw m anew }
 {}

@@ -92,6 +92,7 @@ module _ (settings : Settings) (old new : List Row) where
   joined_moved join same fit = record {
     callee = callee_moved join.object (callee.Method join.method) same fit.callee;
     fitting = ap (fits join.kinds) (kinds_moved join.object (callee.Method join.method) same) ∙ fit.fitting;
+    few = fit.few;
   }
 
 -- what a session holds fits the objects of these rows

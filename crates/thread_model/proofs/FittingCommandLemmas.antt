@@ -1,15 +1,16 @@
 -- Each command leaves a session that fits the classes and the functors, and what it posts is right.
-use Rattle.std.proofs.Common.{◌≡◌, ℕ, Bool, true, false, not, cond, List, [], ◌∷◌, Option, Some, None, Ok, Err, is_some, slice_get, refl, subst, arith}
+use Rattle.std.proofs.Common.{◌≡◌, ◌≤◌, ℕ, suc, Bool, true, false, not, cond, List, [], ◌∷◌, Option, Some, None, Ok, Err, is_some, slice_get, length, nat_le, refl, sym, ap, subst, arith}
 use Rattle.std.specs.List.{All}
-use Rattle.std.specs.Option.{unwrap_or}
+use Rattle.std.specs.Option.{ok_or, unwrap_or}
 use Rattle.std.specs.Result.{result_err}
 use Rattle.std.proofs.lemmas.Bool.{and_parts}
+use Rattle.std.proofs.lemmas.Bool.Decides.{nat_tests}
 use Rattle.std.proofs.lemmas.List.Elements.{All-cons, All-filter, All-nil, All-push}
 use Rattle.isolation.specs.Machine.{Effect}
 use Rattle.refusals.specs.declared.code.Code.{Code}
-use Rattle.refusals.specs.declared.code.Code.TheVariants.{DoesNotFit, NoSuchClass, UniqueFunctor}
+use Rattle.refusals.specs.declared.code.Code.TheVariants.{BadSignature, DoesNotFit, NoSuchClass, UniqueFunctor}
 use Rattle.signature_core.specs.declared.kind.Kind.{Kind}
-use Rattle.signature_core.specs.Kinds.{fits}
+use Rattle.signature_core.specs.Kinds.{fits, kind_named}
 use Rattle.class_table.specs.Lookup.{index_of}
 use Rattle.connection_types.specs.declared.connection_type.ConnectionType.{ConnectionType}
 use Rattle.connection_list.specs.declared.connection.Connection.{Connection}
@@ -45,7 +46,7 @@ use Rattle.thread_model.specs.Laws.{KeepsFitting}
 use Rattle.thread_model.specs.Methods.{Found, ◌>>=◌, method_named, methods_of, signal_named, signature_in}
 use Rattle.thread_model.specs.Refusing.{class_refusal, refusal, values_refusal}
 use Rattle.thread_model.specs.Settings.{Settings}
-use Rattle.thread_model.specs.Sharing.{asked_join, asked_kinds, asked_listener, asked_publication, joining_refusal, joins_found, leaves, publishes_found}
+use Rattle.thread_model.specs.Sharing.{asked_join, asked_kinds, asked_listener, asked_publication, joining_refusal, joins_found, kinds_named, leaves, publishes_found}
 use Rattle.thread_model.specs.Signals.{asked_connect, asked_connect_functor, asked_connection, asked_disconnect, asked_functor_connection, asked_method, asked_pattern, does_found}
 use Rattle.thread_model.specs.State.{IsDeclared, IsSound, State, empty, with_object, without_connections}
 use Rattle.thread_model.specs.Thread.{arrives, does, performs}
@@ -61,6 +62,27 @@ use Rattle.thread_model.proofs.FittingClassLemmas.{class_at, fits_moved, fits_ow
 use Rattle.thread_model.proofs.QueueLemmas.{each_posted}
 use Rattle.thread_model.proofs.FittingLaterLemmas.{deed_classes}
 use Rattle.thread_model.proofs.FittingRunLemmas.{LeavesFitting, bound_fits, done_fits, ended_fits, faulty_fits, first_starts, invokes_fits, kept, no_posts, one_starts, run_fits, set_fits, unbound_fits}
+
+-- each text names one kind, and no more are taken than a signature may have
+kinds_counted : (texts : List (List ℕ)) (kinds : List Kind) → kinds_named texts ≡ Ok kinds → length kinds ≡ length texts
+kinds_counted [] kinds e = let same : [] ≡ kinds = cc in ap length (sym same)
+kinds_counted (text ∷ texts) kinds e = by (kind_named text) (kinds_named texts) (kinds_counted texts) e
+  where
+    by : (one : Option Kind) (rest : Found (List Kind)) → ((others : List Kind) → rest ≡ Ok others → length others ≡ length texts) → (ok_or one BadSignature >>= λ kind. rest >>= λ kinds. Ok (kind ∷ kinds)) ≡ Ok kinds → length kinds ≡ length (text ∷ texts)
+    by None rest counted e = absurd (cc)
+    by (Some kind) (Err code) counted e = absurd (cc)
+    by (Some kind) (Ok others) counted e =
+        let same : kind ∷ others ≡ kinds = cc in
+        subst (λ (kinds : List Kind). length kinds ≡ length (text ∷ texts)) same (ap suc (counted others refl))
+
+few_kinds : (texts : List (List ℕ)) (kinds : List Kind) → asked_kinds texts ≡ Ok kinds → length kinds ≤ 10
+few_kinds texts kinds e = by (nat_le (length texts) 10) refl e
+  where
+    by : (few : Bool) → nat_le (length texts) 10 ≡ few → cond few (kinds_named texts) (Err BadSignature) ≡ Ok kinds → length kinds ≤ 10
+    by false is e = absurd (cc)
+    by true is e =
+        let within : length texts ≤ 10 = grind (arith, nat_tests, is) in
+        omega (arith, within, kinds_counted texts kinds e)
 
 -- before the first command there is nothing that may not fit
 first_fits : (settings : Settings) → IsFitting settings empty
@@ -150,7 +172,7 @@ module _ (settings : Settings) (are : AreSettings settings) (state : State) (sou
       events = fit.events;
       connections = fit.connections;
       publications = fit.publications;
-      joins = All-push (IsJoined settings rows) state.desk.joins join fit.joins (record { callee = there; fitting = fitting });
+      joins = All-push (IsJoined settings rows) state.desk.joins join fit.joins (record { callee = there; fitting = fitting; few = few });
     },
     none,
   )
@@ -172,6 +194,17 @@ module _ (settings : Settings) (are : AreSettings settings) (state : State) (sou
           by : (fit : Bool) (rest : Option Code) → cond (not fit) (Some DoesNotFit) rest ≡ None → fit ≡ true
           by true rest e = refl
           by false rest e = absurd (cc)
+
+      few : length join.kinds ≤ 10
+      few = by (asked_kinds types) (method_named (methods_of settings state target) method) refl (found_past (absence state target) _ join is)
+        where
+          by : (kinds : Found (List Kind)) (found : Found ℕ) → asked_kinds types ≡ kinds
+              → (kinds >>= λ kinds. found >>= λ index. Ok (let join : Join = record { from = from; name = name; kinds = kinds; object = target; method = index } in join)) ≡ Ok join → length join.kinds ≤ 10
+          by (Err code) found so e = absurd (cc)
+          by (Ok kinds) (Err code) so e = absurd (cc)
+          by (Ok kinds) (Ok index) so e =
+              let same : (let join : Join = record { from = from; name = name; kinds = kinds; object = target; method = index } in join) ≡ join = cc in
+              subst (λ (join : Join). length join.kinds ≤ 10) same (few_kinds types kinds so)
 
   left_fits : (from name : List ℕ) (target : ℕ) (found : Found ℕ) → Keep (leaves state from name target found)
   left_fits from name target (Err code) = as_was

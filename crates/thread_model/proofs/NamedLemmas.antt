@@ -1,5 +1,5 @@
--- Dynamic properties stay called by names, and what is still to be done sets only what has a name.
-use Rattle.std.proofs.Common.{◌≡◌, ◌+◌, ◌==◌, ℕ, Bool, true, false, not, cond, List, [], ◌∷◌, ◌++◌, Option, Some, None, Ok, Err, IsTrue, bytes_eq, filter, length, nat_le, nat_lt, set, slice_get, take, refl, if◌then◌else◌}
+-- What a session holds stays called by names, and what is still to be done sets only what has a name.
+use Rattle.std.proofs.Common.{◌≡◌, ◌+◌, ◌==◌, ℕ, Bool, true, false, not, cond, List, [], ◌∷◌, ◌++◌, Option, Some, None, Ok, Err, IsTrue, bytes_eq, filter, length, nat_le, nat_lt, set, slice_get, take, refl, sym, subst, if◌then◌else◌}
 use Rattle.std.specs.Prelude.{IfOk}
 use Rattle.std.specs.List.{All, cons_option}
 use Rattle.std.specs.Option.{ok_or, option_and_then, option_map, option_map_or, unwrap_or}
@@ -27,7 +27,7 @@ use Rattle.connection_types.specs.declared.callee.Callee.{Callee}
 use Rattle.connection_types.specs.declared.callee.Callee.TheVariants as callee
 use Rattle.connection_types.specs.declared.connection_type.ConnectionType.{ConnectionType}
 use Rattle.connection_list.specs.declared.connection.Connection.{Connection}
-use Rattle.connection_list.specs.Ends.{calls}
+use Rattle.connection_list.specs.Ends.{calls, matches}
 use Rattle.connection_list.specs.Rows.{has_number as has_connection_number}
 use Rattle.event_queue.specs.declared.event.Event.{Event}
 use Rattle.event_queue.specs.declared.event.Event.TheVariants as event
@@ -47,6 +47,8 @@ use Rattle.binding_graph.specs.Graph as graph
 use Rattle.binding_graph.specs.Graph.{is_bound, is_open, unbound, value_in}
 use Rattle.publish_board.specs.declared.join.Join.{Join}
 use Rattle.publish_board.specs.declared.publication.Publication.{Publication}
+use Rattle.publish_board.specs.Desk.{Desk}
+use Rattle.publish_board.specs.Rows.{has_name, is_join}
 use Rattle.stored_slots.specs.declared.functor.Functor.{Functor}
 use Rattle.thread_model.specs.declared.call.TheConstants.{DESTROYED, NESTED_SIGNALS}
 use Rattle.thread_model.specs.declared.deed.Deed.{Deed}
@@ -61,7 +63,8 @@ use Rattle.thread_model.specs.Agenda.{binding_line, call_line, call_items, calle
 use Rattle.thread_model.specs.Arriving.{posts_of}
 use Rattle.thread_model.specs.Asked.{Asked, New, Delete, Children, Find, Set, Get, DynamicNames, Meta, Connect, ConnectFunctor, DisconnectOne, Disconnect, Invoke, Spin, Do, Status, Publish, Unpublish, Join as AsksJoin, Leave, Reset, Bind, Unbind, BindingError, Begin, End}
 use Rattle.thread_model.specs.Binding.{Bound, asked_binding, asked_property, binding_error_found, binds_found, ends, unbinds_found}
-use Rattle.thread_model.specs.Deeds.{deed_done, with_deed}
+use Rattle.thread_model.specs.Absence.{absence}
+use Rattle.thread_model.specs.Deeds.{behind, deed_done, with_deed}
 use Rattle.thread_model.specs.Doing.{Doing, begun, dying, first_taken, in_state, lost, posted, posting, shot, stepped, line_told as one_told, turn_taken, used_up, severed}
 use Rattle.thread_model.specs.Effects.{does_next, unless}
 use Rattle.thread_model.specs.Fitting.{AreSettings}
@@ -69,18 +72,18 @@ use Rattle.thread_model.specs.Functors.{functor_at}
 use Rattle.thread_model.specs.Items as to_do
 use Rattle.thread_model.specs.Items.{Act, Call, Cut, Emit, Gone, Item, Kin, Next, Reply, ReplySpun, Run, RunFunctor, Warn, WarnOf, puts}
 use Rattle.thread_model.specs.Laws.{KeepsNamed}
-use Rattle.thread_model.specs.Methods.{Found, ◌>>=◌, is_signal_at, method_at, methods_of}
-use Rattle.thread_model.specs.Named.{AreNamed, HasNames, IsNamedAsked, IsNamedItem}
+use Rattle.thread_model.specs.Methods.{Found, ◌>>=◌, is_signal_at, method_at, method_named as method_named_by, methods_of, signal_named}
+use Rattle.thread_model.specs.Named.{AreNamed, HasNames, IsNamedAsked, IsNamedItem, IsNamedJoin, IsNamedPublication}
 use Rattle.thread_model.specs.Posting.{is_queued, spin_of}
 use Rattle.thread_model.specs.Properties.{is_declared, sets}
 use Rattle.thread_model.specs.Refusing.{refusal}
 use Rattle.thread_model.specs.Run.{run}
 use Rattle.thread_model.specs.Settings.{Settings}
-use Rattle.thread_model.specs.Sharing.{asked_join, asked_listener, asked_publication, joins_found, leaves, publishes_found}
+use Rattle.thread_model.specs.Sharing.{asked_join, asked_kinds, asked_listener, asked_publication, joins_found, leaves, publishes_found}
 use Rattle.thread_model.specs.Showing.{changes, comes_to, property_at, showing, told_as, told_value}
 use Rattle.thread_model.specs.Signals.{asked_connect, asked_connect_functor, asked_disconnect, asked_method, does_found, invoked, invoked_later, invokes}
-use Rattle.thread_model.specs.State.{State, fields_of, functor_state, with_binding, with_binding_taken, with_object, with_properties, without_connections, without_group, without_object}
-use Rattle.thread_model.specs.Targets.{evaluated, named_object_of, object_of, truth_evaluated}
+use Rattle.thread_model.specs.State.{State, empty, fields_of, functor_state, with_binding, with_binding_taken, with_blocking, with_connection, with_event, with_functor_state, with_group, with_lost, with_object, with_parent, with_properties, without_connections, without_first, without_group, without_object}
+use Rattle.thread_model.specs.Targets.{evaluated, object_of, truth_evaluated}
 use Rattle.thread_model.specs.Thread.{arrives, does, performs}
 use Rattle.thread_model.specs.Writing.{Declared, Dynamic, Nothing, DeclaredField, Removed, Writing, acted_writing, asked_place, asked_writing, declared, dynamic_writing, short, with_writing, written, written_property}
 use Rattle.thread_model.proofs.FittingTableLemmas.{functor_named, method_named}
@@ -153,46 +156,68 @@ with_name_named name value dynamic is all = by (dynamic_number name dynamic)
     by (Some number) = All-set HasName dynamic number new is all
 
 module _ (state : State) (named : AreNamed state) where
+  -- a session with the same properties and the same desk
+  named_beside : (new : State) → new.store ≡ state.store → new.desk ≡ state.desk → AreNamed new
+  named_beside new store desk = record {
+    store = subst (All HasNames) (sym store) named.store;
+    publications = subst (λ (desk : Desk). All IsNamedPublication desk.publications) (sym desk) named.publications;
+    joins = subst (λ (desk : Desk). All IsNamedJoin desk.joins) (sym desk) named.joins;
+  }
+
+  -- with other properties
+  named_with_store : (new : State) → All HasNames new.store → new.desk ≡ state.desk → AreNamed new
+  named_with_store new store desk = record {
+    store = store;
+    publications = subst (λ (desk : Desk). All IsNamedPublication desk.publications) (sym desk) named.publications;
+    joins = subst (λ (desk : Desk). All IsNamedJoin desk.joins) (sym desk) named.joins;
+  }
+
   named_with_properties : (number : ℕ) (change : Properties → Properties) → ((of : Properties) → HasNames of → HasNames (change of)) → AreNamed (with_properties state number change)
-  named_with_properties number change keeps =
-      All-map HasNames (λ (of : Properties). cond (of.object == number) (change of) of) state.store
-      (All-weaker HasNames (λ (of : Properties). HasNames (cond (of.object == number) (change of) of)) (λ of has. cond_both (of.object == number) (change of) of HasNames (λ same. keeps of has) (λ other. has)) state.store named)
+  named_with_properties number change keeps = named_with_store (with_properties state number change)
+      (All-map HasNames (λ (of : Properties). cond (of.object == number) (change of) of) state.store
+      (All-weaker HasNames (λ (of : Properties). HasNames (cond (of.object == number) (change of) of)) (λ of has. cond_both (of.object == number) (change of) of HasNames (λ same. keeps of has) (λ other. has)) state.store named.store))
+      refl
 
   named_with_writing : (object : ℕ) (writing : Writing) → IsNamedWriting writing → AreNamed (with_writing state object writing)
-  named_with_writing object (Declared number value) is = named_with_properties object (with_value number value) (λ of has. has)
+  named_with_writing object (Declared number value) is = named_with_store (with_writing state object (Declared number value)) (named_with_properties object (with_value number value) (λ of has. has)).store refl
   named_with_writing object (Dynamic name value) is = named_with_properties object (with_dynamic name value) (λ of has. with_name_named name value of.dynamic is has)
   named_with_writing object (Removed name) is = named_with_properties object (without_dynamic name) (λ of has. All-filter (λ (named : Named). not (bytes_eq named.name name)) HasName of.dynamic has)
   named_with_writing object Nothing is = named
 
   -- what a bound property shows is stored
   named_with_binding_taken : (at : At) → AreNamed (with_binding_taken state at)
-  named_with_binding_taken at =
-      cond_both (is_bound state.graph.bindings at) (stored.written state.store at.object at.number shows) state.store (All HasNames)
+  named_with_binding_taken at = named_with_store (with_binding_taken state at)
+      (cond_both (is_bound state.graph.bindings at) (stored.written state.store at.object at.number shows) state.store (All HasNames)
       (λ bound. by (fitting state.store at.object at.number shows))
-      (λ free. named)
+      (λ free. named.store))
+      refl
     where
       shows : Value
       shows = (value_in state.store state.graph at).0
 
       by : (fit : Option Value) → All HasNames (option_map_or (λ fit. stored.changed (with_value at.number fit) at.object state.store) fit state.store)
-      by None = named
-      by (Some fit) = named_with_properties at.object (with_value at.number fit) (λ of has. has)
+      by None = named.store
+      by (Some fit) = (named_with_properties at.object (with_value at.number fit) (λ of has. has)).store
 
   -- a new object has no dynamic properties
   named_with_object : (classes : List Class) (parent : Option ℕ) (class : ℕ) → AreNamed (with_object classes state parent class)
-  named_with_object classes parent class =
-      All-append HasNames (filter (λ (of : Properties). nat_lt of.object number) state.store) (fresh number (fields_of classes class) ∷ filter (λ (of : Properties). nat_lt number of.object) state.store)
-      (All-filter (λ (of : Properties). nat_lt of.object number) HasNames state.store named)
+  named_with_object classes parent class = named_with_store (with_object classes state parent class)
+      (All-append HasNames (filter (λ (of : Properties). nat_lt of.object number) state.store) (fresh number (fields_of classes class) ∷ filter (λ (of : Properties). nat_lt number of.object) state.store)
+      (All-filter (λ (of : Properties). nat_lt of.object number) HasNames state.store named.store)
       (All-cons HasNames (fresh number (fields_of classes class)) (filter (λ (of : Properties). nat_lt number of.object) state.store) (All-nil HasName)
-      (All-filter (λ (of : Properties). nat_lt number of.object) HasNames state.store named))
+      (All-filter (λ (of : Properties). nat_lt number of.object) HasNames state.store named.store)))
+      refl
     where
       number : ℕ
       number = state.forest.last_number + 1
 
   named_without_object : (target : ℕ) → AreNamed (without_object state target)
-  named_without_object target = All-filter (λ (of : Properties). not (of.object == target)) HasNames state.store named
+  named_without_object target = named_with_store (without_object state target) (All-filter (λ (of : Properties). not (of.object == target)) HasNames state.store named.store) refl
 
 module _ (doing : Doing) (named : AreNamed doing.state) where
+  beside : (new : State) → new.store ≡ doing.state.store → new.desk ≡ doing.state.desk → AreNamed new
+  beside = named_beside doing.state named
+
   told_named : (said : Line) → AreNamed (one_told doing said).state
   unfolding one_told
   told_named said = named
@@ -211,31 +236,40 @@ module _ (doing : Doing) (named : AreNamed doing.state) where
 
   shot_named : (row : Connection) → AreNamed (shot doing row).state
   unfolding shot
-  shot_named row = cond_both row.single (in_state doing (without_connections doing.state (has_connection_number row.number))) doing (λ (new : Doing). AreNamed new.state) (λ single. named) (λ lasting. named)
+  shot_named row = cond_both row.single (in_state doing (without_connections doing.state (has_connection_number row.number))) doing (λ (new : Doing). AreNamed new.state)
+      (λ single. beside (without_connections doing.state (has_connection_number row.number)) refl refl) (λ lasting. named)
 
   severed_named : (target : ℕ) → AreNamed (severed doing target).state
   unfolding severed
-  severed_named target = named
+  severed_named target = record {
+    store = named.store;
+    publications = All-filter (λ (row : Publication). not (row.object == target)) IsNamedPublication doing.state.desk.publications named.publications;
+    joins = All-filter (λ (join : Join). not (join.object == target)) IsNamedJoin doing.state.desk.joins named.joins;
+  }
 
   queued_named : (call : QueuedCall) → AreNamed (queued doing call).state
   unfolding posted lost
-  queued_named call = cond_both (has_room doing.state.queue) (posted doing (event.Call call)) (lost doing) (λ (new : Doing). AreNamed new.state) (λ room. named) (λ full. named)
+  queued_named call = cond_both (has_room doing.state.queue) (posted doing (event.Call call)) (lost doing) (λ (new : Doing). AreNamed new.state)
+      (λ room. beside (with_event doing.state (event.Call call)) refl refl) (λ full. beside (with_lost doing.state) refl refl)
 
   first_named : AreNamed (first_taken doing).state
   unfolding first_taken
-  first_named = named
+  first_named = beside (without_first doing.state) refl refl
 
   stepped_named : (number next : ℕ) → AreNamed (stepped doing number next).state
   unfolding stepped
-  stepped_named number next = named
+  stepped_named number next = beside (with_functor_state doing.state number next) refl refl
 
   dying_named : (target : ℕ) → AreNamed (dying doing target).state
   unfolding dying
-  dying_named target = named
+  dying_named target = beside (dying doing target).state refl refl
 
   deed_named : (deed : Deed) → AreNamed (with_deed doing.state deed)
-  deed_named (d.Connect new unique) = named
-  deed_named _ = named
+  deed_named (d.Connect new unique) = beside (with_connection doing.state new) refl refl
+  deed_named (d.Disconnect pattern) = beside (without_connections doing.state (matches pattern)) refl refl
+  deed_named (d.SetParent target parent) = beside (with_parent doing.state target parent) refl refl
+  deed_named (d.DeleteLater target) = beside (with_event doing.state (event.Deletion target)) refl refl
+  deed_named (d.Block target on) = beside (with_blocking doing.state target on) refl refl
 
   deed_done_named : (deed : Deed) → AreNamed (deed_done doing deed).state
   unfolding deed_done
@@ -262,12 +296,30 @@ tells_named settings after depth (change ∷ rest) = by change.told (tells_named
     by (message.Error error) later = All-cons IsNamedItem (WarnOf change.at error) (tells settings after depth rest) tt later
     by (message.Value value) later = sent (option_and_then (λ (property : Property). property.notify) (property_at settings after change.at.object change.at.number)) value later
 
--- what is to be done first sets only what has a name, and the session's dynamic properties are called by names
+-- what is to be done first sets only what has a name, and what the session holds is called by names
 abbrev LeavesNamed : Next → Type 0
 LeavesNamed next = All IsNamedItem next.items × AreNamed next.doing.state
 
 comes_to_named : (settings : Settings) (doing : Doing) (depth : ℕ) (after : State) (written : Option At) → AreNamed after → LeavesNamed (comes_to settings doing depth after written)
 comes_to_named settings doing depth after written named = (tells_named settings after depth (changes doing.state after written), named)
+
+-- a session that has had no command
+empty_named : AreNamed empty
+empty_named = record { store = All-nil HasNames; publications = All-nil IsNamedPublication; joins = All-nil IsNamedJoin }
+
+-- what is asked for under a name is published or joined under it
+behind_always : {A : Type 0} (Q : A → Type 0) (refusal : Option Code) (found : Found A) → IfOk found Q → IfOk (behind refusal found) Q
+behind_always Q None found is = is
+behind_always Q (Some code) found is = tt
+
+module _ (settings : Settings) (state : State) where
+  publication_named : (target : ℕ) (signal name : List ℕ) → IsTrue (is_name name) → IfOk (asked_publication settings state target signal name) IsNamedPublication
+  publication_named target signal name is = behind_always IsNamedPublication (absence state target) _
+      (found_always IsNamedPublication (signal_named (methods_of settings state target) signal) _ (λ index. is))
+
+  join_named : (from name : List ℕ) (types : List (List ℕ)) (target : ℕ) (method : List ℕ) → IsTrue (is_name from) × IsTrue (is_name name) → IfOk (asked_join settings state from name types target method) IsNamedJoin
+  join_named from name types target method is = behind_always IsNamedJoin (absence state target) _
+      (found_always IsNamedJoin (asked_kinds types) _ (λ kinds. found_always IsNamedJoin (method_named_by (methods_of settings state target) method) _ (λ index. is)))
 
 module _ (settings : Settings) (are : AreSettings settings) where
   module _ (doing : Doing) (named : AreNamed doing.state) where
@@ -455,23 +507,27 @@ module _ (settings : Settings) (are : AreSettings settings) where
     invokes_named target args mode priority None = named
     invokes_named target args mode priority (Some index) =
         cond_both (is_queued mode) (invoked_later state target index _ priority) (does_next settings (invoked settings state target index _) (a.Truth true)) (λ (effect : Effect State Line Post). AreNamed effect.state)
-        (λ later. named)
+        (λ later. named_beside state named _ refl refl)
         (λ now. done_named (invoked settings state target index _) (a.Truth true) (invoked_named target index _))
 
-    published_named : (found : Found Publication) → AreNamed (publishes_found state found).state
-    published_named (Ok row) = named
-    published_named (Err code) = named
+    published_named : (found : Found Publication) → IfOk found IsNamedPublication → AreNamed (publishes_found state found).state
+    published_named (Ok row) is = record { store = named.store; publications = All-push IsNamedPublication state.desk.publications row named.publications is; joins = named.joins }
+    published_named (Err code) is = named
 
-    joined_named : (found : Found Join) → AreNamed (joins_found state found).state
-    joined_named (Ok join) = named
-    joined_named (Err code) = named
+    joined_named : (found : Found Join) → IfOk found IsNamedJoin → AreNamed (joins_found state found).state
+    joined_named (Ok join) is = record { store = named.store; publications = named.publications; joins = All-push IsNamedJoin state.desk.joins join named.joins is }
+    joined_named (Err code) is = named
 
     left_named : (from name : List ℕ) (target : ℕ) (found : Found ℕ) → AreNamed (leaves state from name target found).state
-    left_named from name target (Ok method) = named
+    left_named from name target (Ok method) = record {
+      store = named.store;
+      publications = named.publications;
+      joins = All-filter (λ join. not (is_join from name target method join)) IsNamedJoin state.desk.joins named.joins;
+    }
     left_named from name target (Err code) = named
 
     bound_named : (found : Found Bound) → AreNamed (binds_found settings state found).state
-    bound_named (Ok bound) = done_named (comes_to settings (begun settings state) 0 (with_binding state bound.at bound.term) (Some bound.at)) (a.Truth true) (comes_to_named settings (begun settings state) 0 (with_binding state bound.at bound.term) (Some bound.at) named)
+    bound_named (Ok bound) = done_named (comes_to settings (begun settings state) 0 (with_binding state bound.at bound.term) (Some bound.at)) (a.Truth true) (comes_to_named settings (begun settings state) 0 (with_binding state bound.at bound.term) (Some bound.at) (named_beside state named (with_binding state bound.at bound.term) refl refl))
     bound_named (Err code) = named
 
     unbound_named : (found : Found At) → AreNamed (unbinds_found settings state found).state
@@ -486,7 +542,7 @@ module _ (settings : Settings) (are : AreSettings settings) where
     ended_named =
         let after = without_group state in
         let told = tells settings after 0 (graph.changes state.graph.last (showing after) None) in
-        done_named (ending settings state) (a.Number after.graph.depth) (cond_both (is_open after.graph) [] told (All IsNamedItem) (λ deep. All-nil IsNamedItem) (λ last. tells_named settings after 0 _), named)
+        done_named (ending settings state) (a.Number after.graph.depth) (cond_both (is_open after.graph) [] told (All IsNamedItem) (λ deep. All-nil IsNamedItem) (λ last. tells_named settings after 0 _), named_beside state named after refl refl)
 
     performed_named : (self : List ℕ) (asked : Asked) → IsNamedAsked asked → AreNamed (performs settings self state asked).state
     unfolding performs
@@ -500,22 +556,26 @@ module _ (settings : Settings) (are : AreSettings settings) where
     performed_named self (Meta class) is = named
     performed_named self (Connect sender signal receiver method mode unique single) is = does_found_named (asked_connect settings state sender signal receiver method mode unique single)
     performed_named self (ConnectFunctor sender signal context functor mode unique single) is = does_found_named (asked_connect_functor settings state sender signal context functor mode unique single)
-    performed_named self (DisconnectOne connection) is = named
+    performed_named self (DisconnectOne connection) is = named_beside state named (without_connections state (has_connection_number connection)) refl refl
     performed_named self (Disconnect sender signal receiver method) is = does_found_named (asked_disconnect settings state sender signal receiver method)
     performed_named self (Invoke target method args mode priority) is = invokes_named target args mode priority (asked_method settings state target method)
     performed_named self Spin is = run_named (to_do.Spin ∷ ReplySpun ∷ []) (begun settings state) (All-cons IsNamedItem to_do.Spin (ReplySpun ∷ []) tt (All-cons IsNamedItem ReplySpun [] tt (All-nil IsNamedItem)), named)
     performed_named self (Do deed) is = does_found_named (Ok deed)
     performed_named self Status is = named
-    performed_named self (Publish target signal name) is = published_named (asked_publication settings state target signal name)
-    performed_named self (Unpublish name) is = named
-    performed_named self (AsksJoin from name types target method) is = joined_named (asked_join settings state from name types target method)
+    performed_named self (Publish target signal name) is = published_named (asked_publication settings state target signal name) (publication_named settings state target signal name is)
+    performed_named self (Unpublish name) is = record {
+      store = named.store;
+      publications = All-filter (λ row. not (has_name name row)) IsNamedPublication state.desk.publications named.publications;
+      joins = named.joins;
+    }
+    performed_named self (AsksJoin from name types target method) is = joined_named (asked_join settings state from name types target method) (join_named settings state from name types target method is)
     performed_named self (Leave from name target method) is = left_named from name target (asked_listener settings state target method)
     performed_named self (Bind target property to) is = bound_named (asked_binding state target property to)
     performed_named self (Unbind target property) is = unbound_named (asked_property state target property)
     performed_named self (BindingError target property) is = faulty_named (asked_property state target property)
-    performed_named self Begin is = named
+    performed_named self Begin is = named_beside state named (with_group state) refl refl
     performed_named self End is = ended_named
-    performed_named self Reset is = All-nil HasNames
+    performed_named self Reset is = empty_named
 
     -- a refused command leaves the state
     unless_named : (refusal : Option Code) (outcome : Effect State Line Post) → AreNamed outcome.state → AreNamed (unless refusal state outcome).state
@@ -529,11 +589,11 @@ command_named settings self state asked are is named =
 
 post_named : (classes : List Class) (state : State) (from : List ℕ) (post : Post) → AreNamed state → AreNamed (arrives classes state from post)
 unfolding arrives
-post_named classes state from post named = named
+post_named classes state from post named = named_beside state named (arrives classes state from post) refl refl
 
 pub keeps_named : KeepsNamed
 keeps_named = record {
-  at_first = All-nil HasNames;
+  at_first = empty_named;
   by_item = λ settings item agenda doing are items named. by_item settings are item agenda doing items named;
   by_command = command_named;
   by_post = post_named;

@@ -1,5 +1,5 @@
 -- What a session holds fits the classes and the functors of the server.
-use Rattle.std.specs.Prelude.{◌≡◌, ◌≤◌, ℕ, List, IsTrue, is_some, slice_get}
+use Rattle.std.specs.Prelude.{◌≡◌, ◌≤◌, ℕ, List, IsTrue, is_some, length, slice_get}
 use Rattle.std.specs.List.{All}
 use Rattle.signature_core.specs.declared.kind.Kind.{Kind}
 use Rattle.signature_core.specs.Kinds.{fits}
@@ -84,10 +84,11 @@ IsFittingAsked settings state _ = Unit {0}
 abbrev pub IsPublished : Settings → List Row → Publication → Type 0
 IsPublished settings rows row = IsTrue (is_signal_at (methods_by settings.classes rows row.object) row.signal)
 
--- the method of a join is there, and fits the kinds that the join names
+-- the method of a join is there, and fits the kinds that the join names, which are no more than a signature has
 pub record IsJoined (settings : Settings) (rows : List Row) (join : Join) : Type 0 where
   pub callee : IsCallee settings rows join.object (callee.Method join.method)
   pub fitting : IsTrue (fits join.kinds (kinds_of settings.classes rows join.object join.method))
+  pub few : length join.kinds ≤ 10
 
 -- what a session holds fits the classes and the functors
 pub record IsFitting (settings : Settings) (state : State) : Type 0 where

@@ -58,8 +58,8 @@ pub record KeepsFitting : Type 0 where
   pub by_post : (settings : Settings) (state : State) (from : List ℕ) (post : Post)
       → IsFitting settings state → IsRightPost post → IsFitting settings (arrives settings.classes state from post)
 
--- dynamic properties are called by names: before the first command, item by item while a command is done, after
--- one that sets what has a name, if it sets anything, and after each post of another session
+-- what a session holds is called by names: before the first command, item by item while a command is done, after
+-- one that uses names for what it sets, publishes and joins, and after each post of another session
 pub record KeepsNamed : Type 0 where
   pub at_first : AreNamed empty
   pub by_item : (settings : Settings) (item : Item) (agenda : List Item) (doing : Doing)

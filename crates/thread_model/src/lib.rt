@@ -44,7 +44,8 @@ pub fn agenda_runs_to_its_end()
 /// may be, and the object that an event names stands: what is deleted takes its events and bindings with it.
 /// What is called, connected, published and joined is there and fits: a call has as many arguments as its
 /// callee has parameters, each of its kind and no text too long, and so has what is posted to the others.
-/// And its dynamic properties are called by names, as long as commands name what they set by names.
+/// A join names at most 10 types. Its dynamic properties and publications are called by names, and its joins
+/// name sessions and publications by names, as long as its commands use names there.
 pub fn commands_keep_sessions_sound()
     ensures commands { KeepsSound }
     ensures items { KeepsUnderWay }
