@@ -7,21 +7,19 @@ use Rattle.std.proofs.lemmas.Bool.{cases_Bool, both_ways, or_left, or_right}
 use Rattle.std.proofs.lemmas.List.{map-append, take_all}
 use Rattle.isolation.specs.Machine.{Tagged}
 use Rattle.isolation.specs.World.{entries_of, only, world_after, world_lines, at_session}
-use Rattle.isolation.specs.Influence.{influences, KnowsAll}
-use Rattle.isolation.specs.Slice.{kept, slice}
+use Rattle.isolation.specs.Influence.{IsClosed}
 use Rattle.isolation.specs.Laws.{SameFor}
-use Rattle.isolation.proofs.ForCallers.{first_half, second_half, slice_law}
+use Rattle.isolation.proofs.ForCallers.{between_law, first_half, leaving_out, second_half, slice_law}
 use Rattle.thread_model.specs.declared.command.Tagged.{Tagged as Given}
 use Rattle.thread_model.specs.declared.line.Line.{Line}
 use Rattle.thread_model.specs.State.{State}
 use Rattle.thread_model.specs.Asked.{Asked, tag}
-use Rattle.thread_model.specs.Thread.{Settings}
 use Rattle.thread_model.specs.Machine.{machine}
 use Rattle.thread_model.proofs.ForCallers.{lawful}
 use Rattle.server_world.specs.declared.report.Entry.{Entry}
 use Rattle.server_world.specs.declared.report.Entry.TheVariants.{Lines, OutOfMemory}
 use Rattle.server_world.specs.Names.{with_name, with_names}
-use Rattle.server_world.specs.Runs.{AnotherFailed, AreSteps, IsAsAlone, IsAsWith, IsEntry, IsIsolated, IsShort, IsWorldRun, entry_lines, is_out_of_memory, resets, tags}
+use Rattle.server_world.specs.Runs.{AnotherFailed, AreSteps, IsApart, IsAsAlone, IsAsWith, IsEntry, IsIsolated, IsShort, IsWorldRun, entry_lines, is_out_of_memory, resets, tags}
 use Rattle.server_world.specs.Server.{Server, KnowsAtMost, failed, names, settings, states, was_refused}
 use Rattle.server_world.proofs.ServerLemmas.{failed_kept, failed_there, knows_all, named_by, named_itself, named_more}
 
@@ -150,36 +148,51 @@ steps_blame old new (t ∷ ts) (entry ∷ entries) steps was refused =
     (cases_Bool (was_refused between))
 
 -- the entries of a session, each made of one
-entries_of-map : {Name Command A B : Type 0} (f : A → B) (keep : Name → Bool) (ts : List (Tagged Name Command)) (xs : List A) → entries_of keep ts (map f xs) ≡ map f (entries_of keep ts xs)
+pub entries_of-map : {Name Command A B : Type 0} (f : A → B) (keep : Name → Bool) (ts : List (Tagged Name Command)) (xs : List A) → entries_of keep ts (map f xs) ≡ map f (entries_of keep ts xs)
 entries_of-map f keep [] xs = refl
 entries_of-map f keep (t ∷ ts) [] = refl
 entries_of-map f keep (t ∷ ts) (x ∷ xs) =
     let rest = entries_of-map f keep ts xs in
     ⊎_elim (λ e. grind (arith, e, rest)) (λ e. grind (arith, e, rest)) (cases_Bool (keep t.session))
 
-module _ (settings : Settings) (world : List ℕ → State) (ts : List (Tagged (List ℕ) Asked)) (entries : List Entry) (after : List ℕ → State)
-    (told : entries ≡ map Lines (world_lines (machine settings) world ts)) (left : after ≡ world_after (machine settings) world ts) where
-  lines_of : (s : List ℕ) → at_session (machine settings) s ts entries ≡ map Lines (at_session (machine settings) s ts (world_lines (machine settings) world ts))
-  lines_of s = ap (at_session (machine settings) s ts) told ∙ entries_of-map Lines (bytes_eq s) ts (world_lines (machine settings) world ts)
+module _ (old : Server) (ts : List (Tagged (List ℕ) Asked)) (entries : List Entry) (s : List ℕ) (Ends : State → Type 0)
+    (told : at_session (machine (settings old)) s ts entries ≡ map Lines (at_session (machine (settings old)) s ts (world_lines (machine (settings old)) (states old) ts)))
+    (ends : Ends (world_after (machine (settings old)) (states old) ts s)) where
+  as_alone : IsAsAlone (settings old) (states old) ts entries s Ends
+  as_alone =
+      let alone = first_half (machine (settings old)) (lawful (settings old)) s (states old) ts in
+      record { lines = told ∙ ap (map Lines) alone.lines; state = subst Ends alone.state ends }
 
-  pub as_alone : (s : List ℕ) → IsAsAlone settings world ts entries after s
-  as_alone s =
-      let alone = first_half (machine settings) (lawful settings) s world ts in
-      record { lines = lines_of s ∙ ap (map Lines) alone.lines; state = ap (λ states. states s) left ∙ alone.state }
+  as_with : (others : List (Tagged (List ℕ) Asked)) → SameFor (machine (settings old)) s (states old) ts (states old) others → IsAsWith (settings old) (states old) ts entries s others Ends
+  as_with others same = record { lines = told ∙ ap (map Lines) (sym same.lines); state = subst Ends (sym same.state) ends }
 
-  as_with : (s : List ℕ) (fewer : List (Tagged (List ℕ) Asked)) → SameFor (machine settings) s world ts world fewer → IsAsWith settings world ts entries after s fewer
-  as_with s fewer same = record { lines = lines_of s ∙ ap (map Lines) (sym same.lines); state = ap (λ states. states s) left ∙ sym same.state }
+  -- lists that have the same commands of a closed set tell its members the same
+  same_interleaved : (keep : List ℕ → Bool) (others : List (Tagged (List ℕ) Asked)) → keep s ≡ true
+      → IsClosed (machine (settings old)) keep (states old) ts → IsClosed (machine (settings old)) keep (states old) others → only keep others ≡ only keep ts
+      → SameFor (machine (settings old)) s (states old) ts (states old) others
+  same_interleaved keep others passes closed too same =
+      let m = machine (settings old) in
+      let one = leaving_out m (lawful (settings old)) keep (states old) (states old) ts closed (λ name kept. refl) s passes in
+      let other = leaving_out m (lawful (settings old)) keep (states old) (states old) others too (λ name kept. refl) s passes in
+      record {
+        lines = sym other.lines ∙ ap (λ (cs : List (Tagged (List ℕ) Asked)). at_session m s cs (world_lines m (states old) cs)) same ∙ one.lines;
+        state = sym other.state ∙ ap (λ (cs : List (Tagged (List ℕ) Asked)). world_after m (states old) cs s) same ∙ one.state;
+      }
 
-  pub as_influenced : (known : List (List ℕ)) → KnowsAll (machine settings) world known → (s : List ℕ) → IsAsWith settings world ts entries after s (only (influences (machine settings) world known ts s) ts)
-  as_influenced known all s = as_with s _ (second_half (machine settings) (lawful settings) world known ts all s)
+  pub apart : IsApart old ts entries s Ends
+  apart =
+      let m = machine (settings old) in
+      record {
+        alone = as_alone;
+        influenced = as_with _ (second_half m (lawful (settings old)) (states old) (names old) ts (knows_all (settings old) old.engine) s);
+        sliced = as_with _ (slice_law m (lawful (settings old)) s (states old) ts);
+        between = λ more within. as_with _ (between_law m (lawful (settings old)) s (states old) ts more within);
+        interleaved = λ keep others passes closed too same. as_with others (same_interleaved keep others passes closed too same);
+      }
 
-  pub as_sliced : (s : List ℕ) → IsAsWith settings world ts entries after s (kept (slice (machine settings) s world ts).marks ts)
-  as_sliced s = as_with s _ (slice_law (machine settings) (lawful settings) s world ts)
-
--- so with a run of a server
+-- so with a run in which memory was found
 pub isolated : (old new : Server) (ts : List (Tagged (List ℕ) Asked)) (entries : List Entry) → IsWorldRun old new ts entries → (s : List ℕ) → IsIsolated old new ts entries s
-isolated old new ts entries run s = record {
-  alone = as_alone (settings old) (states old) ts entries (states new) run.lines run.states s;
-  influenced = as_influenced (settings old) (states old) ts entries (states new) run.lines run.states (names old) (knows_all (settings old) old.engine) s;
-  sliced = as_sliced (settings old) (states old) ts entries (states new) run.lines run.states s;
-}
+isolated old new ts entries run s =
+    apart old ts entries s (λ state. states new s ≡ state)
+    (ap (at_session (machine (settings old)) s ts) run.lines ∙ entries_of-map Lines (bytes_eq s) ts (world_lines (machine (settings old)) (states old) ts))
+    (ap (λ states. states s) run.states)

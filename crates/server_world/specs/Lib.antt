@@ -1,6 +1,7 @@
 pub mod Names
 pub mod Server
 pub mod Runs
+pub mod Spared
 pub mod Noting
 pub mod NotedInside
 pub mod NotedRuns

@@ -1,5 +1,5 @@
 -- Runs whose commands are noted.
-use Rattle.std.specs.Prelude.{◌≡◌, ℕ, List, [], take, IsTrue, IsFalse}
+use Rattle.std.specs.Prelude.{◌≡◌, ℕ, Bool, List, [], take, IsTrue, IsFalse}
 use Rattle.isolation.specs.Machine.{Tagged}
 use Rattle.thread_model.specs.Asked.{Asked}
 use Rattle.server_world.specs.declared.report.Entry.{Entry}
@@ -14,9 +14,13 @@ pub record Stops (old new : Server) (ts : List (Tagged (List ℕ) Asked)) : Type
   pub entries : List Entry
   pub steps : AreSteps old (take count ts) entries new
 
--- all commands are done, and where memory was found the places are those that the slice keeps
+-- the places of the commands that the slice of s keeps, or none if memory was refused
+pub record AnswersPlaces (old : Server) (ts : List (Tagged (List ℕ) Asked)) (s : List ℕ) (memory_refused : Bool) (places : List ℕ) : Type 0 where
+  pub found : IsFalse memory_refused → places ≡ kept_places (settings old) (states old) ts s
+  pub none : IsTrue memory_refused → places ≡ []
+
+-- all commands are done, and these places are answered
 pub record IsKeptRun (old new : Server) (ts : List (Tagged (List ℕ) Asked)) (session : List ℕ) (report : Report) (places : List ℕ) : Type 0 where
   pub refused : report.memory_refused ≡ was_refused new
   pub steps : AreSteps old ts report.lines new
-  pub kept : IsFalse report.memory_refused → places ≡ kept_places (settings old) (states old) ts session
-  pub none : IsTrue report.memory_refused → places ≡ []
+  pub kept : AnswersPlaces old ts session report.memory_refused places

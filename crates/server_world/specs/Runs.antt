@@ -3,8 +3,8 @@ use Rattle.std.specs.Prelude.{◌≡◌, ◌⊎◌, ◌<◌, ◌&&◌, ℕ, Bool
 use Rattle.std.specs.List.{list_any}
 use Rattle.isolation.specs.Machine.{Tagged}
 use Rattle.isolation.specs.World.{only, world_after, world_lines, at_session}
-use Rattle.isolation.specs.Influence.{influences}
-use Rattle.isolation.specs.Slice.{kept, slice}
+use Rattle.isolation.specs.Influence.{IsClosed, influences}
+use Rattle.isolation.specs.Slice.{KeepsAtLeast, kept, slice}
 use Rattle.isolation.specs.Alone.{items, alone_after, alone_lines}
 use Rattle.thread_model.specs.declared.command.Tagged.{Tagged as Given}
 use Rattle.thread_model.specs.State.{State}
@@ -49,25 +49,36 @@ AreSteps old (t ∷ ts) [] new = ⊥
 abbrev pub IsShort : List Entry → Type 0
 IsShort entries = IsTrue (list_any is_out_of_memory entries)
 
-module _ (settings : Settings) (world : List ℕ → State) (ts : List (Tagged (List ℕ) Asked)) (entries : List Entry) (after : List ℕ → State) where
-  -- s is told what it would be told alone, with its own commands and the posts that reach it, and its state is the same
-  pub record IsAsAlone (s : List ℕ) : Type 0 where
+module _ (settings : Settings) (world : List ℕ → State) (ts : List (Tagged (List ℕ) Asked)) (entries : List Entry) where
+  -- s is told what it would be told alone, with its own commands and the posts that reach it, and ends as it would then
+  pub record IsAsAlone (s : List ℕ) (Ends : State → Type 0) : Type 0 where
     pub lines : at_session (machine settings) s ts entries ≡ map Lines (alone_lines (machine settings) s (world s) (items (machine settings) s world ts))
-    pub state : after s ≡ alone_after (machine settings) s (world s) (items (machine settings) s world ts)
+    pub state : Ends (alone_after (machine settings) s (world s) (items (machine settings) s world ts))
 
-  -- s is told what it would be told in the run of these commands alone, and its state is the same
-  pub record IsAsWith (s : List ℕ) (fewer : List (Tagged (List ℕ) Asked)) : Type 0 where
-    pub lines : at_session (machine settings) s ts entries ≡ map Lines (at_session (machine settings) s fewer (world_lines (machine settings) world fewer))
-    pub state : after s ≡ world_after (machine settings) world fewer s
+  -- s is told what it would be told in the run of these commands, and ends as it would then
+  pub record IsAsWith (s : List ℕ) (others : List (Tagged (List ℕ) Asked)) (Ends : State → Type 0) : Type 0 where
+    pub lines : at_session (machine settings) s ts entries ≡ map Lines (at_session (machine settings) s others (world_lines (machine settings) world others))
+    pub state : Ends (world_after (machine settings) world others s)
 
--- what a session is told of a run in which memory was found
-pub record IsIsolated (old new : Server) (ts : List (Tagged (List ℕ) Asked)) (entries : List Entry) (s : List ℕ) : Type 0 where
-  -- what it would be told alone,
-  pub alone : IsAsAlone (settings old) (states old) ts entries (states new) s
-  -- what it would be told without the commands of sessions from which no chain of joins leads to it,
-  pub influenced : IsAsWith (settings old) (states old) ts entries (states new) s (only (influences (machine (settings old)) (states old) (names old) ts s) ts)
-  -- and what it would be told with the commands alone that its slice keeps
-  pub sliced : IsAsWith (settings old) (states old) ts entries (states new) s (kept (slice (machine (settings old)) s (states old) ts).marks ts)
+-- what s is told of a run, and how it ends
+pub record IsApart (old : Server) (ts : List (Tagged (List ℕ) Asked)) (entries : List Entry) (s : List ℕ) (Ends : State → Type 0) : Type 0 where
+  -- as alone,
+  pub alone : IsAsAlone (settings old) (states old) ts entries s Ends
+  -- as without the commands of sessions from which no chain of joins leads to it,
+  pub influenced : IsAsWith (settings old) (states old) ts entries s (only (influences (machine (settings old)) (states old) (names old) ts s) ts) Ends
+  -- as with the commands alone that its slice keeps,
+  pub sliced : IsAsWith (settings old) (states old) ts entries s (kept (slice (machine (settings old)) s (states old) ts).marks ts) Ends
+  -- as with these and any others of the run,
+  pub between : (more : List Bool) → KeepsAtLeast (slice (machine (settings old)) s (states old) ts).marks more
+      → IsAsWith (settings old) (states old) ts entries s (kept more ts) Ends
+  -- and as in any other run that has the same commands in the same order of sessions that are closed under joins
+  pub interleaved : (keep : List ℕ → Bool) (others : List (Tagged (List ℕ) Asked)) → keep s ≡ true
+      → IsClosed (machine (settings old)) keep (states old) ts → IsClosed (machine (settings old)) keep (states old) others → only keep others ≡ only keep ts
+      → IsAsWith (settings old) (states old) ts entries s others Ends
+
+-- where memory was found, s ends in that state
+abbrev pub IsIsolated : Server → Server → List (Tagged (List ℕ) Asked) → List Entry → List ℕ → Type 0
+IsIsolated old new ts entries s = IsApart old ts entries s (λ state. states new s ≡ state)
 
 -- a run in which memory was found is that of all sessions side by side
 pub record IsWorldRun (old new : Server) (ts : List (Tagged (List ℕ) Asked)) (entries : List Entry) : Type 0 where

@@ -14,9 +14,10 @@ ghost use Rattle.session_engine.specs.Sessions.{AreSound, AreWell, IsStep};
 ghost use Rattle.server_world.specs.Names.{with_name};
 ghost use Rattle.server_world.specs.Server.{IsLost, IsNew, KnowsAtMost, OnlyRefused, StaysOut, failed, names};
 ghost use Rattle.server_world.specs.Server.{seen_by_name, seen_as, settings, states, was_refused};
+ghost use Rattle.server_world.specs.Spared.{SparesItsSession};
 ghost use Rattle.server_world.specs.Runs.{AreSteps, IsBlamed, IsEntry, IsIsolated, IsLater, IsWorldRun, tags};
 ghost use Rattle.server_world.specs.Noting.{IsNoted, IsWithin, StopsShort, kept_places, marked_from, name_at, named};
-ghost use Rattle.server_world.specs.NotedRuns.{IsKeptRun, Stops};
+ghost use Rattle.server_world.specs.NotedRuns.{AnswersPlaces, IsKeptRun, Stops};
 
 use crate::notes::Notes;
 use crate::report::{Entry, Report};
@@ -97,6 +98,8 @@ impl Server {
         ensures world { IsFalse result.memory_refused → IsWorldRun (seen_as self.old) (seen_as self.new) (tags list.now) result.lines }
         // so each session is told what it would be told by itself.
         ensures isolated { IsFalse result.memory_refused → (s : List ℕ) → IsIsolated (seen_as self.old) (seen_as self.new) (tags list.now) result.lines s }
+        // Whatever memory was refused, in this run or before it, so is each session that was spared it, with all that it listens to.
+        ensures spared { (s : List ℕ) → SparesItsSession (seen_as self.old) (seen_as self.new) (tags list.now) result.lines s }
         ensures size { (length result.lines ≡ length list.now)
             ⊎ ((result.lines ≡ []) × OnlyRefused (seen_as self.old) (seen_as self.new)) }
         ensures blame { IsFalse (was_refused (seen_as self.old)) → IsTrue result.memory_refused
@@ -172,10 +175,8 @@ impl Server {
         ensures world { IfOk result (λ told. IsFalse told.0.memory_refused → IsWorldRun (seen_as self.old) (seen_as self.new) (tags list.now) told.0.lines) }
         ensures isolated { IfOk result (λ told. IsFalse told.0.memory_refused
             → (s : List ℕ) → IsIsolated (seen_as self.old) (seen_as self.new) (tags list.now) told.0.lines s) }
-        // Exactly the places that the slice keeps,
-        ensures kept { IfOk result (λ told. IsFalse told.0.memory_refused
-            → told.1.items ≡ kept_places (settings (seen_as self.old)) (states (seen_as self.old)) (tags list.now) session.now) }
-        ensures none { IfOk result (λ told. IsTrue told.0.memory_refused → told.1.items ≡ []) }
+        ensures spared { IfOk result (λ told. (s : List ℕ) → SparesItsSession (seen_as self.old) (seen_as self.new) (tags list.now) told.0.lines s) }
+        ensures kept { IfOk result (λ told. AnswersPlaces (seen_as self.old) (tags list.now) session.now told.0.memory_refused told.1.items) }
         ensures stopped { OnErr result (StopsShort (seen_as self.old) (seen_as self.new) (tags list.now)) }
         ensures later { IsLater (seen_as self.old) (seen_as self.new) }
     {

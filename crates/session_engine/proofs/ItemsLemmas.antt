@@ -22,7 +22,8 @@ use Rattle.thread_model.proofs.ForCallers.{lawful}
 use Rattle.session_tables.specs.Reaching.{Hears, heard}
 use Rattle.session_tables.specs.Session.{Session}
 use Rattle.session_engine.specs.declared.item.Item.{Item}
-use Rattle.session_engine.specs.Items.{Coming, HasArrived, HasAdded, HasCome, HaveCome, RunsAlone, all_lines, item_of}
+use Rattle.session_engine.specs.Items.{Coming, HasArrived, HasAdded, HasCome, HaveCome, RunsAlone, SparesItsSession, all_lines, item_of}
+use Rattle.session_engine.proofs.SparedLemmas.{spared_items}
 use Rattle.session_engine.specs.Sessions.{AnotherFails, AreSound, IsStep, Sessions, given_by, states_of}
 
 -- what was found after was found before
@@ -207,7 +208,11 @@ come_sound old new name (item ∷ items) told (inr (between, lines, rest, came, 
 pub runs_alone : (old new : Sessions) (name : List ℕ) (items : List Coming) (told : Option (List Line)) → AreSound old → HaveCome old new name items told → RunsAlone old new name items told
 runs_alone old new name items told sound come =
     let it = follows old new name items told come in
-    record { come = come; lines = it.lines; own = it.own; others = it.others; blame = it.blame; sound = come_sound old new name items told come sound }
+    record { come = come; lines = it.lines; own = it.own; others = it.others; spared = λ well. some_spared told well come; blame = it.blame; sound = come_sound old new name items told come sound }
+  where
+    some_spared : (told : Option (List Line)) → IsFalse (old.session name).failed → HaveCome old new name items told → IfSome told (SparesItsSession old new name items)
+    some_spared (Some lines) well come = spared_items old new name items (Some lines) lines well refl come
+    some_spared None well come = tt
 
 -- a post has come as an item, of which nothing is told
 pub arrival_comes : {T E : Type 0} (old new : Sessions) (name from : List ℕ) (post : Post) (before : List Line) (result : Result T E) → HasArrived old new name from post (result_ok result) → OnOk result (HasAdded old new name (theory.Arrival from post) before before)

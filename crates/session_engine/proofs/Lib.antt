@@ -8,6 +8,7 @@ pub mod BindingsLemmas
 pub mod PropertiesLemmas
 pub mod ClassesLemmas
 pub mod InvocationLemmas
+pub mod SparedLemmas
 pub mod ItemsLemmas
 pub mod ChangedLemmas
 pub mod JoiningLemmas

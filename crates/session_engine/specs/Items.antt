@@ -1,5 +1,5 @@
 -- What comes to a session, one thing after another, and what becomes of the session and of all others.
-use Rattle.std.specs.Prelude.{◌≡◌, ◌⊎◌, ℕ, List, [], ◌∷◌, ◌++◌, Option, Some, None, IfNone, IfSome, OnSome, IsTrue, IsFalse, bytes_eq, option_map}
+use Rattle.std.specs.Prelude.{◌≡◌, ◌⊎◌, ℕ, false, List, [], ◌∷◌, ◌++◌, Option, Some, None, IfNone, IfSome, OnSome, IsTrue, IsFalse, bytes_eq, option_map}
 use Rattle.isolation.specs.Alone as theory
 use Rattle.isolation.specs.Alone.{alone_after, alone_lines, alone_posts}
 use Rattle.isolation.specs.World.{all_arrive}
@@ -66,6 +66,15 @@ HaveCome old new name (item ∷ items) told =
     ⊎ ((between : Sessions) × (lines : List Line) × (rest : Option (List Line)) × HasCome old between name item (Some lines)
     × HaveCome between new name items rest × (told ≡ option_map (λ more. lines ++ more) rest))
 
+-- what comes of items for a session that had not failed and found memory for each of them, whatever other sessions did
+-- not find: it is told what a session alone is told and is left so, and every other session has heard what it posts, or has failed
+pub record SparesItsSession (old new : Sessions) (name : List ℕ) (items : List Coming) (told : List Line) : Type 0 where
+  pub lines : told ≡ all_lines (alone_lines (machine old.settings) name (states_of old name) items)
+  pub own : new.session name ≡ record { state = alone_after (machine old.settings) name (states_of old name) items; failed = false }
+  pub others : (other : List ℕ) → IsFalse (bytes_eq other name)
+      → (new.session other ≡ heard old.settings.classes name (alone_posts (machine old.settings) name (states_of old name) items) (old.session other))
+      ⊎ IsTrue (new.session other).failed
+
 -- what comes of items for a session and for all others
 pub record RunsAlone (old new : Sessions) (name : List ℕ) (items : List Coming) (told : Option (List Line)) : Type 0 where
   -- whatever memory was refused, before them or in them
@@ -76,6 +85,8 @@ pub record RunsAlone (old new : Sessions) (name : List ℕ) (items : List Coming
   -- and every other session has heard what it posts
   pub others : IsFalse new.memory_refused → (other : List ℕ) → IsFalse (bytes_eq other name) → states_of new other
       ≡ all_arrive (machine old.settings) (states_of old other) name (alone_posts (machine old.settings) name (states_of old name) items)
+  -- and so it is, whatever memory was refused before or to others, where the session found memory for each item
+  pub spared : IsFalse (old.session name).failed → IfSome told (SparesItsSession old new name items)
   -- memory is refused first only for an item that has found none, or for another session that has failed by a post
   pub blame : IsFalse old.memory_refused → IsTrue new.memory_refused → (told ≡ None) ⊎ AnotherFails old new name
   pub sound : AreSound new

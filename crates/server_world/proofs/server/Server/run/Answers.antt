@@ -4,6 +4,7 @@ use Rattle.server_world.specs.Server.{seen_as, settings}
 use Rattle.server_world.specs.Runs.{AreSteps, tags}
 use Rattle.server_world.proofs.RunLemmas.{isolated, steps_all, steps_blame, steps_kept, steps_more, steps_settings, steps_world, tags_more}
 use Rattle.server_world.proofs.ServerLemmas.{knows_all}
+use Rattle.server_world.proofs.SparedLemmas.{spared, spared_none}
 use Rattle.server_world.proofs.server.Server.run.Goals as goal
 
 pub loop-given-preserved : goal.loop-given-preserved
@@ -36,6 +37,17 @@ returns-clause-world g c = λ found.
 
 pub returns-clause-isolated : goal.returns-clause-isolated
 returns-clause-isolated g c = λ found. isolated (seen_as c.args.self.now) (seen_as c.loop-given.self) (tags c.args.list.now) _ (returns-clause-world g c found)
+
+pub returns-clause-spared : goal.returns-clause-spared
+returns-clause-spared g c = λ s fine.
+    let old = seen_as c.args.self.now in
+    let new = seen_as c.loop-given.self in
+    let steps = steps_all old new c.args.list.now c.loop-given.given-index c.loop-given.entries.items _ (omega arith) c.from_vec.ensures c.loop-given.invariant.steps in
+    spared old new (tags c.args.list.now) _ steps s fine
+
+pub returns-in_default-clause-spared : goal.returns-in_default-clause-spared
+returns-in_default-clause-spared g c = λ s fine.
+    spared_none (seen_as c.args.self.now) (seen_as c.note_memory_refused.new.self) (tags c.args.list.now) _ c.new.ensures c.note_memory_refused.ensures.refused s fine
 
 pub returns-clause-blame : goal.returns-clause-blame
 returns-clause-blame g c = λ was refused.

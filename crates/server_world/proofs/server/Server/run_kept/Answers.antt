@@ -4,6 +4,7 @@ use Rattle.server_world.specs.Runs.{tags}
 use Rattle.server_world.proofs.NotingLemmas.{stops_settings}
 use Rattle.server_world.proofs.RunLemmas.{isolated, steps_kept, steps_settings, steps_world}
 use Rattle.server_world.proofs.ServerLemmas.{knows_all}
+use Rattle.server_world.proofs.SparedLemmas.{spared}
 use Rattle.server_world.proofs.server.Server.run_kept.Goals as goal
 
 pub returns-in-Ok-clause-world : goal.returns-in-Ok-clause-world
@@ -14,6 +15,10 @@ returns-in-Ok-clause-world g c = λ found.
 pub returns-in-Ok-clause-isolated : goal.returns-in-Ok-clause-isolated
 returns-in-Ok-clause-isolated g c = λ found.
     isolated (seen_as c.args.self.now) (seen_as c.run_noted.new.self) (tags c.args.list.now) c.in-Ok.told.0.lines (returns-in-Ok-clause-world g c found)
+
+pub returns-in-Ok-clause-spared : goal.returns-in-Ok-clause-spared
+returns-in-Ok-clause-spared g c = λ s fine.
+    spared (seen_as c.args.self.now) (seen_as c.run_noted.new.self) (tags c.args.list.now) c.in-Ok.told.0.lines c.in-Ok.ensures.told.steps s fine
 
 pub returns-in-Ok-clause-later : goal.returns-in-Ok-clause-later
 returns-in-Ok-clause-later g c =

@@ -52,8 +52,10 @@ returns-clause-told g c =
     record {
       refused = sym found;
       steps = steps_all old new c.args.list.now c.loop-given.given-index c.loop-given.entries.items _ (omega arith) c.from_vec-lines.ensures c.loop-given.invariant.steps;
-      kept = λ fine. c.in_ok-places.ensures
-          ∙ kept_are (states old) (tags (take c.loop-given.given-index c.args.list.now)) new c.loop-given.notes c.args.session.now (c.loop-given.invariant.noted found)
-          ∙ ap₂ (λ settings ts. kept_places settings (states old) ts c.args.session.now) (steps_settings old new (tags (take c.loop-given.given-index c.args.list.now)) c.loop-given.entries.items c.loop-given.invariant.steps) whole;
-      none = λ refused. absurd (true≢false (sym refused));
+      kept = record {
+        found = λ fine. c.in_ok-places.ensures
+            ∙ kept_are (states old) (tags (take c.loop-given.given-index c.args.list.now)) new c.loop-given.notes c.args.session.now (c.loop-given.invariant.noted found)
+            ∙ ap₂ (λ settings ts. kept_places settings (states old) ts c.args.session.now) (steps_settings old new (tags (take c.loop-given.given-index c.args.list.now)) c.loop-given.entries.items c.loop-given.invariant.steps) whole;
+        none = λ refused. absurd (true≢false (sym refused));
+      };
     }
