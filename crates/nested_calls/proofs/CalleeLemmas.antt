@@ -1,5 +1,5 @@
 -- What a connection calls, when its turn is taken; and that a functor's closure does what its body does.
-use Rattle.std.proofs.Common.{◌≡◌, ◌+◌, ◌≤◌, ℕ, Bool, true, false, cond, List, [], ◌∷◌, Option, Some, None, length, take, refl, sym, ap, ◌∙◌, arith}
+use Rattle.std.proofs.Common.{◌≡◌, ◌+◌, ◌-◌, ◌≤◌, ℕ, Bool, true, false, cond, List, [], ◌∷◌, Option, Some, None, length, take, refl, sym, ap, ◌∙◌, arith}
 use Rattle.std.specs.Option.{option_map_or}
 use Rattle.std.proofs.lemmas.Bool.{cond-false, cond-true, cond_both}
 use Rattle.variant_value.specs.declared.value.Value.{Value}
@@ -100,6 +100,10 @@ module _ (settings : Settings) (connection : Connection) (args : List Value) (de
 
     pub called_at_once : is_queued connection.mode ≡ false → run settings items doing ≡ done → calls called ≡ done
     called_at_once at_once does = there ∙ ap ran (cond-false (is_queued connection.mode) _ _ at_once) ∙ does
+
+-- what is called one level deeper is called at this depth
+pub one_less : (depth : ℕ) → depth + 1 - 1 ≡ depth
+one_less depth = omega arith
 
 -- a slot that is called is run
 pub runs_slot : (settings : Settings) (target index sender : ℕ) (args : List Value) (depth : ℕ) (doing : Doing) (method : class.Method) → Some method ≡ method_at settings doing.state target index → (deeper : ℕ) → deeper ≡ depth + 1 → (done : Doing)

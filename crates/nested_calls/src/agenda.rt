@@ -1,7 +1,7 @@
 //! An agenda by nested calls. Each function does what the item of its name does, and calls the others
 //! where that puts items in front. The calls come to an end, since each way round takes a turn, or marks
 //! an object that lives as dying; no action gives a turn back, or makes an object.
-ghost use Rattle.std.specs.Prelude.{◌≡◌, ◌∷◌, ◌+◌, [], ◌≤◌, ◌<◌, ℕ, OnOk, OnErr, Some, take};
+ghost use Rattle.std.specs.Prelude.{◌≡◌, ◌∷◌, ◌-◌, [], ◌≤◌, ◌<◌, OnOk, OnErr, Some, take};
 ghost use Rattle.connection_types.specs.declared.callee.Callee.TheVariants as callee;
 ghost use Rattle.term_core.specs.Act.{acts_of, single_action};
 ghost use Rattle.event_queue.specs.declared.event.Priority.TheVariants.{Normal};
@@ -203,10 +203,12 @@ pub fn run_method<F: Answering>(
     requires placed { IsPlaced tables.old actor.now.caller.place }
     requires sent_at { sent_at ≤ NESTED_SIGNALS }
     requires depth { slot.now.depth ≤ NESTED_SIGNALS }
+    requires nested { 1 ≤ slot.now.depth }
     requires found { Some method.now ≡ method_at (settings_of actor.now.caller.setup.now) (state_at tables.old actor.now.caller.place) slot.now.object index }
     requires sound { IsMethod method.now }
-    ensures { (depth : ℕ) → slot.now.depth ≡ depth + 1 → Does actor.now.caller
-        (method_items slot.now.object index slot.now.sender slot.now.args.now sent_at depth method.now) tables.old tables.new telling.old telling.new result }
+    ensures { Does actor.now.caller
+        (method_items slot.now.object index slot.now.sender slot.now.args.now sent_at (slot.now.depth - 1) method.now)
+        tables.old tables.new telling.old telling.new result }
 {
     if method.is_signal {
         return emit(
@@ -237,8 +239,10 @@ pub fn run_functor<F: Answering>(
 ) -> Result<(), AllocError>
     requires placed { IsPlaced tables.old actor.now.caller.place }
     requires depth { slot.now.depth ≤ NESTED_SIGNALS }
-    ensures { (depth : ℕ) → slot.now.depth ≡ depth + 1 → Does actor.now.caller
-        (RunFunctor slot.now.object index slot.now.sender connection slot.now.args.now depth ∷ []) tables.old tables.new telling.old telling.new result }
+    requires nested { 1 ≤ slot.now.depth }
+    ensures { Does actor.now.caller
+        (RunFunctor slot.now.object index slot.now.sender connection slot.now.args.now (slot.now.depth - 1) ∷ [])
+        tables.old tables.new telling.old telling.new result }
 {
     let Some(functor) = functor_at(&actor.caller, index) else {
         return Ok(());

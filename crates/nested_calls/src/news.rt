@@ -80,8 +80,10 @@ fn notify_of<F: Answering>(
     )
 }
 
-/// Tells of changes. All that is told of them is found before the first is told.
+/// Tells of changes. All that is told of them is found before the first is told. It is never inlined: a
+/// deletion nests as deep as there are objects, and must keep little on the stack.
 #[cycle(agenda)]
+#[inline(never)]
 pub fn tell<F: Answering>(
     actor: &Actor<F>,
     tables: &mut Tables,

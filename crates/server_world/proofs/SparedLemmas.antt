@@ -100,10 +100,11 @@ are_lossy : (s : Settings) (old new : Server) (ts : List (Tagged (List ℕ) Aske
 are_lossy s old new [] [] steps same = ap mortal steps
 are_lossy s old new [] (entry ∷ entries) steps same = absurd steps
 are_lossy s old new (t ∷ ts) [] steps same = absurd steps
-are_lossy s old new (t ∷ ts) (entry ∷ entries) steps same =
-    (mortal steps.0,
-    subst (λ settings. IsLossy (machine settings) is_reset (mortal old) (mortal steps.0) t (told_of old t entry)) same (is_lossy old steps.0 t entry steps.1),
-    are_lossy s steps.0 new ts entries steps.2 (steps.1.step.settings ∙ same))
+are_lossy s old new (t ∷ ts) (entry ∷ entries) steps same = (
+  mortal steps.0,
+  subst (λ settings. IsLossy (machine settings) is_reset (mortal old) (mortal steps.0) t (told_of old t entry)) same (is_lossy old steps.0 t entry steps.1),
+  are_lossy s steps.0 new ts entries steps.2 (steps.1.step.settings ∙ same),
+)
 
 told_lines : (keep : List ℕ → Bool) (old new : Server) (ts : List (Tagged (List ℕ) Asked)) (entries : List Entry) (steps : AreSteps old ts entries new)
     → map (λ (one : Told Line). one.lines) (entries_of keep ts (tolds old new ts entries steps)) ≡ map entry_lines (entries_of keep ts entries)
@@ -171,15 +172,15 @@ spared old new ts entries steps s fine =
     let itself = influences-self m law (states old) (names old) ts s in
     let wl = world_lines m (states old) ts in
     let run = spared_law m is_reset law (begins_anew (settings old)) keep (states old) (mortal old) (mortal new) ts (tolds old new ts entries steps)
-        closed (ends_first (settings old) keep old) (are_lossy (settings old) old new ts entries steps refl) (are_done keep old new ts entries steps fine) in
+    closed (ends_first (settings old) keep old) (are_lossy (settings old) old new ts entries steps refl) (are_done keep old new ts entries steps fine) in
     let kept_entries : entries_of keep ts entries ≡ map Lines (entries_of keep ts wl) =
-        entries_are (entries_of keep ts entries) (entries_of keep ts wl) (sym (told_lines keep old new ts entries steps) ∙ run.lines) in
+    entries_are (entries_of keep ts entries) (entries_of keep ts wl) (sym (told_lines keep old new ts entries steps) ∙ run.lines) in
     let own = λ (name : List ℕ) (e : m.same s name ≡ true). ap keep (sym (law.equal s name e)) ∙ itself in
     let told : at_session m s ts entries ≡ map Lines (at_session m s ts wl) =
-        sym (entries_of-only (m.same s) keep own ts entries (length_steps old new ts entries steps))
-        ∙ ap (entries_of (m.same s) (only keep ts)) kept_entries
-        ∙ entries_of-map Lines (m.same s) (only keep ts) (entries_of keep ts wl)
-        ∙ ap (map Lines) (entries_of-only (m.same s) keep own ts wl (length-world_lines m (states old) ts)) in
+    sym (entries_of-only (m.same s) keep own ts entries (length_steps old new ts entries steps))
+    ∙ ap (entries_of (m.same s) (only keep ts)) kept_entries
+    ∙ entries_of-map Lines (m.same s) (only keep ts) (entries_of keep ts wl)
+    ∙ ap (map Lines) (entries_of-only (m.same s) keep own ts wl (length-world_lines m (states old) ts)) in
     apart old ts entries s (EndsIn new s) told (ends_in new s (world_after m (states old) ts s) (run.states s itself))
 
 -- where the report had no room, nobody is told anything, and no session has changed

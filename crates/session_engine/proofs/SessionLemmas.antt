@@ -139,7 +139,7 @@ heard_sound settings from posts session right sound = by session.failed refl
     by true was = sound
     by false was = record { sound = arrived session.state posts sound.sound; declared = declares session.state posts sound.declared; fitting = fits session.state posts right sound.fitting; empty = λ failed. absurd (true≢false (sym failed)) }
 
--- a command that sets what has a name, if it sets anything, leaves dynamic properties called by names
+-- what a session holds stays called by names after a command that uses names for what it sets, publishes and joins
 pub named_after : (settings : Settings) (name : List ℕ) (session : Session) (asked : Asked) → AreSettings settings → IsNamedAsked asked → AreNamed session.state → AreNamed (session_after settings name session asked).state
 unfolding does
 named_after settings name session asked are is named = by (is_shut session asked)

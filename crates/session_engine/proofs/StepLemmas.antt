@@ -197,7 +197,7 @@ module _ (old new : EngineState) (at : ℕ) (name : List ℕ) (asked : Asked) (t
       by (Quiet none some e) = none
       by (Loud either e) = absurd (both_ways _ found e)
 
-  -- dynamic properties stay called by names
+  -- what every session holds stays called by names
   named_all : IsNamedAsked asked → AllAreNamed (seen_by_name old) → AllAreNamed (seen_by_name new)
   named_all is all = each (λ other. AreNamed (sessions new other).state) (subst (λ (session : Session). AreNamed session.state) (sym now_own) (by ended.own))
       (λ other elsewhere. named_hears old.settings.classes name ended.posts (sessions old other) (sessions new other) (hears_other other elsewhere) (all other))

@@ -82,7 +82,7 @@ pub record IsSoundSession (settings : Settings) (session : Session) : Type 0 whe
 abbrev pub AreSound : Sessions → Type 0
 AreSound sessions = (name : List ℕ) → IsSoundSession sessions.settings (sessions.session name)
 
--- the dynamic properties of every session are called by names
+-- what every session holds is called by names: its dynamic properties and publications, and what it joins
 abbrev pub AllAreNamed : Sessions → Type 0
 AllAreNamed sessions = (name : List ℕ) → AreNamed (sessions.session name).state
 
@@ -119,5 +119,5 @@ pub record IsStep (old new : Sessions) (name : List ℕ) (asked : Asked) (told :
   -- before it no session had failed without that, and after it every session is sound
   pub well : AreWell old
   pub sound : AreSound new
-  -- a command that sets what has a name, if it sets anything, leaves dynamic properties called by names
+  -- what every session holds stays called by names after a command that uses names for what it sets, publishes and joins
   pub named : IsNamedAsked asked → AllAreNamed old → AllAreNamed new

@@ -84,7 +84,9 @@ impl Tables {
     }
 
     /// Breaks the connections that have an object at either end, drops the events that name it, withdraws
-    /// what it publishes, and takes the joins out that call it.
+    /// what it publishes, and takes the joins out that call it. It is never inlined, so that deletions which
+    /// nest keep nothing of it on the stack.
+    #[inline(never)]
     pub fn sever(&mut self, place: usize, object: u32)
         requires { IsPlaced self.old place }
         ensures { self.new ≡ with_state self.old place (without_ties (state_at self.old place) object) }

@@ -64,7 +64,8 @@ impl Tables {
     }
 
     /// Takes an object out with its properties and their bindings, and returns what has changed by it; its
-    /// children become roots.
+    /// children become roots. It is never inlined, so that deletions which nest keep nothing of it on the stack.
+    #[inline(never)]
     pub fn remove(&mut self, place: usize, object: u32) -> Result<Items<Change>, AllocError>
         requires { IsPlaced self.old place }
         ensures told { IfOk result (λ told. told ≡ changes (state_at self.old place) (state_at self.new place) None) }

@@ -14,6 +14,7 @@ pub struct SlowSource<'a> {
     pub left: &'a [u8],
     pub at_once: usize,
     pub calls: u64,
+    pub gave: u64,
     pub failing: u64,
     pub failures: u64,
 }
@@ -24,6 +25,7 @@ impl<'a> SlowSource<'a> {
             left,
             at_once,
             calls: 0,
+            gave: 0,
             failing,
             failures: 0,
         }
@@ -35,6 +37,8 @@ impl<'a> Source for SlowSource<'a> {
 
     ghost calls = { λ s. s.calls };
 
+    ghost gave = { λ s. s.gave };
+
     ghost failures = { λ s. s.failures };
 
     fn read(&mut self, buffer: &mut [u8]) -> Result<usize, Failed> {
@@ -43,6 +47,7 @@ impl<'a> Source for SlowSource<'a> {
         if self.calls != self.failing
             && let Ok(count) = self.left.read(&mut buffer[..room])
         {
+            self.gave = self.gave.saturating_add(u64::from(count > 0));
             return Ok(count);
         }
         self.failures = self.failures.saturating_add(1);

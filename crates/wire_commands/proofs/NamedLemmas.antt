@@ -1,12 +1,11 @@
--- A command that sets a property names it by a name.
+-- A command uses names for what it sets, publishes and joins.
 use Rattle.std.proofs.Common.{ℕ, Bool, true, false, List, [], ◌∷◌, Option, Some, None, IfSome, IsTrue, codes, map, option_map, refl}
-use Rattle.std.specs.Option.{option_and_then}
 use Rattle.std.proofs.lemmas.Bool.{cond_both}
 use Rattle.plain_types.specs.Names.{is_name}
 use Rattle.serde_json.specs.Data.{Data}
 use Rattle.serde_json.specs.Find.{get, as_str}
 use Rattle.json_reading.specs.Fields.{◌>>=◌, text_at, when}
-use Rattle.thread_model.specs.Asked.{Asked, Set}
+use Rattle.thread_model.specs.Asked.{Asked}
 use Rattle.thread_model.specs.Named.{IsNamedAsked}
 use Rattle.wire_commands.specs.declared.commands.Word.{Word}
 use Rattle.wire_commands.specs.declared.commands.Word.TheVariants as w
@@ -67,7 +66,7 @@ at_key : (json : Data) (key : Key) → IfSome (held_at json key) (IsAt key)
 at_key json (needed word holds) = found (HoldsName holds) (get word json) (reads holds) (reads_keep holds)
 at_key json (optional word holds) = anything (held_at json (optional word holds))
 
--- what is asked with what is held at these keys sets only what has a name
+-- what is asked with what is held at these keys uses names for what it sets, publishes and joins
 abbrev AsksNamed : List Key → (List Held → Option Asked) → Type 0
 AsksNamed [] asks = IsNamed (asks [])
 AsksNamed (key ∷ keys) asks = (first : Held) → IsAt key first → AsksNamed keys (λ rest. asks (first ∷ rest))
@@ -84,6 +83,11 @@ all_named json (key ∷ keys) asks each = by (held_at json key) (at_key json key
     by None is later = tt
     by (Some first) is later = behind first (all_held json keys) (later first is)
 
+-- what is asked with a text that was read as a name
+names : (held : Held) → HoldsName h.Name held → (next : List ℕ → Option Asked) → ((name : List ℕ) → IsTrue (is_name name) → IsNamed (next name)) → IsNamed (text_of held >>= next)
+names (text name) is next each = each name is
+names _ is next each = tt
+
 disconnects : (connection sender signal receiver method : Held) → IsNamed (disconnect_of (connection ∷ sender ∷ signal ∷ receiver ∷ method ∷ []))
 disconnects (number connection) absent absent absent absent = tt
 disconnects absent (number sender) signal absent absent = tt
@@ -97,11 +101,7 @@ form_named w.Delete = λ target a. mapped _ (number_of target) (λ number. tt)
 form_named w.SetParent = λ target a parent b. mapped _ (number_of target) (λ number. tt)
 form_named w.Children = λ target a. tt
 form_named w.Find = λ target a name b class c. mapped _ (number_of target) (λ number. tt)
-form_named w.Set = λ target a property is value c. asks (number_of target) _ (λ n. by n property is value)
-  where
-    by : (n : ℕ) (property : Held) → HoldsName h.Name property → (value : Held) → IsNamed (text_of property >>= λ name. json_of value >>= λ json. Some (Set n name json))
-    by n (text name) is value = asks (json_of value) _ (λ json. is)
-    by n _ is value = tt
+form_named w.Set = λ target a property is value c. asks (number_of target) _ (λ of. names property is _ (λ name named. asks (json_of value) _ (λ json. named)))
 form_named w.Get = λ target a property b. asks (number_of target) _ (λ number. asks (text_of property) _ (λ name. tt))
 form_named w.DynamicNames = λ target a. mapped _ (number_of target) (λ number. tt)
 form_named w.Bind = λ target a property b to c. asks (number_of target) _ (λ number. asks (text_of property) _ (λ name. asks (json_of to) _ (λ json. tt)))
@@ -121,10 +121,10 @@ form_named w.Spin = tt
 form_named w.DeleteLater = λ target a. mapped _ (number_of target) (λ number. tt)
 form_named w.Block = λ target a on b. mapped _ (number_of target) (λ number. tt)
 form_named w.Status = tt
-form_named w.Publish = λ target a signal b name c. asks (number_of target) _ (λ of. asks (text_of signal) _ (λ sent. asks (text_of name) _ (λ named. tt)))
+form_named w.Publish = λ target a signal b name is. asks (number_of target) _ (λ of. asks (text_of signal) _ (λ sent. names name is _ (λ called named. named)))
 form_named w.Unpublish = λ name a. mapped _ (text_of name) (λ name. tt)
-form_named w.Join = λ from a name b types c target d method e.
-    asks (text_of from) _ (λ whose. asks (text_of name) _ (λ named. asks (list_of types) _ (λ elements. asks (texts_of elements) _ (λ kinds. asks (number_of target) _ (λ of. asks (text_of method) _ (λ called. tt))))))
+form_named w.Join = λ from own name other types c target d method e.
+    names from own _ (λ whose session. names name other _ (λ published named. asks (list_of types) _ (λ elements. asks (texts_of elements) _ (λ kinds. asks (number_of target) _ (λ of. asks (text_of method) _ (λ called. (session, named)))))))
 form_named w.Leave = λ from a name b target c method d.
     asks (text_of from) _ (λ whose. asks (text_of name) _ (λ named. asks (number_of target) _ (λ of. asks (text_of method) _ (λ called. tt))))
 form_named w.Reset = tt

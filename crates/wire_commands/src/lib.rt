@@ -20,9 +20,10 @@ mod trees;
 
 pub use commands::command_in;
 
-/// A command that asks to set a property names it by a name, so that dynamic properties are called by names.
+/// A command that is read uses names for the property that it sets, for what it publishes, and for the session
+/// and the publication that it joins. So what sessions hold is called by names.
 ///
 /// There is nothing to run: the clause is the theorem.
-pub fn commands_set_what_has_a_name()
+pub fn commands_use_names()
     ensures { (json : Data) → IfSome (asked_of json) IsNamedAsked }
 {}

@@ -10,6 +10,10 @@ counted_device c = c.device
 abbrev pub counted_reads : {D : Type 0} → Counted D → ℕ
 counted_reads c = c.reads
 
+-- how often it gave bytes
+abbrev pub counted_gave : {D : Type 0} → Counted D → ℕ
+counted_gave c = c.gave
+
 -- how often the device failed
 abbrev pub counted_failures : {D : Type 0} → Counted D → ℕ
 counted_failures c = c.failures

@@ -9,6 +9,10 @@ greatest_count = 2 ^ 64 - 1
 abbrev pub CountsCalls : ℕ → ℕ → ℕ → Type 0
 CountsCalls calls old new = new ≡ min (old + calls) greatest_count
 
+-- a call that gave some bytes is counted, and no other
+abbrev pub CountsGiven : {E : Type 0} → ℕ → ℕ → Result ℕ E → Type 0
+CountsGiven old new r = MatchResult r (λ n. (0 < n → CountsCalls 1 old new) × (n ≡ 0 → new ≡ old)) (λ _. new ≡ old)
+
 -- one failure: the count grew by one, or it was the greatest and stays there
 abbrev pub FailsOnce : ℕ → ℕ → Type 0
 FailsOnce old new = (old ≤ greatest_count) × (new ≡ min (old + 1) greatest_count)

@@ -2,7 +2,7 @@
 ghost use Rattle.std.specs.Prelude.{◌≡◌, ◌<◌, length, IfOk};
 ghost use Rattle.std.specs.Io.{ReadsAtMost, WritesAtMost};
 ghost use Rattle.std.specs.Io.KnownBytes.{ReadConsumes, WriteAppends};
-ghost use Rattle.wire_devices.specs.Adapter.{counted_device, counted_failures, counted_reads};
+ghost use Rattle.wire_devices.specs.Adapter.{counted_device, counted_failures, counted_gave, counted_reads};
 ghost use Rattle.wire_devices.specs.Counts.{FailsOnce, CountsWrite};
 
 use crate::traits::{Failed, Sink, Source};
@@ -19,6 +19,7 @@ const MOST_RETRIES: u32 = 1_000;
 pub struct Counted<D> {
     device: D,
     reads: u64,
+    gave: u64,
     failures: u64,
 }
 
@@ -27,11 +28,13 @@ impl<D> Counted<D> {
     pub fn new(device: D) -> Counted<D>
         ensures device { counted_device result ≡ device }
         ensures reads { counted_reads result ≡ 0 }
+        ensures gave { counted_gave result ≡ 0 }
         ensures failures { counted_failures result ≡ 0 }
     {
         Counted {
             device,
             reads: 0,
+            gave: 0,
             failures: 0,
         }
     }
@@ -42,6 +45,13 @@ impl<D> Counted<D> {
         ensures { result ≡ counted_reads self.now }
     {
         self.reads
+    }
+
+    /// How often it gave bytes when it was asked for them. The count stays at `u64::MAX`.
+    pub fn gave(&self) -> u64
+        ensures { result ≡ counted_gave self.now }
+    {
+        self.gave
     }
 
     /// How often the device failed. The count stays at `u64::MAX`.
@@ -62,6 +72,7 @@ impl<D> Counted<D> {
     fn fail(&mut self) -> Failed
         ensures device { counted_device self.new ≡ counted_device self.old }
         ensures reads { counted_reads self.new ≡ counted_reads self.old }
+        ensures gave { counted_gave self.new ≡ counted_gave self.old }
         ensures counted { FailsOnce (counted_failures self.old) (counted_failures self.new) }
     {
         self.failures = self.failures.saturating_add(1);
@@ -74,12 +85,17 @@ impl<R: Read> Source for Counted<R> {
 
     ghost calls = { counted_reads };
 
+    ghost gave = { counted_gave };
+
     ghost failures = { counted_failures };
 
     fn read(&mut self, buffer: &mut [u8]) -> Result<usize, Failed> {
         self.reads = self.reads.saturating_add(1);
         match read_again(&mut self.device, buffer) {
-            Ok(count) => Ok(count),
+            Ok(count) => {
+                self.gave = self.gave.saturating_add(u64::from(count > 0));
+                Ok(count)
+            }
             Err(Failed) => Err(self.fail()),
         }
     }

@@ -1,8 +1,8 @@
 //! Sources and sinks of bytes.
-ghost use Rattle.std.specs.Prelude.{ℕ, List, Option};
+ghost use Rattle.std.specs.Prelude.{◌≡◌, ℕ, List, Option, Bool, IsOk, true, false};
 ghost use Rattle.std.specs.Io.{ReadsAtMost, WritesAtMost};
 ghost use Rattle.std.specs.Io.KnownBytes.{ReadConsumes, WriteAppends};
-ghost use Rattle.wire_devices.specs.Counts.{CountsCalls, CountsErrors, CountsWrite};
+ghost use Rattle.wire_devices.specs.Counts.{CountsCalls, CountsErrors, CountsGiven, CountsWrite};
 
 /// The answer of a source or a sink whose device failed.
 #[derive(Clone, Copy, PartialEq, Eq)]
@@ -16,8 +16,14 @@ pub trait Source {
     // How often it was asked for bytes.
     ghost calls: { Self → ℕ };
 
+    // How often it gave bytes.
+    ghost gave: { Self → ℕ };
+
     // How often it failed.
     ghost failures: { Self → ℕ };
+
+    // Whether it is known that none of its reads fails.
+    ghost infallible: { Self → Bool } = { λ _. false };
 
     /// Puts the next bytes at the front of `buffer`, and answers how many it put there.
     ///
@@ -32,7 +38,9 @@ pub trait Source {
         ensures bound { ReadsAtMost result buffer.new }
         ensures bytes { ReadConsumes (left self.old) (left self.new) result buffer.new }
         ensures asked { CountsCalls 1 (calls self.old) (calls self.new) }
-        ensures counted { CountsErrors (failures self.old) (failures self.new) result };
+        ensures gave { CountsGiven (gave self.old) (gave self.new) result }
+        ensures counted { CountsErrors (failures self.old) (failures self.new) result }
+        ensures sure { infallible self.old ≡ true → IsOk result × (infallible self.new ≡ true) };
 }
 
 /// Where bytes go.

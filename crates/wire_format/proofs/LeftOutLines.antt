@@ -6,7 +6,8 @@ use Rattle.std.proofs.lemmas.Bool.{cases_Bool, both_ways, false_from_ne_true, eq
 use Rattle.std.proofs.lemmas.Slice.Eq.{bytes_eq-Decides}
 use Rattle.isolation.specs.Pieces.{Told, Blamed, piece_passes, only_pieces, only_answers, commands_of, piece_answers}
 use Rattle.isolation.specs.Influence.{influences}
-use Rattle.isolation.proofs.ForCallers.{influences-self, IsClosed-influences, leaving_out_pieces}
+use Rattle.isolation.specs.Slice.{kept}
+use Rattle.isolation.proofs.ForCallers.{influences-self, IsClosed-influences, kept-map, leaving_out_pieces}
 use Rattle.thread_model.specs.Machine.{machine}
 use Rattle.thread_model.specs.declared.line.Line.{Line}
 use Rattle.thread_model.proofs.ForCallers.{lawful}
@@ -72,6 +73,26 @@ IsCut-filter test (line ∷ lines) cut =
     (λ last. rw last.1 (⊎_elim (λ e. rw e (inr (last.0, refl))) (λ e. rw e tt) (cases_Bool (test line))))
     cut
 
+-- and lines of which some are kept
+kept-nothing : (marks : List Bool) → kept {Entry = List ℕ} marks [] ≡ []
+kept-nothing [] = refl
+kept-nothing (mark ∷ marks) = refl
+
+IsCut-kept : (marks : List Bool) (lines : List (List ℕ)) → IsCut lines → IsCut (kept marks lines)
+unfolding IsCut
+IsCut-kept [] lines cut = tt
+IsCut-kept (mark ∷ marks) [] cut = tt
+IsCut-kept (true ∷ marks) (line ∷ lines) cut =
+    ⊎_elim
+    (λ ended. inl (ended.0, IsCut-kept marks lines ended.1))
+    (λ last. inr (last.0, ap (kept marks) last.1 ∙ kept-nothing marks))
+    cut
+IsCut-kept (false ∷ marks) (line ∷ lines) cut =
+    ⊎_elim
+    (λ ended. IsCut-kept marks lines ended.1)
+    (λ last. rw (last.1, kept-nothing marks) tt)
+    cut
+
 whole_lines-nothing : whole_lines [] ≡ []
 unfolding whole_lines
 whole_lines-nothing = refl
@@ -101,6 +122,13 @@ whole_lines-without keep bytes =
     let test = λ (line : List ℕ). line_passes keep (bare line) in
     whole_lines-joined (filter test (whole_lines bytes)) (IsCut-filter test (whole_lines bytes) (IsCut-whole_lines bytes))
 
+-- the lines of an input of which some are kept, as they came
+pub lines_of-kept : (marks : List Bool) (bytes : List ℕ) → lines_of (flat_map (λ line. line) (kept marks (whole_lines bytes))) ≡ kept marks (lines_of bytes)
+unfolding lines_of
+lines_of-kept marks bytes =
+    ap (map bare) (whole_lines-joined (kept marks (whole_lines bytes)) (IsCut-kept marks (whole_lines bytes) (IsCut-whole_lines bytes)))
+    ∙ sym (kept-map bare marks (whole_lines bytes))
+
 -- one more line, where it is a piece
 filter-cons_option : (test : Piece → Bool) (found : Option Piece) (pieces : List Piece) → filter test (cons_option found pieces) ≡ cond (option_map_or test found true) (cons_option found (filter test pieces)) (filter test pieces)
 filter-cons_option test None pieces = refl
@@ -129,14 +157,14 @@ unfolding pieces_of lines_of
 pieces_of-without keep bytes = rw (whole_lines-without keep bytes) (pieces_of-filter keep (whole_lines bytes))
 
 -- what is said by a session to which nothing is kept
-lines_said_to-append : (s : List ℕ) (xs ys : List Said) → lines_said_to s (xs ++ ys) ≡ lines_said_to s xs ++ lines_said_to s ys
+pub lines_said_to-append : (s : List ℕ) (xs ys : List Said) → lines_said_to s (xs ++ ys) ≡ lines_said_to s xs ++ lines_said_to s ys
 lines_said_to-append s [] ys = refl
 lines_said_to-append s (x ∷ xs) ys =
     let rest = lines_said_to-append s xs ys in
     ⊎_elim (λ e. rw e (ap (λ said. x ∷ said) rest)) (λ e. rw e rest) (cases_Bool (bytes_eq s x.session))
 
 -- of what another session is told, nothing is said to s
-nothing_said : (s session : List ℕ) (lines : List Line) → bytes_eq s session ≡ false → lines_said_to s (map (said_by session) lines) ≡ []
+pub nothing_said : (s session : List ℕ) (lines : List Line) → bytes_eq s session ≡ false → lines_said_to s (map (said_by session) lines) ≡ []
 nothing_said s session [] other = refl
 nothing_said s session (line ∷ lines) other = rw other (nothing_said s session lines other)
 

@@ -1,4 +1,4 @@
--- A line that asks to set a property names it by a name.
+-- A line uses names for what it sets, publishes and joins.
 use Rattle.std.proofs.Common.{◌≡◌, ℕ, Bool, true, false, List, Option, Some, None, Result, Ok, Err, IfOk, IfSome, codes, subst}
 use Rattle.std.specs.Option.{option_map_or}
 use Rattle.std.proofs.lemmas.Bool.{cond_both}

@@ -13,7 +13,7 @@ use Rattle.wire_format.specs.Output.{World, Said, said_by, said_in, text_of_said
 use Rattle.wire_format.proofs.Cutting.{pieces_of-empty, pieces_of-line, pieces_of-last}
 
 -- the text of the lines of one command
-text_of_said-said_by : (session : List ℕ) (lines : List Line) → text_of_said (map (said_by session) lines) ≡ flat_map (text_of_line session) lines
+pub text_of_said-said_by : (session : List ℕ) (lines : List Line) → text_of_said (map (said_by session) lines) ≡ flat_map (text_of_line session) lines
 text_of_said-said_by session [] = refl
 text_of_said-said_by session (line ∷ lines) = ap (λ rest. text_of_line session line ++ rest) (text_of_said-said_by session lines)
 

@@ -10,6 +10,8 @@ pub mod Kept
 pub mod Reading
 pub mod Whole
 pub mod Isolated
+pub mod SparedLines
+pub mod SparedLemmas
 pub mod FirstLine
 pub mod Marked
 pub mod Sliced

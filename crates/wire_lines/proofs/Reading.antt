@@ -8,7 +8,7 @@ use Rattle.wire_lines.specs.declared.fault.RunFault.TheVariants.{Read, Write, En
 use Rattle.wire_lines.specs.Sending.{out, Sent}
 use Rattle.wire_lines.specs.Steps.{read_lines}
 use Rattle.wire_lines.specs.Stream.{Point, Fed, Cut, Stops, Finishes, SinkFails}
-use Rattle.wire_lines.specs.Run.{Ends, HasCountedRead}
+use Rattle.wire_lines.specs.Run.{Ends, HasCountedRead, Reads}
 use Rattle.wire_lines.proofs.Sent.{Sent-flushed, SentFront-emptied, Sent-nothing}
 use Rattle.wire_lines.proofs.Feeding.{and_then, SentUntil-whole, Cut-alike, Cut-silent, Fed-trans, Fed-more, Done-after, Stops-after, Stops-along, SinkFails-unread}
 use Rattle.wire_lines.proofs.Ended.{Fed-ends}
@@ -72,17 +72,17 @@ Stops-read most fault start a b c bytes more rest so_far flushed stops =
     (Stops-after most fault (and_then (and_then start bytes) more) (and_then b more) c rest (Fed-more (and_then start bytes) b more (Fed-trans (and_then start bytes) a b so_far flushed)) stops)
 
 -- how a run ends by a fault that is not the source's
-pub Ends-fault : (T : Type 0) (most reads calls calls_after : ℕ) (left_after : Option (List ℕ)) (fault : RunFault) (a b : Point) → (fault ≡ Read → ⊥) → Stops most fault a b [] → Ends {T = T} most reads calls calls_after left_after a b (Err fault)
+pub Ends-fault : (T : Type 0) (most reads : ℕ) (calls calls_after : Reads) (left_after : Option (List ℕ)) (fault : RunFault) (a b : Point) → (fault ≡ Read → ⊥) → Stops most fault a b [] → Ends {T = T} most reads calls calls_after left_after a b (Err fault)
 Ends-fault T most reads calls calls_after left_after Read a b unread stops = absurd (unread refl)
 Ends-fault T most reads calls calls_after left_after Write a b unread stops = stops
 Ends-fault T most reads calls calls_after left_after Memory a b unread stops = stops
 Ends-fault T most reads calls calls_after left_after Endless a b unread stops = (stops.0, inl stops.1)
 
-pub Ends-stopped : {T : Type 0} (most reads calls calls_after : ℕ) (left_after : Option (List ℕ)) (fault : RunFault) (a b : Point) (r : Result T RunFault) → (fault ≡ Read → ⊥) → Stops most fault a b [] → r ≡ Err fault → Ends most reads calls calls_after left_after a b r
+pub Ends-stopped : {T : Type 0} (most reads : ℕ) (calls calls_after : Reads) (left_after : Option (List ℕ)) (fault : RunFault) (a b : Point) (r : Result T RunFault) → (fault ≡ Read → ⊥) → Stops most fault a b [] → r ≡ Err fault → Ends most reads calls calls_after left_after a b r
 Ends-stopped {T = T} most reads calls calls_after left_after fault a b r unread stops is = subst (Ends most reads calls calls_after left_after a b) (sym is) (Ends-fault T most reads calls calls_after left_after fault a b unread stops)
 
 -- and how by its last line
-pub Ends-finished : {T : Type 0} (most reads calls calls_after : ℕ) (left_after : Option (List ℕ)) (a b c : Point) (r : Result T RunFault) (f f' : ℕ) → SinkFails f f' r → Fed a b → Finishes most b c r → Ends most reads calls calls_after left_after a c r
+pub Ends-finished : {T : Type 0} (most reads : ℕ) (calls calls_after : Reads) (left_after : Option (List ℕ)) (a b c : Point) (r : Result T RunFault) (f f' : ℕ) → SinkFails f f' r → Fed a b → Finishes most b c r → Ends most reads calls calls_after left_after a c r
 Ends-finished {T = T} most reads calls calls_after left_after a b c (Ok done) f f' fails fed finishes = Done-after a b c fed finishes
 Ends-finished {T = T} most reads calls calls_after left_after a b c (Err fault) f f' fails fed finishes =
     Ends-fault T most reads calls calls_after left_after fault a c (SinkFails-unread T f f' fault fails) (Stops-after most fault a b c [] fed finishes)

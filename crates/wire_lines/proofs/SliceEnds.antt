@@ -22,9 +22,10 @@ use Rattle.wire_format.proofs.ForCallers.{lines_of-empty}
 use Rattle.wire_lines.specs.declared.fault.RunFault.{RunFault}
 use Rattle.wire_lines.specs.declared.fault.RunFault.TheVariants.{Read, Write, Endless, Memory}
 use Rattle.wire_lines.specs.declared.stream.Summary.{Summary}
-use Rattle.wire_lines.specs.Run.{AppendsSome, IsPastReads, WriteFails}
+use Rattle.wire_lines.specs.Run.{AppendsSome, IsPastReads, Reads, WriteFails}
 use Rattle.wire_lines.specs.Slicing.{HasRun, SlicesOver, command_lines, is_command, sliced}
 use Rattle.wire_lines.specs.Taking.{HasStopped, HasTaken, Noted, commands_in, line_at, numbered}
+use Rattle.wire_lines.proofs.Isolated.{told_between}
 use Rattle.wire_lines.proofs.Sliced.{commands_in-lines, numbers-text, numbers-within, told_as_sliced}
 
 -- no command is done
@@ -49,7 +50,7 @@ HasStopped-unread fault bytes old new stopped is = subst (λ f. HasStopped f byt
 pub HasStopped-unwritten : (fault : RunFault) (bytes : List ℕ) (old new : Server) → HasStopped fault bytes old new → fault ≢ Write
 HasStopped-unwritten fault bytes old new stopped is = subst (λ f. HasStopped f bytes old new) is stopped
 
-module _ (s bytes : List ℕ) (old new : Server) (runs : HasRun bytes old new) (held held_after left_after : Option (List ℕ)) (calls calls_after : ℕ) where
+module _ (s bytes : List ℕ) (old new : Server) (runs : HasRun bytes old new) (held held_after left_after : Option (List ℕ)) (calls calls_after : Reads) where
   -- a run that stops before anything is written
   unwritten_run : (fault : RunFault) → fault ≢ Write → Appends held held_after [] → (fault ≡ Endless → (2 ^ 32 < length (lines_of bytes)) ⊎ (IsPastReads (2 ^ 40) bytes calls calls_after × (new ≡ old))) → (fault ≡ Read → new ≡ old) →
       SlicesOver s bytes old new held held_after left_after calls calls_after (Err fault)
@@ -60,6 +61,7 @@ module _ (s bytes : List ℕ) (old new : Server) (runs : HasRun bytes old new) (
     unwritten = λ f is not_write. nothing;
     behind = λ either. ⊎_elim (λ ok. absurd (cc ok)) (λ is. absurd (other (cc is))) either;
     same = told_as_sliced (settings old) (states old) s bytes;
+    between = told_between (settings old) (states old) bytes s;
     endless = λ is. endless (cc is);
     unread = λ is. unread (cc is);
     all_read = λ ok. absurd (cc ok);
@@ -82,6 +84,7 @@ module _ (s bytes : List ℕ) (old new : Server) (runs : HasRun bytes old new) (
     unwritten = λ fault same other. absurd (other (cc same));
     behind = λ either. (behind, found);
     same = told_as_sliced (settings old) (states old) s bytes;
+    between = told_between (settings old) (states old) bytes s;
     endless = λ same. absurd (cc same);
     unread = λ same. absurd (cc same);
     all_read = λ ok. absurd (cc ok);
@@ -98,6 +101,7 @@ module _ (s bytes : List ℕ) (old new : Server) (runs : HasRun bytes old new) (
     unwritten = λ fault same other. absurd (cc same);
     behind = λ either. (behind, found);
     same = told_as_sliced (settings old) (states old) s bytes;
+    between = told_between (settings old) (states old) bytes s;
     endless = λ same. absurd (cc same);
     unread = λ same. absurd (cc same);
     all_read = λ ok. left;

@@ -13,7 +13,7 @@ use Rattle.wire_lines.specs.declared.stream.Summary.{Summary}
 use Rattle.wire_lines.specs.Sending.{Out, out, Sent, SentFront}
 use Rattle.wire_lines.specs.Steps.{AreAnswered, read_lines}
 use Rattle.wire_lines.specs.Stream.{Point, Done, SentUntil, Cut}
-use Rattle.wire_lines.specs.Run.{AppendsSome, AppendsUntil, WritesAll, WritesUntil, WritesFirst, HasAnsweredRead, HasCountedRead, IsPastLines, IsPastReads, line_ends, IsWrittenOut, device_failed, ReadFails, WriteFails, Ends, Runs}
+use Rattle.wire_lines.specs.Run.{AppendsSome, AppendsUntil, WritesAll, WritesUntil, WritesFirst, HasAnsweredRead, HasCountedRead, IsPastLines, IsPastReads, Reads, line_ends, IsWrittenOut, device_failed, ReadFails, WriteFails, Ends, Runs}
 use Rattle.wire_lines.proofs.Answering.{front_found, output_found, world_found}
 use Rattle.wire_lines.proofs.Feeding.{SentUntil-front, SentUntil-whole, Cut-sent}
 use Rattle.wire_lines.proofs.Sent.{Sent-then, SentFront-then, SentFront-then_front}
@@ -62,7 +62,7 @@ Cut-done fault a b done = record {
 counted_alike : (left_after : Option (List ℕ)) (a : Point) (server : Server) (old new : Option (List ℕ)) (gathered left : List ℕ) (lines count : ℕ) → count ≡ lines → HasCountedRead left_after a (point server (out old gathered) lines []) → HasCountedRead left_after a (point server (out new left) count [])
 counted_alike left_after a server old new gathered left lines count same counts = (counts.0, counts.1, counts.2, counts.3, same ∙ counts.4)
 
-pub Ends-flushed : {T : Type 0} (most reads calls calls_after : ℕ) (left_after : Option (List ℕ)) (a : Point) (server : Server) (old new : Option (List ℕ)) (gathered left : List ℕ) (lines count : ℕ) (r : Result T RunFault) → left ≡ [] → count ≡ lines → Appends old new gathered →
+pub Ends-flushed : {T : Type 0} (most reads : ℕ) (calls calls_after : Reads) (left_after : Option (List ℕ)) (a : Point) (server : Server) (old new : Option (List ℕ)) (gathered left : List ℕ) (lines count : ℕ) (r : Result T RunFault) → left ≡ [] → count ≡ lines → Appends old new gathered →
     Ends most reads calls calls_after left_after a (point server (out old gathered) lines []) r → Ends most reads calls calls_after left_after a (point server (out new left) count []) r
 Ends-flushed most reads calls calls_after left_after a server old new gathered left lines count (Ok done) none same bytes ends = Done-flushed a server old new gathered left lines count none same bytes ends
 Ends-flushed most reads calls calls_after left_after a server old new gathered left lines count (Err Read) none same bytes ends = (
@@ -77,7 +77,7 @@ Ends-flushed most reads calls calls_after left_after a server old new gathered l
 )
 
 -- or a front of it
-pub Ends-flush_failed : {T : Type 0} (most reads calls calls_after : ℕ) (left_after : Option (List ℕ)) (a : Point) (server : Server) (old new : Option (List ℕ)) (gathered left : List ℕ) (lines count : ℕ) (r : Result T RunFault) → left ≡ [] → count ≡ lines → AppendsFront old new gathered →
+pub Ends-flush_failed : {T : Type 0} (most reads : ℕ) (calls calls_after : Reads) (left_after : Option (List ℕ)) (a : Point) (server : Server) (old new : Option (List ℕ)) (gathered left : List ℕ) (lines count : ℕ) (r : Result T RunFault) → left ≡ [] → count ≡ lines → AppendsFront old new gathered →
     Ends most reads calls calls_after left_after a (point server (out old gathered) lines []) r → Cut Write a (point server (out new left) count []) []
 Ends-flush_failed most reads calls calls_after left_after a server old new gathered left lines count (Ok done) none same bytes ends = Cut-then_front Write a server old new gathered left [] lines count none same bytes (Cut-done Write a _ ends)
 Ends-flush_failed most reads calls calls_after left_after a server old new gathered left lines count (Err Read) none same bytes ends = Cut-then_front Read a server old new gathered left [] lines count none same bytes ends.0
@@ -152,7 +152,7 @@ module _ (T : Type 0) (fault : RunFault) (input : List ℕ) (held held_after : O
   pub WritesFirst-cut : (most : ℕ) → count ≤ most → Cut fault (beginning old held input) (point new (out held_after left) count []) [] → WritesFirst fault most input held old held_after new
   WritesFirst-cut most within cut = (count, within, WritesUntil-cut cut)
 
-pub Runs-stopped : (max_lines max_reads calls calls_after : ℕ) (input : List ℕ) (left_after : Option (List ℕ)) (held held_after : Option (List ℕ)) (old new : Server) (left : List ℕ) (count : ℕ) (T : Type 0) (fault : RunFault) → IsWrittenOut {T = T} (Err fault) left → count ≤ max_lines →
+pub Runs-stopped : (max_lines max_reads : ℕ) (calls calls_after : Reads) (input : List ℕ) (left_after : Option (List ℕ)) (held held_after : Option (List ℕ)) (old new : Server) (left : List ℕ) (count : ℕ) (T : Type 0) (fault : RunFault) → IsWrittenOut {T = T} (Err fault) left → count ≤ max_lines →
     Ends {T = T} max_lines max_reads calls calls_after left_after (beginning old held input) (point new (out held_after left) count []) (Err fault) → Runs max_lines max_reads calls calls_after input left_after held old held_after new (Err fault)
 Runs-stopped max_lines max_reads calls calls_after input left_after held held_after old new left count T Read none within ends = (
   WritesFirst-cut T Read input held held_after old new left count none max_lines within ends.0,
@@ -173,17 +173,17 @@ Runs-stopped max_lines max_reads calls calls_after input left_after held held_af
 )
 
 -- where a run has not begun, it has answered and written nothing
-pub Runs-unbegun : (max_lines max_reads calls calls_after : ℕ) (input : List ℕ) (left_after : Option (List ℕ)) (held : Option (List ℕ)) (server : Server) → Runs max_lines max_reads calls calls_after input left_after held server held server (Err Memory)
+pub Runs-unbegun : (max_lines max_reads : ℕ) (calls calls_after : Reads) (input : List ℕ) (left_after : Option (List ℕ)) (held : Option (List ℕ)) (server : Server) → Runs max_lines max_reads calls calls_after input left_after held server held server (Err Memory)
 Runs-unbegun max_lines max_reads calls calls_after input left_after held server = WritesFirst-cut (Unit {0}) Memory input held held server server [] 0 refl max_lines (omega arith) (Cut-here Memory (beginning server held input) [] [])
 
-pub Runs-done : (max_lines max_reads calls calls_after : ℕ) (input : List ℕ) (left_after : Option (List ℕ)) (held held_after : Option (List ℕ)) (old new : Server) (left : List ℕ) (summary : Summary) → left ≡ [] → summary.lines ≤ max_lines →
+pub Runs-done : (max_lines max_reads : ℕ) (calls calls_after : Reads) (input : List ℕ) (left_after : Option (List ℕ)) (held held_after : Option (List ℕ)) (old new : Server) (left : List ℕ) (summary : Summary) → left ≡ [] → summary.lines ≤ max_lines →
     Done (beginning old held input) (point new (out held_after left) summary.lines []) → Runs max_lines max_reads calls calls_after input left_after held old held_after new (Ok summary)
 Runs-done max_lines max_reads calls calls_after input left_after held held_after old new left summary none within done =
     let counts = counted_lines input in
     ((done.text, done.answered, all_written held held_after left done.text none done.sent), omega (arith, counts, done.counted), within)
 
 -- what follows of a run
-module _ (max_lines max_reads calls calls_after : ℕ) (input : List ℕ) (left_after : Option (List ℕ)) (held held_after : Option (List ℕ)) (old new : Server) where
+module _ (max_lines max_reads : ℕ) (calls calls_after : Reads) (input : List ℕ) (left_after : Option (List ℕ)) (held held_after : Option (List ℕ)) (old new : Server) where
   pub Runs-answered : (r : Result Summary RunFault) → Runs max_lines max_reads calls calls_after input left_after held old held_after new r → MatchResult r (λ _. WritesAll input held old held_after new) (λ fault. WritesFirst fault max_lines input held old held_after new)
   Runs-answered (Ok summary) runs = runs.0
   Runs-answered (Err Read) runs = runs.0
@@ -224,7 +224,7 @@ module _ (max_lines max_reads calls calls_after : ℕ) (input : List ℕ) (left_
   Runs-unread r runs is = let ended : Runs max_lines max_reads calls calls_after input left_after held old held_after new (Err Read) = subst (Runs max_lines max_reads calls calls_after input left_after held old held_after new) is runs in ended.1
 
 -- a run with nothing gathered and nothing begun stands at the beginning
-pub Ends-beginning : {T : Type 0} (max_lines max_reads calls calls_after : ℕ) (left_after : Option (List ℕ)) (most lines : ℕ) (gathered begun input : List ℕ) (held : Option (List ℕ)) (old : Server) (end : Point) (r : Result T RunFault) →
+pub Ends-beginning : {T : Type 0} (max_lines max_reads : ℕ) (calls calls_after : Reads) (left_after : Option (List ℕ)) (most lines : ℕ) (gathered begun input : List ℕ) (held : Option (List ℕ)) (old : Server) (end : Point) (r : Result T RunFault) →
     most ≡ max_lines → gathered ≡ [] → lines ≡ 0 → begun ≡ [] →
     Ends most max_reads calls calls_after left_after (point old (out held gathered) lines (begun ++ input)) end r → Ends max_lines max_reads calls calls_after left_after (beginning old held input) end r
 Ends-beginning max_lines max_reads calls calls_after left_after most lines gathered begun input held old end r same nothing zero_lines none ends =

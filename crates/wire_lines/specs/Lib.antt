@@ -2,6 +2,8 @@ pub mod Sending
 pub mod Steps
 pub mod Stream
 pub mod Feeding
+pub mod Isolation
+pub mod Spared
 pub mod Run
 pub mod Status
 pub mod Limits

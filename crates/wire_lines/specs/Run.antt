@@ -2,19 +2,16 @@
 use Rattle.std.specs.Prelude.{◌≡◌, ◌⊎◌, ◌<◌, ◌≤◌, ◌+◌, ◌==◌, ◌++◌, ℕ, Bool, true, false, List, [], length, take, filter}
 use Rattle.std.specs.Prelude.{min, Option, Some, Result, Ok, Err, IsOk, IsErr, IfOk, MatchResult, IsFalse}
 use Rattle.std.specs.Io.KnownBytes.{Appends}
-use Rattle.isolation.specs.Alone.{items, alone_lines}
-use Rattle.isolation.specs.Influence.{influences}
-use Rattle.isolation.specs.Pieces.{commands_of, told}
 use Rattle.server_world.specs.Server.{Server, states, names, was_refused, settings}
-use Rattle.thread_model.specs.Machine.{machine}
-use Rattle.thread_model.specs.Thread.{Settings}
 use Rattle.wire_devices.specs.Counts.{FailsOnce, greatest_count}
-use Rattle.wire_format.specs.Input.{lines_of, pieces_of, without}
-use Rattle.wire_format.specs.Output.{World, answers_to, said_all, lines_said_to, output, world_of}
+use Rattle.wire_format.specs.Input.{lines_of}
+use Rattle.wire_format.specs.Output.{output, world_of}
 use Rattle.wire_lines.specs.declared.fault.RunFault.{RunFault}
 use Rattle.wire_lines.specs.declared.fault.RunFault.TheVariants.{Read, Write, Endless, Memory}
 use Rattle.wire_lines.specs.declared.stream.Summary.{Summary}
+use Rattle.wire_lines.specs.Isolation.{IsToldAlone, IsToldAsWithout, IsToldBetween, IsToldInterleaved}
 use Rattle.wire_lines.specs.Sending.{IsFront}
+use Rattle.wire_lines.specs.Spared.{Spares, SparesAll, first_lines}
 use Rattle.wire_lines.specs.Steps.{AreAnswered, read_lines}
 use Rattle.wire_lines.specs.Stream.{Point, Done, Cut, IsOver}
 
@@ -40,23 +37,6 @@ WriteFails old new r = new ≡ old
 abbrev pub DevicesFail : {T : Type 0} → ℕ → ℕ → ℕ → ℕ → Result T RunFault → Type 0
 DevicesFail source source_after sink sink_after r = ReadFails source source_after r × WriteFails sink sink_after r
 
--- what is said to the commands of s is what s would be told alone
-abbrev pub IsToldAlone : Settings → World → List ℕ → List ℕ → Type 0
-IsToldAlone settings world input s =
-    told (machine settings) s (answers_to settings world input)
-    ≡ alone_lines (machine settings) s (world s) (items (machine settings) s world (commands_of (pieces_of input)))
-
--- an input without the commands of the sessions that no chain of joins leads to from s
-abbrev pub without_strangers : Settings → World → List (List ℕ) → List ℕ → List ℕ → List ℕ
-without_strangers settings world known input s =
-    without (influences (machine settings) world known (commands_of (pieces_of input)) s) input
-
--- the lines that name s are those that would be written to it without the commands of strangers
-abbrev pub IsToldAsWithout : Settings → World → List (List ℕ) → List ℕ → List ℕ → Type 0
-IsToldAsWithout settings world known input s =
-    lines_said_to s (said_all settings world input)
-    ≡ lines_said_to s (said_all settings world (without_strangers settings world known input s))
-
 -- what a run did with an input, where it went well
 pub record AnswersAll (input : List ℕ) (old new : Server) (held held_after : Option (List ℕ)) : Type 0 where
   -- it wrote the output of the whole input, which is the text of the lines of `said_all`,
@@ -64,8 +44,12 @@ pub record AnswersAll (input : List ℕ) (old new : Server) (held held_after : O
   pub behind : states new ≡ world_of (settings old) (states old) input
   -- in which each session is told what it would be told alone,
   pub alone : (s : List ℕ) → IsToldAlone (settings old) (states old) input s
-  -- and what it would be told without the commands of sessions from which no chain of joins leads to it
+  -- what it would be told without the commands of sessions from which no chain of joins leads to it,
   pub left_out : (s : List ℕ) → IsToldAsWithout (settings old) (states old) (names old) input s
+  -- by every input between its slice and the whole,
+  pub between : (s : List ℕ) → IsToldBetween (settings old) (states old) input s
+  -- and by every input that has the commands of closed sessions in the same order
+  pub interleaved : (s : List ℕ) → IsToldInterleaved (settings old) (states old) input s
 
 -- every line of the input is answered, and all that is said is written
 abbrev pub WritesAll : List ℕ → Option (List ℕ) → Server → Option (List ℕ) → Server → Type 0
@@ -102,14 +86,24 @@ abbrev pub IsPastLines : ℕ → List ℕ → Option (List ℕ) → Server → O
 IsPastLines max_lines input held old held_after new =
     (max_lines < length (lines_of input)) × WritesUntil Endless max_lines input held old held_after new
 
+-- how often a source was asked for bytes, and how often it gave some
+pub record Reads : Type 0 where
+  pub calls : ℕ
+  pub gave : ℕ
+
+abbrev pub reads : {R : Type 0} → (R → ℕ) → (R → ℕ) → R → Reads
+reads calls gave reader = record { calls = calls reader; gave = gave reader }
+
 -- the calls of `read` reached their bound, as far as they are counted, and each of them gave some bytes
-abbrev pub IsPastReads : ℕ → List ℕ → ℕ → ℕ → Type 0
-IsPastReads max_reads bytes calls calls_after =
-    (min calls_after greatest_count ≡ min (calls + max_reads) greatest_count) × (max_reads ≤ length bytes)
+abbrev pub IsPastReads : ℕ → List ℕ → Reads → Reads → Type 0
+IsPastReads max_reads bytes old new =
+    (min new.calls greatest_count ≡ min (old.calls + max_reads) greatest_count)
+    × (min new.gave greatest_count ≡ min (old.gave + max_reads) greatest_count)
+    × (max_reads ≤ length bytes)
 
 -- what a run over these bytes comes to, which reads no more than so many lines, and by no more than so many calls
 pub record RunsOver (max_lines max_reads : ℕ) (input : List ℕ) (old new : Server)
-    (held held_after left_after : Option (List ℕ)) (calls calls_after : ℕ) (result : Result Summary RunFault) : Type 0 where
+    (held held_after left_after : Option (List ℕ)) (calls calls_after : Reads) (result : Result Summary RunFault) : Type 0 where
   pub well : WentWell result new → AnswersAll input old new held held_after
   -- where it stops, it has written a front of that output,
   pub stopped : IsErr result → IsFalse (was_refused new) → AppendsSome held held_after (output (settings old) (states old) input)
@@ -119,6 +113,10 @@ pub record RunsOver (max_lines max_reads : ℕ) (input : List ℕ) (old new : Se
   pub unread : result ≡ Err Read → HasAnsweredRead Read input left_after held old held_after new
   -- also where memory was refused: the lines are answered one after another, and what is said to them is written,
   pub answered : MatchResult result (λ _. WritesAll input held old held_after new) (λ fault. WritesFirst fault max_lines input held old held_after new)
+  -- so that sessions that were spared are told what they would be told if memory had been found, also by the first lines
+  -- of a run that stops
+  pub spared : IsOk result → SparesAll input held old held_after new
+  pub spared_first : (count : ℕ) (text : List ℕ) → AreAnswered old (take count (read_lines input)) text new → Spares (first_lines count input) old new text
   -- all of the input is read, and its lines are counted
   pub all_read : IsOk result → left_after ≡ Some []
   pub counted : IfOk result (λ summary. (summary.lines ≡ length (lines_of input)) × (summary.lines ≤ max_lines))
@@ -135,7 +133,7 @@ HasCountedRead left_after old new =
     (read : List ℕ) × (left : List ℕ) × (old.begun ≡ read ++ left) × (left_after ≡ Some left) × (new.lines ≡ old.lines + line_ends read)
 
 -- how a run over these bytes ends, from the point where they are all to come
-abbrev pub Ends : {T : Type 0} → ℕ → ℕ → ℕ → ℕ → Option (List ℕ) → Point → Point → Result T RunFault → Type 0
+abbrev pub Ends : {T : Type 0} → ℕ → ℕ → Reads → Reads → Option (List ℕ) → Point → Point → Result T RunFault → Type 0
 Ends max_lines max_reads calls calls_after left_after old new (Ok done) = Done old new
 Ends max_lines max_reads calls calls_after left_after old new (Err Read) = Cut Read old new [] × HasCountedRead left_after old new
 Ends max_lines max_reads calls calls_after left_after old new (Err Endless) =
@@ -155,7 +153,7 @@ device_failed (Err Write) = true
 device_failed r = false
 
 -- a run over these bytes: what it has answered and written, and how many lines there were
-abbrev pub Runs : ℕ → ℕ → ℕ → ℕ → List ℕ → Option (List ℕ) → Option (List ℕ) → Server → Option (List ℕ) → Server → Result Summary RunFault → Type 0
+abbrev pub Runs : ℕ → ℕ → Reads → Reads → List ℕ → Option (List ℕ) → Option (List ℕ) → Server → Option (List ℕ) → Server → Result Summary RunFault → Type 0
 Runs max_lines max_reads calls calls_after input left_after held old held_after new (Ok summary) =
     WritesAll input held old held_after new × (summary.lines ≡ length (lines_of input)) × (summary.lines ≤ max_lines)
 Runs max_lines max_reads calls calls_after input left_after held old held_after new (Err Read) =

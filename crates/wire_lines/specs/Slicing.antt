@@ -16,7 +16,8 @@ use Rattle.wire_format.specs.Output.{World, answers_to, world_of}
 use Rattle.wire_lines.specs.declared.fault.RunFault.{RunFault}
 use Rattle.wire_lines.specs.declared.fault.RunFault.TheVariants.{Read, Write, Endless}
 use Rattle.wire_lines.specs.declared.stream.Summary.{Summary}
-use Rattle.wire_lines.specs.Run.{AppendsSome, IsPastReads}
+use Rattle.wire_lines.specs.Isolation.{IsToldBetween}
+use Rattle.wire_lines.specs.Run.{AppendsSome, IsPastReads, Reads}
 
 abbrev pub is_given : Piece → Bool
 is_given (Given t) = true
@@ -58,7 +59,7 @@ pub record HasRun (bytes : List ℕ) (old new : Server) : Type 0 where
 
 -- what a run for the slice of s over these bytes comes to
 pub record SlicesOver (s bytes : List ℕ) (old new : Server)
-    (held held_after left_after : Option (List ℕ)) (calls calls_after : ℕ) (result : Result Summary RunFault) : Type 0 where
+    (held held_after left_after : Option (List ℕ)) (calls calls_after : Reads) (result : Result Summary RunFault) : Type 0 where
   pub runs : HasRun bytes old new
   -- at its end it has written exactly the slice, where the sink failed a front of it, and after another fault nothing
   pub written : IsOk result → Appends held held_after (sliced (settings old) (states old) s bytes)
@@ -66,8 +67,9 @@ pub record SlicesOver (s bytes : List ℕ) (old new : Server)
   pub unwritten : (fault : RunFault) → result ≡ Err fault → fault ≢ Write → Appends held held_after []
   -- before anything is written all commands are done, and no memory was ever wanted in vain
   pub behind : (IsOk result ⊎ (result ≡ Err Write)) → (states new ≡ world_of (settings old) (states old) bytes) × IsFalse (was_refused new)
-  -- the slice tells s the same
+  -- the slice tells s the same, and so does every input between it and the whole
   pub same : IsToldAsSliced (settings old) (states old) s bytes
+  pub between : IsToldBetween (settings old) (states old) bytes s
   -- it finds no end only at a bound, and no command is done where not all of the input was read
   pub endless : result ≡ Err Endless → (2 ^ 32 < length (lines_of bytes)) ⊎ (IsPastReads (2 ^ 40) bytes calls calls_after × (new ≡ old))
   pub unread : result ≡ Err Read → new ≡ old

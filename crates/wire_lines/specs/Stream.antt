@@ -1,7 +1,9 @@
 -- A run under way: what a server does with the lines of an input that comes in pieces.
 use Rattle.std.specs.Prelude.{◌≡◌, ℕ, ◌+◌, ◌<◌, List, [], ◌++◌, length, Option, Result, IsTrue, Ok, Err}
+use Rattle.std.specs.List.{All}
+use Rattle.plain_types.specs.Names.{is_name}
 use Rattle.session_engine.specs.Sessions.{AllAreNamed}
-use Rattle.server_world.specs.Server.{Server, seen_by_name, settings, was_refused}
+use Rattle.server_world.specs.Server.{Server, names, seen_by_name, settings, was_refused}
 use Rattle.wire_format.specs.Input.{Piece}
 use Rattle.wire_devices.specs.Counts.{FailsOnce}
 use Rattle.wire_lines.specs.declared.fault.RunFault.{RunFault}
@@ -9,12 +11,17 @@ use Rattle.wire_lines.specs.declared.fault.RunFault.TheVariants.{Read, Write, En
 use Rattle.wire_lines.specs.Sending.{Out, Sent, SentFront}
 use Rattle.wire_lines.specs.Steps.{AreAnswered, read_lines}
 
--- the settings of a server stay, and so does that it once found no memory, and that dynamic properties are called
--- by names
+-- the sessions of a server are called by names
+abbrev pub HaveNames : Server → Type 0
+HaveNames server = All (λ name. IsTrue (is_name name)) (names server)
+
+-- the settings of a server stay, and so does that it once found no memory, that its sessions are called by names, and
+-- that what they hold is
 pub record Later (old new : Server) : Type 0 where
   pub settings : settings new ≡ settings old
   pub refused : IsTrue (was_refused old) → IsTrue (was_refused new)
   pub named : AllAreNamed (seen_by_name old) → AllAreNamed (seen_by_name new)
+  pub sessions : HaveNames old → HaveNames new
 
 -- where a run stands
 pub record Point : Type 0 where

@@ -3,6 +3,7 @@ ghost use Rattle.std.specs.Prelude.{◌≡◌, ◌≢◌, ◌+◌, ◌<◌, ◌�
 ghost use Rattle.std.specs.List.{flat_map};
 ghost use Rattle.isolation.specs.Pieces.{Given};
 ghost use Rattle.isolation.specs.Slice.{Note};
+ghost use Rattle.plain_types.specs.Names.{is_name};
 ghost use Rattle.session_engine.specs.Sessions.{AreSound};
 ghost use Rattle.server_world.specs.Noting.{IsNoted};
 ghost use Rattle.server_world.specs.Server.{KnowsItsSessions, seen_by_name, seen_as};
@@ -10,10 +11,9 @@ ghost use Rattle.thread_model.specs.Asked.{asked, tag};
 ghost use Rattle.thread_model.specs.Named.{IsNamedAsked};
 ghost use Rattle.wire_devices.specs.Counts.{CountsErrors};
 ghost use Rattle.wire_format.specs.Input.{NoEnd, lines_of, piece_of};
-ghost use Rattle.wire_format.specs.Text.{is_session_text};
 ghost use Rattle.wire_lines.specs.declared.fault.RunFault.TheVariants.{Endless, Memory, Write};
 ghost use Rattle.wire_lines.specs.declared.stream.TheConstants.{MOST_LINES, MOST_READS};
-ghost use Rattle.wire_lines.specs.Run.{IsPastReads, ReadFails, UsesDevices};
+ghost use Rattle.wire_lines.specs.Run.{IsPastReads, ReadFails, UsesDevices, reads};
 ghost use Rattle.wire_lines.specs.Sending.{SentAll, out};
 ghost use Rattle.wire_lines.specs.Slicing.{SlicesOver, ended};
 ghost use Rattle.wire_lines.specs.Stream.{Later};
@@ -104,7 +104,7 @@ impl Slicing {
 
     /// Notes a command, whose line begins there, and does it.
     fn obey(&mut self, start: usize, given: &Tagged, server: &mut Server) -> Result<(), RunFault>
-        requires text { IsTrue (is_session_text given.now.session) }
+        requires session { IsTrue (is_name given.now.session) }
         requires named { IsNamedAsked (asked given.now.command) }
         ensures done { OnOk result (DoesNoted start (tag given.now) (noted self.old (seen_as server.old)) (noted self.new (seen_as server.new))) }
         ensures count { self.new.count ≡ self.old.count }
@@ -178,7 +178,7 @@ fn send_line<W: Sink>(line: &[u8], buffer: &mut Buffer, writer: &mut W) -> Resul
 fn read_all<R: Source>(alloc: Global, reader: &mut R) -> Result<Vec<u8>, RunFault>
     ensures bytes { IfOk result (λ bytes. (input : List ℕ) → R.left reader.old ≡ Some input → (bytes.items ≡ input) × (R.left reader.new ≡ Some [])) }
     ensures endless { (input : List ℕ) → R.left reader.old ≡ Some input
-        → result ≡ Err Endless → IsPastReads (2 ^ 40) input (R.calls reader.old) (R.calls reader.new) }
+        → result ≡ Err Endless → IsPastReads (2 ^ 40) input (reads R.calls R.gave reader.old) (reads R.calls R.gave reader.new) }
     ensures unwritten { result ≢ Err Write }
     ensures asked { R.calls reader.new ≤ R.calls reader.old + 2 ^ 40 }
     ensures failed { ReadFails (R.failures reader.old) (R.failures reader.new) result }
@@ -192,7 +192,7 @@ fn read_by<R: Source>(alloc: Global, chunk: &mut [u8], reader: &mut R) -> Result
     requires { 0 < length chunk.old }
     ensures bytes { IfOk result (λ bytes. (input : List ℕ) → R.left reader.old ≡ Some input → (bytes.items ≡ input) × (R.left reader.new ≡ Some [])) }
     ensures endless { (input : List ℕ) → R.left reader.old ≡ Some input
-        → result ≡ Err Endless → IsPastReads (2 ^ 40) input (R.calls reader.old) (R.calls reader.new) }
+        → result ≡ Err Endless → IsPastReads (2 ^ 40) input (reads R.calls R.gave reader.old) (reads R.calls R.gave reader.new) }
     ensures unwritten { result ≢ Err Write }
     ensures asked { R.calls reader.new ≤ R.calls reader.old + 2 ^ 40 }
     ensures failed { ReadFails (R.failures reader.old) (R.failures reader.new) result }
@@ -231,7 +231,7 @@ pub fn run_slice<R: Source, W: Sink>(
     // Where the bytes of the source are known.
     ensures slices { (input : List ℕ) → R.left reader.old ≡ Some input
         → SlicesOver session.now input (seen_as server.old) (seen_as server.new)
-        (W.held writer.old) (W.held writer.new) (R.left reader.new) (R.calls reader.old) (R.calls reader.new) result }
+        (W.held writer.old) (W.held writer.new) (R.left reader.new) (reads R.calls R.gave reader.old) (reads R.calls R.gave reader.new) result }
     ensures devices { UsesDevices (2 ^ 40) (R.calls reader.old) (R.calls reader.new)
         (R.failures reader.old) (R.failures reader.new) (W.failures writer.old) (W.failures writer.new) result }
     ensures memory { IfOk result (λ summary. summary.memory_refused ≡ false) }
@@ -254,7 +254,7 @@ fn slice_input<R: Source, W: Sink>(
 ) -> Result<Summary, RunFault>
     ensures slices { (input : List ℕ) → R.left reader.old ≡ Some input
         → SlicesOver session.now input (seen_as server.old) (seen_as server.new)
-        (W.held writer.old) (W.held writer.new) (R.left reader.new) (R.calls reader.old) (R.calls reader.new) result }
+        (W.held writer.old) (W.held writer.new) (R.left reader.new) (reads R.calls R.gave reader.old) (reads R.calls R.gave reader.new) result }
     ensures devices { UsesDevices (2 ^ 40) (R.calls reader.old) (R.calls reader.new)
         (R.failures reader.old) (R.failures reader.new) (W.failures writer.old) (W.failures writer.new) result }
     ensures memory { IfOk result (λ summary. summary.memory_refused ≡ false) }

@@ -3,7 +3,7 @@ ghost use Rattle.std.specs.Prelude.{◌≡◌, ◌+◌, ◌<◌, ◌≤◌, ◌^
 ghost use Rattle.session_engine.specs.Sessions.{AreSound};
 ghost use Rattle.server_world.specs.Server.{KnowsItsSessions, seen_by_name, seen_as, was_refused};
 ghost use Rattle.wire_format.specs.Input.{NoEnd};
-ghost use Rattle.wire_lines.specs.Run.{RunsOver, UsesDevices, IsWrittenOut, DevicesFail, Ends, Runs, device_failed};
+ghost use Rattle.wire_lines.specs.Run.{RunsOver, UsesDevices, IsWrittenOut, DevicesFail, Ends, Runs, device_failed, reads};
 ghost use Rattle.wire_lines.specs.Stream.{Later, SinkFails, Feeds, Finishes};
 ghost use Rattle.wire_lines.specs.Feeding.{at};
 ghost use Rattle.wire_lines.specs.declared.fault.RunFault.TheVariants.{Read};
@@ -125,7 +125,7 @@ impl Stream {
         requires { 0 < length chunk.old }
         ensures later { Later (seen_as server.old) (seen_as server.new) }
         ensures ends { (input : List ℕ) → R.left reader.old ≡ Some input
-            → Ends self.old.lines.most max_reads (R.calls reader.old) (R.calls reader.new)
+            → Ends self.old.lines.most max_reads (reads R.calls R.gave reader.old) (reads R.calls R.gave reader.new)
             (R.left reader.new) (at (W.held writer.old) self.old.lines (seen_as server.old) (self.old.begun ++ input))
             (at (W.held writer.new) self.new.lines (seen_as server.new) []) result }
         ensures written { result ≡ Err Read → self.new.lines.output.gathered ≡ [] }
@@ -159,7 +159,7 @@ impl Stream {
         requires { 0 < length chunk.old }
         ensures later { Later (seen_as server.old) (seen_as server.new) }
         ensures ends { (input : List ℕ) → R.left reader.old ≡ Some input
-            → Ends self.old.lines.most max_reads (R.calls reader.old) (R.calls reader.new)
+            → Ends self.old.lines.most max_reads (reads R.calls R.gave reader.old) (reads R.calls R.gave reader.new)
             (R.left reader.new) (at (W.held writer.old) self.old.lines (seen_as server.old) (self.old.begun ++ input))
             (at (W.held writer.new) self.new.lines (seen_as server.new) []) result }
         ensures written { IsWrittenOut result self.new.lines.output.gathered }
@@ -222,7 +222,7 @@ pub fn run<R: Source, W: Sink>(
     // As of `run_bounded`, at these bounds.
     ensures runs { (input : List ℕ) → R.left reader.old ≡ Some input
         → RunsOver (2 ^ 32) (2 ^ 40) input (seen_as server.old) (seen_as server.new)
-        (W.held writer.old) (W.held writer.new) (R.left reader.new) (R.calls reader.old) (R.calls reader.new) result }
+        (W.held writer.old) (W.held writer.new) (R.left reader.new) (reads R.calls R.gave reader.old) (reads R.calls R.gave reader.new) result }
     ensures devices { UsesDevices (2 ^ 40) (R.calls reader.old) (R.calls reader.new)
         (R.failures reader.old) (R.failures reader.new) (W.failures writer.old) (W.failures writer.new) result }
     ensures memory { IfOk result (λ summary. summary.memory_refused ≡ was_refused (seen_as server.new)) }
@@ -252,7 +252,7 @@ pub fn run_bounded<R: Source, W: Sink>(
     // and that it keeps the sessions apart.
     ensures runs { (input : List ℕ) → R.left reader.old ≡ Some input
         → RunsOver max_lines max_reads input (seen_as server.old) (seen_as server.new)
-        (W.held writer.old) (W.held writer.new) (R.left reader.new) (R.calls reader.old) (R.calls reader.new) result }
+        (W.held writer.old) (W.held writer.new) (R.left reader.new) (reads R.calls R.gave reader.old) (reads R.calls R.gave reader.new) result }
     ensures devices { UsesDevices max_reads (R.calls reader.old) (R.calls reader.new)
         (R.failures reader.old) (R.failures reader.new) (W.failures writer.old) (W.failures writer.new) result }
     ensures memory { IfOk result (λ summary. summary.memory_refused ≡ was_refused (seen_as server.new)) }
@@ -276,7 +276,7 @@ fn run_buffered<R: Source, W: Sink>(
     max_reads: u64,
 ) -> Result<Summary, RunFault>
     ensures runs { (input : List ℕ) → R.left reader.old ≡ Some input
-        → Runs max_lines max_reads (R.calls reader.old) (R.calls reader.new) input
+        → Runs max_lines max_reads (reads R.calls R.gave reader.old) (reads R.calls R.gave reader.new) input
         (R.left reader.new) (W.held writer.old) (seen_as server.old) (W.held writer.new) (seen_as server.new) result }
     ensures all_read { (input : List ℕ) → R.left reader.old ≡ Some input → IsOk result → R.left reader.new ≡ Some [] }
     ensures asked { R.calls reader.new ≤ R.calls reader.old + max_reads }

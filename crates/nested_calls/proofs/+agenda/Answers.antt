@@ -1,4 +1,4 @@
-use Rattle.std.proofs.Common.{◌≡◌, ◌≤◌, ◌+◌, ◌*◌, ◌∷◌, [], ℕ, find, is_some, take, true, false, Ok, List, Some, ◌++◌, refl, sym, ap, subst, ◌∙◌, arith, drop}
+use Rattle.std.proofs.Common.{◌≡◌, ◌≤◌, ◌+◌, ◌-◌, ◌*◌, ◌∷◌, [], ℕ, find, is_some, take, true, false, Ok, List, Some, ◌++◌, refl, sym, ap, subst, ◌∙◌, arith, drop}
 use Rattle.std.proofs.lemmas.Bool.{cond-false, cond-true}
 use Rattle.connection_types.specs.declared.callee.Callee.TheVariants as callee
 use Rattle.connection_list.specs.Rows.{is_next}
@@ -34,7 +34,7 @@ use Rattle.thread_model.specs.Agenda.{lives, lives_below}
 use Rattle.nested_calls.proofs.DeletionLemmas.{cut_first, cut_last, cut_next, delete_begins, delete_loose, delete_none, gone_told, kin_none, kin_some, kins_from, left_marked, left_severed}
 use Rattle.nested_calls.proofs.NewsLemmas.{told_from, told_last, told_next, warn_of_done}
 use Rattle.nested_calls.proofs.FrontLemmas.{front_same, part_front}
-use Rattle.nested_calls.proofs.CalleeLemmas.{answered_short, called_at_once, called_later, callee_front, functor_absent, functor_does, functor_short, functor_there, left_functor, method_absent, method_there, queued_is, runs_functor, runs_none, runs_slot, stepped_is}
+use Rattle.nested_calls.proofs.CalleeLemmas.{answered_short, called_at_once, called_later, callee_front, functor_absent, functor_does, functor_short, functor_there, left_functor, method_absent, method_there, one_less, queued_is, runs_functor, runs_none, runs_slot, stepped_is}
 use Rattle.nested_calls.proofs.+agenda.Goals as goal
 
 pub agenda::act-returns-in-Ok-true : goal.agenda::act-returns-in-Ok-true
@@ -155,7 +155,7 @@ agenda::call-run_method-requires t g c = λ κs outlives.
     let less = left_shot caller.place c.args.connection.now c.args.tables.now shot c.args.telling.now c.requires.placed c.shoot.ensures in
     let left = taken caller c.args.connection.now c.args.args.now c.args.depth c.args.tables.now shot c.args.telling.now in (
       (let falls = round_falls caller c.args.tables.now shot c.args.telling.now left 0 71 (omega (arith, less)) (omega arith) in grind (arith, falls)),
-      (outlives, (placed_kept _ _ _ (keeps_with _ _ _ _ c.requires.placed c.shoot.ensures) c.requires.placed, (omega arith, (omega arith, (c.in-Some.ensures.value, c.in-Some.ensures.sound))))),
+      (outlives, (placed_kept _ _ _ (keeps_with _ _ _ _ c.requires.placed c.shoot.ensures) c.requires.placed, (omega arith, (omega arith, (omega arith, (c.in-Some.ensures.value, c.in-Some.ensures.sound)))))),
     )
 
 pub agenda::call-returns-then-is_queued : goal.agenda::call-returns-then-is_queued
@@ -190,7 +190,7 @@ agenda::call-returns t g c =
     (let doing = doing_at caller.place shot left earlier in
     called_at_once settings connection c.args.args.now c.args.depth doing (callee.Method c.in-Method.index) c.first-given.result.now _
     (method_there settings connection c.args.args.now c.args.depth doing c.in-Method.index c.in-Some.method.now c.in-Some.ensures.value _ (c.first-given.ensures ∙ ap (λ n. take n c.args.args.now) c.len.ensures)) done (sym c.if-is_queued.ensures) does))
-    (c.run_method.ensures c.args.depth refl)
+    (rw (one_less c.args.depth) at c.run_method.ensures)
 
 pub agenda::call_functor-returns-in_default : goal.agenda::call_functor-returns-in_default
 agenda::call_functor-returns-in_default t g c =
@@ -223,10 +223,10 @@ agenda::call_functor-returns t g c =
     (λ earlier done. let doing = doing_at caller.place old before earlier in
     called_at_once settings c.args.connection.now c.args.args.now c.args.depth doing (callee.Functor c.args.index) c.first-given.result.now _
     (functor_there settings c.args.connection.now c.args.args.now c.args.depth doing c.args.index c.in-Some.functor.now c.in-Some.ensures _ (c.first-given.ensures ∙ ap (λ n. take n c.args.args.now) c.len.ensures)) done (sym c.if-is_queued.ensures))
-    (c.run_functor.ensures c.args.depth refl)
+    (rw (one_less c.args.depth) at c.run_functor.ensures)
 
 pub agenda::run_method-returns-then-method : goal.agenda::run_method-returns-then-method
-agenda::run_method-returns-then-method t g c = λ depth is.
+agenda::run_method-returns-then-method t g c =
     let caller = c.args.actor.now.caller in
     let settings = settings_of caller.setup.now in
     let old = c.args.tables.now in
@@ -235,13 +235,13 @@ agenda::run_method-returns-then-method t g c = λ depth is.
     c.emit.ensures
 
 pub agenda::run_method-returns-in_err-call : goal.agenda::run_method-returns-in_err-call
-agenda::run_method-returns-in_err-call t g c = λ depth is.
+agenda::run_method-returns-in_err-call t g c =
     let caller = c.args.actor.now.caller in
     let old = c.args.tables.now in
     does_wanting caller _ old c.args.telling.now old c.call.new.self _ c.from_residual.ensures.0 (keeps_same old old caller.place refl) c.call.ensures.failing
 
 pub agenda::run_method-returns : goal.agenda::run_method-returns
-agenda::run_method-returns t g c = λ depth is.
+agenda::run_method-returns t g c =
     let caller = c.args.actor.now.caller in
     let settings = settings_of caller.setup.now in
     let slot = c.args.slot.now in
@@ -251,33 +251,33 @@ agenda::run_method-returns t g c = λ depth is.
     let doing = doing_at caller.place old c.args.telling.now earlier in
     let runs = run settings (model.acts (acts_of c.args.method.now.body.actions) slot.args.now slot.object slot.sender slot.depth) in
     ap (λ (items : List Item). run settings items doing) (cond-false c.args.method.now.is_signal _ _ c.if-method.false)
-    ∙ runs_slot settings slot.object c.args.index slot.sender slot.args.now depth doing c.args.method.now c.requires.found slot.depth is done
+    ∙ runs_slot settings slot.object c.args.index slot.sender slot.args.now (slot.depth - 1) doing c.args.method.now c.requires.found slot.depth (omega arith) done
     (ap (λ name. runs (line_told doing (line.Call (record { method = name; object = slot.object; sender = slot.sender; args = slot.args.now })))) (sym c.requires.sound.text)
     ∙ ap runs (told_is caller.place old c.args.telling.now c.call.new.self earlier _ c.in_ok-call.ensures.told) ∙ does))
     (rw c.as_slice.ensures at c.acts.ensures)
 
 pub agenda::run_functor-returns-in_default : goal.agenda::run_functor-returns-in_default
-agenda::run_functor-returns-in_default t g c = λ depth is.
+agenda::run_functor-returns-in_default t g c =
     let caller = c.args.actor.now.caller in
     let old = c.args.tables.now in
     let slot = c.args.slot.now in
     does_none caller _ old c.args.telling.now old c.args.telling.now _ (keeps_same old old caller.place refl) refl
-    (λ earlier. runs_none (settings_of caller.setup.now) slot.object c.args.index slot.sender c.args.connection slot.args.now depth (doing_at caller.place old c.args.telling.now earlier) c.in_default.ensures)
+    (λ earlier. runs_none (settings_of caller.setup.now) slot.object c.args.index slot.sender c.args.connection slot.args.now (slot.depth - 1) (doing_at caller.place old c.args.telling.now earlier) c.in_default.ensures)
 
 pub agenda::run_functor-returns-in_err-call : goal.agenda::run_functor-returns-in_err-call
-agenda::run_functor-returns-in_err-call t g c = λ depth is.
+agenda::run_functor-returns-in_err-call t g c =
     let caller = c.args.actor.now.caller in
     let old = c.args.tables.now in
     does_wanting caller _ old c.args.telling.now old c.call.new.self _ c.from_residual.ensures.0 (keeps_same old old caller.place refl) c.call.ensures.failing
 
 pub agenda::run_functor-returns-in_err-actions : goal.agenda::run_functor-returns-in_err-actions
-agenda::run_functor-returns-in_err-actions t g c = λ depth is.
+agenda::run_functor-returns-in_err-actions t g c =
     let caller = c.args.actor.now.caller in
     let old = c.args.tables.now in
     does_wanting caller _ old c.args.telling.now old c.call.new.self _ c.from_residual-in_err-actions.ensures.0 (keeps_same old old caller.place refl) c.call.ensures.failing
 
 pub agenda::run_functor-returns : goal.agenda::run_functor-returns
-agenda::run_functor-returns t g c = λ depth is.
+agenda::run_functor-returns t g c =
     let caller = c.args.actor.now.caller in
     let settings = settings_of caller.setup.now in
     let slot = c.args.slot.now in
@@ -286,7 +286,7 @@ agenda::run_functor-returns t g c = λ depth is.
     let functor = c.in-Some.functor.now in
     does_after caller _ old c.args.telling.now _ new c.acts.new.tables c.call.new.self c.acts.new.telling c.acts.result c.requires.placed (keeps_with _ _ _ _ c.requires.placed c.step_functor.ensures) c.in_ok-call.ensures.failing
     (λ earlier done does. let doing = doing_at caller.place old c.args.telling.now earlier in
-    runs_functor settings slot.object c.args.index slot.sender c.args.connection slot.args.now depth doing functor c.in-Some.ensures slot.depth is done
+    runs_functor settings slot.object c.args.index slot.sender c.args.connection slot.args.now (slot.depth - 1) doing functor c.in-Some.ensures slot.depth (omega arith) done
     (functor_does settings c.args.index functor c.in-Some.ensures slot.object slot.sender c.args.connection slot.args.now slot.depth
     doing (doing_at caller.place new c.call.new.self earlier) done c.functor_state-state.result c.in_ok-actions.next c.in_ok-actions.actions.items
     c.functor_state-state.ensures c.in_ok-actions.ensures.actions c.in_ok-actions.ensures.next

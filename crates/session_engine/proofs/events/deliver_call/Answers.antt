@@ -10,7 +10,7 @@ returns-in-Functor g c =
     let caller = c.args.actor.now.caller in
     does_by caller _ c.args.tables.now c.args.telling.now _ c.run_functor.new.tables c.run_functor.new.telling c.run_functor.result
     (λ earlier done. calls_functor (settings_of caller.setup.now) caller.place c.args.tables.now c.args.telling.now earlier c.args.call.now c.in-Functor.index c.in-Functor.is done)
-    (rw c.as_slice.ensures at (c.run_functor.ensures 0 refl))
+    (rw c.as_slice.ensures at c.run_functor.ensures)
 
 pub returns-in_default : goal.returns-in_default
 returns-in_default g c =
@@ -24,4 +24,4 @@ returns g c =
     let caller = c.args.actor.now.caller in
     does_by caller _ c.args.tables.now c.args.telling.now _ c.run_method.new.tables c.run_method.new.telling c.run_method.result
     (λ earlier done. calls_method (settings_of caller.setup.now) caller.place c.args.tables.now c.args.telling.now earlier c.args.call.now c.in-Method.index c.in-Method.is c.in-Some.method.now c.in-Some.ensures.value done)
-    (rw c.as_slice.ensures at (c.run_method.ensures 0 refl))
+    (rw c.as_slice.ensures at c.run_method.ensures)

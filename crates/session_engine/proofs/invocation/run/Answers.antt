@@ -29,9 +29,9 @@ returns g c =
       | then-not-method+else-telling-eq0 w ↦
           does_after caller _ old before _ old c.run_method.new.tables _ c.run_method.new.telling c.run_method.result c.requires.placed (keeps_same old old caller.place refl) refl
           (λ earlier done. now_run settings items (doing_at caller.place old before earlier) c.args.method.now.is_signal w.if-not-method.true (omega (arith, w.if-telling-eq0.false)) done)
-          (rw w.telling-is at (c.run_method.ensures 0 refl))
+          (rw w.telling-is at c.run_method.ensures)
       | else-not-method w ↦
           does_by caller _ old before _ c.run_method.new.tables c.run_method.new.telling c.run_method.result
           (λ earlier done. now_sent settings items (doing_at caller.place old before earlier) c.args.method.now.is_signal w.if-not-method.false done)
-          (rw w.telling-is at (c.run_method.ensures 0 refl))
+          (rw w.telling-is at c.run_method.ensures)
     ]

@@ -9,6 +9,7 @@ reads-init g c = record {
   consumed = subst (Consumes (g.R.Source.left c.args.reader.now) (g.R.Source.left c.args.reader.now)) (sym c.new-bytes.ensures.items) (Consumes-nil (g.R.Source.left c.args.reader.now));
   asked = omega arith;
   counted = omega arith;
+  gave = omega arith;
   enough = omega arith;
   room = c.requires;
   failed = refl;
@@ -23,10 +24,12 @@ reads-preserved g c =
     let more : c.extend_from_slice.new.self.items ≡ bytes ++ chunk = c.in_ok-extend_from_slice.ensures.items in
     let lengths = length-append bytes chunk in
     let all = ap length more in
+    let some : 0 < c.in-Ok.count = omega (arith, c.if-count-eq0.false) in
     record {
       consumed = subst (Consumes (g.R.Source.left c.args.reader.now) (g.R.Source.left c.read.new.self)) (sym more) (Consumes-trans _ _ _ bytes chunk so_far.consumed read.bytes.0);
       asked = omega (arith, so_far.asked, read.asked);
       counted = omega (arith, so_far.counted, read.asked);
+      gave = omega (arith, so_far.gave, read.gave.0 some);
       enough = omega (arith, so_far.enough, read.bound.1, lengths, all, c.if-count-eq0.false);
       room = omega (arith, c.read.auto.buffer, c.reads.invariant.room);
       failed = read.counted ∙ so_far.failed;
@@ -48,4 +51,4 @@ returns-clause-endless g c = λ input known endless.
     let so_far = c.reads.invariant in
     let (rest, left, is) = known_rest _ _ c.reads.bytes.items input so_far.consumed known in
     let lengths = ap length is ∙ length-append c.reads.bytes.items rest in
-    (omega (arith, so_far.counted), omega (arith, so_far.enough, lengths))
+    (omega (arith, so_far.counted), omega (arith, so_far.gave), omega (arith, so_far.enough, lengths))

@@ -2,6 +2,7 @@ use Rattle.std.proofs.Common.{◌≡◌, ◌<◌, ◌∙◌, Vec, Global, inl, i
 use Rattle.std.specs.Prelude.{All}
 use Rattle.std.specs.List.{flat_map}
 use Rattle.server_world.specs.Server.{seen_as, settings, states}
+use Rattle.wire_lines.specs.Run.{reads}
 use Rattle.wire_lines.specs.declared.fault.RunFault.TheVariants.{Memory, Write}
 use Rattle.wire_lines.specs.Taking.{HasStopped, HasTaken, numbered}
 use Rattle.wire_lines.specs.Standing.{noted}
@@ -23,7 +24,7 @@ returns-in_err-input-clause-slices g c = λ input known.
     let fault = c.in_err-input.field-0.0 in
     let server = seen_as c.args.server.now in
     let held = g.W.Sink.held c.args.writer.now in
-    SlicesOver-unwritten c.args.session.now input server server (HasRun-nothing input server) held held (g.R.Source.left c.read_all.new.reader) (g.R.Source.calls c.args.reader.now) (g.R.Source.calls c.read_all.new.reader) fault c.from_residual.result (err_is _ _ c.from_residual.ensures.1)
+    SlicesOver-unwritten c.args.session.now input server server (HasRun-nothing input server) held held (g.R.Source.left c.read_all.new.reader) (reads g.R.Source.calls g.R.Source.gave c.args.reader.now) (reads g.R.Source.calls g.R.Source.gave c.read_all.new.reader) fault c.from_residual.result (err_is _ _ c.from_residual.ensures.1)
     (λ is. read.unwritten (ap Err is)) refl (λ is. inr (read.endless input known (ap Err is), refl)) (λ is. refl)
 
 pub returns-in_err-input-clause-devices : goal.returns-in_err-input-clause-devices
@@ -44,7 +45,7 @@ pub returns-in_err-buffer-clause-slices : goal.returns-in_err-buffer-clause-slic
 returns-in_err-buffer-clause-slices g c = λ input known.
     let server = seen_as c.args.server.now in
     let held = g.W.Sink.held c.args.writer.now in
-    SlicesOver-unwritten c.args.session.now input server server (HasRun-nothing input server) held held (g.R.Source.left c.read_all.new.reader) (g.R.Source.calls c.args.reader.now) (g.R.Source.calls c.read_all.new.reader) Memory _ (err_is _ _ c.from_residual-in_err-buffer.ensures.1)
+    SlicesOver-unwritten c.args.session.now input server server (HasRun-nothing input server) held held (g.R.Source.left c.read_all.new.reader) (reads g.R.Source.calls g.R.Source.gave c.args.reader.now) (reads g.R.Source.calls g.R.Source.gave c.read_all.new.reader) Memory _ (err_is _ _ c.from_residual-in_err-buffer.ensures.1)
     not_write refl (λ is. absurd (cc is)) (λ is. absurd (cc is))
 
 pub returns-in_err-slicing-clause-slices : goal.returns-in_err-slicing-clause-slices
@@ -55,7 +56,7 @@ returns-in_err-slicing-clause-slices g c = λ input known.
     let fault = c.in_err-slicing.field-0.0 in
     let given = c.in_ok-input.ensures.bytes input known in
     let stopped : HasStopped fault input old new = subst (λ (bytes : List ℕ). HasStopped fault bytes old new) (c.deref.ensures.value ∙ given.0) c.in_err-slicing.ensures.stopped in
-    SlicesOver-unwritten c.args.session.now input old new (HasStopped-run fault input old new stopped) held held (g.R.Source.left c.read_all.new.reader) (g.R.Source.calls c.args.reader.now) (g.R.Source.calls c.read_all.new.reader) fault _ (err_is _ _ c.from_residual-in_err-slicing.ensures.1)
+    SlicesOver-unwritten c.args.session.now input old new (HasStopped-run fault input old new stopped) held held (g.R.Source.left c.read_all.new.reader) (reads g.R.Source.calls g.R.Source.gave c.args.reader.now) (reads g.R.Source.calls g.R.Source.gave c.read_all.new.reader) fault _ (err_is _ _ c.from_residual-in_err-slicing.ensures.1)
     (HasStopped-unwritten fault input old new stopped) refl (λ is. inl (HasStopped-endless fault input old new stopped is)) (λ is. absurd (HasStopped-unread fault input old new stopped is))
 
 pub returns-then-memory_refused-clause-slices : goal.returns-then-memory_refused-clause-slices
@@ -65,7 +66,7 @@ returns-then-memory_refused-clause-slices g c = λ input known.
     let held = g.W.Sink.held c.args.writer.now in
     let given = c.in_ok-input.ensures.bytes input known in
     let taken : HasTaken input old now c.in_ok-slicing.slicing.count [] = subst (λ (bytes : List ℕ). HasTaken bytes old now c.in_ok-slicing.slicing.count []) (c.deref.ensures.value ∙ given.0) c.in_ok-slicing.ensures.taken in
-    SlicesOver-unwritten c.args.session.now input old now.server (HasRun-taken input old now c.in_ok-slicing.slicing.count [] taken now.server (inl refl)) held held (g.R.Source.left c.read_all.new.reader) (g.R.Source.calls c.args.reader.now) (g.R.Source.calls c.read_all.new.reader) Memory (Err Memory) refl
+    SlicesOver-unwritten c.args.session.now input old now.server (HasRun-taken input old now c.in_ok-slicing.slicing.count [] taken now.server (inl refl)) held held (g.R.Source.left c.read_all.new.reader) (reads g.R.Source.calls g.R.Source.gave c.args.reader.now) (reads g.R.Source.calls g.R.Source.gave c.read_all.new.reader) Memory (Err Memory) refl
     not_write refl (λ is. absurd (cc is)) (λ is. absurd (cc is))
 
 pub returns-in_err-numbers-clause-slices : goal.returns-in_err-numbers-clause-slices
@@ -75,7 +76,7 @@ returns-in_err-numbers-clause-slices g c = λ input known.
     let held = g.W.Sink.held c.args.writer.now in
     let given = c.in_ok-input.ensures.bytes input known in
     let taken : HasTaken input old now c.in_ok-slicing.slicing.count [] = subst (λ (bytes : List ℕ). HasTaken bytes old now c.in_ok-slicing.slicing.count []) (c.deref.ensures.value ∙ given.0) c.in_ok-slicing.ensures.taken in
-    SlicesOver-unwritten c.args.session.now input old now.server (HasRun-taken input old now c.in_ok-slicing.slicing.count [] taken now.server (inl refl)) held held (g.R.Source.left c.read_all.new.reader) (g.R.Source.calls c.args.reader.now) (g.R.Source.calls c.read_all.new.reader) Memory _ (err_is _ _ c.from_residual-in_err-numbers.ensures.1)
+    SlicesOver-unwritten c.args.session.now input old now.server (HasRun-taken input old now c.in_ok-slicing.slicing.count [] taken now.server (inl refl)) held held (g.R.Source.left c.read_all.new.reader) (reads g.R.Source.calls g.R.Source.gave c.args.reader.now) (reads g.R.Source.calls g.R.Source.gave c.read_all.new.reader) Memory _ (err_is _ _ c.from_residual-in_err-numbers.ensures.1)
     not_write refl (λ is. absurd (cc is)) (λ is. absurd (cc is))
 
 pub write-requires-clause-numbers : goal.write-requires-clause-numbers
@@ -100,7 +101,7 @@ returns-in_err-write-clause-slices g c = λ input known.
     ap₂ (λ (bytes numbers : List ℕ). flat_map (numbered bytes slicing.starts.items) numbers) (c.deref-2.ensures.value ∙ given.0) c.deref-3.ensures.value ∙ HasTaken-text input old now slicing.count taken c.args.session.now c.in_ok-numbers.numbers.items found c.in_ok-numbers.ensures in
     let sent : SentFront (out held c.in_ok-buffer.buffer) (out after c.write.new.buffer) (flat_map (numbered c.deref-2.result.now slicing.starts.items) c.deref-3.result.now) = c.in_err-write.ensures.sent in
     let front = subst (λ (gathered : List ℕ). SentFront (out held gathered) (out after c.write.new.buffer) (sliced (settings old) (states old) c.args.session.now input)) c.in_ok-buffer.ensures (subst (SentFront (out held c.in_ok-buffer.buffer) (out after c.write.new.buffer)) text sent) in
-    SlicesOver-write c.args.session.now input old now.server (HasRun-taken input old now slicing.count [] taken now.server (inl refl)) held after (g.R.Source.left c.read_all.new.reader) (g.R.Source.calls c.args.reader.now) (g.R.Source.calls c.read_all.new.reader) c.from_residual-in_err-write.result (err_is _ _ c.from_residual-in_err-write.ensures.1)
+    SlicesOver-write c.args.session.now input old now.server (HasRun-taken input old now slicing.count [] taken now.server (inl refl)) held after (g.R.Source.left c.read_all.new.reader) (reads g.R.Source.calls g.R.Source.gave c.args.reader.now) (reads g.R.Source.calls g.R.Source.gave c.read_all.new.reader) c.from_residual-in_err-write.result (err_is _ _ c.from_residual-in_err-write.ensures.1)
     (front_written held after c.write.new.buffer _ front) (HasTaken-world input old now slicing.count taken found) found
 
 pub returns-clause-slices : goal.returns-clause-slices
@@ -118,6 +119,6 @@ returns-clause-slices g c = λ input known.
     let sent : Sent (out held c.in_ok-buffer.buffer) (out after c.write.new.buffer) (flat_map (numbered c.deref-2.result.now slicing.starts.items) c.deref-3.result.now) = c.in_ok-write.ensures.sent in
     let all = subst (λ (gathered : List ℕ). Sent (out held gathered) (out after c.write.new.buffer) (sliced (settings old) (states old) c.args.session.now input)) c.in_ok-buffer.ensures (subst (Sent (out held c.in_ok-buffer.buffer) (out after c.write.new.buffer)) text sent) in
     let counted = HasTaken-counted input old now slicing.count taken in
-    SlicesOver-done c.args.session.now input old now.server (HasRun-taken input old now slicing.count [] taken now.server (inl refl)) held after (g.R.Source.left c.read_all.new.reader) (g.R.Source.calls c.args.reader.now) (g.R.Source.calls c.read_all.new.reader)
+    SlicesOver-done c.args.session.now input old now.server (HasRun-taken input old now slicing.count [] taken now.server (inl refl)) held after (g.R.Source.left c.read_all.new.reader) (reads g.R.Source.calls g.R.Source.gave c.args.reader.now) (reads g.R.Source.calls g.R.Source.gave c.read_all.new.reader)
     (record { lines = slicing.count; memory_refused = false })
     (all_written held after c.write.new.buffer _ c.in_ok-write.ensures.emptied all) (HasTaken-world input old now slicing.count taken found) found given.1 counted slicing.within

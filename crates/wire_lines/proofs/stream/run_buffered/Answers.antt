@@ -2,7 +2,7 @@ use Rattle.std.proofs.Common.{◌≤◌, [], Ok, Err, sym, subst, arith}
 use Rattle.server_world.specs.Server.{seen_as, was_refused}
 use Rattle.wire_lines.specs.declared.stream.Summary.{Summary}
 use Rattle.wire_lines.specs.Feeding.{at}
-use Rattle.wire_lines.specs.Run.{Runs}
+use Rattle.wire_lines.specs.Run.{Runs, reads}
 use Rattle.wire_lines.proofs.Kept.{err_is}
 use Rattle.wire_lines.proofs.Whole.{Ends-beginning, Runs-stopped, Runs-unbegun, Runs-done, ReadFails-fault, WriteFails-fault}
 use Rattle.wire_lines.proofs.stream.run_buffered.Goals as goal
@@ -10,7 +10,7 @@ use Rattle.wire_lines.proofs.stream.run_buffered.Goals as goal
 pub returns-in_err-stream-clause-runs : goal.returns-in_err-stream-clause-runs
 returns-in_err-stream-clause-runs g c = λ input known.
     let held = g.W.Sink.held c.args.writer.now in
-    subst (Runs c.args.max_lines c.args.max_reads (g.R.Source.calls c.args.reader.now) (g.R.Source.calls c.args.reader.now) input (g.R.Source.left c.args.reader.now) held (seen_as c.args.server.now) held (seen_as c.args.server.now)) (sym (err_is _ _ c.from_residual.ensures.1)) (Runs-unbegun c.args.max_lines c.args.max_reads (g.R.Source.calls c.args.reader.now) (g.R.Source.calls c.args.reader.now) input (g.R.Source.left c.args.reader.now) held (seen_as c.args.server.now))
+    subst (Runs c.args.max_lines c.args.max_reads (reads g.R.Source.calls g.R.Source.gave c.args.reader.now) (reads g.R.Source.calls g.R.Source.gave c.args.reader.now) input (g.R.Source.left c.args.reader.now) held (seen_as c.args.server.now) held (seen_as c.args.server.now)) (sym (err_is _ _ c.from_residual.ensures.1)) (Runs-unbegun c.args.max_lines c.args.max_reads (reads g.R.Source.calls g.R.Source.gave c.args.reader.now) (reads g.R.Source.calls g.R.Source.gave c.args.reader.now) input (g.R.Source.left c.args.reader.now) held (seen_as c.args.server.now))
 
 pub returns-in_err-serve_to_end-clause-runs : goal.returns-in_err-serve_to_end-clause-runs
 returns-in_err-serve_to_end-clause-runs g c = λ input known.
@@ -19,10 +19,10 @@ returns-in_err-serve_to_end-clause-runs g c = λ input known.
     let end = at (g.W.Sink.held served.new.writer) served.new.self.lines (seen_as served.new.server) [] in
     let fault = c.in_err-serve_to_end.field-0.0 in
     let within : served.new.self.lines.count ≤ c.args.max_lines = omega (arith, c.in_err-serve_to_end.ensures.within, made.most) in
-    let ends = Ends-beginning {T = Unit {0}} c.args.max_lines c.args.max_reads (g.R.Source.calls c.args.reader.now) (g.R.Source.calls served.new.reader) (g.R.Source.left served.new.reader) _ _ _ _ input (g.W.Sink.held c.args.writer.now) (seen_as c.args.server.now) end (Err fault) made.most made.output made.count made.begun
+    let ends = Ends-beginning {T = Unit {0}} c.args.max_lines c.args.max_reads (reads g.R.Source.calls g.R.Source.gave c.args.reader.now) (reads g.R.Source.calls g.R.Source.gave served.new.reader) (g.R.Source.left served.new.reader) _ _ _ _ input (g.W.Sink.held c.args.writer.now) (seen_as c.args.server.now) end (Err fault) made.most made.output made.count made.begun
     (c.in_err-serve_to_end.ensures.ends input known) in
-    let runs = Runs-stopped c.args.max_lines c.args.max_reads (g.R.Source.calls c.args.reader.now) (g.R.Source.calls served.new.reader) input (g.R.Source.left served.new.reader) (g.W.Sink.held c.args.writer.now) (g.W.Sink.held served.new.writer) (seen_as c.args.server.now) (seen_as served.new.server) served.new.self.lines.output.gathered served.new.self.lines.count (Unit {0}) fault c.in_err-serve_to_end.ensures.written within ends in
-    subst (Runs c.args.max_lines c.args.max_reads (g.R.Source.calls c.args.reader.now) (g.R.Source.calls served.new.reader) input (g.R.Source.left served.new.reader) (g.W.Sink.held c.args.writer.now) (seen_as c.args.server.now) (g.W.Sink.held served.new.writer) (seen_as served.new.server)) (sym (err_is _ _ c.from_residual-in_err-serve_to_end.ensures.1)) runs
+    let runs = Runs-stopped c.args.max_lines c.args.max_reads (reads g.R.Source.calls g.R.Source.gave c.args.reader.now) (reads g.R.Source.calls g.R.Source.gave served.new.reader) input (g.R.Source.left served.new.reader) (g.W.Sink.held c.args.writer.now) (g.W.Sink.held served.new.writer) (seen_as c.args.server.now) (seen_as served.new.server) served.new.self.lines.output.gathered served.new.self.lines.count (Unit {0}) fault c.in_err-serve_to_end.ensures.written within ends in
+    subst (Runs c.args.max_lines c.args.max_reads (reads g.R.Source.calls g.R.Source.gave c.args.reader.now) (reads g.R.Source.calls g.R.Source.gave served.new.reader) input (g.R.Source.left served.new.reader) (g.W.Sink.held c.args.writer.now) (seen_as c.args.server.now) (g.W.Sink.held served.new.writer) (seen_as served.new.server)) (sym (err_is _ _ c.from_residual-in_err-serve_to_end.ensures.1)) runs
 
 pub returns-in_err-serve_to_end-clause-failed : goal.returns-in_err-serve_to_end-clause-failed
 returns-in_err-serve_to_end-clause-failed g c =
@@ -36,10 +36,10 @@ returns-clause-runs g c = λ input known.
     let made = c.in_ok-stream.ensures in
     let served = c.serve_to_end in
     let end = at (g.W.Sink.held served.new.writer) served.new.self.lines (seen_as served.new.server) [] in
-    let done = Ends-beginning c.args.max_lines c.args.max_reads (g.R.Source.calls c.args.reader.now) (g.R.Source.calls served.new.reader) (g.R.Source.left served.new.reader) _ _ _ _ input (g.W.Sink.held c.args.writer.now) (seen_as c.args.server.now) end (Ok c.in_ok-serve_to_end.field-0) made.most made.output made.count made.begun
+    let done = Ends-beginning c.args.max_lines c.args.max_reads (reads g.R.Source.calls g.R.Source.gave c.args.reader.now) (reads g.R.Source.calls g.R.Source.gave served.new.reader) (g.R.Source.left served.new.reader) _ _ _ _ input (g.W.Sink.held c.args.writer.now) (seen_as c.args.server.now) end (Ok c.in_ok-serve_to_end.field-0) made.most made.output made.count made.begun
     (c.in_ok-serve_to_end.ensures.ends input known) in
     let count = served.new.self.lines.count in
     let within : count ≤ c.args.max_lines = omega (arith, c.in_ok-serve_to_end.ensures.within, made.most) in
-    let runs = Runs-done c.args.max_lines c.args.max_reads (g.R.Source.calls c.args.reader.now) (g.R.Source.calls served.new.reader) input (g.R.Source.left served.new.reader) (g.W.Sink.held c.args.writer.now) (g.W.Sink.held served.new.writer) (seen_as c.args.server.now) (seen_as served.new.server) served.new.self.lines.output.gathered
+    let runs = Runs-done c.args.max_lines c.args.max_reads (reads g.R.Source.calls g.R.Source.gave c.args.reader.now) (reads g.R.Source.calls g.R.Source.gave served.new.reader) input (g.R.Source.left served.new.reader) (g.W.Sink.held c.args.writer.now) (g.W.Sink.held served.new.writer) (seen_as c.args.server.now) (seen_as served.new.server) served.new.self.lines.output.gathered
     (record { lines = count; memory_refused = was_refused (seen_as served.new.server) }) c.in_ok-serve_to_end.ensures.written within done in
-    subst (λ (summary : Summary). Runs c.args.max_lines c.args.max_reads (g.R.Source.calls c.args.reader.now) (g.R.Source.calls served.new.reader) input (g.R.Source.left served.new.reader) (g.W.Sink.held c.args.writer.now) (seen_as c.args.server.now) (g.W.Sink.held served.new.writer) (seen_as served.new.server) (Ok summary)) (sym c.summary.ensures) runs
+    subst (λ (summary : Summary). Runs c.args.max_lines c.args.max_reads (reads g.R.Source.calls g.R.Source.gave c.args.reader.now) (reads g.R.Source.calls g.R.Source.gave served.new.reader) input (g.R.Source.left served.new.reader) (g.W.Sink.held c.args.writer.now) (seen_as c.args.server.now) (g.W.Sink.held served.new.writer) (seen_as served.new.server) (Ok summary)) (sym c.summary.ensures) runs

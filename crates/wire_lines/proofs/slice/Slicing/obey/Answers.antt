@@ -6,7 +6,7 @@ use Rattle.server_world.specs.Server.{seen_as}
 use Rattle.wire_lines.specs.declared.fault.RunFault.{RunFault}
 use Rattle.wire_lines.specs.declared.fault.RunFault.TheVariants.{Memory}
 use Rattle.wire_lines.specs.Taking.{RunsShort}
-use Rattle.wire_lines.proofs.Answering.{only_named}
+use Rattle.wire_lines.proofs.Answering.{entered_named, only_named, only_sessions}
 use Rattle.wire_lines.proofs.Kept.{err_is}
 use Rattle.server_world.specs.declared.report.Entry.TheVariants.{Lines, OutOfMemory}
 use Rattle.thread_model.specs.Asked.{tag}
@@ -20,6 +20,7 @@ returns-in_default-clause-later g c = record {
   settings = c.note_memory_refused.ensures.settings;
   refused = λ was. c.note_memory_refused.ensures.refused.refused;
   named = only_named _ _ c.note_memory_refused.ensures.refused;
+  sessions = only_sessions _ _ c.note_memory_refused.ensures.refused;
 }
 
 pub returns-in_err-step-clause-stopped : goal.returns-in_err-step-clause-stopped
@@ -30,7 +31,12 @@ returns-in_err-step-clause-stopped g c =
     subst (λ (r : Result (Unit {0}) RunFault). IfErr r (λ fault. (fault ≡ Memory) × RunsShort (Some (Given (tag c.args.given.now))) (seen_as c.args.server.now) (seen_as c.step.new.self))) (sym (err_is _ _ c.from_residual.ensures.1)) (refl, short)
 
 pub returns-in_err-step-clause-later : goal.returns-in_err-step-clause-later
-returns-in_err-step-clause-later g c = record { settings = c.in_err-step.ensures.step.settings; refused = c.in_err-step.ensures.step.kept; named = c.in_err-step.ensures.step.named c.requires.named }
+returns-in_err-step-clause-later g c = record {
+  settings = c.in_err-step.ensures.step.settings;
+  refused = c.in_err-step.ensures.step.kept;
+  named = c.in_err-step.ensures.step.named c.requires.named;
+  sessions = entered_named (seen_as c.args.server.now) (seen_as c.step.new.self) _ c.in_err-step.ensures.known c.requires.session;
+}
 
 pub returns-clause-done : goal.returns-clause-done
 returns-clause-done g c =
@@ -46,4 +52,9 @@ returns-clause-done g c =
     }
 
 pub returns-clause-later : goal.returns-clause-later
-returns-clause-later g c = record { settings = c.in_ok-step.ensures.step.settings; refused = c.in_ok-step.ensures.step.kept; named = c.in_ok-step.ensures.step.named c.requires.named }
+returns-clause-later g c = record {
+  settings = c.in_ok-step.ensures.step.settings;
+  refused = c.in_ok-step.ensures.step.kept;
+  named = c.in_ok-step.ensures.step.named c.requires.named;
+  sessions = entered_named (seen_as c.args.server.now) (seen_as c.step.new.self) _ c.in_ok-step.ensures.known c.requires.session;
+}

@@ -1,20 +1,19 @@
 use Rattle.std.proofs.Common.{◌≡◌, ◌+◌, Ok, Option, OnOk, refl, sym, subst}
-use Rattle.std.proofs.lemmas.Bool.{or_left}
 use Rattle.server_world.specs.Server.{seen_as}
 use Rattle.thread_model.specs.Asked.{tag}
 use Rattle.wire_format.specs.Input.{Piece, piece_of}
 use Rattle.wire_format.proofs.ForCallers.{piece_of-blank, piece_of-faulty, piece_of-given, read_named, session_is_name}
 use Rattle.wire_lines.specs.Taking.{Takes}
 use Rattle.wire_lines.specs.Standing.{noted}
-use Rattle.wire_lines.proofs.Answering.{Later-same, only_named}
+use Rattle.wire_lines.proofs.Answering.{Later-same, only_named, only_sessions}
 use Rattle.wire_lines.proofs.Taken.{StopsAt-given, on_ok}
 use Rattle.wire_lines.proofs.slice.Slicing.take.Goals as goal
 
 pub obey-requires-clause-named : goal.obey-requires-clause-named
 obey-requires-clause-named g c = read_named c.args.line.now (Ok c.in-Ok.given) c.in-Ok.ensures
 
-pub obey-requires-clause-text : goal.obey-requires-clause-text
-obey-requires-clause-text g c = or_left _ _ (session_is_name c.args.line.now (tag c.in-Ok.given) c.in-Ok.ensures)
+pub obey-requires-clause-session : goal.obey-requires-clause-session
+obey-requires-clause-session g c = session_is_name c.args.line.now (tag c.in-Ok.given) c.in-Ok.ensures
 
 pub returns-then-is_blank-clause-taken : goal.returns-then-is_blank-clause-taken
 returns-then-is_blank-clause-taken g c =
@@ -51,4 +50,5 @@ returns-clause-later g c = record {
   settings = c.note_memory_refused.ensures.settings;
   refused = λ was. c.note_memory_refused.ensures.refused.refused;
   named = only_named _ _ c.note_memory_refused.ensures.refused;
+  sessions = only_sessions _ _ c.note_memory_refused.ensures.refused;
 }

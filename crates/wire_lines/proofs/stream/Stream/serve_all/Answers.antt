@@ -5,7 +5,7 @@ use Rattle.wire_lines.specs.declared.fault.RunFault.{RunFault}
 use Rattle.wire_lines.specs.declared.fault.RunFault.TheVariants.{Read, Write, Endless}
 use Rattle.wire_lines.specs.Stream.{Fed, SinkFails}
 use Rattle.wire_lines.specs.Feeding.{at}
-use Rattle.wire_lines.specs.Run.{Ends}
+use Rattle.wire_lines.specs.Run.{Ends, reads}
 use Rattle.wire_lines.proofs.Answering.{Later-trans}
 use Rattle.wire_lines.proofs.Feeding.{and_then, Fed-later, Fed-refl, Fed-trans, Cut-after, Cut-later, Finishes-later, Stops-cut, Stops-anywhere, SinkFails-unread}
 use Rattle.wire_lines.proofs.Kept.{err_is}
@@ -24,7 +24,7 @@ returns-in_err-flush-clause-ends g c = λ input known.
     let end = at (g.W.Sink.held c.flush.new.writer) c.flush.new.self (seen_as c.reads.server) [] in
     let flushed = c.in_err-flush.ensures in
     let cut = Cut-flushed (seen_as c.reads.server) (g.W.Sink.held c.reads.writer) (g.W.Sink.held c.flush.new.writer) c.reads.self.lines.output.gathered c.flush.new.self.output.gathered c.reads.self.begun [] rest c.reads.self.lines.count c.flush.new.self.count flushed.emptied flushed.bytes flushed.count in
-    Ends-stopped old.lines.most c.args.max_reads (g.R.Source.calls c.args.reader.now) (g.R.Source.calls c.reads.reader) (g.R.Source.left c.reads.reader) Write (and_then start input) end c.from_residual.result not_read
+    Ends-stopped old.lines.most c.args.max_reads (reads g.R.Source.calls g.R.Source.gave c.args.reader.now) (reads g.R.Source.calls g.R.Source.gave c.reads.reader) (g.R.Source.left c.reads.reader) Write (and_then start input) end c.from_residual.result not_read
     (Cut-known start end bytes rest input is Write (Cut-after Write (and_then start bytes) here end rest so_far.fed cut))
     (err_is _ _ c.from_residual.ensures.1)
 
@@ -64,9 +64,9 @@ returns-then-count-eq0-clause-ends g c = λ input known.
     let nothing = known_end _ rest (read.1 c.if-count-eq0.true (omega arith)) left in
     let whole : bytes ≡ input = sym (is ∙ ap (λ l. (bytes ++ take c.in-Ok.count c.read.new.buffer) ++ l) nothing ∙ append-nil (bytes ++ take c.in-Ok.count c.read.new.buffer) ∙ ap (λ l. bytes ++ l) none ∙ append-nil bytes) in
     let end = at (g.W.Sink.held c.finish.new.writer) c.finish.new.self.lines (seen_as c.finish.new.server) [] in
-    let ends = Ends-finished c.flush.new.self.most c.args.max_reads (g.R.Source.calls c.args.reader.now) (g.R.Source.calls c.read.new.self) (g.R.Source.left c.read.new.self) (and_then start bytes) next end c.finish.result _ _ c.finish.ensures.failed fed_all c.finish.ensures.done in
-    let all = subst (λ (b : List ℕ). Ends c.flush.new.self.most c.args.max_reads (g.R.Source.calls c.args.reader.now) (g.R.Source.calls c.read.new.self) (g.R.Source.left c.read.new.self) (and_then start b) end c.finish.result) whole ends in
-    subst (λ (most : ℕ). Ends most c.args.max_reads (g.R.Source.calls c.args.reader.now) (g.R.Source.calls c.read.new.self) (g.R.Source.left c.read.new.self) (and_then start input) end c.finish.result) (flushed.most ∙ so_far.most) all
+    let ends = Ends-finished c.flush.new.self.most c.args.max_reads (reads g.R.Source.calls g.R.Source.gave c.args.reader.now) (reads g.R.Source.calls g.R.Source.gave c.read.new.self) (g.R.Source.left c.read.new.self) (and_then start bytes) next end c.finish.result _ _ c.finish.ensures.failed fed_all c.finish.ensures.done in
+    let all = subst (λ (b : List ℕ). Ends c.flush.new.self.most c.args.max_reads (reads g.R.Source.calls g.R.Source.gave c.args.reader.now) (reads g.R.Source.calls g.R.Source.gave c.read.new.self) (g.R.Source.left c.read.new.self) (and_then start b) end c.finish.result) whole ends in
+    subst (λ (most : ℕ). Ends most c.args.max_reads (reads g.R.Source.calls g.R.Source.gave c.args.reader.now) (reads g.R.Source.calls g.R.Source.gave c.read.new.self) (g.R.Source.left c.read.new.self) (and_then start input) end c.finish.result) (flushed.most ∙ so_far.most) all
 
 pub returns-in_err-flush-clause-later : goal.returns-in_err-flush-clause-later
 returns-in_err-flush-clause-later g c = Fed-later _ _ c.reads.invariant.1.fed
@@ -105,9 +105,9 @@ returns-in_err-feed-clause-ends g c = λ input known.
     let fault = c.in_err-feed.field-0.0 in
     let stops = Stops-read c.flush.new.self.most fault start here next after bytes chunk rest so_far.fed fed (c.in_err-feed.ensures.fed rest) in
     let ended = Stops-anywhere c.flush.new.self.most fault (and_then start (bytes ++ chunk)) after [] rest stops in
-    let ends = Ends-stopped c.flush.new.self.most c.args.max_reads (g.R.Source.calls c.args.reader.now) (g.R.Source.calls c.read.new.self) (g.R.Source.left c.read.new.self) fault (and_then start input) end c.from_residual-in_err-feed.result (SinkFails-unread (Unit {0}) _ _ fault c.in_err-feed.ensures.failed)
+    let ends = Ends-stopped c.flush.new.self.most c.args.max_reads (reads g.R.Source.calls g.R.Source.gave c.args.reader.now) (reads g.R.Source.calls g.R.Source.gave c.read.new.self) (g.R.Source.left c.read.new.self) fault (and_then start input) end c.from_residual-in_err-feed.result (SinkFails-unread (Unit {0}) _ _ fault c.in_err-feed.ensures.failed)
     (Stops-known start end (bytes ++ chunk) rest input is c.flush.new.self.most fault ended) (err_is _ _ c.from_residual-in_err-feed.ensures.1) in
-    subst (λ (most : ℕ). Ends most c.args.max_reads (g.R.Source.calls c.args.reader.now) (g.R.Source.calls c.read.new.self) (g.R.Source.left c.read.new.self) (and_then start input) end c.from_residual-in_err-feed.result) (flushed.most ∙ so_far.most) ends
+    subst (λ (most : ℕ). Ends most c.args.max_reads (reads g.R.Source.calls g.R.Source.gave c.args.reader.now) (reads g.R.Source.calls g.R.Source.gave c.read.new.self) (g.R.Source.left c.read.new.self) (and_then start input) end c.from_residual-in_err-feed.result) (flushed.most ∙ so_far.most) ends
 
 pub reads-preserved : goal.reads-preserved
 reads-preserved g c =
@@ -130,6 +130,7 @@ reads-preserved g c =
         consumed = Consumes-trans _ _ _ bytes chunk so_far.consumed read.0;
         asked = omega (arith, so_far.asked, c.in-Ok.ensures.asked);
         counted = omega (arith, so_far.counted, c.in-Ok.ensures.asked);
+        gave = omega (arith, so_far.gave, c.in-Ok.ensures.gave.0 some);
         enough = omega (arith, so_far.enough, c.in-Ok.ensures.bound.1);
         fed = Fed-read start here next after bytes chunk so_far.fed fed fed_more.fed;
         most = fed_more.most ∙ flushed.most ∙ so_far.most;
@@ -152,7 +153,7 @@ returns-clause-ends g c = λ input known.
     let parts = length-append bytes rest in (
       Cut-known start end bytes rest input is Endless (Cut-after Endless (and_then start bytes) here end rest so_far.fed (Cut-here Endless here [] rest)),
       inr (
-        (omega (arith, so_far.counted), omega (arith, so_far.enough, count, all, parts)),
+        (omega (arith, so_far.counted), omega (arith, so_far.gave), omega (arith, so_far.enough, count, all, parts)),
         counted_read start here bytes rest input (g.R.Source.left c.reads.reader) [] is left so_far.fed c.reads.self.no_end,
       ),
     )
@@ -166,6 +167,7 @@ reads-init g c =
         consumed = Consumes-nil (g.R.Source.left c.args.reader.now);
         asked = omega arith;
         counted = omega arith;
+        gave = omega arith;
         enough = omega arith;
         fed = subst (λ (begun : List ℕ). Fed (here begun) (here old.begun)) (sym (append-nil old.begun)) (Fed-refl (here old.begun));
         most = refl;

@@ -12,6 +12,7 @@ invariant-reads g l = (bytes : List ℕ) × record {
   consumed : Consumes (g.R.Source.left l.initial.reader) (g.R.Source.left l.reader) bytes;
   asked : g.R.Source.calls l.reader ≤ g.R.Source.calls l.initial.reader + l._reads;
   counted : min (g.R.Source.calls l.reader) greatest_count ≡ min (g.R.Source.calls l.initial.reader + l._reads) greatest_count;
+  gave : min (g.R.Source.gave l.reader) greatest_count ≡ min (g.R.Source.gave l.initial.reader + l._reads) greatest_count;
   enough : l._reads ≤ length bytes;
   fed : Fed (at (g.W.Sink.held l.initial.writer) l.initial.self.lines (seen_as l.initial.server) (l.initial.self.begun ++ bytes))
       (at (g.W.Sink.held l.writer) l.self.lines (seen_as l.server) l.self.begun);

@@ -1,6 +1,7 @@
 use Rattle.std.proofs.Common.{[], ◌++◌, sym}
 use Rattle.wire_lines.specs.declared.fault.RunFault.TheVariants.{Write}
 use Rattle.wire_lines.specs.Feeding.{at}
+use Rattle.wire_lines.specs.Run.{reads}
 use Rattle.wire_lines.proofs.Kept.{err_is}
 use Rattle.wire_lines.proofs.Reading.{Ends-stopped, not_read}
 use Rattle.wire_lines.proofs.Whole.{IsWrittenOut-empty, IsWrittenOut-failed, Ends-flushed, Ends-flush_failed}
@@ -14,8 +15,8 @@ returns-in_err-flush-clause-ends g c = λ input known.
     let served = c.serve_all-ended in
     let end = at (g.W.Sink.held c.flush.new.writer) c.flush.new.self (seen_as served.new.server) [] in
     let flushed = c.in_err-flush.ensures in
-    Ends-stopped old.lines.most c.args.max_reads (g.R.Source.calls c.args.reader.now) (g.R.Source.calls served.new.reader) (g.R.Source.left served.new.reader) Write start end c.from_residual.result not_read
-    (Ends-flush_failed old.lines.most c.args.max_reads (g.R.Source.calls c.args.reader.now) (g.R.Source.calls served.new.reader) (g.R.Source.left served.new.reader) start (seen_as served.new.server) (g.W.Sink.held served.new.writer) (g.W.Sink.held c.flush.new.writer)
+    Ends-stopped old.lines.most c.args.max_reads (reads g.R.Source.calls g.R.Source.gave c.args.reader.now) (reads g.R.Source.calls g.R.Source.gave served.new.reader) (g.R.Source.left served.new.reader) Write start end c.from_residual.result not_read
+    (Ends-flush_failed old.lines.most c.args.max_reads (reads g.R.Source.calls g.R.Source.gave c.args.reader.now) (reads g.R.Source.calls g.R.Source.gave served.new.reader) (g.R.Source.left served.new.reader) start (seen_as served.new.server) (g.W.Sink.held served.new.writer) (g.W.Sink.held c.flush.new.writer)
     served.new.self.lines.output.gathered c.flush.new.self.output.gathered served.new.self.lines.count c.flush.new.self.count served.result flushed.emptied flushed.count flushed.bytes (served.ensures.ends input known))
     (err_is _ _ c.from_residual.ensures.1)
 
@@ -25,7 +26,7 @@ returns-clause-ends g c = λ input known.
     let start = at (g.W.Sink.held c.args.writer.now) old.lines (seen_as c.args.server.now) (old.begun ++ input) in
     let served = c.serve_all-ended in
     let flushed = c.in_ok-flush.ensures in
-    Ends-flushed old.lines.most c.args.max_reads (g.R.Source.calls c.args.reader.now) (g.R.Source.calls served.new.reader) (g.R.Source.left served.new.reader) start (seen_as served.new.server) (g.W.Sink.held served.new.writer) (g.W.Sink.held c.flush.new.writer)
+    Ends-flushed old.lines.most c.args.max_reads (reads g.R.Source.calls g.R.Source.gave c.args.reader.now) (reads g.R.Source.calls g.R.Source.gave served.new.reader) (g.R.Source.left served.new.reader) start (seen_as served.new.server) (g.W.Sink.held served.new.writer) (g.W.Sink.held c.flush.new.writer)
     served.new.self.lines.output.gathered c.flush.new.self.output.gathered served.new.self.lines.count c.flush.new.self.count served.result flushed.emptied flushed.count flushed.bytes (served.ensures.ends input known)
 
 pub returns-in_err-flush-clause-written : goal.returns-in_err-flush-clause-written
