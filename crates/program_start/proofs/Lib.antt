@@ -5,5 +5,6 @@ mod NumberLemmas
 mod WordLemmas
 mod RowLemmas
 mod WalkLemmas
+mod DemonstrationLemmas
 mod ReadingLemmas
 mod StartLemmas

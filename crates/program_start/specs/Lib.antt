@@ -3,6 +3,7 @@ pub mod Asked
 pub mod Statuses
 pub mod Clamp
 pub mod Count
+pub mod Demonstration
 pub mod ClassBytes
 pub mod Ending
 pub mod Start

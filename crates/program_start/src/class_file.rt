@@ -4,7 +4,8 @@ ghost use Rattle.std.specs.Io.KnownBytes.{Consumes, IsAtEnd};
 ghost use Rattle.class_table.specs.declared.fault.ClassFault.{ClassFault};
 ghost use Rattle.class_table.specs.ClassFile.{table_of};
 ghost use Rattle.program_start.specs.declared.class_file.ClassFileError.TheVariants.{Refused};
-ghost use Rattle.program_start.specs.ClassBytes.{Answers, AnswersAt, AnswersFor, AnswersOfFile, CountsUnreadable, TakesAtMost};
+ghost use Rattle.program_start.specs.ClassBytes.{Answers, AnswersAt, AnswersByDemonstration, AnswersFor, AnswersOfFile};
+ghost use Rattle.program_start.specs.ClassBytes.{CountsUnreadable, IsReadIf, ReadsSurely, TakesAtMost, most_bytes};
 
 use crate::class_files::ClassFiles;
 use crate::demonstration::DEMONSTRATION;
@@ -68,7 +69,7 @@ pub fn classes_at<F: ClassFiles + AllocGlobal>(
     files: &F,
     path: Option<&str>,
 ) -> Result<ClassTable, ClassFileError>
-    ensures { AnswersAt (F.holds files.now) (option_map (λ path. path.now) path.entry) result }
+    ensures { AnswersAt (F.holds files.now) (F.readable files.now) (option_map (λ path. path.now) path.entry) result }
 {
     let file = match path {
         Some(path) => Some(files.class_file(path)?),
@@ -82,20 +83,28 @@ pub fn classes_of<S: Source + Drop>(
     alloc: Global,
     file: Option<S>,
 ) -> Result<ClassTable, ClassFileError>
-    ensures { AnswersFor S.left file result }
+    ensures { AnswersFor S.left S.infallible file result }
 {
     match file {
         Some(mut file) => classes_in(alloc, &mut file),
-        None => table_from(alloc, DEMONSTRATION.as_bytes()),
+        None => demonstration_classes(alloc),
     }
+}
+
+/// The demonstration classes.
+fn demonstration_classes(alloc: Global) -> Result<ClassTable, ClassFileError>
+    ensures { AnswersByDemonstration result }
+{
+    table_from(alloc, DEMONSTRATION.as_bytes())
 }
 
 /// The classes of a class file: those that all of its bytes give, though no more of them are read
 /// than it takes to know that there are too many.
 pub fn classes_in<S: Source>(alloc: Global, file: &mut S) -> Result<ClassTable, ClassFileError>
     ensures classes { IfSome (S.left file.old) (λ bytes. AnswersOfFile result (table_of bytes)) }
-    ensures taken { TakesAtMost MOST_BYTES (S.left file.old) (S.left file.new) }
+    ensures taken { TakesAtMost most_bytes (S.left file.old) (S.left file.new) }
     ensures failed { CountsUnreadable (S.failures file.old) (S.failures file.new) result }
+    ensures read { IsReadIf (S.infallible file.old) result }
 {
     let bytes = read_at_most(alloc, file, MOST_BYTES)?;
     table_from(alloc, bytes.as_slice())
@@ -121,6 +130,7 @@ pub fn read_at_most<S: Source>(
     ensures few { IfOk result (λ bytes. vec_len bytes ≤ most) }
     ensures taken { TakesAtMost most (S.left source.old) (S.left source.new) }
     ensures failed { CountsUnreadable (S.failures source.old) (S.failures source.new) result }
+    ensures read { IsReadIf (S.infallible source.old) result }
     ensures kinds { (fault : ClassFault) → result ≢ Err (Refused fault) }
 {
     let mut bytes = Vec::new(alloc);
@@ -146,7 +156,8 @@ fn read_more<S: Source>(
     ensures came { OnOk result ((came : List ℕ) × (bytes.new.items ≡ bytes.old.items ++ came) × Consumes (S.left source.old) (S.left source.new) came) }
     ensures end { IfOk result (λ count. count ≡ 0 → IsAtEnd (S.left source.new)) }
     ensures taken { TakesAtMost (most - vec_len bytes.old) (S.left source.old) (S.left source.new) }
-    ensures failed { CountsUnreadable (S.failures source.old) (S.failures source.new) result }
+    ensures failed { CountsUnreadable (S.failures source.old) (S.failures source.new) result
+        × ReadsSurely (S.infallible source.old) (S.infallible source.new) result }
     ensures kinds { (fault : ClassFault) → result ≢ Err (Refused fault) }
 {
     let mut chunk = [0; CHUNK_BYTES];

@@ -6,6 +6,7 @@ mod beginning;
 mod clamp;
 mod class_file;
 mod class_files;
+mod command_line;
 mod count;
 mod demonstration;
 mod ending;
@@ -20,6 +21,7 @@ pub use class_file::{
     ClassFileError, MOST_BYTES, classes_at, classes_in, classes_of, read_at_most,
 };
 pub use class_files::ClassFiles;
+pub use command_line::CommandLine;
 pub use count::count_answer;
 pub use demonstration::DEMONSTRATION;
 pub use ending::{Ending, Stream, class_text};

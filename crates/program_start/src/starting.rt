@@ -1,11 +1,12 @@
 //! The start of the program: the command line, and then the classes.
 ghost use Rattle.std.specs.Prelude.{IfErr, map};
 ghost use Rattle.program_start.specs.Asked.{asked};
-ghost use Rattle.program_start.specs.Start.{Starts, StartsByProcess, SaysNoWords};
+ghost use Rattle.program_start.specs.Start.{Starts, StartsByProcess, SaysNoWords, files};
 
 use crate::beginning::Beginning;
 use crate::class_file::classes_at;
 use crate::class_files::ClassFiles;
+use crate::command_line::CommandLine;
 use crate::ending::Ending;
 use crate::options::{OptionsError, options_of};
 use std::alloc::AllocError;
@@ -14,12 +15,12 @@ use std::env;
 use std::env::Env;
 use std::io::ErrorKind;
 
-/// What the program is to run with, or how it ends where there is no run: by the command line of the
-/// process, and then by the class file that it names.
-pub fn start<R: ClassFiles + Env + AllocGlobal>(rt: &R) -> Result<Beginning, Ending>
-    ensures { StartsByProcess (R.holds rt.now) result }
+/// What the program is to run with, or how it ends where there is no run: by the command line, and then by
+/// the class file that it names.
+pub fn start<R: ClassFiles + CommandLine + AllocGlobal>(rt: &R) -> Result<Beginning, Ending>
+    ensures { StartsByProcess (R.given rt.now) (files (R.holds rt.now) (R.readable rt.now)) result }
 {
-    let words = words_of(rt)?;
+    let words = rt.words()?;
     start_with(rt, words.as_slice())
 }
 
@@ -45,7 +46,7 @@ pub fn start_with<R: ClassFiles + AllocGlobal, S: AsStr>(
     rt: &R,
     words: &[S],
 ) -> Result<Beginning, Ending>
-    ensures { Starts (R.holds rt.now) (asked (map S.text words.now)) result }
+    ensures { Starts (files (R.holds rt.now) (R.readable rt.now)) (asked (map S.text words.now)) result }
 {
     let alloc = rt.alloc();
     let options = match options_of(alloc, words) {

@@ -1,10 +1,12 @@
 -- Steps of a run, one after another.
-use Rattle.std.proofs.Common.{◌≡◌, ℕ, ◌+◌, ◌<◌, List, [], ◌++◌, length, Result, Ok, Err, refl, sym, ap, ◌∙◌, subst, arith, append-nil, append_assoc, length-append}
+use Rattle.std.proofs.Common.{◌≡◌, ℕ, ◌+◌, ◌<◌, List, [], ◌∷◌, ◌++◌, length, Option, Result, Ok, Err, refl, sym, ap, ◌∙◌, subst, arith, append-nil, append_assoc, length-append}
 use Rattle.wire_lines.specs.declared.fault.RunFault.{RunFault}
 use Rattle.wire_lines.specs.declared.fault.RunFault.TheVariants.{Read, Write, Endless, Memory}
+use Rattle.server_world.specs.Server.{Server}
+use Rattle.wire_format.specs.Input.{Piece}
 use Rattle.wire_lines.specs.Sending.{Out, Sent, SentFront}
 use Rattle.wire_lines.specs.Steps.{AreAnswered, read_lines}
-use Rattle.wire_lines.specs.Stream.{Later, Point, Fed, Done, SentUntil, Cut, IsOver, Stops, Feeds, Finishes, SinkFails}
+use Rattle.wire_lines.specs.Stream.{Later, Point, Fed, Done, SentUntil, Cut, IsOver, IsStuck, Stops, StuckIn, Feeds, Finishes, SinkFails}
 use Rattle.wire_lines.proofs.Answering.{AreAnswered-append, AreAnswered-later}
 use Rattle.wire_lines.proofs.Sent.{Sent-nothing, Sent-trans, SentFront-after, SentFront-whole}
 
@@ -63,6 +65,34 @@ SentUntil-after Endless a b c text behind first second = Sent-trans a b c text b
 SentUntil-after Write a b c text behind first second = SentFront-after a b c text behind first second
 SentUntil-after Memory a b c text behind first second = SentFront-after a b c text behind first second
 
+-- a line that found no memory for its text, after others
+pub IsStuck-after : (a b c : Server) (before between after : Out) (lines more : List (Option Piece)) (text : List ℕ) → AreAnswered a lines text b → Sent before between text
+    → IsStuck b more c between after → IsStuck a (lines ++ more) c before after
+IsStuck-after a b c before between after lines more text answered sent it = record {
+  first = lines ++ it.first;
+  last = it.last;
+  between = it.between;
+  said = text ++ it.said;
+  lines_are = ap (λ l. lines ++ l) it.lines_are ∙ sym (append_assoc lines it.first (it.last ∷ []));
+  answered = AreAnswered-append a b it.between lines it.first text it.said answered it.answered;
+  stuck = record {
+    told = it.stuck.told;
+    session = it.stuck.session;
+    line = it.stuck.line;
+    rest = it.stuck.rest;
+    text = it.stuck.text;
+    long = it.stuck.long;
+    sent = subst (Sent before after) (sym (append_assoc text it.said it.stuck.told)) (Sent-trans before between after text (it.said ++ it.stuck.told) sent it.stuck.sent);
+  };
+}
+
+pub StuckIn-after : (fault : RunFault) (a b c : Server) (before between after : Out) (lines more : List (Option Piece)) (text : List ℕ) → AreAnswered a lines text b → Sent before between text
+    → StuckIn fault b more c between after → StuckIn fault a (lines ++ more) c before after
+StuckIn-after Read a b c before between after lines more text answered sent it = tt
+StuckIn-after Endless a b c before between after lines more text answered sent it = tt
+StuckIn-after Write a b c before between after lines more text answered sent it = tt
+StuckIn-after Memory a b c before between after lines more text answered sent it = IsStuck-after a b c before between after lines more text answered sent it
+
 -- an end that comes too early, where other bytes are read alike,
 pub Cut-alike : (fault : RunFault) (a b : Point) (begun rest other : List ℕ) → read_lines (begun ++ other) ≡ read_lines (a.begun ++ rest) → Cut fault a b rest → Cut fault (record { server = a.server; out = a.out; lines = a.lines; begun = begun }) b other
 Cut-alike fault a b begun rest other alike cut = record {
@@ -73,11 +103,13 @@ Cut-alike fault a b begun rest other alike cut = record {
   answered = cut.answered;
   sent = cut.sent;
   counted = cut.counted;
+  stuck = cut.stuck;
 }
 
 -- where more of what was said is written behind it,
-pub Cut-sent : (fault other : RunFault) (a b c : Point) (rest : List ℕ) → c.server ≡ b.server → c.lines ≡ b.lines → ((text : List ℕ) → SentUntil fault a.out b.out text → SentUntil other a.out c.out text) → Cut fault a b rest → Cut other a c rest
-Cut-sent fault other a b c rest same count more cut = record {
+pub Cut-sent : (fault other : RunFault) (a b c : Point) (rest : List ℕ) → c.server ≡ b.server → c.lines ≡ b.lines → ((text : List ℕ) → SentUntil fault a.out b.out text → SentUntil other a.out c.out text)
+    → ((lines : List (Option Piece)) (new : Server) → StuckIn fault a.server lines new a.out b.out → StuckIn other a.server lines new a.out c.out) → Cut fault a b rest → Cut other a c rest
+Cut-sent fault other a b c rest same count more stuck cut = record {
   lines = cut.lines;
   behind = cut.behind;
   text = cut.text;
@@ -85,11 +117,12 @@ Cut-sent fault other a b c rest same count more cut = record {
   answered = subst (AreAnswered a.server cut.lines cut.text) (sym same) cut.answered;
   sent = more cut.text cut.sent;
   counted = count ∙ cut.counted;
+  stuck = subst (λ server. StuckIn other a.server cut.lines server a.out c.out) (sym same) (stuck cut.lines b.server cut.stuck);
 }
 
 -- and where nothing more is said
-pub Cut-silent : (fault : RunFault) (a b : Point) (rest : List ℕ) → b.server ≡ a.server → b.lines ≡ a.lines → SentUntil fault a.out b.out [] → Cut fault a b rest
-Cut-silent fault a b rest same count sent = record {
+pub Cut-silent : (fault : RunFault) (a b : Point) (rest : List ℕ) → b.server ≡ a.server → b.lines ≡ a.lines → SentUntil fault a.out b.out [] → StuckIn fault a.server [] b.server a.out b.out → Cut fault a b rest
+Cut-silent fault a b rest same count sent stuck = record {
   lines = [];
   behind = read_lines (a.begun ++ rest);
   text = [];
@@ -97,6 +130,7 @@ Cut-silent fault a b rest same count sent = record {
   answered = (same, refl);
   sent = sent;
   counted = omega (arith, count);
+  stuck = stuck;
 }
 
 pub Cut-more : (fault : RunFault) (a b : Point) (bytes rest : List ℕ) → Cut fault a b (bytes ++ rest) → Cut fault (and_then a bytes) b rest
@@ -112,6 +146,7 @@ Cut-after fault a b c rest fed cut = record {
   answered = AreAnswered-append a.server b.server c.server fed.lines cut.lines fed.text cut.text fed.answered cut.answered;
   sent = SentUntil-after fault a.out b.out c.out fed.text cut.text fed.sent cut.sent;
   counted = let both = length-append fed.lines cut.lines in omega (arith, both, fed.counted, cut.counted);
+  stuck = StuckIn-after fault a.server b.server c.server a.out b.out c.out fed.lines cut.lines fed.text fed.answered fed.sent cut.stuck;
 }
 
 pub IsOver-after : (most : ℕ) (a b c : Point) (rest : List ℕ) → Fed a b → IsOver most b c rest → IsOver most a c rest
@@ -162,7 +197,7 @@ Stops-more most fault a b bytes rest stops =
 pub Stops-anywhere : (most : ℕ) (fault : RunFault) (a b : Point) (begun rest : List ℕ) → Stops most fault a b rest → Stops most fault a (record { server = b.server; out = b.out; lines = b.lines; begun = begun }) rest
 Stops-anywhere most fault a b begun rest stops =
     Stops-along most fault a b a (record { server = b.server; out = b.out; lines = b.lines; begun = begun }) rest rest
-    (Cut-sent fault fault a b (record { server = b.server; out = b.out; lines = b.lines; begun = begun }) rest refl refl (λ text sent. sent)) (λ over. over) stops
+    (Cut-sent fault fault a b (record { server = b.server; out = b.out; lines = b.lines; begun = begun }) rest refl refl (λ text sent. sent) (λ lines new stuck. stuck)) (λ over. over) stops
 
 pub Feeds-after : {T : Type 0} (most : ℕ) (a b c : Point) (r : Result T RunFault) → Fed a b → Feeds most b c r → Feeds most a c r
 Feeds-after most a b c (Ok done) fed feeds = Fed-trans a b c fed feeds

@@ -1,4 +1,5 @@
 pub mod Sent
+pub mod Stuck
 pub mod Begun
 pub mod Ended
 pub mod Long

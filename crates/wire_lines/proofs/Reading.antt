@@ -7,7 +7,7 @@ use Rattle.wire_lines.specs.declared.fault.RunFault.{RunFault}
 use Rattle.wire_lines.specs.declared.fault.RunFault.TheVariants.{Read, Write, Endless, Memory}
 use Rattle.wire_lines.specs.Sending.{out, Sent}
 use Rattle.wire_lines.specs.Steps.{read_lines}
-use Rattle.wire_lines.specs.Stream.{Point, Fed, Cut, Stops, Finishes, SinkFails}
+use Rattle.wire_lines.specs.Stream.{Point, Fed, Cut, Stops, StuckIn, Finishes, SinkFails}
 use Rattle.wire_lines.specs.Run.{Ends, HasCountedRead, Reads}
 use Rattle.wire_lines.proofs.Sent.{Sent-flushed, SentFront-emptied, Sent-nothing}
 use Rattle.wire_lines.proofs.Feeding.{and_then, SentUntil-whole, Cut-alike, Cut-silent, Fed-trans, Fed-more, Done-after, Stops-after, Stops-along, SinkFails-unread}
@@ -41,11 +41,11 @@ Fed-flushed server old new gathered left begun lines count none bytes same = rec
 pub Cut-flushed : (server : Server) (old new : Option (List ℕ)) (gathered left begun later_begun rest : List ℕ) (lines count : ℕ) → left ≡ [] → AppendsFront old new gathered → count ≡ lines →
     Cut Write (point server (out old gathered) lines begun) (point server (out new left) count later_begun) rest
 Cut-flushed server old new gathered left begun later_begun rest lines count none bytes same =
-    Cut-silent Write (point server (out old gathered) lines begun) (point server (out new left) count later_begun) rest refl same (SentFront-emptied old new gathered left [] none bytes)
+    Cut-silent Write (point server (out old gathered) lines begun) (point server (out new left) count later_begun) rest refl same (SentFront-emptied old new gathered left [] none bytes) tt
 
 -- nothing more is said
-pub Cut-here : (fault : RunFault) (a : Point) (begun rest : List ℕ) → Cut fault a (point a.server a.out a.lines begun) rest
-Cut-here fault a begun rest = Cut-silent fault a (point a.server a.out a.lines begun) rest refl refl (SentUntil-whole fault a.out a.out [] (Sent-nothing a.out))
+pub Cut-here : (fault : RunFault) (a : Point) (begun rest : List ℕ) → StuckIn fault a.server [] a.server a.out a.out → Cut fault a (point a.server a.out a.lines begun) rest
+Cut-here fault a begun rest stuck = Cut-silent fault a (point a.server a.out a.lines begun) rest refl refl (SentUntil-whole fault a.out a.out [] (Sent-nothing a.out)) stuck
 
 -- with the bytes that are left, all of the input is behind the point
 module _ (start end : Point) (bytes rest input : List ℕ) (is : input ≡ bytes ++ rest) where

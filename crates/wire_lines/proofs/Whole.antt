@@ -1,19 +1,19 @@
 -- How a whole run ends, and what it has written.
-use Rattle.std.proofs.Common.{IfOk, ⊎_elim, ◌≡◌, ◌⊎◌, ◌≤◌, ℕ, ◌+◌, ◌<◌, true, List, [], ◌++◌, length, take, drop, Option, Result, Ok, Err, IsOk, IsErr, IsFalse, inl, inr, refl, sym, ap, ap₂, ◌∙◌, subst, arith, append-nil, append_assoc, take-append-drop}
+use Rattle.std.proofs.Common.{IfOk, ⊎_elim, ◌≡◌, ◌⊎◌, ◌≤◌, ℕ, ◌+◌, ◌<◌, true, List, [], ◌∷◌, ◌++◌, length, take, drop, Option, Some, Result, Ok, Err, IsOk, IsErr, IsFalse, inl, inr, refl, sym, ap, ap₂, ◌∙◌, subst, arith, append-nil, append_assoc, take-append-drop}
 use Rattle.std.specs.Prelude.{MatchResult}
 use Rattle.std.specs.Io.KnownBytes.{Appends}
 use Rattle.std.proofs.lemmas.List.{length-map, take_all, take-append-le}
 use Rattle.server_world.specs.Server.{Server, states, was_refused, settings}
 use Rattle.wire_devices.specs.Bytes.{AppendsFront}
-use Rattle.wire_format.specs.Input.{lines_of, piece_of}
+use Rattle.wire_format.specs.Input.{Piece, lines_of, piece_of}
 use Rattle.wire_format.specs.Output.{output, world_of}
 use Rattle.wire_lines.specs.declared.fault.RunFault.{RunFault}
 use Rattle.wire_lines.specs.declared.fault.RunFault.TheVariants.{Read, Write, Endless, Memory}
 use Rattle.wire_lines.specs.declared.stream.Summary.{Summary}
 use Rattle.wire_lines.specs.Sending.{Out, out, Sent, SentFront}
 use Rattle.wire_lines.specs.Steps.{AreAnswered, read_lines}
-use Rattle.wire_lines.specs.Stream.{Point, Done, SentUntil, Cut}
-use Rattle.wire_lines.specs.Run.{AppendsSome, AppendsUntil, WritesAll, WritesUntil, WritesFirst, HasAnsweredRead, HasCountedRead, IsPastLines, IsPastReads, Reads, line_ends, IsWrittenOut, device_failed, ReadFails, WriteFails, Ends, Runs}
+use Rattle.wire_lines.specs.Stream.{Point, Done, SentUntil, Cut, IsStuck, StuckIn}
+use Rattle.wire_lines.specs.Run.{AppendsSome, AppendsUntil, WritesAll, WritesUntil, WritesFirst, HasAnsweredRead, HasCountedRead, HasStuck, IsUnbegun, IsPastLines, IsPastReads, Reads, line_ends, IsWrittenOut, device_failed, ReadFails, WriteFails, Ends, Runs}
 use Rattle.wire_lines.proofs.Answering.{front_found, output_found, world_found}
 use Rattle.wire_lines.proofs.Feeding.{SentUntil-front, SentUntil-whole, Cut-sent}
 use Rattle.wire_lines.proofs.Sent.{Sent-then, SentFront-then, SentFront-then_front}
@@ -36,27 +36,58 @@ SentUntil-then Endless a old new gathered left text none bytes sent = Sent-then 
 SentUntil-then Write a old new gathered left text none bytes sent = SentFront-then a old new gathered left text none sent bytes
 SentUntil-then Memory a old new gathered left text none bytes sent = SentFront-then a old new gathered left text none sent bytes
 
+-- what is gathered is written behind what was said before a text that found no memory
+IsStuck-then : (old_server new_server : Server) (a : Out) (lines : List (Option Piece)) (old new : Option (List ℕ)) (gathered left : List ℕ) → left ≡ [] → Appends old new gathered
+    → IsStuck old_server lines new_server a (out old gathered) → IsStuck old_server lines new_server a (out new left)
+IsStuck-then old_server new_server a lines old new gathered left none bytes it = record {
+  first = it.first;
+  last = it.last;
+  between = it.between;
+  said = it.said;
+  lines_are = it.lines_are;
+  answered = it.answered;
+  stuck = record {
+    told = it.stuck.told;
+    session = it.stuck.session;
+    line = it.stuck.line;
+    rest = it.stuck.rest;
+    text = it.stuck.text;
+    long = it.stuck.long;
+    sent = Sent-then a old new gathered left (it.said ++ it.stuck.told) none it.stuck.sent bytes;
+  };
+}
+
+StuckIn-then : (fault : RunFault) (old_server new_server : Server) (a : Out) (lines : List (Option Piece)) (old new : Option (List ℕ)) (gathered left : List ℕ) → left ≡ [] → Appends old new gathered
+    → StuckIn fault old_server lines new_server a (out old gathered) → StuckIn fault old_server lines new_server a (out new left)
+StuckIn-then Read old_server new_server a lines old new gathered left none bytes it = tt
+StuckIn-then Endless old_server new_server a lines old new gathered left none bytes it = tt
+StuckIn-then Write old_server new_server a lines old new gathered left none bytes it = tt
+StuckIn-then Memory old_server new_server a lines old new gathered left none bytes it = IsStuck-then old_server new_server a lines old new gathered left none bytes it
+
 Cut-then : (fault : RunFault) (a : Point) (server : Server) (old new : Option (List ℕ)) (gathered left rest : List ℕ) (lines count : ℕ) → left ≡ [] → count ≡ lines → Appends old new gathered →
     Cut fault a (point server (out old gathered) lines []) rest → Cut fault a (point server (out new left) count []) rest
 Cut-then fault a server old new gathered left rest lines count none same bytes cut =
     Cut-sent fault fault a (point server (out old gathered) lines []) (point server (out new left) count []) rest refl same
-    (λ text sent. SentUntil-then fault a.out old new gathered left text none bytes sent) cut
+    (λ text sent. SentUntil-then fault a.out old new gathered left text none bytes sent)
+    (λ lines end stuck. StuckIn-then fault a.server end a.out lines old new gathered left none bytes stuck) cut
 
 Cut-then_front : (fault : RunFault) (a : Point) (server : Server) (old new : Option (List ℕ)) (gathered left rest : List ℕ) (lines count : ℕ) → left ≡ [] → count ≡ lines → AppendsFront old new gathered →
     Cut fault a (point server (out old gathered) lines []) rest → Cut Write a (point server (out new left) count []) rest
 Cut-then_front fault a server old new gathered left rest lines count none same bytes cut =
     Cut-sent fault Write a (point server (out old gathered) lines []) (point server (out new left) count []) rest refl same
-    (λ text sent. SentFront-then_front a.out old new gathered left text none (SentUntil-front fault a.out (out old gathered) text sent) bytes) cut
+    (λ text sent. SentFront-then_front a.out old new gathered left text none (SentUntil-front fault a.out (out old gathered) text sent) bytes)
+    (λ lines end stuck. tt) cut
 
-Cut-done : (fault : RunFault) (a b : Point) → Done a b → Cut fault a b []
-Cut-done fault a b done = record {
+Cut-done : (a b : Point) → Done a b → Cut Write a b []
+Cut-done a b done = record {
   lines = read_lines a.begun;
   behind = [];
   text = done.text;
   reads = ap read_lines (append-nil a.begun) ∙ sym (append-nil (read_lines a.begun));
   answered = done.answered;
-  sent = SentUntil-whole fault a.out b.out done.text done.sent;
+  sent = SentUntil-whole Write a.out b.out done.text done.sent;
   counted = done.counted;
+  stuck = tt;
 }
 
 counted_alike : (left_after : Option (List ℕ)) (a : Point) (server : Server) (old new : Option (List ℕ)) (gathered left : List ℕ) (lines count : ℕ) → count ≡ lines → HasCountedRead left_after a (point server (out old gathered) lines []) → HasCountedRead left_after a (point server (out new left) count [])
@@ -79,7 +110,7 @@ Ends-flushed most reads calls calls_after left_after a server old new gathered l
 -- or a front of it
 pub Ends-flush_failed : {T : Type 0} (most reads : ℕ) (calls calls_after : Reads) (left_after : Option (List ℕ)) (a : Point) (server : Server) (old new : Option (List ℕ)) (gathered left : List ℕ) (lines count : ℕ) (r : Result T RunFault) → left ≡ [] → count ≡ lines → AppendsFront old new gathered →
     Ends most reads calls calls_after left_after a (point server (out old gathered) lines []) r → Cut Write a (point server (out new left) count []) []
-Ends-flush_failed most reads calls calls_after left_after a server old new gathered left lines count (Ok done) none same bytes ends = Cut-then_front Write a server old new gathered left [] lines count none same bytes (Cut-done Write a _ ends)
+Ends-flush_failed most reads calls calls_after left_after a server old new gathered left lines count (Ok done) none same bytes ends = Cut-then_front Write a server old new gathered left [] lines count none same bytes (Cut-done a _ ends)
 Ends-flush_failed most reads calls calls_after left_after a server old new gathered left lines count (Err Read) none same bytes ends = Cut-then_front Read a server old new gathered left [] lines count none same bytes ends.0
 Ends-flush_failed most reads calls calls_after left_after a server old new gathered left lines count (Err Write) none same bytes ends = Cut-then_front Write a server old new gathered left [] lines count none same bytes ends
 Ends-flush_failed most reads calls calls_after left_after a server old new gathered left lines count (Err Memory) none same bytes ends = Cut-then_front Memory a server old new gathered left [] lines count none same bytes ends
@@ -149,6 +180,26 @@ module _ (T : Type 0) (fault : RunFault) (input : List ℕ) (held held_after : O
       let same : count ≡ line_ends counts.0 = omega (arith, counts.4) in
       (counts.0, counts.1, counts.2, counts.3, subst (λ n. WritesUntil fault n input held old held_after new) same (WritesUntil-cut cut))
 
+  pub HasStuck-cut : left ≡ [] → (cut : Cut fault (beginning old held input) (point new (out held_after left) count []) []) → IsStuck old cut.lines new (out held []) (out held_after left) → HasStuck input held old held_after new
+  HasStuck-cut nothing cut it =
+      let all : read_lines input ≡ cut.lines ++ cut.behind = ap read_lines (sym (append-nil input)) ∙ cut.reads in
+      record {
+        first = it.first;
+        last = it.last;
+        behind = cut.behind;
+        between = it.between;
+        said = it.said;
+        lines_are = all ∙ ap (λ l. l ++ cut.behind) it.lines_are ∙ append_assoc it.first (it.last ∷ []) cut.behind;
+        answered = it.answered;
+        told = it.stuck.told;
+        session = it.stuck.session;
+        line = it.stuck.line;
+        rest = it.stuck.rest;
+        last_answered = it.stuck.text;
+        long = it.stuck.long;
+        written = all_written held held_after left (it.said ++ it.stuck.told) nothing it.stuck.sent;
+      }
+
   pub WritesFirst-cut : (most : ℕ) → count ≤ most → Cut fault (beginning old held input) (point new (out held_after left) count []) [] → WritesFirst fault most input held old held_after new
   WritesFirst-cut most within cut = (count, within, WritesUntil-cut cut)
 
@@ -159,7 +210,10 @@ Runs-stopped max_lines max_reads calls calls_after input left_after held held_af
   HasAnsweredRead-cut T Read input held held_after old new left count none left_after ends.1 ends.0,
 )
 Runs-stopped max_lines max_reads calls calls_after input left_after held held_after old new left count T Write none within ends = WritesFirst-cut T Write input held held_after old new left count none max_lines within ends
-Runs-stopped max_lines max_reads calls calls_after input left_after held held_after old new left count T Memory none within ends = WritesFirst-cut T Memory input held held_after old new left count none max_lines within ends
+Runs-stopped max_lines max_reads calls calls_after input left_after held held_after old new left count T Memory none within ends = (
+  WritesFirst-cut T Memory input held held_after old new left count none max_lines within ends,
+  inr (HasStuck-cut T Memory input held held_after old new left count none none ends ends.stuck),
+)
 Runs-stopped max_lines max_reads calls calls_after input left_after held held_after old new left count T Endless none within ends = (
   WritesFirst-cut T Endless input held held_after old new left count none max_lines within ends.0,
   ⊎_elim
@@ -173,8 +227,11 @@ Runs-stopped max_lines max_reads calls calls_after input left_after held held_af
 )
 
 -- where a run has not begun, it has answered and written nothing
-pub Runs-unbegun : (max_lines max_reads : ℕ) (calls calls_after : Reads) (input : List ℕ) (left_after : Option (List ℕ)) (held : Option (List ℕ)) (server : Server) → Runs max_lines max_reads calls calls_after input left_after held server held server (Err Memory)
-Runs-unbegun max_lines max_reads calls calls_after input left_after held server = WritesFirst-cut (Unit {0}) Memory input held held server server [] 0 refl max_lines (omega arith) (Cut-here Memory (beginning server held input) [] [])
+pub Runs-unbegun : (max_lines max_reads : ℕ) (calls : Reads) (input : List ℕ) (held : Option (List ℕ)) (server : Server) → Runs max_lines max_reads calls calls input (Some input) held server held server (Err Memory)
+Runs-unbegun max_lines max_reads calls input held server = (
+  WritesFirst-cut (Unit {0}) Write input held held server server [] 0 tt max_lines (omega arith) (Cut-here Write (beginning server held input) [] [] tt),
+  inl (record { server = refl; written = refl; asked = refl; left = refl }),
+)
 
 pub Runs-done : (max_lines max_reads : ℕ) (calls calls_after : Reads) (input : List ℕ) (left_after : Option (List ℕ)) (held held_after : Option (List ℕ)) (old new : Server) (left : List ℕ) (summary : Summary) → left ≡ [] → summary.lines ≤ max_lines →
     Done (beginning old held input) (point new (out held_after left) summary.lines []) → Runs max_lines max_reads calls calls_after input left_after held old held_after new (Ok summary)
@@ -188,7 +245,7 @@ module _ (max_lines max_reads : ℕ) (calls calls_after : Reads) (input : List �
   Runs-answered (Ok summary) runs = runs.0
   Runs-answered (Err Read) runs = runs.0
   Runs-answered (Err Write) runs = runs
-  Runs-answered (Err Memory) runs = runs
+  Runs-answered (Err Memory) runs = runs.0
   Runs-answered (Err Endless) runs = runs.0
 
   pub Runs-well : (r : Result Summary RunFault) → Runs max_lines max_reads calls calls_after input left_after held old held_after new r → IsOk r → IsFalse (was_refused new) →
@@ -214,7 +271,7 @@ module _ (max_lines max_reads : ℕ) (calls calls_after : Reads) (input : List �
   Runs-prefix (Ok summary) runs failed found = absurd (cc failed)
   Runs-prefix (Err Read) runs failed found = first_written Read runs.0 found
   Runs-prefix (Err Write) runs failed found = first_written Write runs found
-  Runs-prefix (Err Memory) runs failed found = first_written Memory runs found
+  Runs-prefix (Err Memory) runs failed found = first_written Memory runs.0 found
   Runs-prefix (Err Endless) runs failed found = first_written Endless runs.0 found
 
   pub Runs-endless : (r : Result Summary RunFault) → Runs max_lines max_reads calls calls_after input left_after held old held_after new r → r ≡ Err Endless → IsPastLines max_lines input held old held_after new ⊎ IsPastReads max_reads input calls calls_after × HasAnsweredRead Endless input left_after held old held_after new
@@ -222,6 +279,10 @@ module _ (max_lines max_reads : ℕ) (calls calls_after : Reads) (input : List �
 
   pub Runs-unread : (r : Result Summary RunFault) → Runs max_lines max_reads calls calls_after input left_after held old held_after new r → r ≡ Err Read → HasAnsweredRead Read input left_after held old held_after new
   Runs-unread r runs is = let ended : Runs max_lines max_reads calls calls_after input left_after held old held_after new (Err Read) = subst (Runs max_lines max_reads calls calls_after input left_after held old held_after new) is runs in ended.1
+
+  pub Runs-memory : (r : Result Summary RunFault) → Runs max_lines max_reads calls calls_after input left_after held old held_after new r → r ≡ Err Memory
+      → IsUnbegun calls calls_after input left_after held old held_after new ⊎ HasStuck input held old held_after new
+  Runs-memory r runs is = let ended : Runs max_lines max_reads calls calls_after input left_after held old held_after new (Err Memory) = subst (Runs max_lines max_reads calls calls_after input left_after held old held_after new) is runs in ended.1
 
 -- a run with nothing gathered and nothing begun stands at the beginning
 pub Ends-beginning : {T : Type 0} (max_lines max_reads : ℕ) (calls calls_after : Reads) (left_after : Option (List ℕ)) (most lines : ℕ) (gathered begun input : List ℕ) (held : Option (List ℕ)) (old : Server) (end : Point) (r : Result T RunFault) →

@@ -1,18 +1,21 @@
 -- What a run over a whole input promises.
-use Rattle.std.specs.Prelude.{◌≡◌, ◌⊎◌, ◌<◌, ◌≤◌, ◌+◌, ◌==◌, ◌++◌, ℕ, Bool, true, false, List, [], length, take, filter}
+use Rattle.std.specs.Prelude.{◌≡◌, ◌⊎◌, ◌<◌, ◌≤◌, ◌+◌, ◌==◌, ◌++◌, ℕ, Bool, true, false, List, [], ◌∷◌, length, take, filter}
 use Rattle.std.specs.Prelude.{min, Option, Some, Result, Ok, Err, IsOk, IsErr, IfOk, MatchResult, IsFalse}
 use Rattle.std.specs.Io.KnownBytes.{Appends}
 use Rattle.server_world.specs.Server.{Server, states, names, was_refused, settings}
 use Rattle.wire_devices.specs.Counts.{FailsOnce, greatest_count}
-use Rattle.wire_format.specs.Input.{lines_of}
+use Rattle.thread_model.specs.declared.line.Line.{Line}
+use Rattle.wire_format.specs.Input.{Piece, lines_of}
 use Rattle.wire_format.specs.Output.{output, world_of}
+use Rattle.wire_format.specs.Parts.{has_parts}
+use Rattle.wire_format.specs.Text.{text_of_line}
 use Rattle.wire_lines.specs.declared.fault.RunFault.{RunFault}
 use Rattle.wire_lines.specs.declared.fault.RunFault.TheVariants.{Read, Write, Endless, Memory}
 use Rattle.wire_lines.specs.declared.stream.Summary.{Summary}
 use Rattle.wire_lines.specs.Isolation.{IsToldAlone, IsToldAsWithout, IsToldBetween, IsToldInterleaved}
 use Rattle.wire_lines.specs.Sending.{IsFront}
 use Rattle.wire_lines.specs.Spared.{Spares, SparesAll, first_lines}
-use Rattle.wire_lines.specs.Steps.{AreAnswered, read_lines}
+use Rattle.wire_lines.specs.Steps.{AreAnswered, IsAnswered, read_lines}
 use Rattle.wire_lines.specs.Stream.{Point, Done, Cut, IsOver}
 
 -- the run came to the end of its input, and memory was never wanted in vain
@@ -101,6 +104,32 @@ IsPastReads max_reads bytes old new =
     × (min new.gave greatest_count ≡ min (old.gave + max_reads) greatest_count)
     × (max_reads ≤ length bytes)
 
+-- no buffers were made: nothing was read, answered or written
+pub record IsUnbegun (calls calls_after : Reads) (input : List ℕ)
+    (left_after held : Option (List ℕ)) (old : Server) (held_after : Option (List ℕ)) (new : Server) : Type 0 where
+  pub server : new ≡ old
+  pub written : held_after ≡ held
+  pub asked : calls_after ≡ calls
+  pub left : left_after ≡ Some input
+
+-- some first lines are answered, and there was no memory for the text of a line that is said to the last of them: all that
+-- comes before this text is written, and nothing more. What is said in parts, as refusals are, takes no memory
+pub record HasStuck (input : List ℕ) (held : Option (List ℕ)) (old : Server) (held_after : Option (List ℕ)) (new : Server) : Type 0 where
+  pub first : List (Option Piece)
+  pub last : Option Piece
+  pub behind : List (Option Piece)
+  pub between : Server
+  pub said : List ℕ
+  pub lines_are : read_lines input ≡ first ++ (last ∷ behind)
+  pub answered : AreAnswered old first said between
+  pub told : List ℕ
+  pub session : List ℕ
+  pub line : Line
+  pub rest : List ℕ
+  pub last_answered : IsAnswered between last (told ++ (text_of_line session line ++ rest)) new
+  pub long : has_parts line ≡ false
+  pub written : Appends held held_after (said ++ told)
+
 -- what a run over these bytes comes to, which reads no more than so many lines, and by no more than so many calls
 pub record RunsOver (max_lines max_reads : ℕ) (input : List ℕ) (old new : Server)
     (held held_after left_after : Option (List ℕ)) (calls calls_after : Reads) (result : Result Summary RunFault) : Type 0 where
@@ -111,6 +140,8 @@ pub record RunsOver (max_lines max_reads : ℕ) (input : List ℕ) (old new : Se
   pub endless : result ≡ Err Endless → IsPastLines max_lines input held old held_after new
       ⊎ IsPastReads max_reads input calls calls_after × HasAnsweredRead Endless input left_after held old held_after new
   pub unread : result ≡ Err Read → HasAnsweredRead Read input left_after held old held_after new
+  -- for want of memory it stops before it begins, or at a text
+  pub memory : result ≡ Err Memory → IsUnbegun calls calls_after input left_after held old held_after new ⊎ HasStuck input held old held_after new
   -- also where memory was refused: the lines are answered one after another, and what is said to them is written,
   pub answered : MatchResult result (λ _. WritesAll input held old held_after new) (λ fault. WritesFirst fault max_lines input held old held_after new)
   -- so that sessions that were spared are told what they would be told if memory had been found, also by the first lines
@@ -162,4 +193,7 @@ Runs max_lines max_reads calls calls_after input left_after held old held_after 
     WritesFirst Endless max_lines input held old held_after new
     × (IsPastLines max_lines input held old held_after new
     ⊎ IsPastReads max_reads input calls calls_after × HasAnsweredRead Endless input left_after held old held_after new)
+Runs max_lines max_reads calls calls_after input left_after held old held_after new (Err Memory) =
+    WritesFirst Memory max_lines input held old held_after new
+    × (IsUnbegun calls calls_after input left_after held old held_after new ⊎ HasStuck input held old held_after new)
 Runs max_lines max_reads calls calls_after input left_after held old held_after new (Err fault) = WritesFirst fault max_lines input held old held_after new

@@ -1,15 +1,19 @@
 -- A run under way: what a server does with the lines of an input that comes in pieces.
-use Rattle.std.specs.Prelude.{◌≡◌, ℕ, ◌+◌, ◌<◌, List, [], ◌++◌, length, Option, Result, IsTrue, Ok, Err}
+use Rattle.std.specs.Prelude.{◌≡◌, ℕ, ◌+◌, ◌<◌, false, List, [], ◌∷◌, ◌++◌, length, Option, Result, IsTrue, Ok, Err}
 use Rattle.std.specs.List.{All}
 use Rattle.plain_types.specs.Names.{is_name}
 use Rattle.session_engine.specs.Sessions.{AllAreNamed}
 use Rattle.server_world.specs.Server.{Server, names, seen_by_name, settings, was_refused}
 use Rattle.wire_format.specs.Input.{Piece}
 use Rattle.wire_devices.specs.Counts.{FailsOnce}
+use Rattle.wire_devices.specs.declared.traits.Failed.{Failed}
+use Rattle.thread_model.specs.declared.line.Line.{Line}
+use Rattle.wire_format.specs.Parts.{has_parts}
+use Rattle.wire_format.specs.Text.{text_of_line}
 use Rattle.wire_lines.specs.declared.fault.RunFault.{RunFault}
 use Rattle.wire_lines.specs.declared.fault.RunFault.TheVariants.{Read, Write, Endless, Memory}
 use Rattle.wire_lines.specs.Sending.{Out, Sent, SentFront}
-use Rattle.wire_lines.specs.Steps.{AreAnswered, read_lines}
+use Rattle.wire_lines.specs.Steps.{AreAnswered, IsAnswered, read_lines}
 
 -- the sessions of a server are called by names
 abbrev pub HaveNames : Server → Type 0
@@ -56,6 +60,32 @@ SentUntil Write old new text = SentFront old new text
 SentUntil Memory old new text = SentFront old new text
 SentUntil fault old new text = Sent old new text
 
+-- these bytes are said and then those of a text, of which one line found no memory: all that comes before it is sent.
+-- What is said in parts, as refusals are, takes no memory
+pub record IsStuckBy (said : List ℕ) (says : List ℕ → Type 0) (before after : Out) : Type 0 where
+  pub told : List ℕ
+  pub session : List ℕ
+  pub line : Line
+  pub rest : List ℕ
+  pub text : says (told ++ (text_of_line session line ++ rest))
+  pub long : has_parts line ≡ false
+  pub sent : Sent before after (said ++ told)
+
+-- these lines are answered, and what is said to the last of them found no memory
+pub record IsStuck (old : Server) (lines : List (Option Piece)) (new : Server) (before after : Out) : Type 0 where
+  pub first : List (Option Piece)
+  pub last : Option Piece
+  pub between : Server
+  pub said : List ℕ
+  pub lines_are : lines ≡ first ++ last ∷ []
+  pub answered : AreAnswered old first said between
+  pub stuck : IsStuckBy said (λ text. IsAnswered between last text new) before after
+
+-- so it is where that is the fault
+abbrev pub StuckIn : RunFault → Server → List (Option Piece) → Server → Out → Out → Type 0
+StuckIn Memory old lines new before after = IsStuck old lines new before after
+StuckIn fault old lines new before after = Unit {0}
+
 -- the run stopped for this fault: where these bytes follow, some first lines were answered and counted, and what was
 -- said to them is sent so far
 pub record Cut (fault : RunFault) (old new : Point) (rest : List ℕ) : Type 0 where
@@ -66,6 +96,7 @@ pub record Cut (fault : RunFault) (old new : Point) (rest : List ℕ) : Type 0 w
   pub answered : AreAnswered old.server lines text new.server
   pub sent : SentUntil fault old.out new.out text
   pub counted : new.lines ≡ old.lines + length lines
+  pub stuck : StuckIn fault old.server lines new.server old.out new.out
 
 -- so many lines were counted, and there are more
 abbrev pub IsOver : ℕ → Point → Point → List ℕ → Type 0
@@ -96,3 +127,8 @@ SinkFails old new r = new ≡ old
 abbrev pub SendFails : {T : Type 0} → ℕ → ℕ → Result T RunFault → Type 0
 SendFails old new (Err Endless) = ⊥
 SendFails old new r = SinkFails old new r
+
+-- what a run answers where only its sink may fail
+abbrev pub by_sink : Result (Unit {0}) Failed → Result (Unit {0}) RunFault
+by_sink (Ok done) = Ok done
+by_sink (Err failed) = Err Write

@@ -1,5 +1,5 @@
 //! What is said, on its way to a sink.
-ghost use Rattle.std.specs.Prelude.{◌≡◌, [], IsTrue, IfOk, List, ℕ, Some};
+ghost use Rattle.std.specs.Prelude.{◌≡◌, [], IsTrue, IfOk, List, ℕ, Some, Err, false};
 ghost use Rattle.std.specs.List.{flat_map};
 ghost use Rattle.server_world.specs.Server.{OnlyRefused, seen_as, settings};
 ghost use Rattle.thread_model.specs.Asked.{tag};
@@ -9,11 +9,12 @@ ghost use Rattle.wire_devices.specs.Bytes.{AppendsAll};
 ghost use Rattle.wire_devices.specs.Counts.{CountsErrors};
 ghost use Rattle.wire_format.specs.Command.{command_of};
 ghost use Rattle.wire_format.specs.Input.{piece_from};
-ghost use Rattle.wire_format.specs.Parts.{text_of_parts};
+ghost use Rattle.wire_format.specs.Parts.{has_parts, text_of_parts};
 ghost use Rattle.wire_format.specs.Text.{text_of_line, is_session_text};
-ghost use Rattle.wire_lines.specs.Sending.{SentAll, out};
+ghost use Rattle.wire_lines.specs.Sending.{Sent, SentAll, out};
 ghost use Rattle.wire_lines.specs.Steps.{IsAnswered, IsDone};
-ghost use Rattle.wire_lines.specs.Stream.{SendFails};
+ghost use Rattle.wire_lines.specs.declared.fault.RunFault.TheVariants.{Memory};
+ghost use Rattle.wire_lines.specs.Stream.{IsStuckBy, SendFails, by_sink};
 
 use crate::buffer::{BUFFER_BYTES, Buffer};
 use crate::fault::RunFault;
@@ -71,11 +72,18 @@ impl Output {
         ensures answered { (text : List ℕ) × IsAnswered (seen_as server.old) (Some (piece_from (command_of line.now))) text (seen_as server.new)
             × SentAll (out (W.held writer.old) self.old.gathered) (out (W.held writer.new) self.new.gathered) result text }
         ensures failed { SendFails (W.failures writer.old) (W.failures writer.new) result }
+        ensures stuck { result ≡ Err Memory → IsStuckBy []
+            (λ text. IsAnswered (seen_as server.old) (Some (piece_from (command_of line.now))) text (seen_as server.new))
+            (out (W.held writer.old) self.old.gathered) (out (W.held writer.new) self.new.gathered) }
     {
         match read_line(self.alloc, &mut self.scratch, line) {
             Ok(given) => self.obey(&given, server, writer),
-            Err(ReadError::Fault(fault)) => self.say_error(fault.code, fault.blamed(), writer),
-            Err(ReadError::Memory) => self.say_out_of_memory("-", server, writer),
+            Err(ReadError::Fault(fault)) => by_sink(self.say_error(
+                fault.code,
+                fault.blamed(),
+                writer,
+            )),
+            Err(ReadError::Memory) => by_sink(self.say_out_of_memory("-", server, writer)),
         }
     }
 
@@ -85,13 +93,13 @@ impl Output {
         session: &str,
         server: &mut Server,
         writer: &mut W,
-    ) -> Result<(), RunFault>
+    ) -> Result<(), Failed>
         requires { IsTrue (is_session_text session.now) }
         ensures only { OnlyRefused (seen_as server.old) (seen_as server.new) }
         ensures settings { settings (seen_as server.new) ≡ settings (seen_as server.old) }
         ensures said { SentAll (out (W.held writer.old) self.old.gathered) (out (W.held writer.new) self.new.gathered) result
             (text_of_line session.now (Error OutOfMemory)) }
-        ensures failed { SendFails (W.failures writer.old) (W.failures writer.new) result }
+        ensures failed { CountsErrors (W.failures writer.old) (W.failures writer.new) result }
     {
         server.note_memory_refused();
         self.say_error(Code::OutOfMemory, session, writer)
@@ -108,11 +116,13 @@ impl Output {
         ensures answered { (text : List ℕ) × IsDone (seen_as server.old) (tag given.now) text (seen_as server.new)
             × SentAll (out (W.held writer.old) self.old.gathered) (out (W.held writer.new) self.new.gathered) result text }
         ensures failed { SendFails (W.failures writer.old) (W.failures writer.new) result }
+        ensures stuck { result ≡ Err Memory → IsStuckBy [] (λ text. IsDone (seen_as server.old) (tag given.now) text (seen_as server.new))
+            (out (W.held writer.old) self.old.gathered) (out (W.held writer.new) self.new.gathered) }
     {
         let session = given.session.as_str();
         match server.step(given) {
             Ok(lines) => self.say_lines(session, lines.as_slice(), writer),
-            Err(AllocError) => self.say_error(Code::OutOfMemory, session, writer),
+            Err(AllocError) => by_sink(self.say_error(Code::OutOfMemory, session, writer)),
         }
     }
 
@@ -126,6 +136,8 @@ impl Output {
         ensures said { SentAll (out (W.held writer.old) self.old.gathered) (out (W.held writer.new) self.new.gathered) result
             (flat_map (text_of_line session.now) lines.now) }
         ensures failed { SendFails (W.failures writer.old) (W.failures writer.new) result }
+        ensures stuck { result ≡ Err Memory → IsStuckBy [] (λ text. text ≡ flat_map (text_of_line session.now) lines.now)
+            (out (W.held writer.old) self.old.gathered) (out (W.held writer.new) self.new.gathered) }
     {
         for line in lines {
             self.say_line(session, line, writer)?;
@@ -145,19 +157,19 @@ impl Output {
         ensures said { SentAll (out (W.held writer.old) self.old.gathered) (out (W.held writer.new) self.new.gathered) result
             (text_of_line session.now line.now) }
         ensures failed { SendFails (W.failures writer.old) (W.failures writer.new) result }
+        ensures stuck { result ≡ Err Memory → (has_parts line.now ≡ false)
+            × Sent (out (W.held writer.old) self.old.gathered) (out (W.held writer.new) self.new.gathered) [] }
     {
         let mut digits = Digits::new();
         if let Some(parts) = line_parts(session, line, &mut digits) {
-            return self.say_parts(&parts, writer);
+            return by_sink(self.say_parts(&parts, writer));
         }
         let mut memory = [0; CALL_BYTES];
         if let Some(text) = call_text(session, line, &mut memory) {
-            self.gathered.send(writer, text)?;
-            return Ok(());
+            return by_sink(self.gathered.send(writer, text));
         }
         write_line(self.alloc, &mut self.text, session, line)?;
-        self.gathered.send(writer, self.text.as_bytes())?;
-        Ok(())
+        by_sink(self.gathered.send(writer, self.text.as_bytes()))
     }
 
     /// Says that something was refused. This takes no memory.
@@ -166,24 +178,34 @@ impl Output {
         code: Code,
         session: &str,
         writer: &mut W,
-    ) -> Result<(), RunFault>
+    ) -> Result<(), Failed>
         requires { IsTrue (is_session_text session.now) }
         ensures said { SentAll (out (W.held writer.old) self.old.gathered) (out (W.held writer.new) self.new.gathered) result
             (text_of_line session.now (Error code)) }
-        ensures failed { SendFails (W.failures writer.old) (W.failures writer.new) result }
+        ensures failed { CountsErrors (W.failures writer.old) (W.failures writer.new) result }
     {
         self.say_parts(&error_parts(code, session), writer)
     }
 
-    fn say_parts<W: Sink>(&mut self, parts: &Parts<'_>, writer: &mut W) -> Result<(), RunFault>
+    fn say_parts<W: Sink>(&mut self, parts: &Parts<'_>, writer: &mut W) -> Result<(), Failed>
         ensures said { SentAll (out (W.held writer.old) self.old.gathered) (out (W.held writer.new) self.new.gathered) result
             (text_of_parts parts.now) }
-        ensures failed { SendFails (W.failures writer.old) (W.failures writer.new) result }
+        ensures failed { CountsErrors (W.failures writer.old) (W.failures writer.new) result }
     {
         let parts = parts.in_order();
         for part in &parts {
             self.gathered.send(writer, part.as_bytes())?;
         }
         Ok(())
+    }
+}
+
+/// What a run answers where only its sink may fail.
+fn by_sink(sent: Result<(), Failed>) -> Result<(), RunFault>
+    ensures { result ≡ by_sink sent }
+{
+    match sent {
+        Ok(()) => Ok(()),
+        Err(Failed) => Err(RunFault::Write),
     }
 }

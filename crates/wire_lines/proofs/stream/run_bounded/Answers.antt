@@ -1,6 +1,6 @@
 use Rattle.server_world.specs.Server.{seen_as, states, settings}
 use Rattle.server_world.proofs.ForCallers.{knows_all}
-use Rattle.wire_lines.proofs.Whole.{Runs-answered, Runs-well, Runs-lines, Runs-prefix, Runs-endless, Runs-unread}
+use Rattle.wire_lines.proofs.Whole.{Runs-answered, Runs-well, Runs-lines, Runs-prefix, Runs-endless, Runs-memory, Runs-unread}
 use Rattle.wire_lines.proofs.Isolated.{told_as_alone, told_as_without, told_between, told_interleaved}
 use Rattle.wire_lines.proofs.SparedLemmas.{spares_all, spares_first}
 use Rattle.wire_lines.proofs.stream.run_bounded.Goals as goal
@@ -27,6 +27,7 @@ returns-clause-runs g c = λ input known.
       stopped = Runs-prefix _ _ _ _ input _ held held_after old new c.run_buffered-ended.result runs;
       endless = Runs-endless _ _ _ _ input _ held held_after old new c.run_buffered-ended.result runs;
       unread = Runs-unread _ _ _ _ input _ held held_after old new c.run_buffered-ended.result runs;
+      memory = Runs-memory _ _ _ _ input _ held held_after old new c.run_buffered-ended.result runs;
       answered = answered;
       spared = spares_all c.run_buffered-ended.result _ input held old held_after new answered;
       spared_first = spares_first old new input;

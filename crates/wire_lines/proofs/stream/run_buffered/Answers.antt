@@ -1,6 +1,7 @@
-use Rattle.std.proofs.Common.{◌≤◌, [], Ok, Err, sym, subst, arith}
+use Rattle.std.proofs.Common.{◌≤◌, ℕ, List, [], Option, Ok, Err, sym, subst, arith}
 use Rattle.server_world.specs.Server.{seen_as, was_refused}
 use Rattle.wire_lines.specs.declared.stream.Summary.{Summary}
+use Rattle.wire_lines.specs.declared.fault.RunFault.TheVariants.{Memory}
 use Rattle.wire_lines.specs.Feeding.{at}
 use Rattle.wire_lines.specs.Run.{Runs, reads}
 use Rattle.wire_lines.proofs.Kept.{err_is}
@@ -10,7 +11,11 @@ use Rattle.wire_lines.proofs.stream.run_buffered.Goals as goal
 pub returns-in_err-stream-clause-runs : goal.returns-in_err-stream-clause-runs
 returns-in_err-stream-clause-runs g c = λ input known.
     let held = g.W.Sink.held c.args.writer.now in
-    subst (Runs c.args.max_lines c.args.max_reads (reads g.R.Source.calls g.R.Source.gave c.args.reader.now) (reads g.R.Source.calls g.R.Source.gave c.args.reader.now) input (g.R.Source.left c.args.reader.now) held (seen_as c.args.server.now) held (seen_as c.args.server.now)) (sym (err_is _ _ c.from_residual.ensures.1)) (Runs-unbegun c.args.max_lines c.args.max_reads (reads g.R.Source.calls g.R.Source.gave c.args.reader.now) (reads g.R.Source.calls g.R.Source.gave c.args.reader.now) input (g.R.Source.left c.args.reader.now) held (seen_as c.args.server.now))
+    let server = seen_as c.args.server.now in
+    let calls = reads g.R.Source.calls g.R.Source.gave c.args.reader.now in
+    let unbegun = Runs-unbegun c.args.max_lines c.args.max_reads calls input held server in
+    let here = subst (λ (left : Option (List ℕ)). Runs c.args.max_lines c.args.max_reads calls calls input left held server held server (Err Memory)) (sym known) unbegun in
+    subst (Runs c.args.max_lines c.args.max_reads calls calls input (g.R.Source.left c.args.reader.now) held server held server) (sym (err_is _ _ c.from_residual.ensures.1)) here
 
 pub returns-in_err-serve_to_end-clause-runs : goal.returns-in_err-serve_to_end-clause-runs
 returns-in_err-serve_to_end-clause-runs g c = λ input known.

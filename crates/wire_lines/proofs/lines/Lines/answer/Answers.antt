@@ -22,4 +22,4 @@ returns-clause-fed g c =
     let after = out (g.W.Sink.held c.serve.new.writer) c.serve.new.self.gathered in
     let (text, answered, sent) = c.serve.ensures.answered in
     Feeds-served (seen_as c.args.server.now) (seen_as c.serve.new.server) before after c.args.self.now.count c.args.line.now c.requires
-    c.args.self.now.most _ _ c.serve.result text (sym c.if-is_blank.ensures) answered sent c.serve.ensures.failed
+    c.args.self.now.most _ _ c.serve.result text (sym c.if-is_blank.ensures) answered sent c.serve.ensures.failed c.serve.ensures.stuck

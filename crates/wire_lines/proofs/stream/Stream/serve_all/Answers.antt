@@ -42,7 +42,7 @@ returns-in_default-clause-ends g c = λ input known.
     let end = at (g.W.Sink.held c.flush.new.writer) c.flush.new.self (seen_as c.reads.server) [] in
     let kept = Consumes-kept _ _ _ bytes so_far.consumed c.in_default.ensures.bytes in
     let (rest, left, is) = known_rest _ _ bytes input kept known in (
-      Cut-known start end bytes rest input is Read (Cut-after Read (and_then start bytes) next end rest fed_all (Cut-here Read next [] rest)),
+      Cut-known start end bytes rest input is Read (Cut-after Read (and_then start bytes) next end rest fed_all (Cut-here Read next [] rest tt)),
       counted_read start next bytes rest input (g.R.Source.left c.read.new.self) [] is left fed_all c.reads.self.no_end,
     )
 
@@ -151,7 +151,7 @@ returns-clause-ends g c = λ input known.
     let count = length-append old.begun input in
     let all = ap length is in
     let parts = length-append bytes rest in (
-      Cut-known start end bytes rest input is Endless (Cut-after Endless (and_then start bytes) here end rest so_far.fed (Cut-here Endless here [] rest)),
+      Cut-known start end bytes rest input is Endless (Cut-after Endless (and_then start bytes) here end rest so_far.fed (Cut-here Endless here [] rest tt)),
       inr (
         (omega (arith, so_far.counted), omega (arith, so_far.gave), omega (arith, so_far.enough, count, all, parts)),
         counted_read start here bytes rest input (g.R.Source.left c.reads.reader) [] is left so_far.fed c.reads.self.no_end,
