@@ -1,12 +1,17 @@
 # make        builds the program, proved, as bin/metad
-# make run    answers the sample session
+# make try    answers the sample session in a minute or two, by a program that is not proved; SESSION=FILE has other
+#             commands, CLASSES=FILE the classes for them
+# make run    builds the program, proved, and answers the sample session
 # make test   proves everything from nothing, and runs every test
 # make tests  runs every test on bin/metad as it is; make rows, random, program, slice, memory, classes, clients, documents,
-#             machines, machines_files, hosting, scaling and test_install run those of tests/test_rows and so on
-# make bench  counts the program's instructions; with LAST=PROGRAM also beside an earlier one; STANDS=1 writes down the counts
+#             machines, machines_files, hosting, scaling, measures, tools and test_install run those of tests/test_rows and so on
+# make bench  counts the program's instructions, and fails where a count is over its guard; with LAST=PROGRAM also beside an
+#             earlier program; GUARDS=1 writes down the counts and new guards
+# make tables writes the tables of the documents that are made of sources
 # make install, make uninstall   bin/metad, its manual page, the documents, the client, the examples and the tools, below PREFIX;
 #             with SITE=FOLDER also a link to the client in a folder where Python looks
 # make dist   a tarball of all that is installed, for any folder; make deb   a package for Debian; each in DIST, with its checksum
+# Each says in one sentence what it needs and does not find.
 
 PROGRAM = meta_main
 CRATE = crates/$(PROGRAM)
@@ -14,49 +19,73 @@ CC ?= cc
 PREFIX ?= /usr/local
 
 # each takes bin/metad as it is
-TESTS = rows random program slice memory classes clients documents machines machines_files hosting scaling
+TESTS = rows random program slice memory classes clients documents machines machines_files hosting scaling measures tools
+# the oldest Python for the tools, and for the tests
+PYTHON = 3.8
+PYTHON_OF_TESTS = 3.11
+NEEDS = @CC="$(CC)" sh tools/needs.sh
+TRY = (make try answers a session in a minute or two, not proved)
 
-.PHONY: all run test budget tests $(TESTS) test_install test_package libraries bench install uninstall dist deb clean
+.PHONY: all try run test budget tests $(TESTS) test_install test_package libraries bench tables install uninstall dist deb clean
 
 all: bin/metad
 
 SOURCES = crates.txt HANDLES $(shell find crates -name out -prune -o -type f -print)
 
 bin/metad: $(SOURCES)
+	$(NEEDS) rt python3=$(PYTHON)
+	@echo "Proving and building bin/metad takes about half an hour on four processors $(TRY)"
 	python3 tools/build.py . $(PROGRAM)
 	mkdir -p bin
 	cp $(CRATE)/out/$(PROGRAM) $@
 
+try:
+	$(NEEDS) rt python3=$(PYTHON)
+	@python3 tools/try.py $(if $(SESSION),--session "$(SESSION)") $(if $(CLASSES),--classes "$(CLASSES)")
+
 run: bin/metad
 	bin/metad < $(CRATE)/stdin
 
-test: budget
+test:
+	$(NEEDS) rt cc python3=$(PYTHON_OF_TESTS)
+	@echo "Proving everything and running every test takes an hour or more on four processors $(TRY)"
+	$(MAKE) --no-print-directory budget
 	rt ci
 	mkdir -p bin
 	cp $(CRATE)/out/$(PROGRAM) bin/metad
 	$(MAKE) --no-print-directory tests
 
 budget:
+	$(NEEDS) python3=$(PYTHON)
 	python3 tools/budget.py .
 
 # all tests on bin/metad as it is, each with how many cases it has; the targets below it are those of tests/test_*
 tests: libraries
+	$(NEEDS) python3=$(PYTHON_OF_TESTS)
 	python3 -m unittest -v
 
 $(TESTS): libraries
+	$(NEEDS) python3=$(PYTHON_OF_TESTS)
 	python3 -m unittest -v tests.test_$@
 
 test_install test_package:
+	$(NEEDS) python3=$(PYTHON_OF_TESTS)
 	python3 -m unittest -v tests.$@
 
 libraries: bin/refuse_growth.so bin/early_signal.so
 
 bin/%.so: tests/preload/%.c tests/preload/growth.h
+	$(NEEDS) cc
 	mkdir -p bin
 	$(CC) -O2 -Wall -Wextra -shared -fPIC -o $@ $< -ldl
 
 bench: bin/metad bin/count_growth.so
-	python3 bench/bench.py bin/metad bin/count_growth.so $(if $(LAST),--last $(LAST)) $(if $(STANDS),--write)
+	$(NEEDS) python3=$(PYTHON)
+	python3 bench/bench.py bin/metad bin/count_growth.so $(if $(LAST),--last "$(LAST)") $(if $(GUARDS),--write)
+
+tables:
+	$(NEEDS) python3=$(PYTHON)
+	python3 tools/tables.py
 
 BIN = $(DESTDIR)$(PREFIX)/bin
 MAN = $(DESTDIR)$(PREFIX)/share/man/man1
@@ -111,9 +140,11 @@ DIST = dist
 
 # each takes bin/metad as it is
 dist:
+	$(NEEDS) python3=$(PYTHON) objdump
 	python3 tools/package.py tarball "$(DIST)"
 
 deb:
+	$(NEEDS) python3=$(PYTHON) objdump dpkg-deb
 	python3 tools/package.py debian "$(DIST)"
 
 clean:

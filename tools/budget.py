@@ -10,8 +10,10 @@ program prints, and those may be longer. An edit that begins with a line `wrong 
 Usage: budget.py REPOSITORY
 """
 
+from __future__ import annotations
+
+import argparse
 import re
-import sys
 from dataclasses import dataclass
 from pathlib import Path
 
@@ -158,7 +160,9 @@ def crate_in(folder):
 
 
 def main():
-    crates = [crate_in(folder) for folder in sorted(Path(sys.argv[1], "crates").iterdir()) if (folder / "src").is_dir()]
+    parser = argparse.ArgumentParser(description="Prints what each crate weighs, and fails where one is heavier than it may be.")
+    parser.add_argument("repository", type=Path, help="the folder that has crates/ in it")
+    crates = [crate_in(folder) for folder in sorted(parser.parse_args().repository.glob("crates/*")) if (folder / "src").is_dir()]
     print(f"{'crate':20} {'code':>6} {'specs':>6} {'proof':>6} {'public':>7} {'edits':>7}  longest contract")
     failed = 0
     for crate in crates:
@@ -175,4 +179,4 @@ def main():
 
 
 if __name__ == "__main__":
-    sys.exit(main())
+    raise SystemExit(main())

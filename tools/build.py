@@ -8,6 +8,9 @@ One `rt` keeps others out of every crate that it reads, so each works on links t
 Usage: build.py REPOSITORY PROGRAM
 """
 
+from __future__ import annotations
+
+import argparse
 import os
 import shutil
 import subprocess
@@ -104,8 +107,23 @@ def build_all(repository, crates):
     return None
 
 
+def options():
+    """The words of the command line."""
+    parser = argparse.ArgumentParser(description="Proves and builds a program and the crates that it stands on.")
+    parser.add_argument("repository", type=Path, help="the folder that has crates.txt in it")
+    parser.add_argument("program", help="the crate of the program")
+    given = parser.parse_args()
+    if not (given.repository / "crates" / given.program).is_dir():
+        parser.error(f"there is no crate {given.program} in {given.repository}")
+    return given
+
+
 def main():
-    repository, program = Path(sys.argv[1]).resolve(), sys.argv[2]
+    given = options()
+    if shutil.which("rt") is None:
+        print("build.py: rt is not on the PATH; it comes with the Rattle toolchain", file=sys.stderr)
+        return 1
+    repository, program = given.repository.resolve(), given.program
     crates = crates_of(repository)
     failed = build_all(repository, needed_by(program, crates))
     if failed is None and not build(repository, program, needed_by(program, crates), ["run"], JOBS):
