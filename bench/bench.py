@@ -1,15 +1,18 @@
 #!/usr/bin/env python3
-"""Counts the instructions of the built program on generated inputs, and compares them with their marks.
+"""Counts the instructions of the built program on generated inputs, and compares the counts with their marks.
 
-Usage: bench.py PROGRAM COUNTER [--last PROGRAM] [--write]. Each figure is what one line, call, event or the like takes
-more in an input than in one of half the length, so that the start and what is made before fall out; some are by how
-much that grows beside many. Instructions are counted by valgrind's callgrind, so that what else runs on the machine
-does not count, and requests for memory by COUNTER, preloaded. All replies are compared with what they must be. It ends
-with 1 where a mark of marks.json is missed, and with --last also where a figure is more than 1.03 times that of an
-earlier program. With --write it writes down what the figures are now, in marks.json and docs/MEASURES.md; the marks
-stay, and a figure without one gets one, for the next run. Times and peaks of memory are printed behind, and decide
-nothing. Without valgrind there are only these.
+Each figure is what one line, call, event or the like takes more in an input than in one of half the length, so that
+the start and what is made before cancel out; some figures are ratios of two others. Instructions are counted by
+valgrind's callgrind, so that other load on the machine does not matter, and requests for memory by COUNTER, preloaded.
+All replies are compared with what they must be.
+
+Each count has a guard and may have a goal. A count over its guard is a regression: the status is 1 then. Goals are
+shown, and decide nothing. With --last a count that is more than 1.03 times that of an earlier program is a regression
+too. With --write the counts and guards of this run are written down, in marks.json and docs/MEASURES.md; goals stay.
+Times and peaks of memory are printed last, and decide nothing. Without valgrind only these are printed.
 """
+
+from __future__ import annotations
 
 import argparse
 import sys
@@ -21,7 +24,6 @@ import times
 from counting import HOW_TO_COUNT, Fault, Room, counted, has_valgrind
 from figures import FIGURES, Figure, Ratio
 
-MOST_OF_LAST = 1.03
 NAMES = max(len(it.name) for it in FIGURES)
 
 
@@ -32,32 +34,31 @@ def value_of(program, figure, values, room, counter):
     return counted(program, figure, values, room, counter)
 
 
-def faults_of(value, most, last):
-    """What is to be said against a figure, given its mark and what it is of the last program, where there is one."""
-    if most is None:
-        yield "has no mark"
-    elif value > most:
-        yield "over its mark"
-    if last is not None and value > MOST_OF_LAST * last:
-        yield f"more than {MOST_OF_LAST} times as much as of the last program"
-
-
 def show_counts(programs, room, counter):
-    """Prints each figure of a program, and of the last one where there is one; answers those of the first, and which are missed."""
-    known, missed = marks.read(), []
+    """Prints each figure of a program, and of the last one where there is one; answers those of the first, and the faults."""
+    known, faults, reached = marks.read(), [], []
     values = {program: {} for program in programs}
-    print(f"{'figure':{NAMES}} {'counted':>9} {'mark':>9}" + " {:>9}".format("last") * (len(programs) - 1))
+    print(f"{'figure':{NAMES}} {'count':>9} {'guard':>9} {'goal':>9}" + f" {'last':>9}" * (len(programs) - 1))
     for it in FIGURES:
         for program in programs:
             values[program][it.name] = value_of(program, it, values[program], room, counter)
         now, *last = (marks.rounded(values[program][it.name]) for program in programs)
-        most = marks.most_of(known, it.name)
-        faults = " and ".join(faults_of(now, most, *(last or [None])))
-        missed += [f"{it.name}: {faults}"] if faults else []
-        columns = " ".join(f"{marks.shown(value):>9}" for value in (now, most, *last))
-        print(f"{it.name:{NAMES}} {columns}  {f'MISSED, {faults}' if faults else 'kept'} ({it.counts})", flush=True)
-    missed += [f"{name}: a mark of no figure" for name in known.keys() - {it.name for it in FIGURES}]
-    return values[programs[0]], missed
+        mark = known.get(it.name)
+        said = " and ".join(marks.faults_of(it, now, mark, *(last or [None])))
+        faults += [f"{it.name}: {said}"] if said else []
+        guard, goal = (mark.guard, mark.goal) if mark else (None, None)
+        reached += [marks.is_reached(now, goal)] if goal is not None else []
+        columns = " ".join(f"{marks.shown(value):>9}" for value in (now, guard, goal, *last))
+        print(f"{it.name:{NAMES}} {columns}  {verdict(said, now, goal)} ({it.counts})", flush=True)
+    faults += [f"{name}: a mark of no figure" for name in known.keys() - {it.name for it in FIGURES}]
+    print(f"\n{reached.count('yes')} of {len(reached)} goals are reached")
+    return values[programs[0]], faults
+
+
+def verdict(said, count, goal):
+    """What is printed beside a figure: whether it is a regression, and whether it has reached its goal."""
+    reached = {"yes": ", goal reached", "no": ", goal not reached", "-": ""}[marks.is_reached(count, goal)]
+    return f"{'REGRESSION' if said else 'kept'}{reached}"
 
 
 def show_times(program, room):
@@ -78,29 +79,34 @@ def options():
     """The words of the command line."""
 
     def path(word):
+        if not Path(word).is_file():
+            raise argparse.ArgumentTypeError(f"there is no file {word}")
         return str(Path(word).resolve())
 
-    parser = argparse.ArgumentParser()
-    for name in ("program", "counter", "--last"):
-        parser.add_argument(name, type=path)
-    parser.add_argument("--write", action="store_true")
+    parser = argparse.ArgumentParser(description=__doc__, formatter_class=argparse.RawDescriptionHelpFormatter)
+    parser.add_argument("program", type=path, help="the built program")
+    parser.add_argument("counter", type=path, help="the library that counts requests for memory")
+    parser.add_argument("--last", type=path, metavar="PROGRAM", help="an earlier program, which is counted beside it")
+    parser.add_argument("--write", action="store_true", help="writes down the counts of this run and guards made from them")
     return parser.parse_args()
 
 
 def measure(given, room):
-    """Prints everything; answers which marks are missed."""
+    """Prints everything; answers the faults."""
     if not has_valgrind():
         print(HOW_TO_COUNT)
         show_times(given.program, room)
-        print("\nno mark was looked at")
+        print("\nno count was compared with its guard")
         return []
     programs = [given.program, *([given.last] if given.last else [])]
-    values, missed = show_counts(programs, room, given.counter)
+    values, faults = show_counts(programs, room, given.counter)
     sessions = show_times(given.program, room)
     if given.write:
-        marks.write(FIGURES, values, sessions)
-    print("\n" + ("\n".join(["missed:", *missed]) if missed else f"all {len(values)} marks are kept"))
-    return missed
+        marks.write(marks.of_run(FIGURES, values, marks.read()), sessions)
+        print("\n" + "\n".join([f"{len(values)} counts and new guards are written down; with the guards before:", *(faults or ["all kept"])]))
+        return []
+    print("\n" + ("\n".join(["regressions:", *faults]) if faults else "all guards are kept"))
+    return faults
 
 
 def main():
@@ -110,6 +116,8 @@ def main():
             return 1 if measure(given, Room(folder)) else 0
         except Fault as fault:
             sys.exit(str(fault))
+        except KeyboardInterrupt:
+            return 130
 
 
 if __name__ == "__main__":

@@ -1,12 +1,14 @@
 """The figures: what each counts, in which input, and by how much some of them grow."""
 
-from collections.abc import Callable, Iterable
+from __future__ import annotations
+
 from dataclasses import dataclass, replace
+from typing import Callable, Iterable, Tuple
 
 import inputs
 from lines import CELL_DESCRIBED, METHODS, demonstration_classes, lamps, usual_classes
 
-Line = tuple[str, str]
+Line = Tuple[str, str]
 
 INSTRUCTIONS, REQUESTS = "instructions", "requests for memory"
 
@@ -47,7 +49,7 @@ class Figure:
     rounds: int
     lines: Callable[[int], Iterable[Line]]
     each: int = 1
-    less: "Figure | None" = None
+    less: Figure | None = None
     classes: Callable[[int], str] = lambda times: usual_classes()
     what: str = INSTRUCTIONS
     often: int = 6
@@ -68,19 +70,18 @@ class Figure:
 
 @dataclass(frozen=True)
 class Ratio:
-    """How many times as large as another figure one is; its mark is never above the limit."""
+    """How many times as large as another figure one is."""
 
     name: str
     large: Figure
     small: Figure
-    limit: float = 1.3
     counts: str = "times"
 
 
-def grown(name, make, small, large, things, limit=Ratio.limit):
+def grown(name, make, small, large, things):
     """The figures of something beside few things and beside many, and by how much it grows."""
     few, many = make(small), make(large)
-    return [few, many, Ratio(f"{name}: from {small:,} to {large:,} {things}", many, few, limit)]
+    return [few, many, Ratio(f"{name}: from {small:,} to {large:,} {things}", many, few)]
 
 
 # Each of these makes a figure.
@@ -98,7 +99,7 @@ def line_told(name, lines, count, told, classes=usual_classes):
 
 def so_many(count, things):
     """A text that says how many."""
-    return f"{count:,} {things}" if count > 1 else f"{count} {things.removesuffix('s')}"
+    return f"{count:,} {things}" if count > 1 else f"{count} {things[:-1]}"
 
 
 def in_sessions(count):
@@ -279,26 +280,26 @@ FIGURES = [
     Ratio(f"a call: from no other connections to {OTHER_CONNECTIONS:,}", HEARD_BESIDE_OTHERS, HEARD),
     TOLD,
     TOLD_SETS,
-    Ratio("a call by NOTIFY: from a slot that does nothing to one that sets", TOLD_SETS, TOLD, 1.5),
+    Ratio("a call by NOTIFY: from a slot that does nothing to one that sets", TOLD_SETS, TOLD),
     chained(1),
     chained(CHAINS),
     *grown("a binding", followed, 2 * FEW, BINDINGS, "in a chain"),
-    *grown("set of what a binding reads", paired, 10, MOST_BINDINGS, "bindings", 1.1),
+    *grown("set of what a binding reads", paired, 10, MOST_BINDINGS, "bindings"),
     UNREAD,
     UNREAD_BESIDE,
-    Ratio("set of what no binding reads: from no binding to one", UNREAD_BESIDE, UNREAD, 1.05),
+    Ratio("set of what no binding reads: from no binding to one", UNREAD_BESIDE, UNREAD),
     GROUPED,
-    Ratio("set of what no binding reads: from outside a group to one", GROUPED, UNREAD_BESIDE, 1.1),
+    Ratio("set of what no binding reads: from outside a group to one", GROUPED, UNREAD_BESIDE),
     SENT_AND_SPUN,
     line_told("a queued signal, posted and taken", inputs.posted_and_taken, SOME_LINES, 3, demonstration_classes),
-    *grown("an event", POSTED, FEW, CONNECTIONS, "at once", 1.2),
-    *grown("set of what is published", unheard, FEW, MANY_SESSIONS, "sessions", 1.02),
+    *grown("an event", POSTED, FEW, CONNECTIONS, "at once"),
+    *grown("set of what is published", unheard, FEW, MANY_SESSIONS, "sessions"),
     *grown("a post", ARRIVED, FEW, SESSIONS, "sessions"),
     *grown("sets and spins", listened, LISTENERS, SESSIONS, "sessions"),
     NONE_SEEN,
-    *grown("children", SEEN, FEW, OBJECTS, "objects", 2),
+    *grown("children", SEEN, FEW, OBJECTS, "objects"),
     NONE_SEARCHED,
-    *grown("find", SEARCHED, FEW, OBJECTS, "objects", 2),
+    *grown("find", SEARCHED, FEW, OBJECTS, "objects"),
     line(f"find of a name, in a tree of {SOME_OBJECTS:,}", lambda lines: inputs.found_last(SOME_OBJECTS, lines), LOOKS),
     line("meta of Cell", lambda lines: inputs.metas(lines, CELL_DESCRIBED), SOME_LINES, demonstration_classes),
     line(f"meta of a class with {METHODS} methods", inputs.metas, METAS),

@@ -5,13 +5,13 @@ A line is worst where as much as may be is there that it has nothing to do with,
 
 from __future__ import annotations
 
-from collections.abc import Callable, Iterable, Iterator
 from dataclasses import dataclass
 from functools import partial
+from typing import Callable, Iterable, Iterator, Tuple
 
 from lines import ENCODE, called, class_file, command, reply
 
-Line = tuple[str, str]
+Line = Tuple[str, str]
 Lines = Iterator[Line]
 
 ACTIONS = 32  # as many as a body may have

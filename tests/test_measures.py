@@ -1,0 +1,120 @@
+"""`make bench` without its counting: the marks of its figures, what decides how it ends, and the tables that show them."""
+
+from __future__ import annotations
+
+import contextlib
+import io
+import sys
+from argparse import Namespace
+from typing import Dict, List, Tuple
+from unittest import mock
+
+from .support.cases import Cases
+from .support.program import ROOT
+
+sys.path.insert(0, str(ROOT / "bench"))
+
+import bench  # isort: skip
+import marks  # isort: skip
+from figures import FIGURES, Figure, Ratio  # isort: skip
+
+PAGE = ROOT / "docs" / "MEASURES.md"
+COUNTED = "set and get, in 1 session"
+BYTES = {"one session more": 400.0}
+
+
+class Marks(Cases):
+    """bench/marks.json, and the page that shows it."""
+
+    def setUp(self) -> None:
+        self.known = marks.read()
+
+    def test_figures(self) -> None:
+        """Each figure has marks, and each mark has a figure with its unit; a count has a guard, and a ratio has none."""
+        self.assertEqual({name: it.unit for name, it in self.known.items()}, {it.name: it.counts for it in FIGURES})
+        without = {it.name for it in FIGURES if self.known[it.name].guard is None}
+        self.assertEqual(without, {it.name for it in FIGURES if isinstance(it, Ratio)})
+
+    def test_guards(self) -> None:
+        """A guard is at least 1.03 times the count beside it, and no more than one step of the last digit above that."""
+        for it in self.known.values():
+            if it.guard is not None:
+                step = 1 if it.count >= 100 else 0.02
+                least = 1.03 * it.count
+                self.assertTrue(least - 1e-9 <= it.guard <= least + step, it)
+
+    def test_table(self) -> None:
+        """The page shows them as they are, with whether each goal is reached."""
+        self.assertIn(marks.HEAD + marks.rows_of(self.known.values()), PAGE.read_text())
+
+    def test_texts(self) -> None:
+        """Numbers and words of the table."""
+        made = [marks.Mark("a", "times", 1.5, None, 1.0), marks.Mark("b", "bytes", 1_000, 1_030, None), marks.Mark("c", "lines", 5.0, 5.15, 5.0)]
+        wanted = ["| a | times | 1.50 | - | 1.00 | no |", "| b | bytes | 1,000 | 1,030 | - | - |", "| c | lines | 5.00 | 5.15 | 5.00 | yes |"]
+        self.assertEqual(marks.rows_of(made).splitlines(), wanted)
+        self.assertEqual([marks.guard_of(it) for it in (0.0, 0.38, 2.5, 99.0, 100, 4_000)], [0.01, 0.4, 2.58, 102, 103, 4_120])
+
+
+class Ends(Cases):
+    """How a run ends, where its counts are made up."""
+
+    def ran(self, last: str = "", write: bool = False, **others: float) -> Tuple[List[str], str]:
+        """The faults of a run whose counts are those that are written down, times what is said, and what it prints.
+
+        `others` has the factors of the program's counts, as `it`, and of those of the last program, as `before`.
+        """
+        counts: Dict[str, float] = {name: it.count for name, it in marks.read().items()}
+
+        def counted(program: str, figure: Figure, *_: object) -> float:
+            factor = others.get(program, 1) if figure.name == COUNTED else 1
+            return factor * counts[figure.name]
+
+        given = Namespace(program="it", last=last, counter="counter", write=write)
+        with contextlib.ExitStack() as stack:
+            for name, stand_in in (("counted", counted), ("has_valgrind", lambda: True), ("show_times", lambda *_: BYTES)):
+                stack.enter_context(mock.patch.object(bench, name, stand_in))
+            said = stack.enter_context(contextlib.redirect_stdout(io.StringIO()))
+            return bench.measure(given, None), said.getvalue()
+
+    def test_as_committed(self) -> None:
+        """The counts that are written down are no regression, though some goals are not reached, which is printed."""
+        faults, said = self.ran()
+        self.assertEqual(faults, [])
+        goals = [it for it in marks.read().values() if it.goal is not None]
+        self.assertIn(f"{sum(it.count <= it.goal for it in goals)} of {len(goals)} goals are reached", said)
+        self.assertIn("goal not reached", said)
+
+    def test_regression(self) -> None:
+        """A count that is more than its guard fails the run, and one just below it does not."""
+        faults, said = self.ran(it=1.04)
+        self.assertEqual(len(faults), 1, faults)
+        self.assertTrue(faults[0].startswith(f"{COUNTED}: it is over its guard"), faults)
+        self.assertIn("REGRESSION", said)
+        self.assertEqual(self.ran(it=1.02)[0], [])
+
+    def test_last(self) -> None:
+        """A count fails the run too where it is more than 1.03 times that of the last program."""
+        self.assertEqual(self.ran(last="before", before=0.98)[0], [])
+        (fault,) = self.ran(last="before", before=0.96)[0]
+        self.assertEqual(fault, f"{COUNTED}: it is more than 1.03 times that of the last program")
+
+    def test_ratios(self) -> None:
+        """A ratio that grows because the smaller figure became cheaper is no regression."""
+        (ratio,) = [it for it in FIGURES if isinstance(it, Ratio) and it.small.name == COUNTED]
+        self.assertEqual(list(marks.faults_of(ratio, 5.0, marks.read()[ratio.name], 1.0)), [])
+        self.assertEqual(self.ran(it=0.5)[0], [])
+
+    def test_without_mark(self) -> None:
+        """A figure that nothing is written down for fails the run."""
+        self.assertEqual(list(marks.faults_of(FIGURES[0], 1, None, None)), ["it has no guard"])
+
+    def test_write(self) -> None:
+        """What is written down are the counts of the run, guards made from them, and the goals as they were."""
+        with mock.patch.object(marks, "write") as write:
+            faults, _ = self.ran(write=True, it=2)
+        self.assertEqual(faults, [])
+        (made, sessions), before = write.call_args.args, marks.read()
+        self.assertEqual(sessions, BYTES)
+        self.assertEqual([it.goal for it in made], [before[it.name].goal for it in made])
+        count = 2 * before[COUNTED].count
+        self.assertEqual((made[0].name, made[0].count, made[0].guard), (COUNTED, count, marks.guard_of(count)))
