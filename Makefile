@@ -1,5 +1,5 @@
 # make        builds the program, proved, as bin/metad
-# make try    answers the sample session in a minute or two, by a program that is not proved; SESSION=FILE has other
+# make try    answers the sample session in about two minutes, by a program that is not proved; SESSION=FILE has other
 #             commands, CLASSES=FILE the classes for them
 # make run    builds the program, proved, and answers the sample session
 # make test   proves everything from nothing, and runs every test
@@ -24,7 +24,7 @@ TESTS = rows random program slice memory classes clients documents machines mach
 PYTHON = 3.8
 PYTHON_OF_TESTS = 3.11
 NEEDS = @CC="$(CC)" sh tools/needs.sh
-TRY = (make try answers a session in a minute or two, not proved)
+TRY = (make try answers a session in about two minutes, not proved)
 
 .PHONY: all try run test budget tests $(TESTS) test_install test_package libraries bench tables install uninstall dist deb clean
 

@@ -23,14 +23,20 @@ from .support.program import ROOT, SECONDS
 
 SYSTEMD, KUBERNETES, MACHINES = (ROOT / "examples" / name for name in ("systemd", "kubernetes", "machines"))
 INSTALLED, PROGRAM = "/usr/local/bin/metad-front", "/usr/local/bin/metad"
+TURNS = ["--turns", "100"]
 NAME = "desk"
+NO_MORE = "\n# what it may not do"  # what the confinement of a service begins with
+EXPOSED = 3.0  # how much of 10 `systemd-analyze security` may find at most
+EXPOSURE = re.compile(r"Overall exposure level for \S+: ([0-9.]+)")
+CALLED = re.compile(r"^\d+ +(\w+)\(", re.MULTILINE)  # system calls that strace tells of
+OF_SOCKETS = re.compile(r"\bsocket(?:pair)?\((\w+)")
 HAS_WORKERS = "--workers" in parser().format_help()
 HELD = re.compile(r"^```\n((?:(?!```).*\n)*)```$", re.MULTILINE)  # blocks of a page that are not run
 
 
 def sections_of(path):
     """A unit as systemd reads it, for the instance NAME."""
-    unit = ConfigParser(interpolation=None, comment_prefixes=("#", ";"), delimiters=("=",), strict=True)
+    unit = ConfigParser(interpolation=None, comment_prefixes=("#", ";"), delimiters=("=",), strict=False)
     unit.optionxform = str
     unit.read_string(path.read_text().replace("%i", NAME))
     return unit
@@ -47,6 +53,13 @@ def variables_of(text):
     return dict(line.split("=", 1) for line in text.splitlines() if line)
 
 
+def calls_in(group):
+    """The system calls of a group of systemd's, with those of the groups in it."""
+    ran = subprocess.run(["systemd-analyze", "syscall-filter", group], capture_output=True, text=True, timeout=SECONDS)
+    words = {line.split()[0] for line in ran.stdout.splitlines() if line.startswith("    ") and not line.startswith("    #")}
+    return {call for word in words for call in (calls_in(word) if word.startswith("@") else (word,))}
+
+
 class Units(FrontCases):
     """The units for systemd."""
 
@@ -58,10 +71,11 @@ class Units(FrontCases):
         blocks = HELD.findall((SYSTEMD / "README.md").read_text())
         self.examples = [variables_of(it) for it in blocks if it.startswith("OPTIONS=")]
 
-    def given(self, variables):
-        """The words of the front, where the environment says this."""
-        own = dict(word.partition("=")[::2] for word in self.service["Service"]["Environment"].split())
-        return words_of(self.service["Service"]["ExecStart"], {**own, **variables})
+    def given(self, variables, service=None):
+        """The words of what a service starts, the template's front where none is named, where the environment says this."""
+        service = self.service["Service"] if service is None else service
+        own = dict(word.partition("=")[::2] for word in service.get("Environment", "").split())
+        return words_of(service["ExecStart"], {**own, **variables})
 
     def test_form(self):
         """The service has its socket, and both belong to the target; rights and limits are those of the single front."""
@@ -72,7 +86,7 @@ class Units(FrontCases):
         self.assertEqual({self.service["Unit"]["PartOf"], self.socket["Unit"]["PartOf"]}, {"metad-fronts.target"})
         self.assertEqual(self.socket["Install"]["WantedBy"], "metad-fronts.target")
         self.assertEqual(self.target["Install"]["WantedBy"], "multi-user.target")
-        same = ("KillMode", "Restart", "DynamicUser", "NoNewPrivileges", "LimitNOFILE", "LimitAS")
+        same = ("KillMode", "Restart", "DynamicUser", "LimitNOFILE", "LimitAS")
         self.assertEqual({it: service[it] for it in same}, {it: single[it] for it in same})
         self.assertEqual(self.socket["Socket"]["ListenStream"], f"/run/metad-{NAME}.sock")
         self.assertEqual((service["StateDirectory"], service["RuntimeDirectory"]), (f"metad/{NAME}",) * 2)
@@ -81,10 +95,10 @@ class Units(FrontCases):
 
     def test_words(self):
         """The front takes the words that it is given, without a file of the environment and with those of the page."""
-        self.assertEqual(self.given({}), [INSTALLED, "--share", "health", "-", PROGRAM])
+        self.assertEqual(self.given({}), [INSTALLED, "--share", "health", "-", PROGRAM, *TURNS])
         self.assertEqual(len(self.examples), 1, "the files of the page")
         taken = parser().parse_args(self.given(self.examples[0])[1:])
-        self.assertEqual((taken.socket, taken.program, taken.args), ("-", PROGRAM, ["/etc/metad/classes.json"]))
+        self.assertEqual((taken.socket, taken.program, taken.args), ("-", PROGRAM, [*TURNS, "/etc/metad/classes.json"]))
         self.assertEqual((taken.record, taken.monitor), ("record", f"/run/metad/{NAME}/monitor"))
 
     def test_workers(self):
@@ -109,12 +123,91 @@ class Units(FrontCases):
                 self.assertEqual(check.ask('{"front":"share","session":"health"}'), reply(True, "health"), "a check")
         self.assertIn('"class":"Lamp","do":"new"', Path(self.room, "record").read_text(), "the record")
 
+    def test_turns(self):
+        """Each service gives its server few turns, so that no command of one client keeps the others waiting for long."""
+        services = sorted(SYSTEMD.glob("*.service"))
+        self.assertEqual(len(services), 3)
+        for path in services:
+            words = self.given({}, sections_of(path)["Service"])
+            first = words.index(PROGRAM) + 1
+            self.assertEqual(words[first : first + len(TURNS)], TURNS, path.name)
+
+    def test_few_turns(self):
+        """What the service starts takes no more events at once than it has turns."""
+        if shutil.which("systemd-socket-activate") is None:
+            self.skipTest("systemd-socket-activate is not on the path")
+        with self.activated({}) as path, Client(path) as client:
+            client.ask('{"do":"new","class":"Cell"}')
+            for _ in range(120):
+                client.ask('{"do":"invoke","object":1,"method":"setX(int)","args":[1],"type":"queued"}')
+            client.say('{"do":"spin"}')
+            lines = [client.hear() for _ in range(100 + 2)]
+        self.assertEqual(json.loads(lines[-2])["warning"], "E23")
+        self.assertEqual(json.loads(lines[-1])["reply"], {"events": 100, "left": 20, "lost": 0, "mismatched": 0})
+
+    def test_hardening(self):
+        """All services are confined in the same way."""
+        (first, *others) = ({it for it in path.read_text().partition(NO_MORE)[2].splitlines()} for path in SYSTEMD.glob("*.service"))
+        self.assertIn("SystemCallFilter=~@privileged @resources", first)
+        self.assertEqual(others, [first] * 2)
+
+    def test_exposure(self):
+        """systemd-analyze finds each service little exposed."""
+        if shutil.which("systemd-analyze") is None:
+            self.skipTest("systemd-analyze is not on the path")
+        for path in sorted(SYSTEMD.glob("*.service")):
+            unit = Path(self.room, path.name.replace("@", f"@{NAME}"))
+            unit.write_text(path.read_text())
+            words = ["systemd-analyze", "security", "--offline=true", "--no-pager", unit]
+            ran = subprocess.run(words, capture_output=True, text=True, timeout=SECONDS)
+            if ran.returncode and "offline" in ran.stderr:
+                self.skipTest("this systemd-analyze looks at no files")
+            (found,) = EXPOSURE.findall(ran.stdout)
+            self.assertLess(float(found), EXPOSED, path.name)
+
+    def test_system_calls(self):
+        """What the service starts makes no system call that its unit forbids, no socket but local ones, and no memory that
+        can be both written and executed."""
+        lacking = [it for it in ("strace", "systemd-analyze", "systemd-socket-activate") if shutil.which(it) is None]
+        if lacking:
+            self.skipTest(f"{lacking[0]} is not on the path")
+        log = Path(self.room, "calls")
+        own = {"OPTIONS": self.examples[0]["OPTIONS"].replace(f"/run/metad/{NAME}", self.room)}
+        with self.activated(own, ["strace", "-D", "-f", "-qq", "-o", str(log)]) as path:
+            for _ in range(2):
+                with Client(path) as client:
+                    self.assertEqual(json.loads(client.ask(NEW))["reply"], 1)
+        calls = log.read_text()
+        self.assertIn(f'execve("{self.program}"', calls, "the server is started")
+        allowed = calls_in("@system-service") - calls_in("@privileged") - calls_in("@resources")
+        self.assertEqual(set(CALLED.findall(calls)) - allowed, set(), "calls that the unit forbids")
+        self.assertEqual(set(OF_SOCKETS.findall(calls)), {"AF_UNIX"})
+        self.assertNotIn("PROT_WRITE|PROT_EXEC", calls)
+
+    def test_server_each(self):
+        """With metad.socket and metad@.service each client has a server of its own."""
+        if shutil.which("systemd-socket-activate") is None:
+            self.skipTest("systemd-socket-activate is not on the path")
+        service, socket = sections_of(SYSTEMD / "metad@.service")["Service"], sections_of(SYSTEMD / "metad.socket")["Socket"]
+        self.assertEqual((socket["Accept"], service["StandardInput"], service["StandardOutput"]), ("yes", "socket", "socket"))
+        path, words = Path(self.room, "each"), self.given({}, service)
+        given = ["systemd-socket-activate", "--accept", "--inetd", "--listen", path, self.program, *words[1:]]
+        with subprocess.Popen(given, stderr=subprocess.DEVNULL) as process:
+            try:
+                self.wait_for(path, process)
+                new = '{"session":"a","do":"new","class":"Probe"}'
+                with Client(path) as one, Client(path) as other:
+                    answers = [client.ask(new) for client in (one, other, one)]
+                self.assertEqual([json.loads(it)["reply"] for it in answers], [1, 1, 2])
+            finally:
+                process.terminate()
+
     @contextmanager
-    def activated(self, variables):
-        """The path of a socket that is passed to what the service starts."""
+    def activated(self, variables, before=()):
+        """The path of a socket that is passed to what the service starts, which these words are put before."""
         path, log = Path(self.room, "socket"), Log(Path(self.room, "log"))
         _, *words = self.given(variables)
-        words = [sys.executable, str(FRONT), *(self.program if it == PROGRAM else it for it in words)]
+        words = [*before, sys.executable, str(FRONT), *(self.program if it == PROGRAM else it for it in words)]
         path.unlink(missing_ok=True)
         with log.path.open("wb") as stderr:
             given = ["systemd-socket-activate", "--listen", str(path), *words]
@@ -133,7 +226,8 @@ class Units(FrontCases):
         names = [it.name.replace("@", f"@{NAME}") for it in units]
         for unit in units:
             text = unit.read_text().replace(INSTALLED, str(FRONT)).replace(f"{PROGRAM} ", f"{self.program} ")
-            Path(self.room, unit.name.replace("@", f"@{NAME}")).write_text(text)
+            for name in (unit.name, unit.name.replace("@", f"@{NAME}")):
+                Path(self.room, name).write_text(text)
         ran = subprocess.run(
             ["systemd-analyze", "verify", *(f"./{it}" for it in names)],
             cwd=self.room,

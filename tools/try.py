@@ -1,5 +1,5 @@
 #!/usr/bin/env python3
-"""Answers a session of commands in a minute or two, by a metad that is compiled but not proved.
+"""Answers a session of commands in about two minutes, by a metad that is compiled but not proved.
 
 `rt try` compiles the program with checks and runs it once. Its own lines are shown only when it fails. The answers
 go to standard output, and one line that says that this run is not proved goes to standard error.
@@ -16,7 +16,7 @@ from typing import List
 CRATE = Path(__file__).resolve().parent.parent / "crates" / "meta_main"
 SESSION = CRATE / "stdin"
 NAME = "classes.json"  # of the class file, in the folder that the program runs in
-NOT_PROVED = "This run is not proved: it compiles metad with checks, which takes a minute or two; make run proves it."
+NOT_PROVED = "This run is not proved: it compiles metad with checks, which takes about two minutes; make run proves it."
 INTERRUPTED = 130
 
 
