@@ -1,13 +1,17 @@
 """What the documents lead to: links between the Markdown files, and files, definitions, calls and words of the sources."""
 
 import re
+import shutil
+import subprocess
+import sys
 from collections import Counter
 from pathlib import Path
+from tempfile import TemporaryDirectory
 from typing import Iterator, List, Set, Tuple
 
 from .support.cases import Cases
-from .support.markdown import all_pages, anchors_in, links_in, table_in
-from .support.program import ROOT
+from .support.markdown import all_pages, anchors_in, links_in, section, table_in
+from .support.program import ROOT, SECONDS
 from .support.sources import CRATES, GLOSSARY, OF_CODE, OF_SPECS, Entry
 from .support.sources import all_declared, all_functions, definitions_in, glossary, names_of
 
@@ -20,6 +24,8 @@ NAMED = re.compile(r"`([^`\n]+)`")
 OF_CRATE = re.compile(r"(?:src|specs|proofs|must-fail)(?:/[\w.]+)*/?")
 LEMMAS = re.compile(r"(\w+Lemmas)(?:\.antt)?")
 IMPORT = re.compile(r"^use Rattle\.(\w+)\.proofs\.", re.MULTILINE)
+TABLES = ROOT / "tools" / "tables.py"
+OF_SOURCE = re.compile(r"`(\w+/src/\w+\.rt): (\w+)`")
 LAYOUT = "\n## How a crate is laid out\n"  # which names files that stand for others
 
 
@@ -88,6 +94,76 @@ class Imports(Cases):
         rows = [[NAMED.findall(cell) for cell in row] for row in table_in(section, 2)]
         said = {crate: set(of) for crates, of in rows for crate in crates}
         self.assertEqual(said, {path.name: found for path in CRATES.iterdir() if (found := lenders(path))})
+
+
+class Way(Cases):
+    """The functions that docs/ARCHITECTURE.md leads one line through."""
+
+    def test_functions(self) -> None:
+        """Each is in the file that is named with it, and each row of the table names one."""
+        way = section(ARCHITECTURE.read_text(), "One line's way")
+        named = OF_SOURCE.findall(way)
+        gone = [it for it in named if not self.is_there(*it)]
+        self.assertEqual(gone, [], "functions that are not there")
+        rows = [line for line in way.splitlines() if line.startswith("| `")]
+        self.assertEqual([it for it in rows if not OF_SOURCE.match(it.partition("| ")[2])], [], "rows that begin with no function")
+        self.assertGreater(len(rows), 20)
+
+    def is_there(self, path: str, name: str) -> bool:
+        file = CRATES / path
+        return file.is_file() and re.search(rf"\bfn {name}\b", file.read_text()) is not None
+
+
+class Made(Cases):
+    """The tables that tools/tables.py writes."""
+
+    def setUp(self) -> None:
+        self.room = Path(self.enterContext(TemporaryDirectory(prefix="metad-tables-")))
+
+    def ran(self, *words: object) -> Tuple[int, str, str]:
+        given = [sys.executable, TABLES, *words]
+        ran = subprocess.run(given, capture_output=True, text=True, timeout=SECONDS, stdin=subprocess.DEVNULL)
+        return ran.returncode, ran.stdout, ran.stderr
+
+    def test_written(self) -> None:
+        """They are as the sources have it."""
+        self.assertEqual(self.ran("--check"), (0, "", ""))
+
+    def lay_out(self, page: str = "<!-- table: crates -->\nold\n<!-- end of table -->\n") -> Path:
+        """A repository of four crates, one of which names both another and what is below that."""
+        (self.room / "docs").mkdir()
+        (self.room / "docs" / "ARCHITECTURE.md").write_text(f"before\n{page}after\n")
+        (self.room / "crates.txt").write_text("# Base\nlow: serde_json\nside: low\nhigh: low side itoa\nabove status=3: high side low\n")
+        for name, root in (("low", "lib.rt"), ("side", "lib.rt"), ("high", "lib.rt"), ("above", "main.rt")):
+            source = self.room / "crates" / name / "src" / root
+            source.parent.mkdir(parents=True)
+            source.write_text(f"//! What {name}\n//! is. More of it.\n//!\n//! And more.\nmod a;\n")
+        return self.room / "docs" / "ARCHITECTURE.md"
+
+    def test_made(self) -> None:
+        """A crate's row has its first sentence, and what it names but for what is below another one that it names."""
+        page = self.lay_out()
+        self.assertEqual(self.ran("--check", "--root", self.room)[0], 1, "before it is written")
+        self.assertEqual(self.ran("--root", self.room), (0, "docs/ARCHITECTURE.md: written\n", ""))
+        self.assertEqual(self.ran("--check", "--root", self.room), (0, "", ""))
+        rows = ["| `low` | What low is | |", "| `side` | What side is | `low` |", "| `high` | What high is | `side` |"]
+        wanted = ["| crate | what it is | stands on |", "|---|---|---|", *rows, "| `above` | What above is | `high` |"]
+        head, *lines, end = page.read_text().split("<!-- ")
+        self.assertEqual((head, end), ("before\n", "end of table -->\nafter\n"))
+        self.assertEqual(lines[0].split("-->\n")[1].strip().splitlines(), wanted)
+
+    def test_faults(self) -> None:
+        """A page without a place for a table, and a crate that does not say what it is, are named; so are wrong words."""
+        page = self.lay_out("none\n")
+        self.assertRegex(self.ran("--root", self.room)[2], r"^tables\.py: docs/ARCHITECTURE\.md has not one place")
+        page.write_text("<!-- table: crates -->\n<!-- end of table -->\n")
+        (self.room / "crates" / "side" / "src" / "lib.rt").write_text("mod a;\n")
+        self.assertRegex(self.ran("--root", self.room)[2], r"^tables\.py: \S*/crates/side/src/lib\.rt does not begin")
+        shutil.rmtree(self.room / "crates")
+        status, said, fault = self.ran("--root", self.room)
+        self.assertEqual((status, said, "Traceback" in fault), (1, "", False))
+        status, said, fault = self.ran("--else")
+        self.assertEqual((status, said, fault.partition(" ")[0]), (2, "", "usage:"))
 
 
 class Definitions(Cases):
