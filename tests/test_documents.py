@@ -9,6 +9,7 @@ from pathlib import Path
 from tempfile import TemporaryDirectory
 from typing import Iterator, List, Set, Tuple
 
+from .support import protocol
 from .support.cases import Cases
 from .support.markdown import all_pages, anchors_in, links_in, section, table_in
 from .support.program import ROOT, SECONDS
@@ -69,8 +70,31 @@ def files_of_crates(text: str) -> Iterator[Tuple[str, Path]]:
             yield f"{crate}/{name}", CRATES / crate / (f"proofs/{lemmas[1]}.antt" if lemmas else name)
 
 
+OF_ACTIONS = {"bodies.py", "class_faults.py", "class_files.py", "mistakes.py", "slots.py"}  # which know actions of the same words
+OF_LONG_LINES = {"growing.py", "long_lines.py"}  # for which a few commands suffice
+SOME = 3  # so many commands that a source names, or more, make it one that a new command may concern
+
+
+def sources_of_commands() -> Iterator[Tuple[Path, Set[str]]]:
+    """The sources around the program, each with the commands whose words it has in quotes."""
+    words = [word for word, *_ in protocol.commands()]
+    for pattern in ("clients/*/*.py", "clients/python/metad/*.py", "clients/inspecting/page/*.js", "tests/generators/*.py", "tests/plain/*.py"):
+        for path in ROOT.glob(pattern):
+            text = path.read_text()
+            yield path, {word for word in words if f'"{word}"' in text}
+
+
 class Changing(Cases):
     """The files that docs/CHANGING.md says a change touches."""
+
+    def test_sources_of_commands(self) -> None:
+        """Each source around the program that knows several commands is named among the files of a new command."""
+        said = section(CHANGING.read_text(), "A new command")
+        named = {it.rpartition("/")[2] for it in NAMED.findall(said)} | OF_ACTIONS | OF_LONG_LINES
+        found = [path for path, words in sources_of_commands() if len(words) >= SOME]
+        self.assertGreater(len(found), 10)
+        gone = [str(path.relative_to(ROOT)) for path in found if path.name not in named]
+        self.assertEqual(gone, [], "sources that are not named")
 
     def test_files(self) -> None:
         """Each stands in the crate that is named before it."""
