@@ -11,6 +11,7 @@ from __future__ import annotations
 
 import os
 import re
+import resource
 import shutil
 import socket
 import statistics
@@ -31,7 +32,9 @@ from metad.fronts import front_words  # noqa: E402
 
 TURNS, TRIPS = 9, 500  # in each turn so many round trips of each kind
 STARTS = 5  # in each turn so many where each starts a program
-CLIENTS, PROCESSES = 200, 10
+CLIENTS, PROCESSES = 200, 10  # a D-Bus daemon takes no more clients of one user
+OF_FRONT = 5_000  # clients of a front: with few it depends on chance how much memory Python has in reserve
+SPARE = 200  # files that are for other things
 GET = b'{"do":"get","object":1,"property":"objectName","session":"a"}\n'
 MAKE = [b'{"class":"QObject","do":"new","session":"a"}\n']
 MAKE += [b'{"do":"set","object":1,"property":"objectName","session":"a","value":"lamp"}\n']
@@ -234,8 +237,9 @@ def bytes_behind_front(program: str) -> float:
         kept = [asking_front(path)]
         server = int(Path(f"/proc/{process.pid}/task/{process.pid}/children").read_text())
         before = private_bytes(process.pid, server)
-        kept += [asking_front(path) for _ in range(CLIENTS)]
-        return (private_bytes(process.pid, server) - before) / CLIENTS
+        count = min(OF_FRONT, resource.getrlimit(resource.RLIMIT_NOFILE)[0] - SPARE)
+        kept += [asking_front(path) for _ in range(count)]
+        return (private_bytes(process.pid, server) - before) / count
 
 
 def bytes_on_bus() -> Optional[float]:

@@ -4,6 +4,7 @@ from __future__ import annotations
 
 import contextlib
 import io
+import re
 import sys
 from argparse import Namespace
 from typing import Dict, List, Tuple
@@ -18,7 +19,7 @@ import bench  # isort: skip
 import marks  # isort: skip
 from figures import FIGURES, Figure, Ratio  # isort: skip
 
-PAGE = ROOT / "docs" / "MEASURES.md"
+PAGE, SCALING = (ROOT / "docs" / name for name in ("MEASURES.md", "SCALING.md"))
 COUNTED = "set and get, in 1 session"
 BYTES = {"one session more": 400.0}
 
@@ -53,6 +54,21 @@ class Marks(Cases):
         wanted = ["| a | times | 1.50 | - | 1.00 | no |", "| b | bytes | 1,000 | 1,030 | - | - |", "| c | lines | 5.00 | 5.15 | 5.00 | yes |"]
         self.assertEqual(marks.rows_of(made).splitlines(), wanted)
         self.assertEqual([marks.guard_of(it) for it in (0.0, 0.38, 2.5, 99.0, 100, 4_000)], [0.01, 0.4, 2.58, 102, 103, 4_120])
+
+
+class Sessions(Cases):
+    """The bytes of a session, which docs/MEASURES.md has and docs/SCALING.md reckons with."""
+
+    def test_sum(self) -> None:
+        """The memory of a million sessions is summed up from the bytes that `make bench` has written down."""
+        (measured,) = re.findall(r"^\| one session more, with a named object \| bytes \| ([0-9,]+) \|", PAGE.read_text(), re.MULTILINE)
+        (summed,) = re.findall(r"^\| memory of all servers \| `1,000,000 \* ([0-9,]+) / ", SCALING.read_text(), re.MULTILINE)
+        number, used = (int(it.replace(",", "")) for it in (measured, summed))
+        self.assertLessEqual(abs(number - used), 0.01 * number)
+
+    def test_once(self) -> None:
+        """The bytes of a session in the server are no row of the other page."""
+        self.assertEqual(re.findall(r"^\| a session in the server, with(?:out objects| a named object) .*", SCALING.read_text(), re.MULTILINE), [])
 
 
 class Ends(Cases):
