@@ -12,9 +12,10 @@ the others go on, and it is shown with its input and with how what came differs 
 the program's ends, its pipes and its limits, `test_slice` slices of inputs, `test_memory` refused growths and little
 memory, `test_classes` class files, `test_clients` what stands in `clients`, `test_documents` what documents lead to,
 `test_machines` several machines behind an edge, `test_machines_files` what starts them, `test_hosting` what starts fronts on
-hosts, `test_scaling` sessions on servers apart, `test_install` what `make install` installs, and `test_package` what is
-packed. `support` is what they share, `generators` makes what they give, and `preload` has the libraries that are preloaded
-into the program.
+hosts, `test_scaling` sessions on servers apart, `test_measures` what decides how `make bench` ends, `test_tools` what is in
+`tools` and the targets of the Makefile, `test_install` what `make install` installs, and `test_package` what is packed.
+`support` is what they share, `generators` makes what they give, and `preload` has the libraries that are preloaded into the
+program.
 
 `python3 -m tests.hostile` is none of them: it gives the program ten million hostile lines, for an hour or so, or as many
 as it is told to.

@@ -4,23 +4,32 @@ from __future__ import annotations
 
 import contextlib
 import io
+import json
 import re
+import subprocess
 import sys
 from argparse import Namespace
-from typing import Dict, List, Tuple
+from tempfile import NamedTemporaryFile
+from typing import Dict, List, Optional, Tuple
 from unittest import mock
 
-from .support.cases import Cases
-from .support.program import ROOT
+from .support import protocol
+from .support.cases import Cases, ProgramCases
+from .support.differences import difference
+from .support.program import ROOT, SECONDS
 
 sys.path.insert(0, str(ROOT / "bench"))
 
 import bench  # isort: skip
 import marks  # isort: skip
+import worst_lines  # isort: skip
 from figures import FIGURES, Figure, Ratio  # isort: skip
 
 PAGE, SCALING = (ROOT / "docs" / name for name in ("MEASURES.md", "SCALING.md"))
 COUNTED = "set and get, in 1 session"
+FEW = {"objects": 120, "levels": 9, "connections": 410, "events": 400, "bindings": 12, "publications": 6, "joins": 5, "classes": 20}
+SMALL = worst_lines.Sizes(**FEW, calls=10, turns=1_000)
+AT_LIMITS = ["a session with as much as may be of everything", "a signal that brings about 961 calls"]  # the last states
 BYTES = {"one session more": 400.0}
 
 
@@ -54,6 +63,44 @@ class Marks(Cases):
         wanted = ["| a | times | 1.50 | - | 1.00 | no |", "| b | bytes | 1,000 | 1,030 | - | - |", "| c | lines | 5.00 | 5.15 | 5.00 | yes |"]
         self.assertEqual(marks.rows_of(made).splitlines(), wanted)
         self.assertEqual([marks.guard_of(it) for it in (0.0, 0.38, 2.5, 99.0, 100, 4_000)], [0.01, 0.4, 2.58, 102, 103, 4_120])
+
+
+class Dearest(ProgramCases):
+    """bench/worst.txt, which describes the lines that bench/worst.py counts."""
+
+    def setUp(self) -> None:
+        self.states = list(worst_lines.states(SMALL))
+
+    def test_commands(self) -> None:
+        """Each command of the protocol has a line, and each line is told something."""
+        lines = [line for state in self.states for line in state.worst]
+        counted = {json.loads(line.line)["do"] for line in lines}
+        self.assertEqual(counted, {do for do, *_ in protocol.commands()})
+        self.assertEqual([line.name for line in lines if not line.told.endswith("\n")], [])
+        names = [state.name for state in self.states]
+        self.assertEqual(len(set(names)), len(names), "names of states")
+
+    def test_told(self) -> None:
+        """With a few things of each kind the program tells what the description says, where no limit is met."""
+        cases = []
+        for state in self.states[: -len(AT_LIMITS)]:
+            before = "".join(line for line, _ in state.before())
+            told = "".join(it for _, it in state.before())
+            lines = (line for line in state.worst if '"E14"' not in line.told)
+            cases += [(f"{state.name}: {it.name}", (state.classes(), before + it.line, told + it.told)) for it in lines]
+        self.assertGreater(len(cases), 100)
+        self.assertEqual([it.name for it in self.states[-len(AT_LIMITS) :]], AT_LIMITS)
+        self.check_each(cases, self.fault_of)
+
+    def fault_of(self, case: Tuple[str, str, str]) -> Optional[str]:
+        """What differs in a run of a state and a line."""
+        classes, given, wanted = case
+        with NamedTemporaryFile("w", prefix="metad-worst-") as file:
+            file.write(classes)
+            file.flush()
+            words = [self.program, file.name, "--turns", str(SMALL.turns)]
+            ran = subprocess.run(words, input=given, capture_output=True, text=True, timeout=SECONDS)
+        return difference(wanted.encode(), ran.stdout.encode())
 
 
 class Sessions(Cases):
