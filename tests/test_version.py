@@ -41,8 +41,30 @@ class Version(Cases):
         self.assertEqual(self.raised(str(room), NEW).stdout, f"{len(before)} files\n")
         changes = Path("CHANGELOG.md")
         wanted = {path: text.replace(old, NEW) for path, text in before.items()}
-        wanted[changes] = before[changes].replace(f"## {old}\n", f"## {NEW}\n\n## {old}\n", 1)
+        wanted[changes] = self.changed(before[changes], old)
         self.assertEqual({path: (room / path).read_text() for path in before}, wanted)
+
+    def changed(self, changes: str, old: str) -> str:
+        """The changes with a heading of the new version, in place of that of what is unreleased where there is one."""
+        if "## Unreleased\n" in changes:
+            return changes.replace("## Unreleased\n", f"## {NEW}\n", 1)
+        return changes.replace(f"## {old}\n", f"## {NEW}\n\n## {old}\n", 1)
+
+    def test_changes(self) -> None:
+        """What is unreleased becomes the part of the new version; without it an empty part is begun."""
+        room, old = Path(self.enterContext(TemporaryDirectory(prefix="metad-version-"))), version()[0]
+        for name in ("README.md", "man", "examples", "clients/python/metad", "crates/program_start/src"):
+            copy = shutil.copytree if (ROOT / name).is_dir() else shutil.copy
+            (room / name).parent.mkdir(parents=True, exist_ok=True)
+            copy(ROOT / name, room / name)
+        for before, wanted in (
+            (f"# Changes\n\n## Unreleased\n\n- new\n\n## {old}\n\n- old\n", f"# Changes\n\n## {NEW}\n\n- new\n\n## {old}\n\n- old\n"),
+            (f"# Changes\n\n## {NEW}\n\n- old\n", f"# Changes\n\n## 98.7.7\n\n## {NEW}\n\n- old\n"),
+        ):
+            (room / "CHANGELOG.md").write_text(before)
+            ran = self.raised(str(room), NEW if "Unreleased" in before else "98.7.7")
+            self.assertEqual(ran.returncode, 0, ran.stderr)
+            self.assertEqual((room / "CHANGELOG.md").read_text(), wanted)
 
     def test_refused(self) -> None:
         """What is no version, and a repository that does not say one, are left as they are."""

@@ -10,6 +10,7 @@ from pathlib import Path
 
 SAID = Path("clients/python/metad/__init__.py")
 CHANGES = Path("CHANGELOG.md")
+UNRELEASED = "## Unreleased\n"
 PLACES = [
     SAID,
     Path("README.md"),
@@ -29,10 +30,17 @@ def raised(root, new):
     if missing:
         raise ValueError(f"{old} does not stand in {', '.join(missing)}")
     texts = {path: text.replace(old, new) for path, text in texts.items()}
-    head, rule, rest = (root / CHANGES).read_text().partition(f"## {old}\n")
+    return {**texts, CHANGES: begun((root / CHANGES).read_text(), old, new)}
+
+
+def begun(changes, old, new):
+    """The changes with a part of the new version, which is that of what is unreleased where there is one."""
+    head, rule, rest = changes.partition(f"## {old}\n")
     if not rule:
         raise ValueError(f"{CHANGES} has no part {old}")
-    return {**texts, CHANGES: f"{head}## {new}\n\n{rule}{rest}"}
+    if UNRELEASED in head:
+        return head.replace(UNRELEASED, f"## {new}\n", 1) + rule + rest
+    return f"{head}## {new}\n\n{rule}{rest}"
 
 
 def main():
