@@ -333,7 +333,10 @@ class Reading:
         elif word == "first":
             self.steps.append(partial(done, Given.read(*rest.split(" | ")), self.names))
         elif word == "each":
-            name, values, given = EACH_OF.fullmatch(rest).groups()
+            found = EACH_OF.fullmatch(rest)
+            if found is None:
+                raise ValueError(f"no repeated command: {line}")
+            name, values, given = found.groups()
             self.steps.append(partial(repeated, name, values, Given.read(*given.split(" | ")), self.names))
         else:
             name, given, answer, *more = line.split(" | ")

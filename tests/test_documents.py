@@ -78,7 +78,8 @@ SOME = 3  # so many commands that a source names, or more, make it one that a ne
 def sources_of_commands() -> Iterator[Tuple[Path, Set[str]]]:
     """The sources around the program, each with the commands whose words it has in quotes."""
     words = [word for word, *_ in protocol.commands()]
-    for pattern in ("clients/*/*.py", "clients/python/metad/*.py", "clients/inspecting/page/*.js", "tests/generators/*.py", "tests/plain/*.py"):
+    clients = ("clients/*/*.py", "clients/python/metad/*.py", "clients/inspecting/page/*.js")
+    for pattern in (*clients, "tests/generators/*.py", "tests/plain/*.py"):
         for path in ROOT.glob(pattern):
             text = path.read_text()
             yield path, {word for word in words if f'"{word}"' in text}

@@ -59,9 +59,12 @@ class Marks(Cases):
 
     def test_texts(self) -> None:
         """Numbers and words of the table."""
-        made = [marks.Mark("a", "times", 1.5, None, 1.0), marks.Mark("b", "bytes", 1_000, 1_030, None), marks.Mark("c", "lines", 5.0, 5.15, 5.0)]
-        wanted = ["| a | times | 1.50 | - | 1.00 | no |", "| b | bytes | 1,000 | 1,030 | - | - |", "| c | lines | 5.00 | 5.15 | 5.00 | yes |"]
-        self.assertEqual(marks.rows_of(made).splitlines(), wanted)
+        for mark, wanted in (
+            (marks.Mark("a", "times", 1.5, None, 1.0), "| a | times | 1.50 | - | 1.00 | no |\n"),
+            (marks.Mark("b", "bytes", 1_000, 1_030, None), "| b | bytes | 1,000 | 1,030 | - | - |\n"),
+            (marks.Mark("c", "lines", 5.0, 5.15, 5.0), "| c | lines | 5.00 | 5.15 | 5.00 | yes |\n"),
+        ):
+            self.assertEqual(marks.rows_of([mark]), wanted)
         self.assertEqual([marks.guard_of(it) for it in (0.0, 0.38, 2.5, 99.0, 100, 4_000)], [0.01, 0.4, 2.58, 102, 103, 4_120])
 
 
@@ -115,7 +118,8 @@ class Sessions(Cases):
 
     def test_once(self) -> None:
         """The bytes of a session in the server are no row of the other page."""
-        self.assertEqual(re.findall(r"^\| a session in the server, with(?:out objects| a named object) .*", SCALING.read_text(), re.MULTILINE), [])
+        found = re.findall(r"^\| a session in the server, with(?:out objects| a named object) .*", SCALING.read_text(), re.MULTILINE)
+        self.assertEqual(found, [])
 
 
 class Ends(Cases):
