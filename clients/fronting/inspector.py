@@ -5,10 +5,15 @@ inspector itself has asked for it; one that the server wrote stands as it is. `@
 second, of the lines behind it, and `!` before what the front says by itself, an object: how it begins, which session
 has gone, what was refused, and how many lines were left out. The inspector writes what it asks for: a number, a session
 and a command.
+
+Browsers talk to that process, so the front does not trust it. Whatever it writes, the front gives a server only commands
+that `inspecting.allowed` has, for sessions that are there: it reads each command, writes it anew, and puts the session
+into it by itself.
 """
 
 from __future__ import annotations
 
+import re
 import secrets
 import socket
 import subprocess
@@ -19,6 +24,8 @@ from contextlib import contextmanager, suppress
 from dataclasses import dataclass, field
 from pathlib import Path
 from typing import Any, Callable, Deque, Dict, Iterable, Iterator, Optional, Sequence, Set
+
+from inspecting.allowed import is_allowed, is_session, text_of, value_of
 
 from .clients import Client, Session, Speaker, Unread
 from .lines import CHUNK, Lines, line_of
@@ -32,7 +39,9 @@ WAITING_MOST = 64  # browsers that wait to be accepted
 LEFT_MOST = 4 * 1024 * 1024  # bytes that the inspector has not taken, above which lines are left out
 ROOM = 1024 * 1024  # how little it has not taken, before it is told lines again
 SEND_BYTES = 1024 * 1024  # that the socket holds, where that may be
+NUMBER = re.compile(rb"[1-9][0-9]{0,14}")  # of a command that the inspector asks for
 ASKS_MOST = 1_024  # commands of the inspector that wait for one session
+WAITING_BYTES_MOST = 1024 * 1024  # bytes of its commands that wait, for all sessions together
 SECONDS_TO_END = 2
 
 
@@ -58,6 +67,13 @@ class Asker(Client):
         super().lose(answer, fault)
         self.numbers.clear()
 
+    def drop(self) -> None:
+        """Gives none of the commands that wait."""
+        self.waiting.clear()
+        self.numbers.clear()
+        if self.session.group:
+            self.session.group.leave(self)
+
 
 @dataclass
 class LeftOut:
@@ -70,19 +86,22 @@ class LeftOut:
 class Inspector:
     """The process that shows a front, as the front sees it."""
 
-    def __init__(self, link: socket.socket, watch: Watch, log: Log, may_speak: bool) -> None:
+    def __init__(self, link: socket.socket, watch: Watch, log: Log, may_speak: bool, may_write: bool = False) -> None:
         self.link = link
         self.watch = watch
         self.log = log
         self.may_speak = may_speak
+        self.may_write = may_write
+        self.has_warned = False  # that it has asked for something that it may not
         self.unread = Unread()
         self.lines = Lines()
         self.left_out: Optional[LeftOut] = None
         self.fresh = bytearray()  # what it is told in this turn of the front
         self.is_timed = False  # whether a time stands in that
         self.is_gone = False
-        self.askers: Dict[str, Asker] = {}
+        self.askers: Dict[Session, Asker] = {}
         self.session_of: Callable[[str], Optional[Session]] = lambda _name: None
+        self.when_closed: Callable[[], None] = lambda: None
         self.turns: Optional[Turns] = None
         link.setblocking(False)
         with suppress(OSError):
@@ -121,15 +140,15 @@ class Inspector:
         self.fresh += b"@%d\n" % (time.monotonic_ns() // 1_000)
 
     def leave_out(self, count: int, sessions: Iterable[str]) -> None:
-        """Counts lines that it is not told, and keeps whose they were."""
+        """Counts lines that it is not told, and keeps the names of their sessions, except of those whose clients have gone."""
         if self.left_out is not None and not self.is_gone:
             self.left_out.lines += count
-            self.left_out.sessions.update(sessions)
+            self.left_out.sessions.update(name for name in sessions if self.session_of(name))
 
     def note(self, **said: Any) -> None:
-        """Tells it something by the front itself. One that takes nothing at all is let go."""
+        """Tells it something by the front itself. One that reads nothing at all is dropped."""
         if len(self.unread) > 2 * LEFT_MOST:
-            self.close()
+            self.close("it does not read")
         if not self.is_gone:
             self.fresh += b"!" + line_of(said)
 
@@ -180,15 +199,19 @@ class Inspector:
         if not data:
             return self.close()
         for line in self.lines.feed(data):
-            if self.may_speak:
+            if not self.is_gone:
                 self.ask(line)
 
     def ask(self, line: bytes) -> None:
-        """Lets a command that it asks for wait for its turn, as one of a member of that session."""
-        number, name, command = (line.split(b" ", 2) + [b"", b""])[:3]
-        session = self.session_of(name.decode("ascii", "replace"))
+        """Queues a command that it asks for, as one of a member of that session. A command that is not allowed is refused. A
+        line without a number can only come from a broken process, which is dropped."""
+        number, name, text = (line.split(b" ", 2) + [b"", b""])[:3]
+        if not NUMBER.fullmatch(number):
+            return self.close("it sent a line that is no request")
+        command = self.command_in(name, text)
+        session = self.session_of(name.decode()) if command else None
         asker = self.asker_of(session) if session else None
-        if asker is None or self.turns is None or len(asker.waiting) >= ASKS_MOST or not command.strip():
+        if asker is None or self.turns is None or not command or not self.has_room(asker, command):
             return self.note(refused=[int(number)])
         asker.waiting.append(command)
         asker.numbers.append(int(number))
@@ -196,31 +219,56 @@ class Inspector:
             asker.session.group.enter(asker)
         self.turns.await_turn(asker)
 
+    def command_in(self, name: bytes, text: bytes) -> bytes:
+        """The command that a text is, written anew without a session; nothing where the command or the name is not allowed."""
+        try:
+            command = value_of(text) if is_session(name.decode()) else None
+            if is_allowed(command, self.may_speak, self.may_write):
+                return text_of(command)
+        except ValueError:
+            pass
+        if not self.has_warned:
+            self.has_warned = True
+            self.log.say("the inspector asked for a command that is not allowed, which is refused")
+        return b""
+
+    def has_room(self, asker: Asker, command: bytes) -> bool:
+        """Whether one more command may wait, of this session and of all together."""
+        held = sum(len(it) for one in self.askers.values() for it in one.waiting)
+        return len(asker.waiting) < ASKS_MOST and held + len(command) <= WAITING_BYTES_MOST
+
     def asker_of(self, session: Session) -> Asker:
         """Who speaks for this session in the inspector's name. It counts as gone, so it is told nothing."""
-        asker = self.askers.get(session.name)
+        asker = self.askers.get(session)
         if asker is None:
             asker = Asker("the inspector", self.link, session=session, is_gone=True)
-            self.askers[session.name] = asker
+            self.askers[session] = asker
         return asker
 
     def forget(self, session: Session) -> None:
         """Asks for nothing more of a session whose client has gone: it is not entered once more."""
-        asker = self.askers.pop(session.name, None)
+        asker = self.askers.pop(session, None)
         if asker is not None:
             self.note(refused=list(asker.numbers))
-            asker.waiting.clear()
-            asker.numbers.clear()
+            asker.drop()
+        if self.left_out is not None:
+            self.left_out.sessions.discard(session.name)
         self.note(gone=session.name)
 
-    def close(self) -> None:
-        """Goes on without it."""
+    def close(self, fault: str = "") -> None:
+        """Goes on without it: because it has ended, or for a fault, which the log names. Its commands that still wait are
+        dropped."""
         if not self.is_gone:
             self.is_gone = True
             self.unread.clear()
             self.fresh.clear()
+            for asker in self.askers.values():
+                asker.drop()
+            self.askers.clear()
             self.watch.follow(self.link, 0, self.stir)
-            self.log.say("the inspector has ended, and nothing more is shown")
+            self.when_closed()
+            how = f"was dropped, since {fault}" if fault else "has ended"
+            self.log.say(f"the inspector {how}, and nothing more is shown")
 
 
 @contextmanager
@@ -233,7 +281,8 @@ def inspecting(wanted: Wanted, words: Sequence[str], watch: Watch, log: Log) -> 
         process = start(far, door)
         far.close()
         door.close()
-        inspector = Inspector(near, watch, log, wanted.may_speak())
+        inspector = Inspector(near, watch, log, wanted.may_speak(), wanted.may_write)
+        inspector.when_closed = process.kill
         inspector.note(token=token, port=port, ask=wanted.may_ask, write=wanted.may_write, words=list(words))
         inspector.push()
         log.say(f"shown at http://{HERE}:{port}/{token}/")

@@ -28,8 +28,9 @@ class Asking:
         self.waiting: Dict[int, threading.Event] = {}
         self.answers: Dict[int, Entry] = {}
 
-    def ask(self, session: str, command: Dict[str, Any]) -> Optional[Entry]:
-        """Asks for a command in the name of a session; answers it with what was told to it, or None where that did not come."""
+    def ask(self, session: str, command: bytes) -> Optional[Entry]:
+        """Asks for a command in the name of a session; answers it with what was told to it, or None where that did not come.
+        The name is one of a session, and the command one line without its end."""
         if self.link is None:
             return None
         done = threading.Event()
@@ -37,7 +38,10 @@ class Asking:
             self.number += 1
             number = self.number
             self.waiting[number] = done
-            self.link.sendall(b"%d %s %s\n" % (number, session.encode(), json.dumps(command).encode()))
+            try:
+                self.link.sendall(b"%d %s %s\n" % (number, session.encode(), command))
+            except OSError:
+                done.set()  # the front has ended
         done.wait(SECONDS_TO_ANSWER)
         with self.lock:
             self.waiting.pop(number, None)

@@ -2,26 +2,17 @@
 
 from __future__ import annotations
 
-import json
 from dataclasses import dataclass
-from typing import Any, Callable, Dict, FrozenSet, Optional, Set
+from typing import Any, Callable, Dict, FrozenSet, List, Optional, Set
 
 from . import graphs, happened, views
+from .allowed import is_allowed, is_session, text_of, value_of
 from .entries import Entry
 from .feed import Asking
 from .happened import Sought
 from .replay import Replay
 from .world import World
 
-READING = {
-    "children": ("object",),
-    "get": ("object", "property"),
-    "meta": ("class",),
-    "status": (),
-    "bindingError": ("object", "property"),
-    "dynamicNames": ("object",),
-}  # what the page asks sessions with leave, and what may stand there
-WRITING = {"invoke": ("object", "method", "args", "type"), "set": ("object", "property", "value")}
 ASKED_MOST = 4_096  # objects that are asked for their children at once
 
 Json = Dict[str, Any]
@@ -106,7 +97,7 @@ class Pages:
 
     def tree(self, world: World, asked: Asked) -> Optional[Json]:
         start, count = number_in(asked, "from", 0), number_in(asked, "count", 60)
-        closed: Set[int] = {int(it) for it in asked.get("closed", "").split(",") if it.isdecimal()}
+        closed: Set[int] = {int(it) for it in asked.get("closed", "").split(",") if it.isdecimal() and len(it) < 16}
         return views.tree(world, asked["session"], start or 0, count or 0, closed, asked.get("sought", ""))
 
     def object(self, world: World, asked: Asked) -> Optional[Json]:
@@ -149,27 +140,28 @@ class Pages:
     def post(self, name: str, asked: Any) -> Any:
         """Does what the page asks for."""
         if name == "step" and self.replay:
-            return self.replay.go(int(asked["to"]))
+            return self.replay.go(line_in(asked))
         if name == "ask":
-            return self.ask(asked["session"], asked["command"])
+            return self.ask(session_in(asked), asked["command"])
         if name == "ask_tree" and self.leave.ask:
-            return self.ask_tree(asked["session"])
+            return self.ask_tree(session_in(asked))
         raise Refused(403 if name == "ask_tree" else 404)
 
     def ask(self, session: str, command: Json) -> Json:
         """Gives a command in the name of a session, where that is allowed, and answers with what was told to it."""
-        word = command["do"]
-        is_reading, is_writing = word in READING and self.leave.ask, word in WRITING and self.leave.write
-        if not (is_reading or is_writing) or not set(command) - {"do"} <= set({**READING, **WRITING}[word]):
+        if not isinstance(command, dict):
+            raise Refused(400)
+        if not is_allowed(command, self.leave.ask, self.leave.write):
             raise Refused(403)
-        entry = self.asking.ask(session, with_numbers(command))
-        return {"answer": None} if entry is None else {**happened.row(entry), "answer": entry.answer.decode()}
+        entry = self.asking.ask(session, text_of(with_numbers(command)))
+        return {"answer": None} if entry is None else {**happened.row(entry), "answer": entry.answer.decode("utf-8", "replace")}
 
     def ask_tree(self, session: str) -> Json:
         """Asks a session for its roots, and each object for its children."""
-        waiting, count = [{"do": "children"}], 0
+        waiting: List[Json] = [{"do": "children"}]
+        count = 0
         while waiting and count < ASKED_MOST:
-            entry = self.asking.ask(session, waiting.pop())
+            entry = self.asking.ask(session, text_of(waiting.pop()))
             count += 1
             if entry is None or entry.error in ("E20", None) and not isinstance(entry.reply, list):
                 break
@@ -177,6 +169,22 @@ class Pages:
         return {"asked": count, "left": len(waiting)}
 
 
+def session_in(asked: Json) -> str:
+    """The session that is asked for, which has to be a name."""
+    name = asked["session"]
+    if not is_session(name):
+        raise Refused(400)
+    return str(name)
+
+
+def line_in(asked: Json) -> int:
+    """The line of the record up to which it is to be shown."""
+    to = asked["to"]
+    if not isinstance(to, int) or isinstance(to, bool):
+        raise Refused(400)
+    return to
+
+
 def with_numbers(command: Json) -> Json:
     """A command in which values that a browser had to write as texts of JSON are those values."""
-    return {key: json.loads(it["json"]) if isinstance(it, dict) and "json" in it else it for key, it in command.items()}
+    return {key: value_of(it["json"].encode()) if isinstance(it, dict) and "json" in it else it for key, it in command.items()}

@@ -3,15 +3,17 @@
 from __future__ import annotations
 
 import hmac
-import json
+import io
 import socket
 import threading
 import time
 from http.server import BaseHTTPRequestHandler, ThreadingHTTPServer
 from pathlib import Path
 from typing import Any, Callable, Dict, Optional, Tuple
-from urllib.parse import parse_qs, urlsplit
+from urllib.parse import parse_qs
 
+from .allowed import value_of
+from .connections import Connections, Source
 from .happened import dumped
 from .pages import Pages, Refused
 
@@ -22,7 +24,10 @@ BODY_MOST = 65_536
 SECONDS_OF_NEWS = 0.2  # between two pieces of news, where there is any
 SECONDS_OF_QUIET = 5  # after which it is said that there is none
 SECONDS_TO_TAKE = 10  # in which a browser takes what it is told, or is let go
-NEWS_MOST = 32  # browsers that are told news at once
+NEWS_MOST = 16  # browsers that are told news at once
+CONNECTIONS_MOST = 32  # of all browsers together
+SECONDS_TO_BEGIN = 5  # in which the first request of a connection has to come, whole and with the token
+SECONDS_OF_REST = 20  # in which each further one has to
 POLICY = "; ".join((
     "default-src 'none'", "script-src 'self'", "style-src 'self'", "connect-src 'self'",
     "base-uri 'none'", "form-action 'none'", "frame-ancestors 'none'",
@@ -43,7 +48,7 @@ def files_of_page() -> Dict[str, Tuple[str, bytes]]:
 
 
 class Server(ThreadingHTTPServer):
-    """Serves the page to browsers."""
+    """Serves the page to browsers, each connection in a thread of its own, and only so many at once."""
 
     daemon_threads = True
 
@@ -56,8 +61,26 @@ class Server(ThreadingHTTPServer):
         self.pages = pages
         self.files = files_of_page()
         self.news = threading.BoundedSemaphore(NEWS_MOST)
+        self.connections = Connections(CONNECTIONS_MOST)
         port = self.server_address[1]
         self.hosts = [f"{host}:{port}" for host in HERE]
+
+    def process_request(self, request: Any, client_address: Any) -> None:
+        """Serves a connection, where there is room for one more; else it is refused and closed."""
+        if not self.connections.enter():
+            self.connections.refuse(request)
+            return
+        try:
+            super().process_request(request, client_address)
+        except RuntimeError:  # no thread can be started
+            self.connections.leave()
+            self.connections.refuse(request)
+
+    def process_request_thread(self, request: Any, client_address: Any) -> None:
+        try:
+            super().process_request_thread(request, client_address)
+        finally:
+            self.connections.leave()
 
     def handle_error(self, _request: Any, _address: Any) -> None:
         """Says nothing of a browser that has gone."""
@@ -69,10 +92,25 @@ class Handler(BaseHTTPRequestHandler):
     server: Server
     protocol_version = "HTTP/1.1"
     server_version, sys_version = "metad-inspect", ""
-    timeout = 60
+    seconds = SECONDS_TO_BEGIN
+
+    def setup(self) -> None:
+        super().setup()
+        self.source = Source(self.connection)
+        self.rfile.close()
+        self.rfile = io.BufferedReader(self.source)
+
+    def handle_one_request(self) -> None:
+        """Answers one request, which has to come whole within a time."""
+        self.source.await_request(self.seconds)
+        super().handle_one_request()
 
     def log_message(self, *_words: Any) -> None:
         """Keeps no log, in which tokens would stand."""
+
+    def send_error(self, code: int, _message: Optional[str] = None, _explain: Optional[str] = None) -> None:
+        """Refuses what is no request, and methods that there are not."""
+        self.refuse(code)
 
     def do_GET(self) -> None:
         self.answer(self.get)
@@ -83,17 +121,18 @@ class Handler(BaseHTTPRequestHandler):
     # ---- who may ask ----
 
     def answer(self, do: Callable[[str, Dict[str, str]], None]) -> None:
-        """Answers whoever may ask; refuses all others without saying why."""
-        parts = urlsplit(self.path)
-        token, _, name = parts.path[1:].partition("/")
+        """Answers whoever may ask, whose connection may then stay open; refuses all others without saying why."""
+        path, _, query = self.path.partition("?")
+        token, _, name = path[1:].partition("/")
         if not self.is_known(token):
             return self.refuse(403)
-        asked = {key: values[-1] for key, values in parse_qs(parts.query, keep_blank_values=True).items()}
+        self.seconds = SECONDS_OF_REST
         try:
+            asked = {key: values[-1] for key, values in parse_qs(query, keep_blank_values=True).items()}
             do(name, asked)
         except Refused as refused:
             self.refuse(refused.status)
-        except (KeyError, ValueError, TypeError, AttributeError):
+        except (LookupError, ValueError, TypeError, AttributeError, ArithmeticError, RecursionError):
             self.refuse(400)
 
     def is_known(self, token: str) -> bool:
@@ -106,11 +145,14 @@ class Handler(BaseHTTPRequestHandler):
         return is_right and is_own and is_from_here
 
     def refuse(self, status: int) -> None:
+        """Refuses a request, and closes the connection, also where not all of the request was read."""
         self.close_connection = True
         self.send(status, "text/plain", b"refused\n" if status == 403 else b"there is no such thing\n")
+        self.source.pass_over()
 
     def send(self, status: int, kind: str, body: bytes) -> None:
-        """Sends a whole answer."""
+        """Sends a whole answer, which the browser has to take within a time."""
+        self.connection.settimeout(SECONDS_TO_TAKE)
         self.send_response(status)
         for name, value in HEADERS.items():
             self.send_header(name, value)
@@ -135,11 +177,21 @@ class Handler(BaseHTTPRequestHandler):
 
     def post(self, name: str, _asked: Dict[str, str]) -> None:
         """Does what the page asks for."""
-        length = int(self.headers.get("Content-Length", ""))
-        if not 0 <= length <= BODY_MOST or self.headers.get_content_type() != "application/json":
+        self.send(200, "application/json", dumped(self.server.pages.post(name, self.body())))
+
+    def body(self) -> Any:
+        """The value that a request brings: JSON of a length that is said, and is not too large."""
+        words = self.headers.get_all("Content-Length") or []
+        is_plain = len(words) == 1 and words[0].isascii() and words[0].isdecimal() and len(words[0]) < 9
+        if not is_plain or self.headers.get("Transfer-Encoding") or self.headers.get_content_type() != "application/json":
             raise Refused(400)
-        asked = json.loads(self.rfile.read(length))
-        self.send(200, "application/json", dumped(self.server.pages.post(name, asked)))
+        length = int(words[0])
+        if length > BODY_MOST:
+            raise Refused(400)
+        body = self.rfile.read(length)
+        if len(body) < length:
+            raise Refused(400)
+        return value_of(body)
 
     def tell_news(self) -> None:
         """Tells a browser of each change, until it has gone or takes nothing any more."""

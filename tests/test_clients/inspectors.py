@@ -3,6 +3,7 @@
 import http.client
 import json
 import re
+import subprocess
 import time
 from contextlib import contextmanager
 from urllib.parse import urlencode, urlsplit
@@ -70,3 +71,8 @@ class InspectCases(FrontCases):
         """The path of a front that is shown, its process, and who asks its inspector."""
         with self.front(*words, options=("--quiet", "--inspect", "0", *options), server=server) as (path, process):
             yield path, process, Asker(address_in(process.log.lines()))
+
+    def inspector_of(self, process):
+        """The process of the inspector of a front."""
+        found = subprocess.run(["ps", "-o", "pid=,args=", "--ppid", str(process.pid)], capture_output=True, text=True).stdout
+        return next(int(line.split()[0]) for line in found.splitlines() if "--feed" in line)
