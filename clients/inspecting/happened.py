@@ -4,7 +4,7 @@ from __future__ import annotations
 
 import json
 from dataclasses import dataclass
-from typing import Any, Dict, Iterator, List, Optional
+from typing import Any, Dict, FrozenSet, Iterator, List, Optional
 
 from explaining.commands import Command
 from explaining.words import Misfit
@@ -30,7 +30,7 @@ class Sought:
     session: str = ""
     object: Optional[int] = None
     signal: str = ""
-    kept: Optional[frozenset] = None  # numbers of a slice
+    kept: Optional[FrozenSet[int]] = None  # numbers of a slice
 
     def is_met(self, entry: Entry) -> bool:
         """Whether a command is one of these."""
@@ -201,16 +201,15 @@ def emissions(world: World, sought: Sought, count: int) -> Json:
 
 def busiest(world: World, session: str, order: str, count: int) -> Json:
     """The slots that were called, those first that were most, or whose commands took longest."""
-    keys = {"calls": 0, "mean": 2, "worst": 3}
-    rows = []
-    for (name, class_name, slot), (calls, commands, taken, worst, entry) in world.slots.items():
-        if session in ("", name):
+    rows: List[Json] = []
+    for name in [session] if session else world.slots:
+        for (class_name, slot), (calls, commands, taken, worst, entry) in world.slots.get(name, {}).items():
             rows.append({
                 "session": name, "class": class_name, "slot": slot, "calls": calls, "commands": commands,
                 "mean": taken // max(1, commands), "worst": worst, "entry": entry,
             })  # fmt: skip
-    order = order if order in keys else "calls"
-    rows.sort(key=lambda it: -it[order])
+    order = order if order in ("calls", "mean", "worst") else "calls"
+    rows.sort(key=lambda it: -int(it[order]))
     total = sum(it["calls"] for it in rows)
     return {"rows": rows[: min(count, COUNT_MOST)], "total": len(rows), "calls": total}
 

@@ -73,8 +73,7 @@ class Learning:
             session.objects = Living()
             session.objects.has_earlier, session.is_known = True, False
             know.calls, know.warned = [], set()
-        if not isinstance(know.sessions.get(session.name), Living):
-            know.sessions.pop(session.name, None)
+        know.sessions.pop(session.name, None)  # the session keeps what is known of its objects
         session.forget_gone()
 
     def know_rest(self, session: Session, entry: Entry, trace: Trace) -> None:
@@ -293,7 +292,10 @@ def answer_of(name: str, entry: Entry) -> Line:
 def fail(session: Session) -> None:
     """A session has found no memory: all that it held is gone."""
     session.drop(list(session.connections))
-    for table in (session.cells, session.of_object, session.bindings, session.readers, session.errors, session.publications):
+    tables: List[Dict[Any, Any]] = [
+        session.cells, session.of_object, session.bindings, session.readers, session.errors, session.publications,
+    ]  # fmt: skip
+    for table in tables:
         table.clear()
     session.joins, session.failed, session.queued, session.is_queue_sure = [], True, 0, True
     session.postings.clear()

@@ -127,6 +127,8 @@ class Session:
     blocked: Dict[int, Optional[bool]] = field(default_factory=dict)
     publications: Dict[str, Spot] = field(default_factory=dict)
     joins: List[Join] = field(default_factory=list)
+    sources: Set[str] = field(default_factory=set)  # the sessions that it is known to listen to, by so many joins
+    joined: int = 0
     postings: Deque[Posting] = field(default_factory=lambda: deque(maxlen=POSTED_MOST))
     queued: int = 0
     is_queue_sure: bool = True

@@ -2,7 +2,7 @@
 
 from __future__ import annotations
 
-from typing import Any, Dict, List, Optional, Set, Tuple
+from typing import Any, Callable, Dict, List, Optional, Set, Tuple
 
 from explaining.objects import ROOT
 
@@ -63,13 +63,13 @@ def session_row(session: Session, second: int) -> Json:
     }
 
 
-SORTS = {
+SORTS: Dict[str, Callable[[Session, int], List[Any]]] = {
     "name": lambda it, _second: [int(part) if part.isdigit() else part for part in split_digits(it.name)],
-    "objects": lambda it, _second: -len(it.objects.classes),
-    "connections": lambda it, _second: -len(it.connections),
-    "queued": lambda it, _second: -it.queued,
-    "rate": lambda it, second: -it.rate(second),
-    "lines": lambda it, _second: -it.lines,
+    "objects": lambda it, _second: [-len(it.objects.classes)],
+    "connections": lambda it, _second: [-len(it.connections)],
+    "queued": lambda it, _second: [-it.queued],
+    "rate": lambda it, second: [-it.rate(second)],
+    "lines": lambda it, _second: [-it.lines],
 }
 
 

@@ -20,6 +20,7 @@ NOBODY = "-"
 READER = json.JSONDecoder()
 MILLION = 1_000_000
 BEHIND = 500_000  # from which on what is known counts as behind
+DEPARTED_MOST = 16_384  # names of clients that have gone
 
 
 class World:
@@ -34,7 +35,8 @@ class World:
         self.under_way: Deque[Entry] = deque()
         self.met: Dict[str, Any] = {}  # what `meta` has told of classes
         self.listeners: Dict[str, Set[str]] = {}  # by a session's name, those that have joined it
-        self.slots: Dict[Tuple[str, str, str], List[int]] = {}  # of a session, class and slot: calls, commands, time, worst, its entry
+        self.slots: Dict[str, Dict[Tuple[str, str], List[int]]] = {}  # of a session, by class and slot: calls, commands, time, worst, its entry
+        self.departed: Dict[str, None] = {}  # names whose clients have gone, the oldest first, and whose reset was not seen
         self.now = 0  # in millionths of a second, as the front says it
         self.last_end = 0
         self.lag = 0  # how far what is known is behind, at the last lines that came
@@ -98,14 +100,13 @@ class World:
         self.version += 1
         second = self.now // MILLION
         self.total_rates.count_lines(entry.lines + 1, second)
-        if entry.session != NOBODY:
+        if entry.session != NOBODY and (entry.session in self.sessions or entry.session not in self.departed):
             session = self.session(entry.session)
             session.count_lines(entry.lines + 1, second)
             session.commands += 1
-            try:
-                self.learn(session, entry)
-            except (KeyError, TypeError, ValueError, AttributeError):
-                session.is_known = False  # it was answered as a command, and is none that is known here
+            self.learn_all(session, entry)
+        elif entry.word == "reset":
+            self.departed.pop(entry.session, None)
         self.entries.add(entry)
 
     def session(self, name: str) -> Session:
@@ -114,6 +115,17 @@ class World:
         if found is None:
             found = self.sessions[name] = Session(name)
         return found
+
+    def learn_all(self, session: Session, entry: Entry) -> None:
+        """Learns what a command has done, also where that is not what such commands do."""
+        try:
+            self.learn(session, entry)
+        except (KeyError, TypeError, ValueError, AttributeError):
+            session.is_known = False  # it was answered as a command, and is none that is known here
+        if entry.word == "reset" and entry.error is None:
+            self.reset(session)
+        elif session.is_gone:
+            self.slots.pop(session.name, None)
 
     def learn(self, session: Session, entry: Entry) -> None:
         """Learns what a command has done to its session, and to those that listen to it."""
@@ -134,8 +146,6 @@ class World:
             self.doubt_listeners(session)
         settle_queue(session, entry)
         self.know_listening(session, entry)
-        if entry.word == "reset" and entry.error is None:
-            self.reset(session)
 
     def doubt_listeners(self, session: Session) -> None:
         """What a session publishes may have been sent unseen: how many events wait for those that listen is not known."""
@@ -143,16 +153,34 @@ class World:
             if name in self.sessions:
                 self.sessions[name].is_queue_sure = False
 
-    def know_listening(self, session: Session, entry: Entry) -> None:
-        """Keeps which sessions listen to which."""
-        if entry.word == "join" and entry.error is None:
-            self.listeners.setdefault(entry.asked["from"], set()).add(session.name)
+    def know_listening(self, session: Session, entry: Optional[Entry] = None) -> None:
+        """Keeps which sessions listen to which, where that may have changed."""
+        if len(session.joins) == session.joined and (entry is None or entry.word != "join"):
+            return
+        sources = {it.source for it in session.joins}
+        for name in session.sources - sources:
+            self.listeners[name].discard(session.name)
+            if not self.listeners[name]:
+                del self.listeners[name]
+        for name in sources - session.sources:
+            self.listeners.setdefault(name, set()).add(session.name)
+        session.sources, session.joined = sources, len(session.joins)
+
+    def forget(self, session: Session) -> None:
+        """Nothing is kept of a session but its commands. Those that listen to it still do, up to their own ends."""
+        session.joins = []
+        self.know_listening(session)
+        self.sessions.pop(session.name, None)
+        self.slots.pop(session.name, None)
 
     def reset(self, session: Session) -> None:
-        """A session is as before its first command; where its client has gone, it is forgotten."""
-        if session.is_gone:
-            self.sessions.pop(session.name, None)
+        """A session is as before its first command. It is forgotten where its client has gone, and where nothing else was
+        known of it."""
+        if session.is_gone or session.commands == 1:
+            self.forget(session)
             return
+        session.joins = []
+        self.know_listening(session)
         fresh = Session(session.name)
         fresh.lines, fresh.commands, fresh.rates = session.lines, session.commands, session.rates
         fresh.version = session.version + 1
@@ -191,12 +219,12 @@ class World:
 
     def count_slots(self, session: Session, entry: Entry) -> None:
         """Counts the calls of each slot, and how long the commands took that have called it."""
-        met: Dict[Tuple[str, str, str], int] = {}
+        met: Dict[Tuple[str, str], int] = {}
         for call in entry.calls:
-            key = (session.name, call.class_name or "", call.call)
+            key = (call.class_name or "", call.call)
             met[key] = met.get(key, 0) + 1
         for key, calls in met.items():
-            counted = self.slots.setdefault(key, [0, 0, 0, 0, 0])
+            counted = self.slots.setdefault(session.name, {}).setdefault(key, [0, 0, 0, 0, 0])
             counted[0] += calls
             counted[1] += 1
             counted[2] += entry.taken
@@ -206,20 +234,34 @@ class World:
     # ---- what the front says ----
 
     def go(self, name: str) -> None:
-        """The client of a session has gone, whose reset may still come."""
+        """The client of a session has gone. Its last answers and its reset may still come, or not be seen."""
+        self.slots.pop(name, None)
         session = self.sessions.get(name)
-        if session is not None:
+        if session is None:
+            self.depart(name)
+        else:
             session.is_gone = True
-            for join in session.joins:
-                self.listeners.get(join.source, set()).discard(name)
-        for names in [it for it in self.slots if it[0] == name]:
-            del self.slots[names]
+            session.joins = []
+            self.know_listening(session)
+
+    def depart(self, name: str) -> None:
+        """Keeps in mind that the client of a session has gone of which nothing else is kept. Names are given once, so that
+        lines of this one can only be its last."""
+        self.departed[name] = None
+        if len(self.departed) > DEPARTED_MOST:
+            del self.departed[next(iter(self.departed))]
 
     def leave_out(self, lines: int, sessions: Sequence[str], under_way: Sequence[str]) -> None:
-        """Lines were left out: of these sessions nothing is known for certain any more."""
+        """Lines were left out: of these sessions nothing is known for certain any more. Sessions whose clients have gone are
+        forgotten, since their resets may have been among those lines."""
         self.left_out += lines
         self.version += 1
+        for session in [it for it in self.sessions.values() if it.is_gone]:
+            self.forget(session)
+            self.depart(session.name)
         for name in sessions:
+            if name in self.departed:
+                continue
             known = Session(name)
             known.objects = Living()
             known.objects.has_earlier, known.is_known = True, False
@@ -228,6 +270,7 @@ class World:
             if before is not None:
                 known.lines, known.commands, known.rates, known.is_gone = before.lines, before.commands, before.rates, before.is_gone
                 known.joins, known.publications = before.joins, before.publications
+                known.sources, known.joined = before.sources, before.joined
             self.sessions[name] = known
         self.under_way.clear()
         for name in under_way:
