@@ -1,6 +1,7 @@
 // The page: what is chosen, which view is shown, and what is done where something has changed.
 
 import { el, say, span } from "./elements.js";
+import { write } from "./texts.js";
 import { get, hear } from "./asking.js";
 import { Sessions } from "./sessions.js";
 import { TreeView } from "./tree.js";
@@ -30,7 +31,7 @@ class Page {
       )
     );
     document.getElementById("tabs").append(...this.tabs.values());
-    document.getElementById("words").textContent = about.words.join(" ");
+    write(document.getElementById("words"), about.words.join(" "));
     this.replay = about.record ? new Replay(document.getElementById("replay"), this) : null;
     window.addEventListener("hashchange", () => { this.state = this.read(); this.show(); });
     document.addEventListener("visibilitychange", () => this.refresh());
@@ -89,7 +90,7 @@ class Page {
     if (news.behind) parts.push(`behind by ${span(news.behind)}`);
     if (news.left_out) parts.push(`${news.left_out} lines left out`);
     const place = document.getElementById("state");
-    place.textContent = parts.join(" · ");
+    write(place, parts.join(" · "));
     place.classList.toggle("unsure", news.left_out > 0 || news.behind > 0);
     this.replay?.tell(news);
     if (news.version !== this.version) {
@@ -105,7 +106,7 @@ async function begin() {
     window.page = page;
     hear(
       (news) => page.tell(news),
-      () => { document.getElementById("state").textContent = "not connected: the server has ended, or the network sleeps"; },
+      () => write(document.getElementById("state"), "not connected: the server has ended, or the network sleeps"),
     );
   } catch (error) {
     say(String(error));

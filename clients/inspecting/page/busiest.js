@@ -1,6 +1,7 @@
 // The slots that were called most, and those whose commands took longest.
 
 import { clear, el, link, span } from "./elements.js";
+import { write } from "./texts.js";
 import { get, oneAtATime } from "./asking.js";
 
 export class BusiestView {
@@ -31,7 +32,7 @@ export class BusiestView {
     const found = await get("slots", { session, sort: this.order.value, count: 200 });
     const isTimed = !this.page.about.record;
     const timed = isTimed ? "; a command's time is that of the whole command, as the front saw it" : "";
-    this.said.textContent = `${found.calls} calls of ${found.total} slots${timed}`;
+    write(this.said, `${found.calls} calls of ${found.total} slots${timed}`);
     const head = [
       "session", "slot", "calls", "share", "commands", "calls a command", ...(isTimed ? ["on average", "longest"] : []),
       "see",

@@ -99,7 +99,7 @@ export function graphOf(nodes, edges, classesOf, choose, most = 24) {
         { d: curve(
           spots[from], spots[to], from === to,
         ), class: `edge ${isLoop ? "loop" : ""} ${isGrey ? "grey" : ""}`, "marker-end": "url(#tip)", "data-edge": `${nodes[from].name} ${nodes[to].name}` },
-        title ? drawn("title", { text: title }) : null,
+        title ? drawn("title", { text: title.split("\n") }) : null,
       )
     );
   }
@@ -111,7 +111,7 @@ function nodeOf(node, [x, y], classes, choose) {
   const under = [node.error, node.under].filter(Boolean).join("  ");
   return drawn(
     "g", { class: `node ${classes}`, transform: `translate(${x} ${y})`, onclick: choose, "data-node": node.name },
-    drawn("title", { text: `${node.name}\n${under}` }), drawn("rect", { width: WIDTH, height: HEIGHT, rx: 4 }),
+    drawn("title", { text: [node.name, under] }), drawn("rect", { width: WIDTH, height: HEIGHT, rx: 4 }),
     drawn("text", { x: 8, y: 14, text: short(node.name, 24) }),
     drawn("text", { x: 8, y: 27, class: "under", text: short(under, 26) }),
   );

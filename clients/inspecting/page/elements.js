@@ -1,6 +1,9 @@
-// Elements of the page. Whatever comes from the server is text alone.
+// Elements of the page. Whatever comes from the server is text alone, without characters that mislead.
+
+import { plain, write } from "./texts.js";
 
 const SVG = "http://www.w3.org/2000/svg";
+const SHOWN = new Set(["title", "aria-label", "placeholder"]); // attributes that people read
 
 /** An element with a class, a text or things within it, and what is done on events. */
 export function el(tag, how = {}, ...within) {
@@ -17,15 +20,22 @@ function filled(made, how, within) {
   for (const [key, value] of Object.entries(how)) {
     if (value === undefined || value === null || value === false) continue;
     if (key.startsWith("on")) made.addEventListener(key.slice(2), value);
-    else if (key === "text") made.textContent = value;
+    else if (key === "text") write(made, value);
+    else if (SHOWN.has(key)) made.setAttribute(key, plain(value));
     else made.setAttribute(key, value === true ? "" : value);
   }
-  for (const it of within.flat()) if (it !== null && it !== undefined && it !== false) made.append(it);
+  made.append(...things(within));
   return made;
 }
 
+/** Elements as they are, and all else as texts. */
+function things(within) {
+  const found = within.flat().filter((it) => it !== null && it !== undefined && it !== false);
+  return found.map((it) => (it instanceof Node ? it : plain(it)));
+}
+
 export function clear(place, ...within) {
-  place.replaceChildren(...within.flat().filter((it) => it !== null && it !== undefined && it !== false));
+  place.replaceChildren(...things(within));
   return place;
 }
 
@@ -59,7 +69,7 @@ let hiding = 0;
 /** Says something at the corner of the page. */
 export function say(text) {
   const place = document.getElementById("message");
-  place.textContent = text;
+  write(place, text);
   place.hidden = false;
   clearTimeout(hiding);
   hiding = setTimeout(() => { place.hidden = true; }, 6000);

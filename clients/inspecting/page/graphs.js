@@ -1,6 +1,7 @@
 // Graphs: bindings, connections of one session, and who listens to whom.
 
 import { clear, el } from "./elements.js";
+import { write } from "./texts.js";
 import { get, oneAtATime } from "./asking.js";
 import { graphOf } from "./drawing.js";
 
@@ -34,7 +35,7 @@ export class GraphsView {
     const key = JSON.stringify([kind, session, found]);
     if (key === this.key) return;
     this.key = key;
-    this.said.textContent = this.words(kind, session, found);
+    write(this.said, this.words(kind, session, found));
     if (!found || !found.nodes.length) return void clear(
       this.drawing,
       el("p", { class: "faint", text: session || kind === "joins" ? "Nothing is known." : "Choose a session at the left." }),

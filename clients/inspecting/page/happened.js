@@ -1,6 +1,7 @@
 // What happened: the newest lines, of a session, an object or a signal.
 
 import { el, say, span } from "./elements.js";
+import { write } from "./texts.js";
 import { get } from "./asking.js";
 import { List } from "./list.js";
 import { ChainView } from "./chain.js";
@@ -40,7 +41,7 @@ export class HappenedView {
 
   again() {
     this.before = null;
-    this.hold.textContent = "hold";
+    write(this.hold, "hold");
     this.list.toTop();
     this.refresh();
   }
@@ -53,14 +54,14 @@ export class HappenedView {
   toggle() {
     if (this.before !== null) return this.again();
     this.before = (this.rows[0]?.entry ?? 0) + 1;
-    this.hold.textContent = "go on";
+    write(this.hold, "go on");
   }
 
   goBack() {
     const last = this.rows.at(-1);
     if (!last) return;
     this.before = last.entry;
-    this.hold.textContent = "go on";
+    write(this.hold, "go on");
     this.list.toTop();
     this.list.refresh();
   }
@@ -77,7 +78,7 @@ export class HappenedView {
     const drawn = found.rows.filter((row) => row.entry > (this.newest ?? 0)).length;
     const isSample = this.before === null && past > drawn && found.rows.length;
     const sample = `a sample: ${past} lines since the last picture, ${drawn} of them here`;
-    this.said.textContent = isSample ? sample : `${found.rows.length} of ${found.count}`;
+    write(this.said, isSample ? sample : `${found.rows.length} of ${found.count}`);
     this.newest = newest;
     this.rows = found.rows;
     return { total: this.rows.length, rows: this.rows.slice(from, from + count) };

@@ -1,6 +1,7 @@
 // A record: how much of it is shown.
 
 import { el, say } from "./elements.js";
+import { write } from "./texts.js";
 import { oneAtATime, post } from "./asking.js";
 
 export class Replay {
@@ -37,7 +38,7 @@ export class Replay {
     this.of = news.of;
     this.slider.max = news.of;
     if (document.activeElement !== this.slider || this.wanted === null) this.slider.value = news.at;
-    this.number.textContent = `line ${news.at} of ${news.of}`;
+    write(this.number, `line ${news.at} of ${news.of}`);
   }
 
   to(line) {

@@ -1,6 +1,7 @@
 // The sessions at the left.
 
 import { el } from "./elements.js";
+import { write } from "./texts.js";
 import { get } from "./asking.js";
 import { List } from "./list.js";
 
@@ -41,7 +42,7 @@ export class Sessions {
 
   async fetchRows(from, count) {
     const found = await get("sessions", { from, count, sought: this.sought.value, sort: this.order.value });
-    this.said.textContent = `${found.total}`;
+    write(this.said, found.total);
     return found;
   }
 

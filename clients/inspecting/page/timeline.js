@@ -1,6 +1,7 @@
 // A timeline of emissions: a lane for each signal of an object, a tick for each time that it was sent.
 
 import { clear, drawn, el, say, short, span } from "./elements.js";
+import { write } from "./texts.js";
 import { get, oneAtATime } from "./asking.js";
 import { ChainView } from "./chain.js";
 
@@ -45,7 +46,7 @@ export class TimelineView {
     }
     const busiest = [...lanes].sort((a, b) => b[1].length - a[1].length);
     const left = busiest.length > LANES ? `, the ${LANES} busiest shown` : "";
-    this.said.textContent = `${found.rows.length} emissions of ${lanes.size} signals${left}`;
+    write(this.said, `${found.rows.length} emissions of ${lanes.size} signals${left}`);
     clear(
       this.drawing,
       found.rows.length ? this.picture(busiest.slice(0, LANES), found) : el(

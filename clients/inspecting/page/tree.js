@@ -1,6 +1,7 @@
 // The objects of a session as a tree, and beside it the object that is chosen.
 
 import { el, say } from "./elements.js";
+import { write } from "./texts.js";
 import { get, post } from "./asking.js";
 import { List } from "./list.js";
 import { ObjectView } from "./object.js";
@@ -51,7 +52,7 @@ export class TreeView {
     else if (found.failed) text = "The session has failed, and holds nothing.";
     else if (!found.known) text = "Not all that was told to this session was seen: what stands here may not be all.";
     else if (!found.whole) text = "Slots were called that may have moved objects: where those on the left edge stand is not known.";
-    this.notice.textContent = text;
+    write(this.notice, text);
     this.notice.hidden = !text;
   }
 
