@@ -70,6 +70,7 @@ def binding_node(session: Session, spot: Spot, is_in_loop: bool) -> Dict[str, An
         "under": formula(binding.form, spot[0]) if binding else "",
         "loop": is_in_loop,
         "error": error.value if error else None,
+        "error_sure": bool(error and error.is_sure),
         "is_there": spot[0] in session.objects.classes,
     }
 

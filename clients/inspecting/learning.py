@@ -2,7 +2,7 @@
 
 from __future__ import annotations
 
-from typing import Any, Callable, Dict, List
+from typing import Any, Callable, Dict, List, Set
 
 from explaining.commands import Command
 from explaining.held import is_number
@@ -15,6 +15,7 @@ from .chains import Trace
 from .classes import Classes, normal
 from .effects import Effect
 from .entries import Entry
+from .evaluating import settle_errors
 from .forms import reads_of
 from .session import UNKNOWN, Binding, Cell, Connection, Join, Living, Session, Spot
 
@@ -85,6 +86,7 @@ class Learning:
             except (KeyError, TypeError, ValueError, AttributeError):
                 session.is_known = False  # it was answered as a command, and is none that is known here
         self.know_calls(session, entry, trace)
+        settle_errors(self.classes, session, entry.number)
         broken, are_all = trace.breaks()
         session.drop(broken)
         session.are_connections_sure = session.are_connections_sure and are_all
@@ -110,19 +112,24 @@ class Learning:
         if trace.does("delete") or entry.word == "spin":
             for spot in session.bindings:
                 session.doubt(spot)  # it may read what has gone
+        for spot in self.changed(entry, trace):
+            session.errors.pop(spot, None)
         for warning in entry.warnings:
             if warning.property:
-                is_sure = entry.word != "spin" and all(frame.effects == [] for frame in trace.frames[1:])
+                is_one = entry.word not in ("spin", "delete")  # change, behind which no other one may have ended the error
+                is_sure = is_one and all(frame.effects == [] for frame in trace.frames[1:])
                 self.know_error(session, entry.number, (warning.object, warning.property), warning.code, is_sure)
 
     def know_error(self, session: Session, number: int, spot: Spot, code: str, is_sure: bool) -> None:
-        """A bound property is in an error, and has its default, at least when that is told."""
-        session.errors[spot] = Cell(code, number, is_sure)
+        """A bound property is in an error, and has its default, at least when that is told. Its object may have gone since."""
+        if spot[0] not in session.objects.classes and not session.objects.has_earlier:
+            return
         declared = self.classes.property(session.objects.classes.get(spot[0]), spot[1])
         if declared is None or spot[0] not in session.objects.classes:
             session.doubt(spot)
         else:
             session.put(spot, declared.default(), number, is_sure)
+        session.errors[spot] = Cell(code, number, is_sure)
 
     def know_effect(self, session: Session, entry: Entry, it: Effect, written: Dict[Spot, List[Any]], is_sure: bool) -> None:
         """Learns what one action of a slot has done."""
@@ -147,6 +154,18 @@ class Learning:
                     told.setdefault(sent.of, []).append(call.args[0] if call.is_only else UNKNOWN)
         return told
 
+    def changed(self, entry: Entry, trace: Trace) -> Set[Spot]:
+        """The properties whose signals have told of another value. One that was in error before is in none behind that:
+        otherwise it would have kept its default, or a warning of another error comes."""
+        found = set()
+        for call in entry.calls:
+            if call.path and call.is_only and call.is_traced and call.parent + 1 < len(trace.frames):
+                last = call.path[-1]
+                sent = trace.frames[call.parent + 1].signals(trace.sending).get((last[0], last[1]))
+                if sent is not None and sent.of is not None:
+                    found.add(sent.of)
+        return found
+
     def write(self, session: Session, entry: Entry, written: Dict[Spot, List[Any]], told: Dict[Spot, List[Any]]) -> None:
         """Learns which values were written, where it is the same one all the time, and doubts all others that these decide."""
         for spot in session.depending([*written, *told]) if session.readers else ():
@@ -156,6 +175,8 @@ class Learning:
             is_sure = all(it is not UNKNOWN and it == values[0] and type(it) is type(values[0]) for it in values)
             if spot in written and entry.word != "bind" and spot in session.bindings and is_sure:
                 session.unbind(spot)
+            elif spot in written:
+                session.loosen(spot)
             known = [it for it in values if it is not UNKNOWN]
             if known and spot[0] in session.objects.classes:
                 session.put(spot, known[-1], entry.number, is_sure and not session.groups or is_sure and spot in written)
@@ -185,6 +206,8 @@ class Learning:
             session.cells.pop(spot, None)
         else:
             session.put(spot, entry.reply, entry.number)
+        if entry.reply:
+            session.errors.pop(spot, None)  # in an error it would have the default of its type: 0, false or an empty text
 
     def do_dynamic_names(self, session: Session, entry: Entry) -> None:
         number, class_name = entry.asked["object"], session.objects.classes.get(entry.asked["object"])
@@ -205,18 +228,25 @@ class Learning:
 
     def do_unbind(self, session: Session, entry: Entry) -> None:
         spot = (entry.asked["object"], entry.asked["property"])
-        for it in session.depending([spot]) if entry.reply else ():
+        for it in session.depending([spot]) - {spot} if entry.reply else ():
             session.doubt(it)  # an error of it ends with its binding
-        session.unbind(spot)
+        session.unbind(spot)  # its value stays
 
     def do_binding_error(self, session: Session, entry: Entry) -> None:
         spot = (entry.asked["object"], entry.asked["property"])
-        session.errors[spot] = Cell(entry.reply, entry.number, True)
+        if entry.reply is None:
+            session.errors.pop(spot, None)
+        else:
+            session.errors[spot] = Cell(entry.reply, entry.number, True)
 
     def do_group(self, session: Session, entry: Entry) -> None:
         session.groups = entry.reply
-        for spot in session.bindings if entry.word == "end" and not entry.reply else ():
-            session.doubt(spot)
+        if entry.word == "begin" and entry.reply == 1:
+            session.errors_before = dict(session.errors)
+        if entry.word == "end" and not entry.reply:
+            session.bring_back_errors()
+            for spot in session.bindings:
+                session.doubt(spot)
 
     # ---- connections ----
 
@@ -293,10 +323,11 @@ def fail(session: Session) -> None:
     """A session has found no memory: all that it held is gone."""
     session.drop(list(session.connections))
     tables: List[Dict[Any, Any]] = [
-        session.cells, session.of_object, session.bindings, session.readers, session.errors, session.publications,
+        session.cells, session.of_object, session.bindings, session.readers, session.errors, session.errors_before, session.publications,
     ]  # fmt: skip
     for table in tables:
         table.clear()
+    session.loose.clear()
     session.joins, session.failed, session.queued, session.is_queue_sure = [], True, 0, True
     session.postings.clear()
 

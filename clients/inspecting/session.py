@@ -123,6 +123,8 @@ class Session:
     bindings: Dict[Spot, Binding] = field(default_factory=dict)
     readers: Dict[Spot, Set[Spot]] = field(default_factory=dict)
     errors: Dict[Spot, Cell] = field(default_factory=dict)  # of bound properties, as they were told
+    errors_before: Dict[Spot, Cell] = field(default_factory=dict)  # those when the group began that is open
+    loose: Set[Spot] = field(default_factory=set)  # bound properties that a slot may have written, and so may not be bound
     doubted: Dict[str, int] = field(default_factory=dict)  # up to which object a property may have been written unseen
     blocked: Dict[int, Optional[bool]] = field(default_factory=dict)
     publications: Dict[str, Spot] = field(default_factory=dict)
@@ -219,13 +221,18 @@ class Session:
         if spot not in self.cells:
             self.put(spot, UNKNOWN, 0, False)
         for table in (self.cells, self.errors):
-            cell = table.get(spot)
-            if cell is not None and cell.is_sure:
-                table[spot] = cell._replace(is_sure=False)
+            doubt_in(table, spot)
+
+    def loosen(self, spot: Spot) -> None:
+        """A slot may have written a property, which then is neither bound nor in error any more."""
+        if spot in self.bindings:
+            self.loose.add(spot)
+            doubt_in(self.errors, spot)
 
     def doubt_all(self, name: str = ANY) -> None:
         """It is not known any more which values the properties of this name have, or any."""
         self.doubted[name] = self.objects.last
+        self.loose.update(spot for spot in self.bindings if name in (ANY, spot[1]))
         for spot in [*self.cells, *self.errors]:
             if name in (ANY, spot[1]):
                 self.doubt(spot)
@@ -235,9 +242,12 @@ class Session:
         return spot not in self.bindings and spot[0] > max(self.doubted.get(spot[1], 0), self.doubted.get(ANY, 0))
 
     def bind(self, spot: Spot, binding: Binding) -> None:
-        """A property is bound."""
+        """A property is bound. Where it was in an error it may still be: no line tells of an error that stays the same."""
+        error = self.errors.get(spot)
         self.unbind(spot)
         self.bindings[spot] = binding
+        if error is not None:
+            self.errors[spot] = error._replace(is_sure=False)
         for read in binding.reads:
             self.readers.setdefault(read, set()).add(spot)
 
@@ -245,8 +255,17 @@ class Session:
         """A property is not bound any more."""
         binding = self.bindings.pop(spot, None)
         self.errors.pop(spot, None)
+        self.loose.discard(spot)
         for read in binding.reads if binding else ():
             self.without(self.readers, read, spot)  # type: ignore[arg-type]
+
+    def bring_back_errors(self) -> None:
+        """A group has ended. What was in an error when it began, and was bound anew in it, may be in the same one now: that
+        is no change, so that no line tells of it."""
+        for spot, cell in self.errors_before.items():
+            if spot in self.bindings and spot not in self.errors:
+                self.errors[spot] = cell._replace(is_sure=False)
+        self.errors_before = {}
 
     def depending(self, spots: Iterable[Spot]) -> Set[Spot]:
         """The bound properties that read one of these, or one that does."""
@@ -272,6 +291,7 @@ class Session:
             for spot in [it for it in self.bindings if it[0] in gone]:
                 self.unbind(spot)
             self.errors = {spot: cell for spot, cell in self.errors.items() if spot[0] not in gone}
+            self.loose = {spot for spot in self.loose if spot[0] not in gone}
             self.publications = {name: spot for name, spot in self.publications.items() if spot[0] not in gone}
             self.joins = [it for it in self.joins if it.object not in gone]
 
@@ -281,3 +301,10 @@ class Session:
         self.are_connections_sure, self.is_queue_sure = False, False
         self.last_connection = None
         self.blocked = {number: None for number in self.objects.classes}
+
+
+def doubt_in(table: Dict[Spot, Cell], spot: Spot) -> None:
+    """What a table says of a property is not known for certain any more."""
+    cell = table.get(spot)
+    if cell is not None and cell.is_sure:
+        table[spot] = cell._replace(is_sure=False)

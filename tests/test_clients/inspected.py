@@ -92,8 +92,20 @@ class Claims:
                     self.check("a value", (name, cell.value, type(cell.value)), (name, right, type(right)))
         for at in self.plain.bindings:
             self.check("a binding", at in self.shown.bindings, True)
+        self.errors()
         if self.shown.is_queue_sure:
             self.check("events", self.shown.queued, len(self.plain.queue))
+
+    def errors(self):
+        """Errors that are said to be there are, and outside of groups none is there that is not said."""
+        right = {at: self.plain.shown(at).error for at in self.plain.bindings}
+        for at in {*right, *self.shown.errors}:
+            cell = self.shown.errors.get(at)
+            if cell is None and not self.shown.groups:
+                self.check("an error that is not known of", None, right.get(at))
+            elif cell is not None and cell.is_sure:
+                self.check("an error", (at, cell.value), (at, right.get(at)))
+            self.counts["errors"] += cell is not None
 
     def listening(self):
         right = {it.name: (it.number, self.method(it.number, it.signal)) for it in self.plain.publications}

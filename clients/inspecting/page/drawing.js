@@ -108,7 +108,8 @@ export function graphOf(nodes, edges, classesOf, choose, most = 24) {
 }
 
 function nodeOf(node, [x, y], classes, choose) {
-  const under = [node.error, node.under].filter(Boolean).join("  ");
+  const error = node.error && !node.error_sure ? `${node.error}, may be over` : node.error;
+  const under = [error, node.under].filter(Boolean).join("  ");
   return drawn(
     "g", { class: `node ${classes}`, transform: `translate(${x} ${y})`, onclick: choose, "data-node": node.name },
     drawn("title", { text: [node.name, under] }), drawn("rect", { width: WIDTH, height: HEIGHT, rx: 4 }),

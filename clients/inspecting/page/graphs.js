@@ -49,7 +49,7 @@ export class GraphsView {
   classes(kind, node) {
     const { session } = this.page.state;
     return [
-      node.loop || node.error ? "loop" : "", node.is_there ? "" : "missing",
+      node.loop || node.error_sure ? "loop" : "", node.is_there ? "" : "missing",
       kind === "joins" && session && !node.reaches ? "grey" : "",
       kind === "joins" && node.session === session ? "chosen" : "",
     ].join(" ");
