@@ -203,14 +203,15 @@ class Inspector:
                 self.ask(line)
 
     def ask(self, line: bytes) -> None:
-        """Queues a command that it asks for, as one of a member of that session. A command that is not allowed is refused. A
-        line without a number can only come from a broken process, which is dropped."""
+        """Queues a command that it asks for, as one of a member of that session. Refused are commands that are not allowed,
+        and those for a session that was given none yet, which would begin it. A line without a number can only come from a
+        broken process, which is dropped."""
         number, name, text = (line.split(b" ", 2) + [b"", b""])[:3]
         if not NUMBER.fullmatch(number):
             return self.close("it sent a line that is no request")
         command = self.command_in(name, text)
         session = self.session_of(name.decode()) if command else None
-        asker = self.asker_of(session) if session else None
+        asker = self.asker_of(session) if session and session.is_begun else None
         if asker is None or self.turns is None or not command or not self.has_room(asker, command):
             return self.note(refused=[int(number)])
         asker.waiting.append(command)

@@ -127,7 +127,7 @@ class Fed(InspectCases):
     def setUp(self):
         super().setUp()
         self.log, self.turns, self.killed = Said(), Turns(), 0
-        self.sessions = {name: Session(name, is_shared=False) for name in ("c1", "c2", "team")}
+        self.sessions = {name: Session(name, is_shared=False, is_begun=True) for name in ("c1", "c2", "team")}
 
     def begin(self, may_write):
         """An inspector, and the side of its process."""
@@ -215,6 +215,14 @@ class Fed(InspectCases):
             self.assertEqual([it for line in told if line[:1] == b"!" for it in json.loads(line[1:])["refused"]], numbers)
             self.assertEqual(self.log.words, ["the inspector asked for a command that is not allowed, which is refused"])
             self.log.words.clear()
+
+    def test_not_begun(self):
+        """A session that was given no command is not asked, so that it is not begun; nor is one that is not there."""
+        self.sessions["c2"].is_begun = False
+        inspector, far = self.begin(may_write=True)
+        self.assertEqual(self.feed(inspector, far, b'1 c2 {"do":"status"}\n2 c3 {"do":"status"}\n'), [])
+        inspector.settle()
+        self.assertEqual(far.recv(4_096), b'!{"refused":[1]}\n!{"refused":[2]}\n')
 
     def test_no_leave(self):
         """Without leave nothing is done."""
