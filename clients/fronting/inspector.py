@@ -23,7 +23,7 @@ from collections import deque
 from contextlib import contextmanager, suppress
 from dataclasses import dataclass, field
 from pathlib import Path
-from typing import Any, Callable, Deque, Dict, Iterable, Iterator, Optional, Sequence, Set
+from typing import Any, Callable, Deque, Dict, Iterable, Iterator, List, Optional, Sequence, Set, Tuple
 
 from inspecting.allowed import is_allowed, is_session, text_of, value_of
 
@@ -57,22 +57,45 @@ class Wanted:
         return self.may_ask or self.may_write
 
 
+@dataclass
+class Held:
+    """How much all commands of the inspector take that wait."""
+
+    bytes: int = 0
+
+
 @dataclass(eq=False)
 class Asker(Client):
     """The inspector, where it speaks for a session. It is told nothing by itself, since it hears all lines."""
 
-    numbers: Deque[int] = field(default_factory=deque)  # of those commands that wait
+    numbers: Deque[Tuple[int, int]] = field(default_factory=deque)  # of those commands that wait, each with its bytes
+    held: Held = field(default_factory=Held)
+
+    def queue(self, number: int, command: bytes) -> None:
+        """Lets a command wait for its turn."""
+        self.waiting.append(command)
+        self.numbers.append((number, len(command)))
+        self.held.bytes += len(command)
+
+    def begin_next(self) -> int:
+        """The number of the command that the server has just been given."""
+        number, size = self.numbers.popleft()
+        self.held.bytes -= size
+        return number
 
     def lose(self, answer: bytes, fault: str) -> None:
         super().lose(answer, fault)
-        self.numbers.clear()
+        self.drop()
 
-    def drop(self) -> None:
-        """Gives none of the commands that wait."""
+    def drop(self) -> List[int]:
+        """Gives none of the commands that wait; answers their numbers."""
+        numbers = [number for number, _ in self.numbers]
+        self.held.bytes -= sum(size for _, size in self.numbers)
         self.waiting.clear()
         self.numbers.clear()
         if self.session.group:
             self.session.group.leave(self)
+        return numbers
 
 
 @dataclass
@@ -100,6 +123,7 @@ class Inspector:
         self.is_timed = False  # whether a time stands in that
         self.is_gone = False
         self.askers: Dict[Session, Asker] = {}
+        self.held = Held()
         self.session_of: Callable[[str], Optional[Session]] = lambda _name: None
         self.when_closed: Callable[[], None] = lambda: None
         self.turns: Optional[Turns] = None
@@ -118,7 +142,7 @@ class Inspector:
         """Tells it a line that the server is given."""
         mark = b">"
         if isinstance(client, Asker):
-            mark = b"?%d " % client.numbers.popleft()
+            mark = b"?%d " % client.begin_next()
         if self.left_out is not None:
             self.leave_out(1, (session.name,))
         elif not self.is_gone:
@@ -214,8 +238,7 @@ class Inspector:
         asker = self.asker_of(session) if session and session.is_begun else None
         if asker is None or self.turns is None or not command or not self.has_room(asker, command):
             return self.note(refused=[int(number)])
-        asker.waiting.append(command)
-        asker.numbers.append(int(number))
+        asker.queue(int(number), command)
         if asker.session.group:
             asker.session.group.enter(asker)
         self.turns.await_turn(asker)
@@ -235,14 +258,13 @@ class Inspector:
 
     def has_room(self, asker: Asker, command: bytes) -> bool:
         """Whether one more command may wait, of this session and of all together."""
-        held = sum(len(it) for one in self.askers.values() for it in one.waiting)
-        return len(asker.waiting) < ASKS_MOST and held + len(command) <= WAITING_BYTES_MOST
+        return len(asker.waiting) < ASKS_MOST and self.held.bytes + len(command) <= WAITING_BYTES_MOST
 
     def asker_of(self, session: Session) -> Asker:
         """Who speaks for this session in the inspector's name. It counts as gone, so it is told nothing."""
         asker = self.askers.get(session)
         if asker is None:
-            asker = Asker("the inspector", self.link, session=session, is_gone=True)
+            asker = Asker("the inspector", self.link, session=session, is_gone=True, held=self.held)
             self.askers[session] = asker
         return asker
 
@@ -250,8 +272,7 @@ class Inspector:
         """Asks for nothing more of a session whose client has gone: it is not entered once more."""
         asker = self.askers.pop(session, None)
         if asker is not None:
-            self.note(refused=list(asker.numbers))
-            asker.drop()
+            self.note(refused=asker.drop())
         if self.left_out is not None:
             self.left_out.sessions.discard(session.name)
         self.note(gone=session.name)

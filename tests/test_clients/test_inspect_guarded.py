@@ -199,6 +199,7 @@ class Fed(InspectCases):
         self.assertGreater(dropped, 50)
         self.assertGreater(count, 25)
         self.assertEqual(self.killed, dropped)
+        self.assertEqual(inspector.held.bytes, 0)
 
     def test_refused(self):
         """What may not be asked for is refused by its number, and what is allowed beside it is done."""
@@ -251,3 +252,6 @@ class Fed(InspectCases):
             inspector.settle()
         held = sum(len(it) for one in inspector.askers.values() for it in one.waiting)
         self.assertTrue(900_000 < held <= 1 << 20, held)
+        self.assertEqual(inspector.held.bytes, held)
+        inspector.forget(self.sessions["c1"])
+        self.assertEqual((inspector.held.bytes, inspector.askers), (0, {}))
