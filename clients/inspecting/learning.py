@@ -2,7 +2,7 @@
 
 from __future__ import annotations
 
-from typing import Any, Callable, Dict, List, Set
+from typing import Any, Callable, Dict, Iterator, List, Set, Tuple
 
 from explaining.commands import Command
 from explaining.held import is_number
@@ -14,7 +14,7 @@ from explaining.words import Misfit
 from .chains import Trace
 from .classes import Classes, normal
 from .effects import Effect
-from .entries import Entry
+from .entries import Call, Entry
 from .evaluating import settle_errors
 from .forms import reads_of
 from .session import UNKNOWN, Binding, Cell, Connection, Join, Living, Session, Spot
@@ -143,28 +143,27 @@ class Learning:
             for number in session.objects.classes if it.object is None else (it.object,):
                 session.blocked[number] = it.value if is_sure and it.object is not None else None
 
+    def tellings(self, entry: Entry, trace: Trace) -> Iterator[Tuple[Call, Spot]]:
+        """The calls by which signals have told of a changed property, each with that."""
+        for call in entry.calls:
+            if call.path and call.parent + 1 < len(trace.frames):
+                last = call.path[-1]
+                sent = trace.frames[call.parent + 1].signals(trace.sending).get((last[0], last[1]))
+                if sent is not None and sent.of is not None:
+                    yield call, sent.of
+
     def told_values(self, entry: Entry, trace: Trace) -> Dict[Spot, List[Any]]:
         """The values that signals have told of changed properties."""
         told: Dict[Spot, List[Any]] = {}
-        for call in entry.calls:
-            if call.path and call.args and call.parent + 1 < len(trace.frames):
-                last = call.path[-1]
-                sent = trace.frames[call.parent + 1].signals(trace.sending).get((last[0], last[1]))
-                if sent is not None and sent.of is not None:
-                    told.setdefault(sent.of, []).append(call.args[0] if call.is_only else UNKNOWN)
+        for call, spot in self.tellings(entry, trace):
+            if call.args:
+                told.setdefault(spot, []).append(call.args[0] if call.is_only else UNKNOWN)
         return told
 
     def changed(self, entry: Entry, trace: Trace) -> Set[Spot]:
-        """The properties whose signals have told of another value. One that was in error before is in none behind that:
+        """The properties that certainly have another value now. One that was in error before is in none behind that:
         otherwise it would have kept its default, or a warning of another error comes."""
-        found = set()
-        for call in entry.calls:
-            if call.path and call.is_only and call.is_traced and call.parent + 1 < len(trace.frames):
-                last = call.path[-1]
-                sent = trace.frames[call.parent + 1].signals(trace.sending).get((last[0], last[1]))
-                if sent is not None and sent.of is not None:
-                    found.add(sent.of)
-        return found
+        return {spot for call, spot in self.tellings(entry, trace) if call.is_only and call.is_traced}
 
     def write(self, session: Session, entry: Entry, written: Dict[Spot, List[Any]], told: Dict[Spot, List[Any]]) -> None:
         """Learns which values were written, where it is the same one all the time, and doubts all others that these decide."""
