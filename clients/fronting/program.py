@@ -131,7 +131,7 @@ def parser() -> argparse.ArgumentParser:
     add("--monitor-mode", metavar="OCTAL", type=mode_of, help="the rights of that socket")
     add("--inspect", metavar="PORT", type=port, help="show the server as a page at this port of this machine; 0 is any free one")
     add("--inspect-ask", action="store_true", help="let that page ask the sessions what is not known, which takes turns")
-    add("--inspect-write", action="store_true", help="let that page also give the sessions commands")
+    add("--inspect-write", action="store_true", help="let that page also set properties and invoke methods")
     add("--tied", action="store_true", help="end as soon as standard input does, with whoever holds the other side")
     add("--workers", metavar="N", type=workers, help="give the sessions to N servers, from 1 to 64, each group of them to one")
     add("--group-from", metavar="HOW", choices=GROUPS, help="hello, as without this: clients ask for groups; name: they name sessions")

@@ -2,7 +2,7 @@
 
 from __future__ import annotations
 
-from typing import Any, Dict, List, Tuple
+from typing import Any, Dict, List, Sequence, Tuple
 
 from .classes import Classes, Property
 from .effects import cell_of
@@ -119,14 +119,27 @@ def computed(sign: str, values: List[Any]) -> Any:
     raise InError(FAULT)
 
 
-def settle_errors(classes: Classes, session: Session, entry: int, steps: int = STEPS) -> None:
+def settle_doubted(classes: Classes, session: Session, entry: int) -> None:
+    """Finds out about the errors that a command may have ended."""
+    if session.in_doubt:
+        settle(classes, session, entry, sorted(session.in_doubt), STEPS)
+        session.in_doubt.clear()
+
+
+def settle_errors(classes: Classes, session: Session, entry: int) -> None:
+    """Finds out about all errors that may be over, also those of which more has become known since they were in doubt."""
+    settle(classes, session, entry, [spot for spot, cell in session.errors.items() if not cell.is_sure], STEPS_FOR_PAGE)
+
+
+def settle(classes: Classes, session: Session, entry: int, doubtful: Sequence[Spot], steps: int) -> None:
     """Finds out about errors of bindings that may be over: those that are, by what is known, are forgotten, and those that
-    are not stand for certain again. Within a group bindings show what they showed before it."""
-    doubtful = [spot for spot, cell in session.errors.items() if not cell.is_sure]
+    are not are known for certain again. Within a group bindings show what they showed before it."""
     if not doubtful or session.groups or not session.is_known or session.failed:
         return
     evaluation = Evaluation(classes, session, steps)
     for spot in doubtful:
+        if spot not in session.errors or session.errors[spot].is_sure:
+            continue
         try:
             default = evaluation.declared(spot).default()
             value = evaluation.value(spot)

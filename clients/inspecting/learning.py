@@ -15,7 +15,7 @@ from .chains import Trace
 from .classes import Classes, normal
 from .effects import Effect
 from .entries import Call, Entry
-from .evaluating import settle_errors
+from .evaluating import settle_doubted
 from .forms import reads_of
 from .session import UNKNOWN, Binding, Cell, Connection, Join, Living, Session, Spot
 
@@ -86,7 +86,7 @@ class Learning:
             except (KeyError, TypeError, ValueError, AttributeError):
                 session.is_known = False  # it was answered as a command, and is none that is known here
         self.know_calls(session, entry, trace)
-        settle_errors(self.classes, session, entry.number)
+        settle_doubted(self.classes, session, entry.number)
         broken, are_all = trace.breaks()
         session.drop(broken)
         session.are_connections_sure = session.are_connections_sure and are_all
@@ -130,6 +130,8 @@ class Learning:
         else:
             session.put(spot, declared.default(), number, is_sure)
         session.errors[spot] = Cell(code, number, is_sure)
+        if not is_sure:
+            session.in_doubt.add(spot)
 
     def know_effect(self, session: Session, entry: Entry, it: Effect, written: Dict[Spot, List[Any]], is_sure: bool) -> None:
         """Learns what one action of a slot has done."""

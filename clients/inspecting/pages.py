@@ -8,7 +8,7 @@ from typing import Any, Callable, Dict, FrozenSet, List, Optional, Set
 from . import graphs, happened, views
 from .allowed import is_allowed, is_session, text_of, value_of
 from .entries import Entry
-from .evaluating import STEPS_FOR_PAGE, settle_errors
+from .evaluating import settle_errors
 from .feed import Asking
 from .happened import Sought
 from .replay import Replay
@@ -134,7 +134,7 @@ class Pages:
         session = world.sessions.get(asked["session"])
         if session is None:
             return None
-        settle_errors(world.classes, session, world.entries.count, STEPS_FOR_PAGE)
+        settle_errors(world.classes, session, world.entries.count)
         return graphs.bindings(session) if asked["kind"] == "bindings" else graphs.connections(session)
 
     # ---- what is done ----

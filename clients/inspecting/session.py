@@ -124,6 +124,7 @@ class Session:
     readers: Dict[Spot, Set[Spot]] = field(default_factory=dict)
     errors: Dict[Spot, Cell] = field(default_factory=dict)  # of bound properties, as they were told
     errors_before: Dict[Spot, Cell] = field(default_factory=dict)  # those when the group began that is open
+    in_doubt: Set[Spot] = field(default_factory=set)  # those that the command that is learnt from may have ended
     loose: Set[Spot] = field(default_factory=set)  # bound properties that a slot may have written, and so may not be bound
     doubted: Dict[str, int] = field(default_factory=dict)  # up to which object a property may have been written unseen
     blocked: Dict[int, Optional[bool]] = field(default_factory=dict)
@@ -220,14 +221,20 @@ class Session:
         """It is not known any more what value a property has, nor whether it is in error."""
         if spot not in self.cells:
             self.put(spot, UNKNOWN, 0, False)
-        for table in (self.cells, self.errors):
-            doubt_in(table, spot)
+        doubt_in(self.cells, spot)
+        self.doubt_error(spot)
+
+    def doubt_error(self, spot: Spot) -> None:
+        """It is not known any more whether a property is in error."""
+        if spot in self.errors:
+            doubt_in(self.errors, spot)
+            self.in_doubt.add(spot)
 
     def loosen(self, spot: Spot) -> None:
         """A slot may have written a property, which then is neither bound nor in error any more."""
         if spot in self.bindings:
             self.loose.add(spot)
-            doubt_in(self.errors, spot)
+            self.doubt_error(spot)
 
     def doubt_all(self, name: str = ANY) -> None:
         """It is not known any more which values the properties of this name have, or any."""
@@ -247,7 +254,8 @@ class Session:
         self.unbind(spot)
         self.bindings[spot] = binding
         if error is not None:
-            self.errors[spot] = error._replace(is_sure=False)
+            self.errors[spot] = error
+            self.doubt_error(spot)
         for read in binding.reads:
             self.readers.setdefault(read, set()).add(spot)
 
@@ -264,7 +272,8 @@ class Session:
         is no change, so that no line tells of it."""
         for spot, cell in self.errors_before.items():
             if spot in self.bindings and spot not in self.errors:
-                self.errors[spot] = cell._replace(is_sure=False)
+                self.errors[spot] = cell
+                self.doubt_error(spot)
         self.errors_before = {}
 
     def depending(self, spots: Iterable[Spot]) -> Set[Spot]:

@@ -9,7 +9,7 @@ from explaining.objects import ROOT
 from . import graphs
 from .classes import Classes
 from .effects import cell_of
-from .evaluating import STEPS_FOR_PAGE, settle_errors
+from .evaluating import settle_errors
 from .forms import formula
 from .session import UNKNOWN, Cell, Connection, Session, Spot
 from .world import BEHIND, MILLION, World
@@ -203,7 +203,7 @@ def object_of(world: World, name: str, number: int) -> Optional[Json]:
     if session is None:
         return None
     objects, classes = session.objects, world.classes
-    settle_errors(classes, session, world.entries.count, STEPS_FOR_PAGE)
+    settle_errors(classes, session, world.entries.count)
     class_name = objects.classes.get(number)
     declared = [it.name for it in classes.properties(class_name)]
     names = [*declared, *sorted(set(session.of_object.get(number, ())).difference(declared))]

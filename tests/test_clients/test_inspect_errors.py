@@ -4,7 +4,7 @@ import unittest
 
 from inspecting import graphs, views
 from inspecting.classes import Classes
-from inspecting.evaluating import STEPS_FOR_PAGE, Evaluation, InError, NotKnown, settle_errors
+from inspecting.evaluating import Evaluation, InError, NotKnown, settle_errors
 from inspecting.session import Binding
 from inspecting.world import World
 
@@ -136,7 +136,7 @@ class Told(unittest.TestCase):
         session = world.sessions["a"]
         session.doubt_all("y")  # as where a slot may have written it
         session.doubt((1, "x"))
-        settle_errors(world.classes, session, 99, STEPS_FOR_PAGE)
+        settle_errors(world.classes, session, 99)
         self.assertEqual(errors_of(world), {(1, "x"): (FAULT, False)}, "nothing tells that it is over")
         told = {"session": "a", "call": "seen(int)", "object": 2, "sender": 1, "args": [2**31 - 1]}
         hear(world, {"session": "a", **read}, [
@@ -197,7 +197,7 @@ class Evaluated(unittest.TestCase):
         session = world.sessions["a"]
         session.bind((1, "y"), Binding(deep, ((1, "x"),), 0))
         session.doubt((1, "x"))
-        settle_errors(world.classes, session, 9, 10**6)
+        settle_errors(world.classes, session, 9)
         self.assertEqual(errors_of(world), {(1, "x"): (LOOP, False), (1, "y"): (LOOP, False)})
 
 
