@@ -149,7 +149,7 @@ class Connections(ClientCases):
         self.serve()
         link, sent = self.link(), 0
         link.sendall(b"GET / HTTP/1.1\r\n")
-        while not self.is_closed(link, 0.05):
+        while not self.is_closed(link, 0.2):
             self.assertLess(sent, 30)
             try:
                 link.sendall(b"a: " + b"x" * 60_000 + b"\r\n")
