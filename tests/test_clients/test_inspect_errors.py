@@ -12,6 +12,7 @@ from .fronts import Client
 from .inspected import hear
 from .inspectors import InspectCases
 from .test_inspect_model import CELLS, connecting, heard, setting
+from .test_inspect_page import PageCases
 
 LOOP, FAULT = "BindingLoop", "EvaluationError"
 
@@ -216,3 +217,25 @@ class Shown(InspectCases):
             client.ask('{"do":"set","object":1,"property":"y","value":3}')
             found = asker.until(self, lambda it: [node["error"] for node in it["nodes"]] == [None, None], "graph", **wanted)
             self.assertEqual([node["name"] for node in found["nodes"]], ["#1.x", "#1.y"])
+
+
+class Drawn(PageCases):
+    """How the graph of bindings shows errors, in a browser."""
+
+    def test_graph(self):
+        """What is in error is red while it is known to be, and says where that may be over."""
+        functor = {"do": "connectFunctor", "sender": 2, "signal": "xChanged(int)", "context": 3, "functor": "count"}
+        over = binding(3, "x", plus(prop("y"), {"const": 2**31 - 1}))
+        with self.shown() as (path, _, asker), Client(path) as client:
+            self.give(client, [*CELLS, *LOOPS])
+            with self.opened(asker.address + "#session=c1&view=graphs") as browser:
+                red = "[...document.querySelectorAll('#graph .node.loop')].map((it) => it.dataset.node).sort().join()"
+                browser.wait_for(f"{red} === '#1.x,#1.y'")
+                self.assertIn(LOOP, browser.value("document.getElementById('graph').textContent"))
+                self.give(client, [setting(1, "y", 4), functor, over])
+                browser.wait_for(f"document.querySelectorAll('#graph .node').length > 3 && {red} === ''")
+                self.assertNotIn(LOOP, browser.value("document.getElementById('graph').textContent"))
+                self.give(client, [setting(2, "x", 1)])
+                browser.wait_for(f"document.getElementById('graph').textContent.includes('{FAULT}, may be over') && {red} === ''")
+                self.give(client, [{"do": "bindingError", "object": 3, "property": "x"}])
+                browser.wait_for(f"{red} === '#3.x'")

@@ -2,7 +2,11 @@
 
 import json
 import os
+import shutil
 import socket
+import subprocess
+import sys
+from contextlib import contextmanager
 from pathlib import Path
 
 from fronting.clients import Session
@@ -12,7 +16,8 @@ from fronting.turns import Turns
 from fronting.watch import Watch
 from inspecting.allowed import LINE_MOST, READING, WRITING
 
-from .fronts import PATIENCE, Client, reply
+from . import CLIENTS
+from .fronts import PATIENCE, Client, FrontCases, Log as FrontLog, reply
 from .hostile import SET, Hostile
 from .inspectors import InspectCases
 
@@ -255,3 +260,61 @@ class Fed(InspectCases):
         self.assertEqual(inspector.held.bytes, held)
         inspector.forget(self.sessions["c1"])
         self.assertEqual((inspector.held.bytes, inspector.askers), (0, {}))
+
+
+STAND_IN = """import os, socket, sys, time
+number = int(sys.argv[1].partition("=")[2])
+link = socket.socket(fileno=number)
+held = b""
+while b'"session":"c1"}' not in held:
+    held += link.recv(65536)
+link.sendall(open(os.environ["SENT"], "rb").read())
+while link.recv(65536):
+    pass
+"""  # writes what it is to, once there is a session c1
+
+
+class StandIn(FrontCases):
+    """A front whose page's process is another program, which writes what it likes."""
+
+    @contextmanager
+    def front_with(self, sent, option):
+        """The path of such a front, its process, and what it says."""
+        place, path, log = Path(self.room, "clients"), Path(self.room, "socket"), FrontLog(Path(self.room, "log"))
+        place.mkdir()
+        shutil.copytree(CLIENTS / "fronting", place / "fronting", ignore=shutil.ignore_patterns("__pycache__"))
+        shutil.copy(CLIENTS / "front", place / "front")
+        for name in ("inspecting", "explaining", "checking"):
+            (place / name).symlink_to(CLIENTS / name)
+        (place / "inspect").write_text(STAND_IN)
+        Path(self.room, "sent").write_bytes(sent)
+        words = [sys.executable, place / "front", "--quiet", "--inspect", "0", option, path, self.program]
+        with log.path.open("wb") as stderr, subprocess.Popen(words, stderr=stderr, env={**os.environ, "SENT": str(Path(self.room, "sent"))}) as process:
+            try:
+                log.wait_for(self, f"metad-front: listening at {path}", process)
+                yield path, process, log
+                process.terminate()
+                self.assertEqual(process.wait(PATIENCE), 0, log.lines())
+            finally:
+                process.kill()
+
+    def check(self, sent, option, said, value):
+        """After something was sent this is said, and the client is served as before, with this value of x."""
+        with self.front_with(sent, option) as (path, process, log), Client(path) as client:
+            self.assertEqual(client.ask(CELL), reply(1, "c1"))
+            log.wait_for(self, f"metad-front: the inspector {said}", process)
+            self.assertEqual(client.ask('{"do":"get","object":1,"property":"x"}'), reply(value, "c1"))
+
+    def test_garbage(self):
+        """A process that writes what is no request is dropped and ended, and the front goes on."""
+        self.check(b"boom\n", "--inspect-ask", "was dropped, since it sent a line that is no request, and nothing more is shown", 0)
+
+    def test_forged(self):
+        """One that asks for commands that are not allowed is refused, and nothing changes."""
+        sent = "".join(f"{at} c1 {line}\n" for at, line in enumerate((SET, '{"do":"reset"}', '{"do":"spin"}'), 1)).encode()
+        self.check(sent, "--inspect-ask", "asked for a command that is not allowed, which is refused", 0)
+
+    def test_written(self):
+        """With leave to write it may set, and not reset."""
+        sent = f'1 c1 {SET}\n2 c1 {{"do":"reset"}}\n'.encode()
+        self.check(sent, "--inspect-write", "asked for a command that is not allowed, which is refused", 77)
