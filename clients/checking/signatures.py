@@ -5,7 +5,7 @@ from __future__ import annotations
 import re
 from typing import NamedTuple
 
-from .words import listed, meant, quoted
+from .words import listed, meant, quoted, shown_json
 
 KINDS = ("bool", "int", "uint", "qlonglong", "qulonglong", "QString")
 MOST_BYTES = 64  # of a name
@@ -16,6 +16,8 @@ WORD = re.compile(r"[A-Za-z0-9_]+", re.ASCII)
 KIND = f"({'|'.join(KINDS)})"
 SPACE = f"[{BLANKS}]+"
 PARAMETER = re.compile(rf"{KIND}|const{SPACE}{KIND}(?:[{BLANKS}]*&)?|{KIND}{SPACE}const(?:[{BLANKS}]*&)?", re.ASCII)
+DECLARED = re.compile(rf"[A-Za-z0-9_&{BLANKS}]+", re.ASCII)  # what a parameter in a declaration is made of
+ENDS = re.compile(rf"(?:const|noexcept|override|final|;|{SPACE})*", re.ASCII)  # what a declaration has behind its brackets
 HEAD = re.compile(rf"[{BLANKS}]*([A-Za-z0-9_]*)[{BLANKS}]*(\(?)", re.ASCII)
 
 
@@ -45,6 +47,14 @@ def why_no_name(text: str) -> str:
 
 def signature_of(text: str) -> Signature:
     """The signature that a text spells; raises `NoSignature` where it spells none."""
+    try:
+        return spelled(text)
+    except NoSignature as why:
+        raise NoSignature(why_declared(text) or str(why)) from None
+
+
+def spelled(text: str) -> Signature:
+    """The signature that a text spells, read from the left; raises `NoSignature` at the first fault."""
     head = HEAD.match(text)
     name, bracket = (head[1], head[2]) if head else ("", "")
     if why_no_name(name):
@@ -89,3 +99,31 @@ def why_no_parameter(part: str) -> str:
     if re.fullmatch(rf"{KIND}[{BLANKS}]*&", part):
         return f"{quoted(part)} is a reference that is not const, and there is none such"
     return f"{quoted(part)} is no parameter, which is a type, with const before or behind it where wanted, and then &"
+
+
+def why_declared(text: str) -> str:
+    """What to write in place of a declaration as C++ has it, as `int go(int x)`; empty where the text is none, or where its
+    signature is not known."""
+    before, opening, rest = text.partition("(")
+    inside, closing, behind = rest.rpartition(")")
+    *result, name = re.split(SPACE, before.strip(BLANKS))
+    parts = [] if inside.strip(BLANKS) in ("", "void") else inside.split(",")
+    declared = [parameter_of(part) for part in parts]
+    kinds = tuple(it[0] for it in declared if it is not None)
+    if not (opening and closing and ENDS.fullmatch(behind)) or why_no_name(name):
+        return ""
+    if len(kinds) < len(parts) or len(parts) > MOST_PARAMETERS:
+        return ""
+    faults = ["return type"] if result else []
+    faults += ["parameter names"] if any(it is not None and it[1] for it in declared) else []
+    faults += ["words after the brackets"] if behind.strip(BLANKS) else []
+    write = shown_json(Signature(name, kinds).text())
+    return f"a signature has no {listed(faults, 'or')}: write {write}" if faults else ""
+
+
+def parameter_of(part: str) -> tuple[str, bool] | None:
+    """The type of a parameter that C++ declares, and whether it has a name; None where its type is none of metad's."""
+    declared = part.partition("=")[0].strip(BLANKS)
+    kind, *names = [word for word in WORD.findall(declared) if word != "const"] or [""]
+    is_known = kind in KINDS and len(names) < 2 and not any(map(why_no_name, names))
+    return (kind, bool(names)) if is_known and DECLARED.fullmatch(declared) else None
