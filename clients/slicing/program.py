@@ -5,22 +5,26 @@ from __future__ import annotations
 import argparse
 import re
 import sys
+from typing import Sequence
 
 from explaining.program import NAME, Stop, leave_output, lines_of, opened, writer
 
+from .advising import no_classes, no_session
 from .comparing import difference, told_by_record, told_to
-from .record import answers_in, entries_of, mark
+from .record import Entry, answers_in, entries_of, mark
 from .running import Program, program_beside
 from .showing import MARKS, compared, counts, marked
 
 USAGE = f"{NAME} [--only] [--metad PROGRAM] [--classes FILE] [--turns N] RECORD NAME"
 SESSION = re.compile(r"[A-Za-z_][A-Za-z0-9_]{0,63}")
+INPUT, INPUT_NAME = "-", "standard input"
 TURNS = re.compile(r"\+?0*([1-9][0-9]{0,5}|1000000)")
 
 HELP = """\
-RECORD is an input of metad, as it was given: a file, or what `metad-front --record` has written. The slice of the
-session NAME are the commands in it that what NAME is told depends on: its own, and those of each session that it
-listened to, by joins, up to the last one which could still come to NAME. `metad --slice NAME` finds them.
+RECORD is an input of metad, as it was given: a file, as `metad-front --record` writes it, or - for standard input.
+The slice of the session NAME are the commands in it that what NAME is told depends on: its own, and those of each
+session that it listened to, by joins, up to the last one which could still come to NAME. `metad --slice NAME` finds
+them.
 
 Each line of RECORD that is not blank is shown with a mark before it:
 {marks}
@@ -28,10 +32,16 @@ Behind them stands how many commands of each session are kept. Then the slice al
 said whether NAME is told the same by it as by all of RECORD; if not, which line differs first. What NAME was told to
 lines of its own that are no commands is not compared, as these are left out.
 
-FILE and N have to be those of the run that was recorded.
+FILE and N have to be those of the run that was recorded. Where the slice names classes that metad does not have without
+a class file, nothing is compared, and the tool asks for --classes.
 
 Exit status: 0 where NAME is told the same, and with --only where the slice was written, 1 where it is told something
-else, where something cannot be read or written, or metad cannot be run, 2 after a mistake in the command line."""
+else, where --classes is missing, where something cannot be read or written, or metad cannot be run, 2 after a mistake
+in the command line, and where RECORD has no command of NAME."""
+
+
+class NoSession(Stop):
+    """A session is asked for that gives no command in the record."""
 
 
 class Words(argparse.Namespace):
@@ -93,35 +103,68 @@ def told(given: Words) -> int:
         writer(sys.stdout.buffer)(parser().format_help().rstrip("\n"))
         return 0
     assert given.record is not None and given.name is not None
-    with opened(given.record) as file:
-        record = b"".join(lines_of(file, given.record))
+    record = record_of(given.record)
     path = program_beside() if given.metad is None else given.metad
     program = Program(path, given.classes, given.turns)
     kept = program.slice(record, given.name)
+    if not kept or not given.only or given.classes is None:
+        entries = entries_of(record, program.told(record))
+        check(given, entries, kept)
     if not given.only:
-        return show(program, record, kept, given.name)
+        return show(program, entries, kept, given)
     sys.stdout.buffer.write(kept)
     sys.stdout.buffer.flush()
+    return 0 if given.classes is not None else warned(entries)
+
+
+def record_of(path: str) -> bytes:
+    """The bytes of a record, which may come by standard input."""
+    if path != INPUT:
+        with opened(path) as file:
+            return b"".join(lines_of(file, path))
+    if sys.stdin is None:
+        raise Stop("standard input has to be open")
+    return b"".join(lines_of(sys.stdin.buffer, INPUT_NAME))
+
+
+def check(given: Words, entries: Sequence[Entry], kept: bytes) -> None:
+    """Marks the commands that are kept; `NoSession` where there is none of the session that is asked for."""
+    assert given.record is not None and given.name is not None
+    fault = no_session(INPUT_NAME if given.record == INPUT else given.record, given.name, entries)
+    if fault is not None:
+        raise NoSession(fault)
+    mark(entries, kept)
+
+
+def warned(entries: Sequence[Entry]) -> int:
+    """The exit status of a slice for which no class file was given."""
+    fault = no_classes(entries)
+    if fault is not None:
+        raise Stop(fault)
     return 0
 
 
-def show(program: Program, record: bytes, kept: bytes, name: str) -> int:
+def show(program: Program, entries: Sequence[Entry], kept: bytes, given: Words) -> int:
     """Shows what is kept of a record, and whether the session is told the same by it."""
+    assert given.name is not None
     say = writer(sys.stdout.buffer)
-    entries = entries_of(record, program.told(record))
-    mark(entries, kept)
-    by_record = told_by_record(name, entries)
-    found = difference(by_record, told_to(name, answers_in(program.told(kept))))
-    for line in (*marked(entries), *counts(entries), *compared(name, by_record, found)):
+    for line in (*marked(entries), *counts(entries)):
+        say(line)
+    if given.classes is None:
+        warned(entries)
+    by_record = told_by_record(given.name, entries)
+    found = difference(by_record, told_to(given.name, answers_in(program.told(kept))))
+    for line in compared(given.name, by_record, found):
         say(line)
     return 0 if found is None else 1
 
 
 def main() -> int:
+    status = 1
     try:
         return told(words())
     except Stop as stop:
-        message = str(stop)
+        status, message = 2 if isinstance(stop, NoSession) else 1, str(stop)
     except BrokenPipeError:
         leave_output()
         return 0
@@ -130,4 +173,4 @@ def main() -> int:
         message = f"standard output cannot be written: {error.strerror}"
     if sys.stderr is not None:
         print(f"{NAME}: {message}", file=sys.stderr)
-    return 1
+    return status

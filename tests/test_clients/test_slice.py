@@ -106,14 +106,6 @@ WORKED = [
         "all sessions: 10 commands, 1 kept",
         "the slice tells c the same: 1 line",
     ),
-    own_row(
-        "z",
-        "session a: 4 commands, none kept",
-        "session b: 5 commands, none kept",
-        "session c: 1 command, none kept",
-        "all sessions: 10 commands, none kept",
-        "the slice tells z the same: no line",
-    ),
     worked(
         "faulty lines",
         INPUTS["faulty lines"],
@@ -125,7 +117,6 @@ WORKED = [
         "the slice tells a the same: 3 lines",
     ),
     worked("one line", INPUTS["a single line"], "a", "session a: 1 command, all kept", "the slice tells a the same: 1 line"),
-    worked("nothing", [], "a", "the slice tells a the same: no line"),
     worked(
         "the same commands again and again",
         REPEATED,
@@ -327,6 +318,77 @@ class Wrong(ProgramCases):
         """It is shown what a session is told otherwise, or said what is wrong, with status 1."""
         room = self.enterContext(TemporaryDirectory(prefix="metad-slice-"))
         self.check_each(wrong_programs(), partial(wrong_fault, room, self.program))
+
+
+# Sessions and classes that the program does not know.
+
+LAMPS = text_in([new("b"), *(b'{"class":"%s","do":"new","session":"a"}' % it for it in (b"Lamp", b"Cell", b"Lamp", b"Light"))])
+NO_SESSION = "{record} has no command of {name}; its sessions are a and b"
+NO_CLASSES = (
+    "slice: without a class file metad knows no class Lamp or Light, which the record names (E03), so that what is told cannot"
+    " be compared: give the class file of the recorded run by --classes FILE\n"
+)
+MANY = text_in(new(f"c{number}") for number in range(1, 31))
+
+
+class Unknown(ProgramCases):
+    """Sessions that give no command, classes that are in a class file, and records that come by standard input."""
+
+    def setUp(self):
+        self.room = self.enterContext(TemporaryDirectory(prefix="metad-slice-"))
+        self.record = Path(self.room, "record")
+
+    def ran(self, given, *words):
+        """A run of the tool over a record, which is given by standard input where the words name none."""
+        self.record.write_bytes(given)
+        words = [SLICE, "--metad", self.program, *words]
+        return subprocess.run(words, input=given, capture_output=True, timeout=SECONDS, cwd=self.room)
+
+    def test_no_session(self):
+        """A session that the record never names is a mistake in the words: it is said which there are, and which is nearest."""
+        given = text_in([new("a"), new("b"), b"nonsense", b'{"do":"jump","session":"misspelt"}'])
+        for options in ([], ["--only"]):
+            for name, wanted in (
+                ("misspelt", NO_SESSION),
+                ("z", NO_SESSION),
+                ("aa", f"{NO_SESSION}; did you mean a?"),
+            ):
+                with self.subTest(options=options, name=name):
+                    ran = self.ran(given, *options, "record", name)
+                    self.assertEqual((ran.returncode, ran.stdout), (2, b""), ran)
+                    self.assertEqual(ran.stderr.decode(), f"slice: {wanted.format(record='record', name=name)}\n")
+        ran = self.ran(b"", "record", "a")
+        self.assertEqual((ran.returncode, ran.stderr), (2, b"slice: record has no command of a, nor of any other session\n"))
+        said = self.ran(MANY, "record", "c31").stderr.decode()
+        self.assertIn("c1, c2, ", said)
+        self.assertIn("c20 and 10 more; did you mean ", said)
+
+    def test_no_classes(self):
+        """Where classes are missing nothing is compared, and the option is asked for; a record that makes none needs no file."""
+        for options in ([], ["--only"]):
+            ran = self.ran(LAMPS, *options, "record", "a")
+            self.assertEqual((ran.returncode, ran.stderr.decode()), (1, NO_CLASSES), options)
+            self.assertNotIn(b"the same", ran.stdout, options)
+        ran = self.ran(LAMPS, "record", "b")
+        self.assertEqual((ran.returncode, ran.stderr), (0, b""), "a session that makes no lamp")
+        classes = [{"name": it, "super": "QObject"} for it in ("Lamp", "Light", "Cell")]
+        Path(self.room, "classes.json").write_text(text_of({"classes": classes}))
+        ran = self.ran(LAMPS, "--classes", "classes.json", "record", "a")
+        self.assertEqual((ran.returncode, ran.stderr, ran.stdout.splitlines()[-1]), (0, b"", b"the slice tells a the same: 4 lines"))
+        ran = self.ran(text_in([new("a"), b'{"class":"Nope","do":"meta","session":"a"}']), "record", "a")
+        self.assertEqual((ran.returncode, ran.stderr), (0, b""), "a class that is only asked about")
+
+    def test_standard_input(self):
+        """A record comes by standard input where its word is `-`."""
+        for options in ([], ["--only"]):
+            by_input, by_file = (self.ran(OWN, *options, it, "a") for it in ("-", "record"))
+            self.assertEqual((by_input.returncode, by_input.stderr, by_input.stdout), (0, b"", by_file.stdout), options)
+        ran = self.ran(OWN, "-", "nobody")
+        self.assertEqual(ran.returncode, 2, ran)
+        self.assertTrue(ran.stderr.startswith(b"slice: standard input has no command of nobody; "), ran)
+        words = f"'{sys.executable}' '{SLICE}' --metad '{self.program}' - a <&-"
+        ran = subprocess.run(["sh", "-c", words], capture_output=True, timeout=SECONDS)
+        self.assertEqual((ran.returncode, ran.stdout, ran.stderr), (1, b"", b"slice: standard input has to be open\n"))
 
 
 # Words, files and outputs.
