@@ -43,7 +43,6 @@ IS_META = has(**{
 OBJECT_FORMS = {
     "new": [Form(said.said_of_new, is_number, {"class": is_text}, {"parent": is_number}, {
         **NO_CLASS,
-        "E04": "there is no object {parent}, which was to be the parent",
         "E14": "the session has as many objects as it may, or the parent stands on the last level",
         "E19": "the numbers of the session's objects are used up",
     })],

@@ -2,7 +2,7 @@
 
 from __future__ import annotations
 
-from typing import Any, Iterator
+from typing import Any, Collection, Iterator
 
 from . import drawing
 from .commands import FORMS, Command
@@ -10,6 +10,7 @@ from .following import DELETE_LATER, followed, move, post
 from .held import is_text
 from .lines import NO_SESSION, Call, Error, Line, Reply, Warned
 from .objects import ROOT, Objects
+from .refusing import missing_said
 from .replies import OBJECT_NAME, Asked
 from .slots import Deed, Slots
 from .words import LINE_CODES, plain
@@ -69,6 +70,16 @@ class Knowledge:
         elif isinstance(line, Reply):
             do(session, command, line.reply, deeds is None)
             move(session, deeds or [])
+
+    def missing(self, name: str, numbers: Collection[int]) -> str:
+        """Which of these objects are not there, of which one at least is not, when a session is told so."""
+        session = self.sessions.get(name, Objects())
+        made = session.classes.keys()
+        missing = [it for it in numbers if it in session.gone or it not in made and not session.has_earlier]
+        if missing:
+            return " and ".join(missing_said(it, it in made) for it in missing)
+        may = [it for it in numbers if it not in session.sure] or list(numbers)
+        return missing_said(may[0], may[0] in made) if len(may) == 1 else f"there is no object {' or no object '.join(map(str, may))}"
 
     def drawn(self) -> Iterator[str]:
         for name in sorted(self.sessions):

@@ -3,15 +3,18 @@
 from __future__ import annotations
 
 from dataclasses import dataclass
-from typing import Any, Dict, NoReturn
+from typing import Any, Callable, Collection, Dict, NoReturn
 
 from . import replies
 from .commands import IS_META, IS_SPIN, IS_STATUS, Command
+from .faults import faults_in
 from .held import Holds, has, is_any, is_list, is_number, is_text, is_whole, json_object
 from .words import LINE_CODES, Misfit, arguments, coded, in_error, listed, misfit, plain, shown
 
 NO_SESSION = "-"  # what a line names where its command names no session
+NO_COMMAND, NO_OBJECT = "E02", "E04"
 NO_TURNS = "E23"  # the one warning that names no object
+Missing = Callable[[str, Collection[int]], str]  # says which of some objects of a session are missing
 SAID = ((IS_SPIN, replies.said_of_spin), (IS_STATUS, replies.said_of_status), (IS_META, replies.said_of_meta))
 
 
@@ -64,16 +67,21 @@ class Error(Line):
             return coded(self.error, "there was no memory to read the line")
         return coded(self.error)
 
-    def said_to(self, command: Command) -> str:
+    def said_to(self, command: Command, missing: Missing | None = None) -> str:
+        """What it means where it answers this command; it is known which of the objects that this names are missing."""
         if self.error in LINE_CODES:
             return self.said()
         form = command.form()
         meaning: str | None = None
-        if form and self.error in form.refused:
+        if form and self.error == NO_OBJECT and missing:
+            meaning = missing(self.session, command.objects() or misfit())
+        elif form and self.error in form.refused:
             meaning = form.refused[self.error].format_map(Asked(command.asked))
-        elif form and self.error == "E04":
-            meaning = f"there is no object {' or no object '.join(map(str, command.objects() or misfit()))}"
         return f"{plain(command.word)} is refused, {coded(self.error, meaning)}"
+
+    def faults(self, command: Command) -> list[str]:
+        """What is wrong with the command that it answers, where the code is for its form."""
+        return faults_in(command.raw) if self.error == NO_COMMAND else []
 
 
 class Asked(Dict[str, Any]):

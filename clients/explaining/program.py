@@ -16,7 +16,8 @@ NAME = os.path.basename(sys.argv[0])
 
 HELP = """\
 Each line is shown as it is, and below it what it means. With --commands each command is shown before
-the lines that it leads to, and they are explained by it.
+the lines that it leads to, and they are explained by it: of a refusal it is also said which key of the
+command is wrong or which of its objects are missing, and what to do.
 
 What --tree knows. The commands say which objects are made, moved and deleted, and the replies whether
 that was done; a reply of `children` says what stands below an object then. But a slot or a functor that is
@@ -109,7 +110,7 @@ def writer(stream: BinaryIO) -> Callable[[Said], None]:
     return say
 
 
-def told(given: Words) -> int:
+def told(given: Words, advise: Callable[[str], str]) -> int:
     """Tells the whole of standard input, or shows the help; answers the exit status."""
     if sys.stdin is None or sys.stdout is None:
         raise Stop("standard input and standard output have to be open")
@@ -117,7 +118,8 @@ def told(given: Words) -> int:
     if given.help:
         say(given.help)
         return 0
-    telling = Telling(say, knowledge=Knowledge(None if given.classes is None else slots_of(given.classes)))
+    slots = None if given.classes is None else slots_of(given.classes)
+    telling = Telling(say, knowledge=Knowledge(slots), advise=advise)
     if given.commands is not None:
         telling.commands = commands_in(lines_of(opened(given.commands), given.commands))
     for raw in lines_of(sys.stdin.buffer, "standard input"):
@@ -134,9 +136,10 @@ def leave_output() -> None:
         os.dup2(os.open(os.devnull, os.O_WRONLY), sys.stdout.fileno())
 
 
-def main() -> int:
+def main(advise: Callable[[str], str]) -> int:
+    """Runs the tool, which says of each refusal what to do about its code; answers the exit status."""
     try:
-        return told(words())
+        return told(words(), advise)
     except Stop as stop:
         message = str(stop)
     except BrokenPipeError:

@@ -9,6 +9,7 @@ from .commands import Command
 from .drawing import MARKS
 from .knowledge import Knowledge
 from .lines import NO_SESSION, Error, Line, line_of
+from .refusing import further
 from .words import Misfit, counted, plain
 
 Said = Union[bytes, str]  # a line as it is, or what is said of it
@@ -16,13 +17,14 @@ Said = Union[bytes, str]  # a line as it is, or what is said of it
 
 @dataclass
 class Telling:
-    """A transcript that is told, and the commands that it answers."""
+    """A transcript that is told, and the commands that it answers. `advise` says what to do about a code."""
 
     say: Callable[[Said], None]
     commands: Iterator[Command] | None = None
     command: Command | None = None
     knowledge: Knowledge = field(default_factory=Knowledge)
     misfits: bool = False
+    advise: Callable[[str], str] = lambda _code: ""
 
     def tell(self, raw: bytes) -> None:
         """Says a line and what it means."""
@@ -32,12 +34,16 @@ class Telling:
         self.say(raw.rstrip(b"\n"))
         if line is None:
             return self.mean("not a line of metad")
+        command = self.command
         name = "no session" if line.session == NO_SESSION else f"session {plain(line.session)}"
         try:
             said = self.paired(self.command, line) if self.command else line.said()
         except Misfit:
             return self.give_up(f"{name}: {line.said()}")
         self.mean(f"{name}: {said}")
+        if isinstance(line, Error) and command:
+            for it in further(line.faults(command), self.advise(line.error)):
+                self.mean(f"    {it}")
 
     def mean(self, words: str) -> None:
         self.say(f"    {words}")
@@ -66,7 +72,7 @@ class Telling:
         if not line.ends:
             self.knowledge.hear(line)
             return line.said()
-        said = line.said_to(command)
+        said = line.said_to(command, self.knowledge.missing) if isinstance(line, Error) else line.said_to(command)
         self.knowledge.end(command, line)
         self.command = None
         return said

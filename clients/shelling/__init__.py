@@ -2,6 +2,6 @@
 
 `link` reaches the server and keeps what it was given, `reading` takes lines apart, `infix` reads expressions as one
 writes them, `known` has what is known of the objects of a session, `scene` finds objects and methods by their names,
-`forms` has the short forms of commands, `faults` what is wrong with a command, `saying` how answers are said, `shell`
-does a line, `completing` completes one and keeps the history, and `program` is the command line.
+`forms` has the short forms of commands, `saying` how answers are said, `shell` does a line, `completing` completes one
+and keeps the history, and `program` is the command line.
 """

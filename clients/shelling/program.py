@@ -9,9 +9,9 @@ import sys
 from typing import IO, Optional
 
 import metad
+from explaining.faults import is_name
 
 from .completing import keep_history, prepare
-from .faults import is_name
 from .link import Link, Unreachable, connected, ended, started
 from .saying import Speaker
 from .shell import Shell

@@ -7,6 +7,7 @@ from typing import IO, Any, Dict, List, Mapping
 
 import metad
 from explaining.commands import FORMS
+from explaining.refusing import further
 from explaining.words import CODES, ERRORS, Misfit, plain, shown
 
 from .known import OBJECT_KEYS, Known
@@ -90,5 +91,4 @@ def refusal_said(asked: Mapping[str, Any], code: str, known: Known) -> str:
 
 def advice(code: str, faults: List[str]) -> List[str]:
     """What is wrong, where that is known, and what to do."""
-    to_do = metad.advice_on(code)
-    return [*faults, *([f"to do: {to_do}"] if to_do else [])]
+    return further(faults, metad.advice_on(code))

@@ -10,8 +10,9 @@ from typing import Any, Callable, Dict, List, Mapping, Optional, Set
 
 import metad
 from explaining.expressions import objects_of
+from explaining.faults import faults_of, is_name
+from explaining.refusing import missing_said
 
-from .faults import faults_of, is_name
 from .forms import FORMS, OBJECT_FORMS, OWN_FORMS, Request, request_of, strange
 from .known import FAILED, Known
 from .link import Link, reason
@@ -183,7 +184,7 @@ class Shell:
         numbers = dict.fromkeys([*known.named_in(asked), *sorted(objects_of(asked.get("to")))])
         lacking = [it for it in numbers if not self.stands(name, it)]
         known.gone.update(known.classes.keys() & set(lacking))
-        return [gone_said(known, it) for it in lacking]
+        return [missing_said(it, it in known.classes, known.label(it)) for it in lacking]
 
     # ---- the shell's own words ----
 
@@ -247,14 +248,6 @@ class Shell:
         """Ends the shell behind this line."""
         none_behind(rest)
         self.is_over = True
-
-
-def gone_said(known: Known, number: int) -> str:
-    """That an object is not there, and whether it has been."""
-    label = known.label(number)
-    if not label.isdigit():
-        return f"{label} is gone: object {number} was deleted"
-    return f"object {number} is gone, it was deleted" if number in known.classes else f"there is no object {number}"
 
 
 def text_of(line: bytes) -> str:

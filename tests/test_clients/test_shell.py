@@ -17,7 +17,7 @@ from contextlib import contextmanager
 from pathlib import Path
 
 import metad
-from shelling.faults import faults_of
+from explaining.faults import faults_of
 from shelling.infix import expression_of
 from shelling.reading import Mistake
 from shelling.saying import Speaker, advice

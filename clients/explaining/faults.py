@@ -3,14 +3,14 @@
 from __future__ import annotations
 
 import difflib
+import json
 import re
 from typing import Any, Callable, Dict, List, Mapping, Set, Tuple
 
-from explaining.commands import FORMS
+from .commands import FORMS
 
-from .reading import NAME
-
-NAME_BYTES, NUMBER_MOST = 64, 2**32 - 1
+NAME = re.compile(r"[A-Za-z_][A-Za-z0-9_]{0,63}")
+NUMBER_MOST = 2**32 - 1
 WAYS = ("auto", "direct", "queued")
 OF_ALL = {"do", "session"}  # the keys of every command
 
@@ -18,7 +18,7 @@ Check = Tuple[str, Callable[[Any], bool]]
 
 
 def is_name(value: Any) -> bool:
-    return isinstance(value, str) and len(value) <= NAME_BYTES and re.fullmatch(NAME, value) is not None
+    return isinstance(value, str) and NAME.fullmatch(value) is not None
 
 
 def is_number(value: Any) -> bool:
@@ -60,6 +60,14 @@ OTHERWISE: Dict[Tuple[str, str], Check] = {
     ("find", "name"): A_TEXT,
     ("setParent", "parent"): (f"null or {A_NUMBER[0]}", lambda value: value is None or is_number(value)),
 }
+
+
+def faults_in(raw: bytes) -> List[str]:
+    """What is wrong with a line that is no command, as texts for people; nothing where it is no JSON."""
+    try:
+        return faults_of(json.loads(raw.decode()))
+    except (ValueError, RecursionError):
+        return []
 
 
 def faults_of(asked: Any) -> List[str]:
