@@ -52,6 +52,13 @@ class Unread:
         self.taken = 0
         return True
 
+    def keep_line(self) -> None:
+        """Forgets all but the rest of a line that was taken in part. Each piece holds whole lines."""
+        rest = bytes(self.pieces[0][self.taken :]) if self.taken else b""
+        is_begun = bool(rest) and self.pieces[0][self.taken - 1 : self.taken] != b"\n"
+        self.clear()
+        self += rest[: rest.find(b"\n") + 1] if is_begun else b""
+
     def clear(self) -> None:
         """Forgets all of it."""
         self.pieces.clear()

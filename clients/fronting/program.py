@@ -56,6 +56,7 @@ PORT, PORT_MOST = re.compile(r"[0-9]{1,5}"), 65_535
 COUNT, WORKERS_MOST = re.compile(r"[1-9][0-9]?"), 64
 FILES_KEPT = 24  # files that clients leave for servers that are started anew, and for records
 FOR_ITS_OWNER = 0o600
+SECONDS_TO_TAKE = 2, 10  # at the front's end, in which monitors take what is left: without taking any, and all together
 BY_NAME = "name"
 GROUPS = ("hello", BY_NAME)
 
@@ -283,6 +284,8 @@ def serve(given: argparse.Namespace) -> None:
             if select.select([alarm], [], [], 0)[0]:
                 raise Asked from None  # the server was asked too, and was the first
             raise
+        finally:
+            front.monitors.finish(*SECONDS_TO_TAKE)
 
 
 def show_help() -> int:

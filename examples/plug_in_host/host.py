@@ -20,7 +20,8 @@ def plug_in(path, host):
 
 def host(program="metad"):
     classes = metad.with_relay(json.loads(Path(__file__).with_name("classes.json").read_text()))
-    with metad.start_front(program, classes=classes) as front, front.monitor() as observer, front.connect() as server:
+    started = metad.start_front(program, classes=classes, monitor=True)
+    with started as front, front.monitor() as observer, front.connect() as server:
         window, ear = (server.session("host").create(it) for it in ("Host", "PlugIn"))
         window.word.publish("word")
         window.closing.publish("closing")

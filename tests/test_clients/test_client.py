@@ -208,7 +208,6 @@ class Client(ClientCases):
                 ("both forms of disconnect", lambda: session.disconnect(1, sender=1), "E02"),
                 ("a line that is too long", lambda: session.set(1, "objectName", LINE_MOST * "x"), "E01"),
                 ("half a character", lambda: session.set(1, "objectName", "\ud800"), "E01"),
-                ("no number", lambda: session.set(1, "objectName", float("nan")), "E01"),
                 ("a text that is too long", lambda: session.set(1, "objectName", "x" * (TEXT_MOST + 1)), "E14"),
             ):
                 self.assertEqual(self.raised(what, metad.Refused, call).code, code, what)

@@ -39,7 +39,8 @@ class StartedFronts(FrontCases):
 
     def test_monitors(self):
         """A monitor is told all lines, or those of one session, up to the front's end."""
-        with metad.start_front(self.program, classes=LAMP, timeout=PATIENCE) as front, front.monitor() as all_lines:
+        started = metad.start_front(self.program, classes=LAMP, timeout=PATIENCE, monitor=True)
+        with started as front, front.monitor() as all_lines:
             with front.connect() as one, front.connect() as other:
                 sessions = [it.session("a") for it in (one, other)]
                 made = [it.new("Lamp") for it in sessions]
@@ -59,7 +60,7 @@ class StartedFronts(FrontCases):
 
     def test_no_session(self):
         """A monitor of what is no name is refused, and one where nobody listens is not there."""
-        with metad.start_front(self.program, timeout=PATIENCE) as front:
+        with metad.start_front(self.program, timeout=PATIENCE, monitor=True) as front:
             refused = self.raised("no name", metad.Refused, front.monitor, "a b")
             self.assertEqual(refused.code, "F01", "the code")
             path = front.monitor_path

@@ -9,10 +9,11 @@
         session.invoke(sender, "ping()")
 
 `start` starts a server, `connect` reaches one through a front's socket, and `Server` takes two streams. `start_front`
-starts a front with its server, and `monitor` is told all that the server of a front writes. A method of
-a `Session` is a command of the protocol: it returns the value of the reply, or raises `Refused` with the code. What
-the commands mean, and every code and limit, stands in docs/PROTOCOL.md. Nothing is checked here that the server
-checks: a name that is none, a number out of range and a line that is too long are refused by the server.
+starts a front with its server, and `monitor` reads all that the server of a front writes. A method of a `Session` is a
+command of the protocol: it returns the value of the reply, or raises `Refused` with the code. What the commands mean,
+and every code and limit, stands in docs/PROTOCOL.md. The server checks commands: a name that is none, the number of an
+object that is not there and a line that is too long are refused there. Values that no command can take, as bytes and
+NaN, raise `NoValue`, and are not sent.
 
 Calls of slots and functors, and warnings, are told to the callbacks of their session before the call of the command
 returns. Commands can be sent without waiting: `Session.send` returns a `Pending`, and its `result` waits. Replies come
@@ -31,8 +32,11 @@ from .errors import (
     Ambiguous,
     ClassFileRefused,
     ConnectionClosed,
+    LinesLost,
     MetadError,
+    NoMonitors,
     NoRelay,
+    NoValue,
     NotAnswered,
     NotStarted,
     OtherSession,
@@ -41,9 +45,10 @@ from .errors import (
     SessionLost,
     StrangeLine,
 )
-from .fronts import Front, Monitor, monitor, start_front
+from .fronts import Front, start_front
 from .hearing import Listener, OnCall, OnWarning
 from .lines import NOBODY, Call, Meta, Spun, Status, Value, Warned
+from .monitors import Monitor, monitor
 from .proxies import Connected, Heard, Method, Property, Proxy, SignalSpy, wait_for
 from .shapes import with_relay
 
@@ -59,6 +64,7 @@ __all__ = [
     "ConnectionClosed",
     "Front",
     "Heard",
+    "LinesLost",
     "Listener",
     "MEANINGS",
     "Meta",
@@ -66,7 +72,9 @@ __all__ = [
     "Method",
     "Monitor",
     "NOBODY",
+    "NoMonitors",
     "NoRelay",
+    "NoValue",
     "NotAnswered",
     "NotStarted",
     "OnCall",

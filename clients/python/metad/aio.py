@@ -29,11 +29,12 @@ from .aio_proxies import Connected, Heard, Method, Property, Proxy, SignalSpy, h
 from .client import reply_of
 from .commands import Asked, make_method
 from .connection import Answer, Connection, Once, ProgramConnection, SocketConnection, Word
-from .errors import NotAnswered, OtherSession, Refused
+from .errors import ClassFileRefused, NotAnswered, OtherSession, Refused
 from .hearing import Hearing, OnCall, OnWarning
 from .holding import START_SECONDS, Holder, class_words
 from .lines import Value, command_line
 from .shapes import Shape, with_relay
+from .tools import fault_in
 
 if TYPE_CHECKING:
     from typing_extensions import Concatenate, ParamSpec
@@ -234,12 +235,13 @@ async def start(
 ) -> Server:
     """Starts a server, as `metad.start` does."""
     with TemporaryDirectory(prefix="metad-") as folder:
-        connection = ProgramConnection([program, *words, *class_words(classes, folder)])
+        given = class_words(classes, folder)
+        connection = ProgramConnection([program, *words, *given])
         try:
             connection.open()
             answer = connection.ask_first()
             await asyncio.wait_for(_came(answer), timeout)
-            connection.started(answer)
+            await _started(connection, answer, given)
         except asyncio.TimeoutError:
             connection.kill()
             raise NotAnswered(f"the server has not answered its first line in {timeout} seconds") from None
@@ -247,6 +249,16 @@ async def start(
             connection.kill()
             raise
     return Server(connection)
+
+
+async def _started(connection: ProgramConnection, answer: Answer, given: Sequence[Word]) -> None:
+    """Raises what an end before the first answer means; a class file is checked while the loop goes on."""
+    try:
+        connection.started(answer)
+    except ClassFileRefused as refused:
+        if given:
+            refused.fault = await asyncio.get_running_loop().run_in_executor(None, fault_in, given[-1])
+        raise
 
 
 async def connect(path: Word, share: Optional[str] = None, group: Optional[str] = None) -> Server:

@@ -31,6 +31,8 @@ class Proxy(BaseProxy["Session"]):
     something here, or a name that Python cannot write, is reached by `property` and `method`.
     """
 
+    WRITTEN = 'await .property("{}").set(..)'
+
     def property(self, name: str) -> Property:
         """A property, declared or dynamic, by its name."""
         return Property(self, name)
@@ -44,7 +46,7 @@ class Proxy(BaseProxy["Session"]):
         await self.session.delete(self.number)
 
     def __setattr__(self, name: str, value: Value) -> None:
-        raise AttributeError(f"{name} of {self.shape.name} is not written so; see `set` of its `property`")
+        raise self._not_written(name)
 
 
 class Property:

@@ -16,6 +16,7 @@ from .holding import START_SECONDS, Holder, class_words
 from .lines import Value, command_line, named
 from .proxies import Heard, Proxy, hear_post
 from .shapes import Shape
+from .tools import explained
 
 if TYPE_CHECKING:
     from typing_extensions import Concatenate, ParamSpec
@@ -271,19 +272,22 @@ def start(
 ) -> Server:
     """Starts a server: a program with the words of its command line. `OSError` where it cannot be started.
 
-    `classes` is what a class file holds; one is written for the start then, as the last word. The server is given a
+    `classes` is what a class file holds; one is written for the start then, as the last word. Where it is refused and
+    the tool `check` is installed with this package, the exception says where the first fault is. The server is given a
     line that is no command and enters no session. When it has answered that by `E02`, it is there: where it ends
     before, this raises `ClassFileRefused` or `NotStarted`, and where it does nothing in so many seconds, it is killed,
     and this raises `NotAnswered`.
     """
     with TemporaryDirectory(prefix="metad-") as folder:
-        connection = ProgramConnection([program, *words, *class_words(classes, folder)])
+        given = class_words(classes, folder)
+        connection = ProgramConnection([program, *words, *given])
         try:
             connection.open()
             answer = connection.ask_first()
             if not answer.wait(timeout):
                 raise NotAnswered(f"the server has not answered its first line in {timeout} seconds")
-            connection.started(answer)
+            with explained(given):
+                connection.started(answer)
         except BaseException:
             connection.kill()
             raise

@@ -2,7 +2,7 @@
 
 The sessions that wait for replies and those of `metad.aio` have a method for each of them. Objects and connections are
 numbers, as in the protocol. The parameters are the keys of the commands; where a key need not be there, None leaves it
-out. Nothing is checked here that the server checks.
+out. Nothing is checked here: the server does that, and `values` looks at what can be sent at all.
 """
 
 from __future__ import annotations

@@ -16,7 +16,7 @@ from collections import deque
 from contextlib import suppress
 from dataclasses import dataclass
 from functools import partial
-from os import PathLike, fspath
+from os import PathLike
 from typing import IO, Callable, Deque, Dict, List, Optional, Sequence, Tuple, Union
 from weakref import ref
 
@@ -33,6 +33,7 @@ from .errors import (
 )
 from .hearing import Hearing, Listening
 from .lines import NO_COMMAND, NOBODY, Told, Value, is_answer, line_of, line_with, told_by
+from .sockets import connected
 
 Word = Union[str, "PathLike[str]"]
 """A word of a command line, or a path."""
@@ -394,9 +395,8 @@ class SocketConnection(Connection):
     def __init__(self, path: Word, share: Optional[str], group: Optional[str]) -> None:
         if share is not None and group is not None:
             raise ValueError("a shared session has a group by its name")
-        self._socket = socket.socket(socket.AF_UNIX)
+        self._socket = connected(path)
         try:
-            self._socket.connect(fspath(path))
             super().__init__(self._socket.makefile("rb"), self._socket.makefile("wb"))
             if share is not None:
                 self._ask("share", session=share)

@@ -11,7 +11,10 @@ SHOWN_MOST = 200  # characters of a command's keys, or bytes of a line, that a t
 
 
 class MetadError(Exception):
-    """What goes wrong between a client and a server."""
+    """What goes wrong between a client and a server. Its text can be printed whatever it holds."""
+
+    def __str__(self) -> str:
+        return printable(super().__str__())
 
 
 class Refused(MetadError):
@@ -32,7 +35,7 @@ class Refused(MetadError):
 
     def __str__(self) -> str:
         said = f"{self.do} {_shown(self.keys)}: {self.code}, {self.meaning}"
-        return f"{said}. What to do: {self.advice}" if self.advice else said
+        return printable(f"{said}. What to do: {self.advice}" if self.advice else said)
 
 
 class NotAnswered(MetadError, TimeoutError):
@@ -85,12 +88,29 @@ class SessionLost(ConnectionClosed):
         return "what the session held is lost, and the connection was closed"
 
 
+class LinesLost(ConnectionClosed):
+    """A front has closed a monitor that left too much unread, or has ended in the middle of a line.
+
+    All lines that have arrived were given first. The lines after them are lost; a new monitor gets the lines that come
+    from then on.
+    """
+
+    def _ended(self) -> str:
+        return "the front has closed this monitor before it had read all: lines were lost"
+
+
 class NotStarted(ServerGone):
     """The server has ended before it answered anything: the words of its command line mean nothing, for one."""
 
 
 class ClassFileRefused(NotStarted):
-    """The server has refused its class file; `stderr` has the first fault."""
+    """The server has refused its class file; `stderr` has the code of the first fault, and the number of its class."""
+
+    fault: str = ""
+    """Where the first fault is and what it is, as `metad-check` says it; empty where this is not known."""
+
+    def __str__(self) -> str:
+        return printable(f"{super().__str__()}: {self.fault}" if self.fault else super().__str__())
 
 
 class StrangeLine(MetadError):
@@ -112,12 +132,25 @@ class Ambiguous(MetadError, TypeError):
     """A class has no method that these arguments or parameters fit, or more than one."""
 
 
+class NoValue(MetadError, TypeError, ValueError):
+    """A value that no command can take was given to one. Nothing was sent."""
+
+
+class NoMonitors(MetadError):
+    """A front that was started without monitors was asked for one."""
+
+
 class OtherSession(MetadError, ValueError):
     """Objects of two sessions were to be tied to each other, of which each has numbers of its own."""
 
 
 class NoRelay(MetadError):
     """A function cannot be called for a signal: the server has no slot that would tell of it, see `with_relay`."""
+
+
+def printable(text: str) -> str:
+    """A text that can be printed and written in UTF-8: halves of characters, as `\\ud800`, are written as escapes."""
+    return text.encode("utf-8", "backslashreplace").decode()
 
 
 def _shown(keys: Dict[str, Any]) -> str:

@@ -1,4 +1,4 @@
-"""A front that is started here, which gives many clients of one server a session each, and monitors of a front.
+"""A front that is started here, which gives many clients of one server a session each.
 
     with metad.start_front("bin/metad") as front, front.connect() as server:
         print(server.session("mine").new("Probe"))
@@ -7,7 +7,6 @@
 from __future__ import annotations
 
 import os
-import socket
 import subprocess
 import sys
 import tempfile
@@ -15,65 +14,20 @@ import time
 from os import fspath
 from pathlib import Path
 from types import TracebackType
-from typing import Dict, Iterator, List, Optional, Sequence, Type
+from typing import Dict, List, Optional, Sequence, Tuple, Type, Union
 
 from .client import Server, connect
 from .connection import Word, not_started
-from .errors import NotAnswered, NotStarted, Refused
+from .errors import NoMonitors, NotAnswered, NotStarted
 from .holding import START_SECONDS, class_words
-from .lines import Value, line_of, line_with
+from .lines import Value
+from .monitors import Monitor
+from .tools import explained, tool_beside
 
 PAUSE = 0.02  # seconds between two looks at whether a front listens
 LISTENS = b": listening at "
 SAID_MOST = 65_536  # bytes of a front's standard error that are looked at
-
-
-class Monitor:
-    """Is told the lines of a front's server, as that writes them: of all sessions, or of one. It is made by `monitor`.
-
-    It is iterated, and each line is what its JSON holds. There are no more lines when the front has ended, or when the
-    monitor was closed. As a context manager it is closed at the end.
-    """
-
-    def __init__(self, path: Word, session: Optional[str] = None) -> None:
-        self._link = socket.socket(socket.AF_UNIX)
-        try:
-            self._link.connect(fspath(path))
-            self._reader = self._link.makefile("rb")
-            if session is not None:
-                self._choose(session)
-        except BaseException:
-            self._link.close()
-            raise
-
-    def _choose(self, session: str) -> None:
-        """Asks for the lines of one session, and waits until they will come."""
-        self._link.sendall(line_with({"front": "monitor", "session": session}))
-        answer = next(self, {"error": "F01"})
-        if "error" in answer:
-            raise Refused("monitor", answer["error"], {"session": session})
-
-    def __enter__(self) -> Monitor:
-        return self
-
-    def __exit__(
-        self, kind: Optional[Type[BaseException]], error: Optional[BaseException], trace: Optional[TracebackType]
-    ) -> None:
-        self.close()
-
-    def __iter__(self) -> Iterator[Dict[str, Value]]:
-        return self
-
-    def __next__(self) -> Dict[str, Value]:
-        text = self._reader.readline()
-        if not text.endswith(b"\n"):
-            raise StopIteration
-        return line_of(text)
-
-    def close(self) -> None:
-        """Is told no more. Closing again does nothing."""
-        self._reader.close()
-        self._link.close()
+MODE, MONITOR, MONITOR_MODE = "--mode", "--monitor", "--monitor-mode"  # options of a front
 
 
 class Front:
@@ -83,31 +37,51 @@ class Front:
     """
 
     def __init__(
-        self, words: Sequence[Word], classes: Optional[Dict[str, Value]], options: Sequence[Word], timeout: Optional[float]
+        self,
+        words: Sequence[Word],
+        classes: Optional[Dict[str, Value]],
+        options: Sequence[Word],
+        timeout: Optional[float],
+        monitor: Union[bool, Word] = False,
     ) -> None:
         self._room = tempfile.TemporaryDirectory(prefix="metad-")
         self.path = str(Path(self._room.name, "metad.sock"))
         """Where its clients connect."""
-        self.monitor_path = str(Path(self._room.name, "metad.monitor"))
-        """Where its monitors connect."""
         self._errors = tempfile.TemporaryFile()
         try:
-            self._begin([*words, *class_words(classes, self._room.name)], options, timeout)
+            self._monitor_path, monitoring = monitor_words(monitor, [fspath(it) for it in options], self._room.name)
+            self._begin(words, classes, [*options, *monitoring], timeout)
         except BaseException:
             self._leave()
             raise
 
-    def _begin(self, server: Sequence[Word], options: Sequence[Word], timeout: Optional[float]) -> None:
+    def _begin(
+        self,
+        words: Sequence[Word],
+        classes: Optional[Dict[str, Value]],
+        options: Sequence[Word],
+        timeout: Optional[float],
+    ) -> None:
         """Starts the front, once its server has started without it, and waits until clients can connect."""
-        try_server(server, timeout)
-        words = [*front_words(), "--tied", "--quiet", "--monitor", self.monitor_path, *options, self.path, *server]
-        self._process = subprocess.Popen(words, stdin=subprocess.PIPE, stderr=self._errors, start_new_session=True)
+        given = class_words(classes, self._room.name)
+        server = [*words, *given]
+        with explained(given):
+            try_server(server, timeout)
+        started = [*front_words(), "--tied", "--quiet", *options, self.path, *server]
+        self._process = subprocess.Popen(started, stdin=subprocess.PIPE, stderr=self._errors, start_new_session=True)
         try:
             self._wait(timeout)
         except BaseException:
             self._process.kill()
             self._process.communicate()
             raise
+
+    @property
+    def monitor_path(self) -> str:
+        """Where its monitors connect; `NoMonitors` where it was started without them."""
+        if self._monitor_path is None:
+            raise NoMonitors("this front was started without monitors: start it by `start_front(.., monitor=True)`")
+        return self._monitor_path
 
     def __enter__(self) -> Front:
         return self
@@ -123,7 +97,7 @@ class Front:
         return connect(self.path, share, group)
 
     def monitor(self, session: Optional[str] = None) -> Monitor:
-        """A new monitor, of all sessions or of one."""
+        """A new monitor, of all sessions or of one. `NoMonitors` where the front was started without them."""
         return Monitor(self.monitor_path, session)
 
     def close(self) -> int:
@@ -156,9 +130,32 @@ class Front:
 
 
 def front_words() -> List[Word]:
-    """The words that start a front: that which stands beside this package, or that on the path."""
-    beside = Path(__file__).resolve().parents[2] / "front"
-    return [sys.executable, str(beside)] if beside.is_file() else ["metad-front"]
+    """The words that start a front: the one beside this package, or the one on the path."""
+    beside = tool_beside("front")
+    return ["metad-front"] if beside is None else [sys.executable, beside]
+
+
+def monitor_words(monitor: Union[bool, Word], options: Sequence[str], folder: str) -> Tuple[Optional[str], List[str]]:
+    """Where monitors connect with a front that has these options, None where they cannot; and the further options that a
+    front needs for it. The rights of their socket are those of the clients' socket, unless the options say others."""
+    path, words = value_of(MONITOR, options), []
+    if path is None and monitor is not False:
+        path = str(Path(folder, "metad.monitor")) if monitor is True else fspath(monitor)
+        words = [MONITOR, path]
+    mode = value_of(MODE, options)
+    if path is not None and mode is not None and value_of(MONITOR_MODE, options) is None:
+        words += [MONITOR_MODE, mode]
+    return path, words
+
+
+def value_of(option: str, words: Sequence[str]) -> Optional[str]:
+    """The value of an option among some words, the last one where it is there several times; None without it."""
+    found = None
+    for word, behind in zip(words, [*words[1:], None]):
+        name, sign, value = word.partition("=")
+        if name == option:
+            found = value if sign else behind
+    return found
 
 
 def try_server(words: Sequence[Word], timeout: Optional[float]) -> None:
@@ -178,18 +175,14 @@ def start_front(
     classes: Optional[Dict[str, Value]] = None,
     options: Sequence[Word] = (),
     timeout: Optional[float] = START_SECONDS,
+    monitor: Union[bool, Word] = False,
 ) -> Front:
     """Starts a front, at a socket of its own, with a server: a program with the words of its command line.
 
     It returns when clients can connect. `classes` is as for `start`, and `options` are further ones of the front, as
-    `["--record", "lines"]`. The server is tried first, without input: where it does not end with 0 then, this raises
+    `["--record", "lines"]`. With `monitor=True` monitors can connect too, at the front's `monitor_path`, or with a path
+    there; their socket has the rights of the clients' socket. Without it there is no such socket. The server is tried first, without input: where it does not end with 0 then, this raises
     `ClassFileRefused` or `NotStarted`, and where the front ends before it listens, `NotStarted`. `OSError` where one of
     them is not there.
     """
-    return Front([program, *words], classes, options, timeout)
-
-
-def monitor(path: Word, session: Optional[str] = None) -> Monitor:
-    """Is told what is written by the server of a front whose `--monitor` is this path: for all sessions, or for one.
-    `OSError` where nobody listens there, and `Refused` where the name is none that a session has."""
-    return Monitor(path, session)
+    return Front([program, *words], classes, options, timeout, monitor)

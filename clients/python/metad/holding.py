@@ -9,6 +9,7 @@ from pathlib import Path
 from typing import Dict, List, Optional
 
 from .connection import Connection, Word
+from .errors import NoValue
 from .lines import Value
 from .shapes import Shape
 
@@ -39,9 +40,13 @@ class Holder:
 
 
 def class_words(classes: Optional[Dict[str, Value]], folder: str) -> List[Word]:
-    """The words that name a class file with these classes, which is put into a folder; none without classes."""
+    """The words that name a class file with these classes, which is put into a folder; none without classes. `NoValue` where
+    they cannot be written as JSON."""
     if classes is None:
         return []
     path = Path(folder, "classes.json")
-    path.write_text(json.dumps(classes))
+    try:
+        path.write_text(json.dumps(classes, allow_nan=False))
+    except (TypeError, ValueError, RecursionError) as error:
+        raise NoValue(f"the classes cannot be written as JSON: {error}") from None
     return [fspath(path)]

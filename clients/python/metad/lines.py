@@ -9,6 +9,7 @@ from typing import Any, Dict, List, Optional, TypedDict, Union
 
 from .codes import meaning_of
 from .errors import StrangeLine
+from .values import check_values
 
 Value = Any
 """Whatever JSON can say."""
@@ -16,7 +17,7 @@ Value = Any
 NOBODY = "-"
 """The session of the answer to a line of which nobody can say whose it was."""
 
-ENCODER = json.JSONEncoder(ensure_ascii=False, separators=(",", ":"), default=index)
+ENCODER = json.JSONEncoder(ensure_ascii=False, separators=(",", ":"), default=index, allow_nan=False)
 DECODER = json.JSONDecoder()
 
 NO_COMMAND = b"{}\n"
@@ -104,8 +105,11 @@ def named(keys: Dict[str, Value]) -> Dict[str, Value]:
 
 
 def command_line(session: str, do: str, keys: Dict[str, Value]) -> bytes:
-    """The line of a command, in which a value that is no JSON and has an `__index__`, as a proxy, is that number."""
-    return line_with({**named(keys), "do": do, "session": session})
+    """The line of a command, in which a value that is no JSON and has an `__index__`, as a proxy, is that number.
+    `NoValue` where a value is none that a command can take."""
+    given = {**named(keys), "do": do, "session": session}
+    check_values(do, given)
+    return line_with(given)
 
 
 def line_with(keys: Dict[str, Value]) -> bytes:
@@ -131,7 +135,10 @@ def is_answer(line: Dict[str, Value]) -> bool:
 
 
 def told_by(line: Dict[str, Value], text: bytes) -> Optional[Told]:
-    """The call or warning that a line tells of; None of a line that is of another kind than these."""
+    """The call or warning that a line tells of; None of a line that is of another kind than these. A line that is a command
+    comes from a program that repeats its input."""
+    if "do" in line:
+        raise StrangeLine(text)
     try:
         if "call" in line:
             return Call(line["object"], line["call"], line["args"], line["sender"])

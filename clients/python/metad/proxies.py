@@ -34,6 +34,8 @@ class Proxy(BaseProxy["Session"]):
     What has the name of something here, or a name that Python cannot write, is reached by `property` and `method`.
     """
 
+    WRITTEN = '.property("{}").value = ..'
+
     def property(self, name: str) -> Property:
         """A property, declared or dynamic, by its name."""
         return Property(self, name)
@@ -51,7 +53,7 @@ class Proxy(BaseProxy["Session"]):
 
     def __setattr__(self, name: str, value: Value) -> None:
         if name not in self.shape.properties or hasattr(Proxy, name) or name in self.__dict__:
-            raise AttributeError(f"{name} of {self.shape.name} is not written so; see `property`")
+            raise self._not_written(name)
         self.property(name).value = value
 
 

@@ -7,9 +7,10 @@ and not which methods are signals, nor the types of properties: the server refus
 
 from __future__ import annotations
 
+from difflib import get_close_matches
 from typing import Any, Callable, Dict, Generic, Iterable, List, Optional, Sequence, Tuple, TypeVar, cast
 
-from .errors import Ambiguous, OtherSession
+from .errors import Ambiguous, OtherSession, printable
 from .hearing import Hearing, OnCall
 from .lines import Call, Meta, Value
 
@@ -70,12 +71,21 @@ class Shape:
         """The signatures of the methods of a name, or of a signature; `Ambiguous` where there is none."""
         fitting = tuple(it for it in self.methods.get(name_of(which), ()) if which in (it, name_of(it)))
         if not fitting:
-            raise Ambiguous(f"{self.name} has no method {which}")
+            raise Ambiguous(f"{self.name} has no method {which}{meant(name_of(which), self.methods)}")
         return fitting
+
+
+def meant(name: str, names: Iterable[str]) -> str:
+    """Which of some names may be meant by one that is not there, as the end of a sentence; empty where none is like it."""
+    near = get_close_matches(name, list(names), 1)
+    return f"; did you mean `{near[0]}`?" if near else ""
 
 
 class BaseProxy(Generic[SessionKind]):
     """An object of a server, by its session and its number."""
+
+    WRITTEN = ""
+    """How a property is written that is no attribute, with its name in the place of `{}`."""
 
     session: SessionKind
     """The session that the object is of."""
@@ -105,7 +115,24 @@ class BaseProxy(Generic[SessionKind]):
             return self._read(name)
         if shape and name in shape.methods:
             return self.method(name)
-        raise AttributeError(f"{shape.name if shape else type(self).__name__} declares no {name}")
+        if not shape or name.startswith("__"):
+            raise AttributeError(f"{type(self).__name__} has no {name}")
+        near = meant(name, [*shape.properties, *shape.methods])
+        raise AttributeError(printable(f"{shape.name} declares no {name}{near}"))
+
+    def _not_written(self, name: str) -> AttributeError:
+        """What is raised where an attribute of this name is written, and no declared property is meant by it."""
+        shape, written = self.shape, f"write `{self.WRITTEN.format(name)}`"
+        if name in shape.properties:
+            why = f"the property `{name}` of {shape.name} is not written as an attribute: {written}"
+        elif name in shape.methods:
+            why = f"`{name}` is a method of {shape.name}, and cannot be written"
+        elif hasattr(type(self), name) or name in self.__dict__:
+            why = f"`{name}` is an attribute of every proxy, and cannot be written; for a property of this name {written}"
+        else:
+            near = meant(name, shape.properties)
+            why = f"{shape.name} declares no property `{name}`{near or '.'} For a dynamic property {written}"
+        return AttributeError(printable(why))
 
     def __dir__(self) -> Iterable[str]:
         return [*super().__dir__(), *self.shape.properties, *self.shape.methods]
