@@ -234,7 +234,8 @@ FORMS = {
 OWN_FORMS = {  # of the shell itself: how each is written, and what it does
     "session": ("session NAME", "goes on in another session of the server, where names are others"),
     "names": ("names", "lists the names that were given, and which of their objects are gone"),
-    "save": ("save FILE", "writes the lines that were sent into a file, which is input for metad"),
+    "save": ("save FILE", "writes the lines that were sent into a new file, which is input for metad"),
+    "save!": ("save! FILE", "does the same where FILE exists already, and writes over it"),
     "run": ("run FILE", "sends the lines of such a file"),
     "help": ("help [COMMAND]", "says what can be written"),
     "quit": ("quit", "ends the shell"),

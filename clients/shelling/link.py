@@ -6,12 +6,19 @@ import json
 import socket
 import subprocess
 from dataclasses import dataclass
-from typing import IO, Any, Callable, Dict, List, Optional, Sequence, cast
+from functools import partial
+from typing import IO, Any, Callable, Dict, Iterator, List, Optional, Sequence, cast
 
 import metad
+from metad.lines import NO_COMMAND
+from metad.sockets import connected as socket_at
 
 NUMBER = "line"  # the key at which a command has the number of the line that it stands for
 PATIENCE = 30  # seconds in which a server has to end when its input has ended
+FIRST_SECONDS = 10  # in which a program has to answer its first line, or else it is no metad
+FIRST_OF_SOCKET = 60  # the same behind a front, where others may be served first
+LINE_MOST = 16 * 1024 * 1024  # bytes of a line, more than metad writes
+SHOWN_MOST = 1_000  # bytes of a longer one that are kept
 
 
 class Unreachable(Exception):
@@ -56,14 +63,29 @@ class Tap:
             self.hang_up()
 
 
-class Link:
-    """A server, as a shell uses it."""
+class Bounded:
+    """A stream of what a program writes, which keeps no line that is longer than one of metad."""
 
-    def __init__(self, reader: IO[bytes], tap: Tap, process: Optional[subprocess.Popen[bytes]]) -> None:
+    def __init__(self, stream: IO[bytes]) -> None:
+        self.stream = stream
+        self.read = stream.read
+        self.close = stream.close
+
+    def __iter__(self) -> Iterator[bytes]:
+        for text in iter(partial(self.stream.readline, LINE_MOST), b""):
+            yield text if len(text) < LINE_MOST else text[:SHOWN_MOST] + b"\n"
+
+
+class Link:
+    """A server, as a shell uses it. `name` is the program, or the socket."""
+
+    def __init__(self, name: str, reader: IO[bytes], tap: Tap, process: Optional[subprocess.Popen[bytes]]) -> None:
+        self.name = name
         self.tap = tap
         self.process = process
         self.count = 0  # lines so far
-        self.server = metad.Server(reader, cast("IO[bytes]", tap))
+        self.has_answered = False
+        self.server = metad.Server(cast("IO[bytes]", Bounded(reader)), cast("IO[bytes]", tap))
 
     @property
     def is_fronted(self) -> bool:
@@ -83,21 +105,49 @@ class Link:
         return self.give(session, command_line(session, do, keys), False)
 
     def give(self, session: metad.Session, line: bytes, is_kept: bool) -> Any:
-        """Gives a line, and waits for its answer."""
+        """Gives a line, and waits for its answer; `NotAnswered` where the first one does not come in time."""
         self.count += 1
         self.tap.orders[self.count] = Order(line, is_kept)
-        return session.command("status", **{NUMBER: self.count})
+        pending = session.send("status", **{NUMBER: self.count})
+        try:
+            reply = pending.result(None if self.has_answered else self.first_seconds())
+        except metad.Refused:
+            self.has_answered = True
+            raise
+        self.has_answered = True
+        return reply
+
+    def first_seconds(self) -> int:
+        """In how many seconds the first answer has to come."""
+        return FIRST_OF_SOCKET if self.is_fronted else FIRST_SECONDS
+
+    def try_out(self, session: metad.Session) -> None:
+        """Sees that a program to which nothing was given is a metad: that it answers a line that is no command."""
+        if self.process is not None and not self.has_answered:
+            try:
+                self.give(session, NO_COMMAND, False)
+            except metad.Refused:
+                pass  # as it has to be
+
+    def give_up(self) -> None:
+        """Ends at once what is no metad."""
+        if self.process is not None:
+            self.process.kill()
 
     def end(self) -> Optional[int]:
         """Ends the server's input, and waits for its end; its status, None behind a front."""
-        self.server.close()
-        if self.process is None:
-            return None
         try:
-            return self.process.wait(PATIENCE)
-        except subprocess.TimeoutExpired:
+            self.server.close(PATIENCE)
+            return None if self.process is None else self.process.wait(PATIENCE)
+        except (metad.NotAnswered, subprocess.TimeoutExpired):
+            if self.process is None:
+                return None
             self.process.kill()
             return self.process.wait()
+
+    def doubt(self) -> str:
+        """The end of a sentence about a program that has not answered a single line: that it may be no metad."""
+        return "" if self.has_answered else f"; is {self.name} {'the socket of a front' if self.is_fronted else 'metad'}?"
 
 
 def command_line(session: metad.Session, do: str, keys: Dict[str, Any]) -> bytes:
@@ -114,16 +164,14 @@ def started(words: Sequence[str]) -> Link:
     except (OSError, ValueError) as error:
         raise Unreachable(f"{words[0]} cannot be started: {reason(error)}") from None
     assert process.stdin and process.stdout
-    return Link(process.stdout, Tap(process.stdin), process)
+    return Link(words[0], process.stdout, Tap(process.stdin), process)
 
 
 def connected(path: str) -> Link:
     """Connects with the socket of a front."""
-    link = socket.socket(socket.AF_UNIX)
     try:
-        link.connect(path)
+        link = socket_at(path)
     except (OSError, ValueError) as error:
-        link.close()
         raise Unreachable(f"{path} cannot be reached: {reason(error)}") from None
 
     def hang_up() -> None:
@@ -132,7 +180,7 @@ def connected(path: str) -> Link:
         except OSError:
             pass  # the other side has gone
 
-    return Link(link.makefile("rb"), Tap(link.makefile("wb"), hang_up), None)
+    return Link(path, link.makefile("rb"), Tap(link.makefile("wb"), hang_up), None)
 
 
 def reason(error: Exception) -> str:

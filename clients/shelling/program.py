@@ -28,7 +28,8 @@ $XDG_STATE_HOME/metad/history. An interrupt cancels a line, and the end of the i
 Nothing is coloured where NO_COLOR is set.
 
 Exit status: 0 at the end of the input, 1 where the server has ended before or with another status than 0,
-where it cannot be reached, and with --strict after a refusal, 2 after a mistake in the command line."""
+where it cannot be reached or is no metad, and with --strict after a refusal, 2 after a mistake in the
+command line. A program is no metad that writes something else, or answers nothing within 10 seconds."""
 
 
 class Stop(Exception):
@@ -125,10 +126,16 @@ def run(given: argparse.Namespace) -> int:
     try:
         shell = Shell(link, speaker, given.session, given.strict)
         (converse if sys.stdin.isatty() and sys.stdout.isatty() else read_through)(shell)
+        link.try_out(shell.session(given.session))
     except metad.ServerGone:
-        raise Stop(ended(link.end())) from None
+        status = link.end()
+        raise Stop(ended(status) + ("" if status else link.doubt())) from None
     except metad.StrangeLine as strange:
-        raise Stop(str(strange)) from None
+        link.give_up()
+        raise Stop(f"{strange}{link.doubt()}") from None
+    except metad.NotAnswered:
+        link.give_up()
+        raise Stop(f"{link.name} has answered nothing in {link.first_seconds()} seconds{link.doubt()}") from None
     finally:
         status = link.end()
     if status:

@@ -45,6 +45,7 @@ class Shell:
             "session": self.go_to,
             "names": self.list_names,
             "save": self.save,
+            "save!": self.save_over,
             "run": self.run,
             "help": self.help,
             "quit": self.leave,
@@ -209,10 +210,20 @@ class Shell:
             self.say("reply", "no names were given")
 
     def save(self, rest: str) -> None:
-        """Writes the lines that were sent into a file."""
-        path = path_of(rest)
+        """Writes the lines that were sent into a new file."""
+        self.write_into(path_of(rest), "xb")
+
+    def save_over(self, rest: str) -> None:
+        """Writes the lines that were sent into a file, over what is there."""
+        self.write_into(path_of(rest), "wb")
+
+    def write_into(self, path: Path, mode: str) -> None:
+        """Writes the lines that were sent into a file, which is opened so."""
         try:
-            path.write_bytes(b"".join(self.link.tap.kept))
+            with path.open(mode) as file:
+                file.write(b"".join(self.link.tap.kept))
+        except FileExistsError:
+            raise Mistake(f"{path} exists already; `save! {path}` writes over it") from None
         except (OSError, ValueError) as error:
             raise Mistake(f"{path} cannot be written: {reason(error)}") from None
         count = len(self.link.tap.kept)

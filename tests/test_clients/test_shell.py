@@ -393,7 +393,7 @@ class Ends(ShellCases):
             ("no command yet", (self.program, str(classes)), "", "the server has ended with status 1"),
             ("in the midst", ("sh", "-c", "read line; exit 3"), "status", "the server has ended with status 3"),
             ("a signal", ("sh", "-c", "kill -9 $$"), "status\nstatus", "the server was ended by signal 9"),
-            ("a strange line", ("sh", "-c", "echo nonsense; cat > /dev/null"), "status", "no line of the protocol: b'nonsense\\n'"),
+            ("a strange line", ("sh", "-c", "echo nonsense; cat > /dev/null"), "status", "no line of the protocol: b'nonsense\\n'; is sh metad?"),
             ("no program", (f"{self.room}/nothing",), "", f"{self.room}/nothing cannot be started: No such file or directory"),
         ):
             ran = self.ran(given, server=words)
@@ -409,8 +409,8 @@ class Ends(ShellCases):
         ran = self.ran("", "--help", server=())
         self.assertEqual((ran.returncode, ran.stderr, ran.stdout[:12]), (0, b"", b"usage: shell"), "help")
         ran = self.ran("", "--socket", "nothing", server=())
-        said = b"shell: nothing cannot be reached: No such file or directory\n"
-        self.assertEqual((ran.returncode, ran.stderr), (1, said), "no socket")
+        said = b"shell: nothing cannot be reached: No such file or directory (is a front running with this socket?"
+        self.assertEqual((ran.returncode, ran.stderr[: len(said)]), (1, said), "no socket")
         self.assertIn("no object", self.said("status", "--", server=(self.program, "--turns", "5")), "words of the program")
 
     def test_closed_output(self):
