@@ -3,8 +3,8 @@
 #             commands, CLASSES=FILE the classes for them
 # make run    builds the program, proved, and answers the sample session
 # make test   proves everything from nothing, and runs every test
-# make tests  runs every test on bin/metad as it is; make rows, random, program, slice, memory, classes, clients, documents,
-#             machines, machines_files, hosting, scaling, measures, tools and test_install run those of tests/test_rows and so on
+# make tests  runs every test on bin/metad as it is; make rows, random, program, slice, memory, nests, spared,
+#             classes, clients, documents, machines, machines_files, hosting, scaling, measures, tools and test_install run those of tests/test_rows and so on
 # make bench  counts the program's instructions, and fails where a count is over its guard; with LAST=PROGRAM also beside an
 #             earlier program; GUARDS=1 writes down the counts and new guards
 # make tables writes the tables of the documents that are made of sources
@@ -19,7 +19,7 @@ CC ?= cc
 PREFIX ?= /usr/local
 
 # each takes bin/metad as it is
-TESTS = rows random program slice memory classes clients documents machines machines_files hosting scaling measures tools
+TESTS = rows random program slice memory nests spared classes clients documents machines machines_files hosting scaling measures tools
 # the oldest Python for the tools, and for the tests
 PYTHON = 3.8
 PYTHON_OF_TESTS = 3.11

@@ -10,7 +10,7 @@ the others go on, and it is shown with its input and with how what came differs 
 
 `test_rows` has worked sessions, `test_random` sessions by chance, beside the plain program in `plain`, `test_program`
 the program's ends, its pipes and its limits, `test_slice` slices of inputs, `test_memory` refused growths and little
-memory, `test_classes` class files, `test_clients` what stands in `clients`, `test_documents` what documents lead to,
+memory, `test_nests` deep calls in little memory, `test_spared` sessions beside one that has none, `test_classes` class files, `test_clients` what stands in `clients`, `test_documents` what documents lead to,
 `test_machines` several machines behind an edge, `test_machines_files` what starts them, `test_hosting` what starts fronts on
 hosts, `test_scaling` sessions on servers apart, `test_measures` what decides how `make bench` ends, `test_tools` what is in
 `tools` and the targets of the Makefile, `test_install` what `make install` installs, and `test_package` what is packed.

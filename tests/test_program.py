@@ -1,5 +1,5 @@
 """The program as a process: its ends and the words of its command line, what it says over pipes, a limit on the size of its
-output, its limits on a stack of 8 MiB, and names that are chosen to make it slow."""
+output, its limits on as much stack as it reserves, and names that are chosen to make it slow."""
 
 import os
 import resource
@@ -302,7 +302,8 @@ class Sizes(ProgramCases):
 
 
 KIB = 1024
-STACK = 8 * KIB * KIB
+STACK = 2_304 * KIB  # the 2 MiB that the program reserves, and what the system and the program's start have put there
+SMALLER_STACK = 1_792 * KIB
 ADDRESSES = 20 * KIB * KIB
 
 
@@ -344,19 +345,28 @@ class Limits(ProgramCases):
     def cases(self, rows):
         return [(row.name, replace(row, folder=self.folder)) for row in rows]
 
+    def check_stack(self, rows):
+        within = lambda row: fault_within(self.program, row, resource.RLIMIT_STACK, STACK)
+        self.check_each(self.cases(rows), within, at_once=1)
+
     def check_needs(self, rows, resources, most, words):
         for it in self.check_each(self.cases(rows), lambda row: need_of(self.program, row, resources, most), lambda it: it.fault, at_once=1):
             self.tell(f"\n    {it.name}: {words} {it.kib} KiB")
 
     def test_wide(self):
         """As many objects, connections, events, properties, publications and joins, and texts as long as may be."""
-        wide = lambda row: fault_within(self.program, row, resource.RLIMIT_STACK, STACK)
-        self.check_each(self.cases(limits.wide_rows()), wide, at_once=1)
+        self.check_stack(limits.wide_rows())
 
     def test_deep(self):
-        """Signals, changes, bindings and deletions that nest as deep as they may pass on a stack of 8 MiB; it is told how much
-        they need."""
-        self.check_needs(limits.deep_rows(), resource.RLIMIT_STACK, STACK, "on a stack of")
+        """Signals, changes, bindings and deletions that nest as deep as they may need no more stack than is reserved."""
+        self.check_stack(limits.deep_rows())
+
+    def test_smaller_stack(self):
+        """On less than that the program ends by a signal, before it reads a line."""
+        hard = resource.getrlimit(resource.RLIMIT_STACK)[1]
+        bound = lambda: resource.setrlimit(resource.RLIMIT_STACK, (SMALLER_STACK, hard))
+        ran = Row("nothing", NEW, ONE).run(self.program, env={}, preexec_fn=bound)
+        self.assertEqual((ran.returncode, ran.stdout), (-signal.SIGSEGV, b""))
 
     def test_shared(self):
         """As many events as there may be, whose texts are those of two emissions; it is told in how much memory."""

@@ -547,6 +547,21 @@ def ends(slot, later):
     yield STATUS, counted()
 
 
+def told_ends(slot):
+    """Trees as deep as may be, but for one level: a property of another object follows one of each one's deepest object, and
+    its change at the end of that deletes the next tree."""
+    levels = LEVELS - 1
+    roots = range(1, levels * LEVELS + 1, levels)
+    deepest, followers = [root + levels - 1 for root in roots], range(levels * LEVELS + 1, LEVELS * LEVELS + 1)
+    yield from ((new(None if number in roots or number in followers else number - 1), reply(number)) for number in range(1, LEVELS * LEVELS + 1))
+    yield from ((set_to(end, "x", 5), reply(True)) for end in deepest)
+    yield from ((bind(follower, "y", {"prop": "x", "of": end}), reply(True)) for end, follower in zip(deepest, followers))
+    yield from ((connect(follower, "yChanged(int)", root, slot), reply(at)) for at, (follower, root) in enumerate(zip(followers, roots[1:]), 1))
+    told = [[*errors("EvaluationError", [follower], "y"), call(slot, root, follower)] for follower, root in zip(followers, roots[1:])]
+    yield delete(1), *(line for lines in told for line in lines), *errors("EvaluationError", followers[-1:], "y"), reply(True)
+    yield STATUS, counted(bindings=LEVELS, objects=LEVELS)
+
+
 def deletions():
     """As many events as there may be, which all go with the object that they are to delete."""
     yield new(), reply(1)
@@ -652,3 +667,4 @@ def deep_rows():
     yield row_of("trees whose ends delete the next one", ends("drop()", False))
     yield row_of("trees whose ends delete the next one behind choices", ends("dropDeep()", False))
     yield row_of("trees whose ends delete the next one behind choices, in an event", ends("dropDeep()", True))
+    yield row_of("trees whose ends change a property whose signal deletes the next one behind choices", told_ends("dropDeep()"))

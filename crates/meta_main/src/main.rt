@@ -12,7 +12,9 @@ ghost use Rattle.term_evaluation.specs.Unfolding.{unfolded_body};
 ghost use Rattle.program_start.specs.Clamp.{clamp_body};
 ghost use Rattle.program_start.specs.Count.{count_body, one_more};
 
-use program_start::{Beginning, add_count, clamp_answer, count_answer, start, with_clamp};
+use program_start::{
+    Beginning, add_count, clamp_answer, count_answer, reserve_stack, start, with_clamp,
+};
 use server_world::Server;
 use std::alloc::{AllocError, Global};
 use std::hash::RandomState;
@@ -23,6 +25,9 @@ use variant_value::Value;
 use wire_lines::{Counted, RunFault, Summary, run, run_slice, status_of};
 
 fn main(rt: HostRuntime) -> ExitCode {
+    if reserve_stack(rt.alloc()).is_err() {
+        return end_of_run(&rt, &Err(RunFault::Memory));
+    }
     match start(&rt) {
         Ok(beginning) => end_of_run(&rt, &serve(&rt, beginning)),
         Err(ending) => {

@@ -303,8 +303,10 @@ fn act<F: Answering>(
     }
 }
 
-/// Does what an action does that is no choice.
+/// Does what an action does that is no choice. It is never inlined: choices nest around it, and keep
+/// nothing of it on the stack.
 #[cycle(agenda)]
+#[inline(never)]
 fn single_action<F: Answering>(
     actor: &Actor<F>,
     tables: &mut Tables,

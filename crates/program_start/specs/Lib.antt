@@ -7,3 +7,4 @@ pub mod Demonstration
 pub mod ClassBytes
 pub mod Ending
 pub mod Start
+pub mod Stack

@@ -13,6 +13,7 @@ mod ending;
 mod functors;
 mod options;
 mod refusal;
+mod stack;
 mod starting;
 
 pub use beginning::Beginning;
@@ -27,4 +28,5 @@ pub use demonstration::DEMONSTRATION;
 pub use ending::{Ending, Stream, class_text};
 pub use functors::{add_count, with_clamp};
 pub use options::{DEFAULT_TURNS, Options, OptionsError, options_of};
+pub use stack::reserve_stack;
 pub use starting::{start, start_with, words_of};
