@@ -79,9 +79,9 @@ bin/%.so: tests/preload/%.c tests/preload/growth.h
 	mkdir -p bin
 	$(CC) -O2 -Wall -Wextra -shared -fPIC -o $@ $< -ldl
 
-bench: bin/metad bin/count_growth.so
+bench: bin/metad bin/count_growth.so bin/fixed_random.so
 	$(NEEDS) python3=$(PYTHON)
-	python3 bench/bench.py bin/metad bin/count_growth.so $(if $(LAST),--last "$(LAST)") $(if $(GUARDS),--write)
+	python3 bench/bench.py bin/metad bin/count_growth.so bin/fixed_random.so $(if $(LAST),--last "$(LAST)") $(if $(GUARDS),--write)
 
 tables:
 	$(NEEDS) python3=$(PYTHON)

@@ -4,7 +4,8 @@
 Each figure is what one line, call, event or the like takes more in an input than in one of half the length, so that
 the start and what is made before cancel out; some figures are ratios of two others. Instructions are counted by
 valgrind's callgrind, so that other load on the machine does not matter, and requests for memory by COUNTER, preloaded.
-All replies are compared with what they must be.
+FIXED, preloaded too, gives the program the same random bytes in each run, so that counts are the same each time. All
+replies are compared with what they must be.
 
 Each count has a guard and may have a goal. A count over its guard is a regression: the status is 1 then. Goals are
 shown, and decide nothing. With --last a count that is more than 1.03 times that of an earlier program is a regression
@@ -27,21 +28,21 @@ from figures import FIGURES, Figure, Ratio
 NAMES = max(len(it.name) for it in FIGURES)
 
 
-def value_of(program, figure, values, room, counter):
+def value_of(program, figure, values, room, libraries):
     """What a figure is, where those before it are these."""
     if isinstance(figure, Ratio):
         return values[figure.large.name] / values[figure.small.name]
-    return counted(program, figure, values, room, counter)
+    return counted(program, figure, values, room, libraries)
 
 
-def show_counts(programs, room, counter):
+def show_counts(programs, room, libraries):
     """Prints each figure of a program, and of the last one where there is one; answers those of the first, and the faults."""
     known, faults, reached = marks.read(), [], []
     values = {program: {} for program in programs}
     print(f"{'figure':{NAMES}} {'count':>9} {'guard':>9} {'goal':>9}" + f" {'last':>9}" * (len(programs) - 1))
     for it in FIGURES:
         for program in programs:
-            values[program][it.name] = value_of(program, it, values[program], room, counter)
+            values[program][it.name] = value_of(program, it, values[program], room, libraries)
         now, *last = (marks.rounded(values[program][it.name]) for program in programs)
         mark = known.get(it.name)
         said = " and ".join(marks.faults_of(it, now, mark, *(last or [None])))
@@ -86,6 +87,7 @@ def options():
     parser = argparse.ArgumentParser(description=__doc__, formatter_class=argparse.RawDescriptionHelpFormatter)
     parser.add_argument("program", type=path, help="the built program")
     parser.add_argument("counter", type=path, help="the library that counts requests for memory")
+    parser.add_argument("fixed", type=path, help="the library that gives fixed random bytes")
     parser.add_argument("--last", type=path, metavar="PROGRAM", help="an earlier program, which is counted beside it")
     parser.add_argument("--write", action="store_true", help="writes down the counts of this run and guards made from them")
     return parser.parse_args()
@@ -99,7 +101,7 @@ def measure(given, room):
         print("\nno count was compared with its guard")
         return []
     programs = [given.program, *([given.last] if given.last else [])]
-    values, faults = show_counts(programs, room, given.counter)
+    values, faults = show_counts(programs, room, (given.counter, given.fixed))
     sessions = show_times(given.program, room)
     if given.write:
         marks.write(marks.of_run(FIGURES, values, marks.read()), sessions)

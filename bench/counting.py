@@ -1,4 +1,8 @@
-"""What the program is given and writes, and how its instructions and its requests for memory are counted."""
+"""What the program is given and writes, and how its instructions and its requests for memory are counted.
+
+A counted program is given the same random bytes in each run, by the library `fixed`, preloaded: it hashes names with
+random keys, and which names collide would change the counts by up to 2 %.
+"""
 
 import os
 import re
@@ -61,38 +65,42 @@ class Room:
                     raise Fault(f"{self.name}: line {number} is {got[:200]!r}, and not {told[:200]!r}")
 
 
-def instructions_of(program, room):
+def instructions_of(program, room, fixed):
     """How many instructions a run takes."""
-    room.run([*CALLGRIND, *room.command(program)])
+    room.run([*CALLGRIND, *room.command(program)], env={**os.environ, "LD_PRELOAD": fixed})
     found = COLLECTED.search(room.log.read_text(errors="replace"))
     if not found:
         raise Fault(f"{room.name}: callgrind does not say how many instructions it has collected")
     return int(found[1])
 
 
-def requests_of(program, room, counter):
+def requests_of(program, room, counter, fixed):
     """How often a run asks for memory, which the library `counter`, preloaded, counts."""
     with open(room.log.with_name("requests"), "w+") as note:
         room.run(
             room.command(program),
-            env={**os.environ, "LD_PRELOAD": counter, "COUNT_NOTE": str(note.fileno())},
+            env={**os.environ, "LD_PRELOAD": f"{counter}:{fixed}", "COUNT_NOTE": str(note.fileno())},
             pass_fds=[note.fileno()],
         )
         note.seek(0)
         return int(note.read())
 
 
-def count_of(program, figure, times, room, counter):
+def count_of(program, figure, times, room, libraries):
     """What a figure counts in its input that does so many times what is counted; all replies are compared twice."""
     room.fill(figure, times)
     room.run(room.command(program))
     room.check()
-    count = instructions_of(program, room) if figure.counts_instructions else requests_of(program, room, counter)
+    counter, fixed = libraries
+    count = instructions_of(program, room, fixed) if figure.counts_instructions else requests_of(program, room, counter, fixed)
     room.check()
     return count
 
 
-def counted(program, figure, of_others, room, counter):
-    """What a figure is, where others are these: how much more a second time takes than the first."""
-    once, twice = (count_of(program, figure, times, room, counter) for times in (1, 2))
+def counted(program, figure, of_others, room, libraries):
+    """What a figure is, where others are these: how much more a second time takes than the first.
+
+    `libraries` are the two that are preloaded: what counts requests for memory, and what gives fixed random bytes.
+    """
+    once, twice = (count_of(program, figure, times, room, libraries) for times in (1, 2))
     return figure.shared_out(twice - once, 1, of_others)

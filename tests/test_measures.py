@@ -136,7 +136,7 @@ class Ends(Cases):
             factor = others.get(program, 1) if figure.name == COUNTED else 1
             return factor * counts[figure.name]
 
-        given = Namespace(program="it", last=last, counter="counter", write=write)
+        given = Namespace(program="it", last=last, counter="counter", fixed="fixed", write=write)
         with contextlib.ExitStack() as stack:
             for name, stand_in in (("counted", counted), ("has_valgrind", lambda: True), ("show_times", lambda *_: BYTES)):
                 stack.enter_context(mock.patch.object(bench, name, stand_in))
