@@ -5,7 +5,9 @@ from __future__ import annotations
 import contextlib
 import io
 import json
+import os
 import re
+import shutil
 import subprocess
 import sys
 from argparse import Namespace
@@ -16,7 +18,7 @@ from unittest import mock
 from .support import protocol
 from .support.cases import Cases, ProgramCases
 from .support.differences import difference
-from .support.program import ROOT, SECONDS
+from .support.program import ROOT, SECONDS, library
 
 sys.path.insert(0, str(ROOT / "bench"))
 
@@ -104,6 +106,26 @@ class Dearest(ProgramCases):
             words = [self.program, file.name, "--turns", str(SMALL.turns)]
             ran = subprocess.run(words, input=given, capture_output=True, text=True, timeout=SECONDS)
         return difference(wanted.encode(), ran.stdout.encode())
+
+
+class Fixed(ProgramCases):
+    """The library that gives a counted program the same random bytes in each run."""
+
+    def test_bytes(self) -> None:
+        """With it two processes are given the same bytes, and without it others."""
+        code = "import ctypes; it = ctypes.create_string_buffer(16); ctypes.CDLL(None).getentropy(it, 16); print(it.raw.hex())"
+        given = {}
+        for name, more in (("fixed", {"LD_PRELOAD": library("fixed_random")}), ("random", {})):
+            runs = [subprocess.run([sys.executable, "-c", code], capture_output=True, env={**os.environ, **more}) for _ in range(2)]
+            given[name] = {ran.stdout for ran in runs}
+        self.assertEqual((len(given["fixed"]), len(given["random"])), (1, 2), given)
+
+    def test_program(self) -> None:
+        """The program has its random bytes from what the library stands in for."""
+        if shutil.which("objdump") is None:
+            self.skipTest("objdump is not on the path")
+        symbols = subprocess.run(["objdump", "-T", self.program], capture_output=True, text=True, timeout=SECONDS).stdout
+        self.assertRegex(symbols, r"\*UND\*.*\bgetentropy\b")
 
 
 class Sessions(Cases):
