@@ -20,8 +20,7 @@ def plug_in(path, host):
 
 def host(program="metad"):
     classes = metad.with_relay(json.loads(Path(__file__).with_name("classes.json").read_text()))
-    started = metad.start_front(program, classes=classes, monitor=True)
-    with started as front, front.monitor() as observer, front.connect() as server:
+    with metad.start_front(program, classes=classes, monitor=True) as front, front.monitor() as seen, front.connect() as server:
         window, ear = (server.session("host").create(it) for it in ("Host", "PlugIn"))
         window.word.publish("word")
         window.closing.publish("closing")
@@ -31,7 +30,7 @@ def host(program="metad"):
             print("the plug-in says", *metad.wait_for(ear.says))
             window.closing()
         front.close()
-        print(*(f"{it['session']} {it['call']} {it['args']}" for it in observer if "call" in it), sep="\n")
+        print(*(f"{it['session']} {it['call']} {it['args']}" for it in seen if "call" in it), sep="\n")
 
 
 if __name__ == "__main__":

@@ -158,7 +158,7 @@ class Sockets(FrontCases):
         socket_unit, service = ((ROOT / "examples" / "systemd" / f"metad-front.{it}").read_text() for it in ("socket", "service"))
         (words,) = re.findall(r"^ExecStart=\S+/metad-front (.*)$", service, re.MULTILINE)
         given = parser().parse_args(words.split())
-        self.assertEqual((given.socket, given.program, given.args), (PASSED, "/usr/local/bin/metad", []), "the words")
+        self.assertEqual((given.socket, given.program, given.args), (PASSED, "/usr/local/bin/metad", ["--turns", "100"]), "the words")
         self.assertIn("KillMode=mixed", service.splitlines(), "who is asked to end")
         self.assertTrue(re.search(r"^ListenStream=/", socket_unit, re.MULTILINE), "where clients connect")
 
