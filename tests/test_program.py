@@ -21,6 +21,7 @@ from .support.program import SECONDS, Row
 NEW = b'{"class":"QObject","do":"new","session":"a"}\n'
 ONE = b'{"reply":1,"session":"a"}\n'
 OTHER = NEW.replace(b'"a"', b'"b"')
+END_OF_INPUT = b"\x04"  # as a terminal takes it at the beginning of a line
 READ_FAULT, WRITE_FAULT, BAD_NAME = b"metad: read fault\n", b"metad: write fault\n", b"metad: bad session name\n"
 
 
@@ -246,6 +247,22 @@ class Pipes(ProgramCases):
         self.assertEqual(said, LAST_ANSWER, "what is said at the end")
         self.assertEqual((process.returncode, error), (0, b""), "the status at the end, and standard error")
         self.tell(f"turns: {len(TALK)}")
+
+    def test_terminal(self):
+        """At a terminal the end of the input is typed once: the program does not read behind it."""
+        keyboard, terminal = os.openpty()
+        with ExitStack() as opened:
+            for descriptor in (keyboard, terminal):
+                opened.callback(os.close, descriptor)
+            process = subprocess.Popen([self.program], stdin=terminal, stdout=subprocess.PIPE, bufsize=0)
+            try:
+                os.write(keyboard, NEW)
+                self.assertEqual(read(process.stdout.fileno(), len(ONE), PATIENCE), ONE, "what is said to a line")
+                os.write(keyboard, END_OF_INPUT)
+                self.assertEqual(process.wait(timeout=PATIENCE), 0, "the status at the end")
+            finally:
+                process.kill()
+                process.communicate()
 
 
 TRUTHS = SET * 1_000
