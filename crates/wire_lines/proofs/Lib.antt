@@ -18,3 +18,4 @@ pub mod Marked
 pub mod Sliced
 pub mod Taken
 pub mod SliceEnds
+pub mod Asking

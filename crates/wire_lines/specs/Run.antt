@@ -97,12 +97,15 @@ pub record Reads : Type 0 where
 abbrev pub reads : {R : Type 0} → (R → ℕ) → (R → ℕ) → R → Reads
 reads calls gave reader = record { calls = calls reader; gave = gave reader }
 
--- the calls of `read` reached their bound, as far as they are counted, and each of them gave some bytes
+-- a source was asked so often, and so often it gave some bytes, as far as that is counted
+abbrev pub HasAsked : ℕ → ℕ → Reads → Reads → Type 0
+HasAsked calls gave old new =
+    (min new.calls greatest_count ≡ min (old.calls + calls) greatest_count)
+    × (min new.gave greatest_count ≡ min (old.gave + gave) greatest_count)
+
+-- the calls of `read` reached their bound, and each of them gave some bytes
 abbrev pub IsPastReads : ℕ → List ℕ → Reads → Reads → Type 0
-IsPastReads max_reads bytes old new =
-    (min new.calls greatest_count ≡ min (old.calls + max_reads) greatest_count)
-    × (min new.gave greatest_count ≡ min (old.gave + max_reads) greatest_count)
-    × (max_reads ≤ length bytes)
+IsPastReads max_reads bytes old new = HasAsked max_reads max_reads old new × (max_reads ≤ length bytes)
 
 -- no buffers were made: nothing was read, answered or written
 pub record IsUnbegun (calls calls_after : Reads) (input : List ℕ)
@@ -152,9 +155,19 @@ pub record RunsOver (max_lines max_reads : ℕ) (input : List ℕ) (old new : Se
   pub all_read : IsOk result → left_after ≡ Some []
   pub counted : IfOk result (λ summary. (summary.lines ≡ length (lines_of input)) × (summary.lines ≤ max_lines))
 
--- how often the source of a run was asked, and how often it and the sink failed
-pub record UsesDevices (max_reads calls calls_after source source_after sink sink_after : ℕ) (result : Result Summary RunFault) : Type 0 where
-  pub asked : calls_after ≤ calls + max_reads
+-- how a run asks its source: each call of `read` gives some bytes but one at most, so that an end that is found is not
+-- read again, and a run that goes well finds it
+pub record AsksSource {T : Type 0} (max_reads : ℕ) (old new : Reads) (result : Result T RunFault) : Type 0 where
+  pub within : new.calls ≤ old.calls + max_reads
+  pub gave : ℕ
+  pub others : ℕ
+  pub counted : HasAsked (gave + others) gave old new
+  pub once : others ≤ 1
+  pub ended : IsOk result → others ≡ 1
+
+-- how the source of a run was asked, and how often it and the sink failed
+pub record UsesDevices (max_reads : ℕ) (calls calls_after : Reads) (source source_after sink sink_after : ℕ) (result : Result Summary RunFault) : Type 0 where
+  pub asked : AsksSource max_reads calls calls_after result
   pub read : ReadFails source source_after result
   pub write : WriteFails sink sink_after result
 

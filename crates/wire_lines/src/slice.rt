@@ -13,7 +13,7 @@ ghost use Rattle.wire_devices.specs.Counts.{CountsErrors};
 ghost use Rattle.wire_format.specs.Input.{NoEnd, lines_of, piece_of};
 ghost use Rattle.wire_lines.specs.declared.fault.RunFault.TheVariants.{Endless, Memory, Write};
 ghost use Rattle.wire_lines.specs.declared.stream.TheConstants.{MOST_LINES, MOST_READS};
-ghost use Rattle.wire_lines.specs.Run.{IsPastReads, ReadFails, UsesDevices, reads};
+ghost use Rattle.wire_lines.specs.Run.{AsksSource, IsPastReads, ReadFails, UsesDevices, reads};
 ghost use Rattle.wire_lines.specs.Sending.{SentAll, out};
 ghost use Rattle.wire_lines.specs.Slicing.{SlicesOver, ended};
 ghost use Rattle.wire_lines.specs.Stream.{Later};
@@ -180,7 +180,7 @@ fn read_all<R: Source>(alloc: Global, reader: &mut R) -> Result<Vec<u8>, RunFaul
     ensures endless { (input : List ℕ) → R.left reader.old ≡ Some input
         → result ≡ Err Endless → IsPastReads (2 ^ 40) input (reads R.calls R.gave reader.old) (reads R.calls R.gave reader.new) }
     ensures unwritten { result ≢ Err Write }
-    ensures asked { R.calls reader.new ≤ R.calls reader.old + 2 ^ 40 }
+    ensures asked { AsksSource (2 ^ 40) (reads R.calls R.gave reader.old) (reads R.calls R.gave reader.new) result }
     ensures failed { ReadFails (R.failures reader.old) (R.failures reader.new) result }
 {
     let mut chunk = vec![in alloc; 0; CHUNK_BYTES]?;
@@ -194,7 +194,7 @@ fn read_by<R: Source>(alloc: Global, chunk: &mut [u8], reader: &mut R) -> Result
     ensures endless { (input : List ℕ) → R.left reader.old ≡ Some input
         → result ≡ Err Endless → IsPastReads (2 ^ 40) input (reads R.calls R.gave reader.old) (reads R.calls R.gave reader.new) }
     ensures unwritten { result ≢ Err Write }
-    ensures asked { R.calls reader.new ≤ R.calls reader.old + 2 ^ 40 }
+    ensures asked { AsksSource (2 ^ 40) (reads R.calls R.gave reader.old) (reads R.calls R.gave reader.new) result }
     ensures failed { ReadFails (R.failures reader.old) (R.failures reader.new) result }
 {
     let mut bytes = Vec::new(alloc);
@@ -232,7 +232,7 @@ pub fn run_slice<R: Source, W: Sink>(
     ensures slices { (input : List ℕ) → R.left reader.old ≡ Some input
         → SlicesOver session.now input (seen_as server.old) (seen_as server.new)
         (W.held writer.old) (W.held writer.new) (R.left reader.new) (reads R.calls R.gave reader.old) (reads R.calls R.gave reader.new) result }
-    ensures devices { UsesDevices (2 ^ 40) (R.calls reader.old) (R.calls reader.new)
+    ensures devices { UsesDevices (2 ^ 40) (reads R.calls R.gave reader.old) (reads R.calls R.gave reader.new)
         (R.failures reader.old) (R.failures reader.new) (W.failures writer.old) (W.failures writer.new) result }
     ensures memory { IfOk result (λ summary. summary.memory_refused ≡ false) }
     ensures later { Later (seen_as server.old) (seen_as server.new) }
@@ -255,7 +255,7 @@ fn slice_input<R: Source, W: Sink>(
     ensures slices { (input : List ℕ) → R.left reader.old ≡ Some input
         → SlicesOver session.now input (seen_as server.old) (seen_as server.new)
         (W.held writer.old) (W.held writer.new) (R.left reader.new) (reads R.calls R.gave reader.old) (reads R.calls R.gave reader.new) result }
-    ensures devices { UsesDevices (2 ^ 40) (R.calls reader.old) (R.calls reader.new)
+    ensures devices { UsesDevices (2 ^ 40) (reads R.calls R.gave reader.old) (reads R.calls R.gave reader.new)
         (R.failures reader.old) (R.failures reader.new) (W.failures writer.old) (W.failures writer.new) result }
     ensures memory { IfOk result (λ summary. summary.memory_refused ≡ false) }
     ensures later { Later (seen_as server.old) (seen_as server.new) }

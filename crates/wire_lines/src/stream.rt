@@ -3,7 +3,7 @@ ghost use Rattle.std.specs.Prelude.{◌≡◌, ◌+◌, ◌<◌, ◌≤◌, ◌^
 ghost use Rattle.session_engine.specs.Sessions.{AreSound};
 ghost use Rattle.server_world.specs.Server.{KnowsItsSessions, seen_by_name, seen_as, was_refused};
 ghost use Rattle.wire_format.specs.Input.{NoEnd};
-ghost use Rattle.wire_lines.specs.Run.{RunsOver, UsesDevices, IsWrittenOut, DevicesFail, Ends, Runs, device_failed, reads};
+ghost use Rattle.wire_lines.specs.Run.{AsksSource, RunsOver, UsesDevices, IsWrittenOut, DevicesFail, Ends, Runs, device_failed, reads};
 ghost use Rattle.wire_lines.specs.Stream.{Later, SinkFails, Feeds, Finishes};
 ghost use Rattle.wire_lines.specs.Feeding.{at};
 ghost use Rattle.wire_lines.specs.declared.fault.RunFault.TheVariants.{Read};
@@ -131,7 +131,7 @@ impl Stream {
         ensures written { result ≡ Err Read → self.new.lines.output.gathered ≡ [] }
         ensures within { self.new.lines.count ≤ self.old.lines.most }
         ensures all_read { (input : List ℕ) → R.left reader.old ≡ Some input → IsOk result → R.left reader.new ≡ Some [] }
-        ensures asked { R.calls reader.new ≤ R.calls reader.old + max_reads }
+        ensures asked { AsksSource max_reads (reads R.calls R.gave reader.old) (reads R.calls R.gave reader.new) result }
         ensures failed { DevicesFail (R.failures reader.old) (R.failures reader.new) (W.failures writer.old) (W.failures writer.new) result }
     {
         'reads: for _reads in 0..max_reads {
@@ -165,7 +165,7 @@ impl Stream {
         ensures written { IsWrittenOut result self.new.lines.output.gathered }
         ensures within { self.new.lines.count ≤ self.old.lines.most }
         ensures all_read { (input : List ℕ) → R.left reader.old ≡ Some input → IsOk result → R.left reader.new ≡ Some [] }
-        ensures asked { R.calls reader.new ≤ R.calls reader.old + max_reads }
+        ensures asked { AsksSource max_reads (reads R.calls R.gave reader.old) (reads R.calls R.gave reader.new) result }
         ensures failed { DevicesFail (R.failures reader.old) (R.failures reader.new) (W.failures writer.old) (W.failures writer.new) result }
     {
         let ended = self.serve_all(chunk, reader, writer, server, max_reads);
@@ -223,7 +223,7 @@ pub fn run<R: Source, W: Sink>(
     ensures runs { (input : List ℕ) → R.left reader.old ≡ Some input
         → RunsOver (2 ^ 32) (2 ^ 40) input (seen_as server.old) (seen_as server.new)
         (W.held writer.old) (W.held writer.new) (R.left reader.new) (reads R.calls R.gave reader.old) (reads R.calls R.gave reader.new) result }
-    ensures devices { UsesDevices (2 ^ 40) (R.calls reader.old) (R.calls reader.new)
+    ensures devices { UsesDevices (2 ^ 40) (reads R.calls R.gave reader.old) (reads R.calls R.gave reader.new)
         (R.failures reader.old) (R.failures reader.new) (W.failures writer.old) (W.failures writer.new) result }
     ensures memory { IfOk result (λ summary. summary.memory_refused ≡ was_refused (seen_as server.new)) }
     ensures later { Later (seen_as server.old) (seen_as server.new) }
@@ -253,7 +253,7 @@ pub fn run_bounded<R: Source, W: Sink>(
     ensures runs { (input : List ℕ) → R.left reader.old ≡ Some input
         → RunsOver max_lines max_reads input (seen_as server.old) (seen_as server.new)
         (W.held writer.old) (W.held writer.new) (R.left reader.new) (reads R.calls R.gave reader.old) (reads R.calls R.gave reader.new) result }
-    ensures devices { UsesDevices max_reads (R.calls reader.old) (R.calls reader.new)
+    ensures devices { UsesDevices max_reads (reads R.calls R.gave reader.old) (reads R.calls R.gave reader.new)
         (R.failures reader.old) (R.failures reader.new) (W.failures writer.old) (W.failures writer.new) result }
     ensures memory { IfOk result (λ summary. summary.memory_refused ≡ was_refused (seen_as server.new)) }
     ensures later { Later (seen_as server.old) (seen_as server.new) }
@@ -279,7 +279,7 @@ fn run_buffered<R: Source, W: Sink>(
         → Runs max_lines max_reads (reads R.calls R.gave reader.old) (reads R.calls R.gave reader.new) input
         (R.left reader.new) (W.held writer.old) (seen_as server.old) (W.held writer.new) (seen_as server.new) result }
     ensures all_read { (input : List ℕ) → R.left reader.old ≡ Some input → IsOk result → R.left reader.new ≡ Some [] }
-    ensures asked { R.calls reader.new ≤ R.calls reader.old + max_reads }
+    ensures asked { AsksSource max_reads (reads R.calls R.gave reader.old) (reads R.calls R.gave reader.new) result }
     ensures failed { DevicesFail (R.failures reader.old) (R.failures reader.new) (W.failures writer.old) (W.failures writer.new) result }
     ensures memory { IfOk result (λ summary. summary.memory_refused ≡ was_refused (seen_as server.new)) }
     ensures later { Later (seen_as server.old) (seen_as server.new) }

@@ -1,6 +1,10 @@
-use Rattle.std.proofs.Common.{◌≡◌, ◌<◌, ℕ, List, [], ◌++◌, length, length-append, take, Some, refl, sym, ap, ◌∙◌, subst, arith, append-nil}
+use Rattle.std.proofs.Common.{◌≡◌, ◌<◌, ◌+◌, ◌^◌, ℕ, List, [], ◌++◌, Err, length, length-append, take, Some, refl, sym, ap, ◌∙◌, subst, arith, append-nil}
 use Rattle.std.specs.Io.KnownBytes.{Consumes}
 use Rattle.std.proofs.KnownBytes.{Consumes-nil, Consumes-trans}
+use Rattle.wire_lines.specs.Run.{reads}
+use Rattle.wire_lines.specs.declared.fault.RunFault.TheVariants.{Read, Endless, Memory}
+use Rattle.wire_lines.proofs.Asking.{AsksSource-stopped}
+use Rattle.wire_lines.proofs.Kept.{err_is}
 use Rattle.wire_lines.proofs.Reading.{known_rest, known_end}
 use Rattle.wire_lines.proofs.slice.read_by.Goals as goal
 
@@ -51,4 +55,40 @@ returns-clause-endless g c = λ input known endless.
     let so_far = c.reads.invariant in
     let (rest, left, is) = known_rest _ _ c.reads.bytes.items input so_far.consumed known in
     let lengths = ap length is ∙ length-append c.reads.bytes.items rest in
-    (omega (arith, so_far.counted), omega (arith, so_far.gave), omega (arith, so_far.enough, lengths))
+    ((omega (arith, so_far.counted), omega (arith, so_far.gave)), omega (arith, so_far.enough, lengths))
+
+-- the read that failed gave nothing
+pub returns-in_default-clause-asked : goal.returns-in_default-clause-asked
+returns-in_default-clause-asked g c =
+    let so_far = c.reads.invariant in
+    let read = c.in_default.ensures in
+    AsksSource-stopped (2 ^ 40) (reads g.R.Source.calls g.R.Source.gave c.args.reader.now) (reads g.R.Source.calls g.R.Source.gave c.read.new.self) c.reads._reads 1
+    (omega (arith, so_far.asked, read.asked)) (omega (arith, so_far.counted, read.asked), omega (arith, so_far.gave, read.gave)) (omega arith) Read (Err Read) refl
+
+-- nor did the one that found the end
+pub returns-then-count-eq0-clause-asked : goal.returns-then-count-eq0-clause-asked
+returns-then-count-eq0-clause-asked g c =
+    let so_far = c.reads.invariant in
+    let read = c.in-Ok.ensures in
+    record {
+      within = omega (arith, so_far.asked, read.asked);
+      gave = c.reads._reads;
+      others = 1;
+      counted = (omega (arith, so_far.counted, read.asked), omega (arith, so_far.gave, read.gave.1 c.if-count-eq0.true));
+      once = omega arith;
+      ended = λ ok. refl;
+    }
+
+pub returns-in_err-extend_from_slice-clause-asked : goal.returns-in_err-extend_from_slice-clause-asked
+returns-in_err-extend_from_slice-clause-asked g c =
+    let so_far = c.reads.invariant in
+    let read = c.in-Ok.ensures in
+    let some : 0 < c.in-Ok.count = omega (arith, c.if-count-eq0.false) in
+    AsksSource-stopped (2 ^ 40) (reads g.R.Source.calls g.R.Source.gave c.args.reader.now) (reads g.R.Source.calls g.R.Source.gave c.read.new.self) (c.reads._reads + 1) 0
+    (omega (arith, so_far.asked, read.asked)) (omega (arith, so_far.counted, read.asked), omega (arith, so_far.gave, read.gave.0 some)) (omega arith) Memory c.from_residual.result (err_is _ _ c.from_residual.ensures.1)
+
+pub returns-clause-asked : goal.returns-clause-asked
+returns-clause-asked g c =
+    let so_far = c.reads.invariant in
+    AsksSource-stopped (2 ^ 40) (reads g.R.Source.calls g.R.Source.gave c.args.reader.now) (reads g.R.Source.calls g.R.Source.gave c.reads.reader) c.reads._reads 0
+    (omega (arith, so_far.asked)) (omega (arith, so_far.counted), omega (arith, so_far.gave)) (omega arith) Endless (Err Endless) refl

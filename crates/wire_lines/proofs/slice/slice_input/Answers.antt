@@ -1,4 +1,4 @@
-use Rattle.std.proofs.Common.{◌≡◌, ◌<◌, ◌∙◌, Vec, Global, inl, inr, ℕ, List, [], Err, length, refl, sym, ap, ap₂, subst, false}
+use Rattle.std.proofs.Common.{◌≡◌, ◌<◌, ◌^◌, ◌∙◌, Vec, Global, inl, inr, ℕ, List, [], Err, length, refl, sym, ap, ap₂, subst, false}
 use Rattle.std.specs.Prelude.{All}
 use Rattle.std.specs.List.{flat_map}
 use Rattle.server_world.specs.Server.{seen_as, settings, states}
@@ -9,6 +9,7 @@ use Rattle.wire_lines.specs.Standing.{noted}
 use Rattle.wire_lines.specs.Slicing.{sliced}
 use Rattle.wire_lines.specs.Sending.{Sent, SentFront, out}
 use Rattle.wire_lines.proofs.Answering.{Later-same}
+use Rattle.wire_lines.proofs.Asking.{AsksSource-failed, AsksSource-means, UsesDevices-spared, UsesDevices-unwritten}
 use Rattle.wire_lines.proofs.Kept.{err_is}
 use Rattle.wire_lines.proofs.SliceEnds.{HasRun-nothing, HasStopped-endless, HasStopped-run, HasStopped-unread, HasStopped-unwritten, HasTaken-counted, HasTaken-text, HasTaken-within, HasTaken-world, SlicesOver-done, SlicesOver-unwritten, SlicesOver-write, WriteFails-other}
 use Rattle.wire_lines.proofs.Taken.{HasRun-taken}
@@ -33,7 +34,7 @@ returns-in_err-input-clause-devices g c =
     let fault = c.in_err-input.field-0.0 in
     let is = err_is _ _ c.from_residual.ensures.1 in
     record {
-      asked = read.asked;
+      asked = AsksSource-failed {T = Vec ℕ Global} (2 ^ 40) (reads g.R.Source.calls g.R.Source.gave c.args.reader.now) (reads g.R.Source.calls g.R.Source.gave c.read_all.new.reader) (Err fault) fault c.from_residual.result is read.asked;
       read = ReadFails-fault (Vec ℕ Global) _ _ fault _ read.failed is;
       write = WriteFails-other _ _ fault _ is (λ written. read.unwritten (ap Err written)) refl;
     }
@@ -122,3 +123,47 @@ returns-clause-slices g c = λ input known.
     SlicesOver-done c.args.session.now input old now.server (HasRun-taken input old now slicing.count [] taken now.server (inl refl)) held after (g.R.Source.left c.read_all.new.reader) (reads g.R.Source.calls g.R.Source.gave c.args.reader.now) (reads g.R.Source.calls g.R.Source.gave c.read_all.new.reader)
     (record { lines = slicing.count; memory_refused = false })
     (all_written held after c.write.new.buffer _ c.in_ok-write.ensures.emptied all) (HasTaken-world input old now slicing.count taken found) found given.1 counted slicing.within
+
+-- the source is asked no more once all is read
+pub returns-in_err-buffer-clause-devices : goal.returns-in_err-buffer-clause-devices
+returns-in_err-buffer-clause-devices g c =
+    let read = c.in_ok-input.ensures in
+    UsesDevices-spared (2 ^ 40) (reads g.R.Source.calls g.R.Source.gave c.args.reader.now) (reads g.R.Source.calls g.R.Source.gave c.read_all.new.reader) _ _ _ _ Memory c.from_residual-in_err-buffer.result (err_is _ _ c.from_residual-in_err-buffer.ensures.1)
+    (λ is. absurd (cc is)) not_write read.asked read.failed
+
+pub returns-in_err-slicing-clause-devices : goal.returns-in_err-slicing-clause-devices
+returns-in_err-slicing-clause-devices g c =
+    let old = seen_as c.args.server.now in
+    let new = seen_as c.take_all.new.server in
+    let read = c.in_ok-input.ensures in
+    let fault = c.in_err-slicing.field-0.0 in
+    let stopped = c.in_err-slicing.ensures.stopped in
+    UsesDevices-spared (2 ^ 40) (reads g.R.Source.calls g.R.Source.gave c.args.reader.now) (reads g.R.Source.calls g.R.Source.gave c.read_all.new.reader) _ _ _ _ fault c.from_residual-in_err-slicing.result (err_is _ _ c.from_residual-in_err-slicing.ensures.1)
+    (HasStopped-unread fault _ old new stopped) (HasStopped-unwritten fault _ old new stopped) read.asked read.failed
+
+pub returns-then-memory_refused-clause-devices : goal.returns-then-memory_refused-clause-devices
+returns-then-memory_refused-clause-devices g c =
+    let read = c.in_ok-input.ensures in
+    UsesDevices-spared (2 ^ 40) (reads g.R.Source.calls g.R.Source.gave c.args.reader.now) (reads g.R.Source.calls g.R.Source.gave c.read_all.new.reader) _ _ _ _ Memory (Err Memory) refl
+    (λ is. absurd (cc is)) not_write read.asked read.failed
+
+pub returns-in_err-numbers-clause-devices : goal.returns-in_err-numbers-clause-devices
+returns-in_err-numbers-clause-devices g c =
+    let read = c.in_ok-input.ensures in
+    UsesDevices-spared (2 ^ 40) (reads g.R.Source.calls g.R.Source.gave c.args.reader.now) (reads g.R.Source.calls g.R.Source.gave c.read_all.new.reader) _ _ _ _ Memory c.from_residual-in_err-numbers.result (err_is _ _ c.from_residual-in_err-numbers.ensures.1)
+    (λ is. absurd (cc is)) not_write read.asked read.failed
+
+pub returns-in_err-write-clause-devices : goal.returns-in_err-write-clause-devices
+returns-in_err-write-clause-devices g c =
+    let read = c.in_ok-input.ensures in
+    UsesDevices-unwritten (2 ^ 40) (reads g.R.Source.calls g.R.Source.gave c.args.reader.now) (reads g.R.Source.calls g.R.Source.gave c.read_all.new.reader) _ _ _ _ _ c.from_residual-in_err-write.result (err_is _ _ c.from_residual-in_err-write.ensures.1)
+    read.asked read.failed c.in_err-write.ensures.counted
+
+pub returns-clause-devices : goal.returns-clause-devices
+returns-clause-devices g c =
+    let read = c.in_ok-input.ensures in
+    record {
+      asked = AsksSource-means (2 ^ 40) (reads g.R.Source.calls g.R.Source.gave c.args.reader.now) (reads g.R.Source.calls g.R.Source.gave c.read_all.new.reader) _ _ (λ ok. refl) read.asked;
+      read = read.failed;
+      write = c.in_ok-write.ensures.counted;
+    }

@@ -1,9 +1,10 @@
-use Rattle.std.proofs.Common.{◌≤◌, ℕ, List, [], Option, Ok, Err, sym, subst, arith}
+use Rattle.std.proofs.Common.{◌≤◌, ℕ, List, [], Option, Ok, Err, refl, sym, subst, arith}
 use Rattle.server_world.specs.Server.{seen_as, was_refused}
 use Rattle.wire_lines.specs.declared.stream.Summary.{Summary}
 use Rattle.wire_lines.specs.declared.fault.RunFault.TheVariants.{Memory}
 use Rattle.wire_lines.specs.Feeding.{at}
 use Rattle.wire_lines.specs.Run.{Runs, reads}
+use Rattle.wire_lines.proofs.Asking.{AsksSource-failed, AsksSource-means, AsksSource-stopped}
 use Rattle.wire_lines.proofs.Kept.{err_is}
 use Rattle.wire_lines.proofs.Whole.{Ends-beginning, Runs-stopped, Runs-unbegun, Runs-done, ReadFails-fault, WriteFails-fault}
 use Rattle.wire_lines.proofs.stream.run_buffered.Goals as goal
@@ -48,3 +49,19 @@ returns-clause-runs g c = λ input known.
     let runs = Runs-done c.args.max_lines c.args.max_reads (reads g.R.Source.calls g.R.Source.gave c.args.reader.now) (reads g.R.Source.calls g.R.Source.gave served.new.reader) input (g.R.Source.left served.new.reader) (g.W.Sink.held c.args.writer.now) (g.W.Sink.held served.new.writer) (seen_as c.args.server.now) (seen_as served.new.server) served.new.self.lines.output.gathered
     (record { lines = count; memory_refused = was_refused (seen_as served.new.server) }) c.in_ok-serve_to_end.ensures.written within done in
     subst (λ (summary : Summary). Runs c.args.max_lines c.args.max_reads (reads g.R.Source.calls g.R.Source.gave c.args.reader.now) (reads g.R.Source.calls g.R.Source.gave served.new.reader) input (g.R.Source.left served.new.reader) (g.W.Sink.held c.args.writer.now) (seen_as c.args.server.now) (g.W.Sink.held served.new.writer) (seen_as served.new.server) (Ok summary)) (sym c.summary.ensures) runs
+
+-- there is no memory for buffers: the source is not asked
+pub returns-in_err-stream-clause-asked : goal.returns-in_err-stream-clause-asked
+returns-in_err-stream-clause-asked g c =
+    let calls = reads g.R.Source.calls g.R.Source.gave c.args.reader.now in
+    AsksSource-stopped c.args.max_reads calls calls 0 0 (omega arith) (omega arith, omega arith) (omega arith) Memory c.from_residual.result (err_is _ _ c.from_residual.ensures.1)
+
+pub returns-in_err-serve_to_end-clause-asked : goal.returns-in_err-serve_to_end-clause-asked
+returns-in_err-serve_to_end-clause-asked g c =
+    let served = c.serve_to_end in
+    AsksSource-failed {T = Unit {0}} c.args.max_reads (reads g.R.Source.calls g.R.Source.gave c.args.reader.now) (reads g.R.Source.calls g.R.Source.gave served.new.reader) (Err c.in_err-serve_to_end.field-0.0) c.in_err-serve_to_end.field-0.0 c.from_residual-in_err-serve_to_end.result (err_is _ _ c.from_residual-in_err-serve_to_end.ensures.1) c.in_err-serve_to_end.ensures.asked
+
+pub returns-clause-asked : goal.returns-clause-asked
+returns-clause-asked g c =
+    let served = c.serve_to_end in
+    AsksSource-means c.args.max_reads (reads g.R.Source.calls g.R.Source.gave c.args.reader.now) (reads g.R.Source.calls g.R.Source.gave served.new.reader) (Ok c.in_ok-serve_to_end.field-0) _ (λ ok. refl) c.in_ok-serve_to_end.ensures.asked

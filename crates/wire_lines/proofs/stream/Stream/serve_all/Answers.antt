@@ -1,4 +1,4 @@
-use Rattle.std.proofs.Common.{Result, ◌≡◌, ◌<◌, ◌∙◌, ℕ, List, [], ◌++◌, length, take, inr, arith, append-nil, length-append, refl, sym, ap, subst}
+use Rattle.std.proofs.Common.{Result, Err, ◌≡◌, ◌<◌, ◌+◌, ◌∙◌, ℕ, List, [], ◌++◌, length, take, inr, arith, append-nil, length-append, refl, sym, ap, subst}
 use Rattle.std.specs.Io.KnownBytes.{Consumes}
 use Rattle.std.proofs.KnownBytes.{Consumes-nil, Consumes-kept, Consumes-trans}
 use Rattle.wire_lines.specs.declared.fault.RunFault.{RunFault}
@@ -7,6 +7,7 @@ use Rattle.wire_lines.specs.Stream.{Fed, SinkFails}
 use Rattle.wire_lines.specs.Feeding.{at}
 use Rattle.wire_lines.specs.Run.{Ends, reads}
 use Rattle.wire_lines.proofs.Answering.{Later-trans}
+use Rattle.wire_lines.proofs.Asking.{AsksSource-stopped}
 use Rattle.wire_lines.proofs.Feeding.{and_then, Fed-later, Fed-refl, Fed-trans, Cut-after, Cut-later, Finishes-later, Stops-cut, Stops-anywhere, SinkFails-unread}
 use Rattle.wire_lines.proofs.Kept.{err_is}
 use Rattle.wire_lines.proofs.Reading.{known_rest, known_end, Fed-flushed, Cut-flushed, Cut-here, Cut-known, Stops-known, Fed-read, Stops-read, Ends-stopped, Ends-finished, not_read, counted_read}
@@ -153,7 +154,7 @@ returns-clause-ends g c = λ input known.
     let parts = length-append bytes rest in (
       Cut-known start end bytes rest input is Endless (Cut-after Endless (and_then start bytes) here end rest so_far.fed (Cut-here Endless here [] rest tt)),
       inr (
-        (omega (arith, so_far.counted), omega (arith, so_far.gave), omega (arith, so_far.enough, count, all, parts)),
+        ((omega (arith, so_far.counted), omega (arith, so_far.gave)), omega (arith, so_far.enough, count, all, parts)),
         counted_read start here bytes rest input (g.R.Source.left c.reads.reader) [] is left so_far.fed c.reads.self.no_end,
       ),
     )
@@ -208,3 +209,45 @@ returns-in_err-feed-clause-within g c = omega (arith, c.feed.new.self.lines.with
 
 pub returns-clause-within : goal.returns-clause-within
 returns-clause-within g c = omega (arith, c.reads.self.lines.within, c.reads.invariant.1.most)
+
+pub returns-in_err-flush-clause-asked : goal.returns-in_err-flush-clause-asked
+returns-in_err-flush-clause-asked g c =
+    let so_far = c.reads.invariant.1 in
+    AsksSource-stopped c.args.max_reads (reads g.R.Source.calls g.R.Source.gave c.args.reader.now) (reads g.R.Source.calls g.R.Source.gave c.reads.reader) c.reads._reads 0
+    (omega (arith, so_far.asked)) (omega (arith, so_far.counted), omega (arith, so_far.gave)) (omega arith) Write c.from_residual.result (err_is _ _ c.from_residual.ensures.1)
+
+-- the read that failed gave nothing
+pub returns-in_default-clause-asked : goal.returns-in_default-clause-asked
+returns-in_default-clause-asked g c =
+    let so_far = c.reads.invariant.1 in
+    let read = c.in_default.ensures in
+    AsksSource-stopped c.args.max_reads (reads g.R.Source.calls g.R.Source.gave c.args.reader.now) (reads g.R.Source.calls g.R.Source.gave c.read.new.self) c.reads._reads 1
+    (omega (arith, so_far.asked, read.asked)) (omega (arith, so_far.counted, read.asked), omega (arith, so_far.gave, read.gave)) (omega arith) Read (Err Read) refl
+
+-- nor did the one that found the end
+pub returns-then-count-eq0-clause-asked : goal.returns-then-count-eq0-clause-asked
+returns-then-count-eq0-clause-asked g c =
+    let so_far = c.reads.invariant.1 in
+    let read = c.in-Ok.ensures in
+    record {
+      within = omega (arith, so_far.asked, read.asked);
+      gave = c.reads._reads;
+      others = 1;
+      counted = (omega (arith, so_far.counted, read.asked), omega (arith, so_far.gave, read.gave.1 c.if-count-eq0.true));
+      once = omega arith;
+      ended = λ ok. refl;
+    }
+
+pub returns-in_err-feed-clause-asked : goal.returns-in_err-feed-clause-asked
+returns-in_err-feed-clause-asked g c =
+    let so_far = c.reads.invariant.1 in
+    let read = c.in-Ok.ensures in
+    let some : 0 < c.in-Ok.count = omega arith in
+    AsksSource-stopped c.args.max_reads (reads g.R.Source.calls g.R.Source.gave c.args.reader.now) (reads g.R.Source.calls g.R.Source.gave c.read.new.self) (c.reads._reads + 1) 0
+    (omega (arith, so_far.asked, read.asked)) (omega (arith, so_far.counted, read.asked), omega (arith, so_far.gave, read.gave.0 some)) (omega arith) c.in_err-feed.field-0.0 c.from_residual-in_err-feed.result (err_is _ _ c.from_residual-in_err-feed.ensures.1)
+
+pub returns-clause-asked : goal.returns-clause-asked
+returns-clause-asked g c =
+    let so_far = c.reads.invariant.1 in
+    AsksSource-stopped c.args.max_reads (reads g.R.Source.calls g.R.Source.gave c.args.reader.now) (reads g.R.Source.calls g.R.Source.gave c.reads.reader) c.reads._reads 0
+    (omega (arith, so_far.asked)) (omega (arith, so_far.counted), omega (arith, so_far.gave)) (omega arith) Endless (Err Endless) refl

@@ -2,6 +2,7 @@ use Rattle.std.proofs.Common.{[], ◌++◌, sym}
 use Rattle.wire_lines.specs.declared.fault.RunFault.TheVariants.{Write}
 use Rattle.wire_lines.specs.Feeding.{at}
 use Rattle.wire_lines.specs.Run.{reads}
+use Rattle.wire_lines.proofs.Asking.{AsksSource-failed}
 use Rattle.wire_lines.proofs.Kept.{err_is}
 use Rattle.wire_lines.proofs.Reading.{Ends-stopped, not_read}
 use Rattle.wire_lines.proofs.Whole.{IsWrittenOut-empty, IsWrittenOut-failed, Ends-flushed, Ends-flush_failed}
@@ -37,3 +38,8 @@ returns-clause-written g c = IsWrittenOut-empty c.serve_all-ended.result _ c.in_
 
 pub returns-then-device_failed-clause-written : goal.returns-then-device_failed-clause-written
 returns-then-device_failed-clause-written g c = IsWrittenOut-failed c.serve_all-ended.result _ (sym c.if-device_failed.ensures) c.serve_all-ended.ensures.written
+
+pub returns-in_err-flush-clause-asked : goal.returns-in_err-flush-clause-asked
+returns-in_err-flush-clause-asked g c =
+    let served = c.serve_all-ended in
+    AsksSource-failed c.args.max_reads (reads g.R.Source.calls g.R.Source.gave c.args.reader.now) (reads g.R.Source.calls g.R.Source.gave served.new.reader) served.result Write c.from_residual.result (err_is _ _ c.from_residual.ensures.1) served.ensures.asked
